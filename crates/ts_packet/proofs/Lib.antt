@@ -1,0 +1,5 @@
+pub mod Front
+pub mod Decided
+pub mod Positions
+pub mod Scanning
+pub mod Feeding

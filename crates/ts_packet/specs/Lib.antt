@@ -1,0 +1,4 @@
+pub mod Bits
+pub mod Fields
+pub mod Packets
+pub mod Reading

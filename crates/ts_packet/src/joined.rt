@@ -1,0 +1,100 @@
+ghost use Rattle.std.specs.Prelude.{◌≡◌, ◌+◌, ◌<◌, ◌≤◌, ◌^◌, ◌++◌, ℕ, List, length, take, drop, slice_index};
+
+use arrayvec::ArrayVec;
+use std::marker::Model;
+
+/// How many bytes a reader keeps at the most: with one more it could tell whether a packet begins at the first.
+pub(crate) const UNDECIDED: usize = 376;
+
+/// Two slices that are read as one, so that no byte is copied to join them.
+#[derive(Drop)]
+pub(crate) struct Joined<'a> {
+    front: &'a [u8],
+    back: &'a [u8],
+}
+
+impl<'a> Model for Joined<'a> {
+    ghost use Rattle.std.specs.Prelude.{◌+◌, ◌<◌, ◌^◌, ◌++◌, ℕ, List, length};
+
+    ghost Value = { List ℕ };
+
+    ghost view = { λ j. j.front.now ++ j.back.now };
+
+    ghost invariant = { λ j. length j.front.now + length j.back.now < 2 ^ 63 };
+}
+
+impl<'a> Joined<'a> {
+    pub(crate) fn new(front: &'a [u8], back: &'a [u8]) -> Joined<'a>
+        requires { length front.now + length back.now < 2 ^ 63 }
+        ensures { result ≡ front.now ++ back.now }
+    {
+        Joined { front, back }
+    }
+
+    pub(crate) fn len(&self) -> usize
+        ensures { result ≡ length self.now }
+    {
+        self.front.len() + self.back.len()
+    }
+
+    pub(crate) fn byte(&self, at: usize) -> u8
+        requires { at < length self.now }
+        ensures { result ≡ slice_index self.now at }
+    {
+        if at < self.front.len() {
+            self.front[at]
+        } else {
+            self.back[at - self.front.len()]
+        }
+    }
+
+    /// The bytes from a place on, in two parts.
+    fn parts_from(&self, at: usize) -> (&[u8], &[u8])
+        requires { at ≤ length self.now }
+        ensures { result.0.now ++ result.1.now ≡ drop at self.now }
+    {
+        if at < self.front.len() {
+            (&self.front[at..], self.back)
+        } else {
+            (&self.front[..0], &self.back[at - self.front.len()..])
+        }
+    }
+
+    /// The 188 bytes from a place on.
+    pub(crate) fn packet(&self, at: usize) -> [u8; 188]
+        requires { at + 188 ≤ length self.now }
+        ensures { result ≡ take 188 (drop at self.now) }
+    {
+        let (front, back) = self.parts_from(at);
+        first_packet(front, back)
+    }
+
+    /// The bytes from a place on, where they are few.
+    pub(crate) fn rest(&self, at: usize) -> ArrayVec<u8, UNDECIDED>
+        requires within { at ≤ length self.now }
+        requires few { length self.now ≤ at + 376 }
+        ensures { result.items ≡ drop at self.now }
+    {
+        let (front, back) = self.parts_from(at);
+        let mut rest = ArrayVec::new();
+        let _ = rest.try_extend_from_slice(front);
+        let _ = rest.try_extend_from_slice(back);
+        rest
+    }
+}
+
+/// The first 188 bytes of two parts.
+fn first_packet(front: &[u8], back: &[u8]) -> [u8; 188]
+    requires { 188 ≤ length front.now + length back.now }
+    ensures { result ≡ take 188 (front.now ++ back.now) }
+{
+    let mut packet = [0; 188];
+    if front.len() >= 188 {
+        packet.copy_from_slice(&front[..188]);
+    } else {
+        let (head, tail) = packet.split_at_mut(front.len());
+        head.copy_from_slice(front);
+        tail.copy_from_slice(&back[..188 - front.len()]);
+    }
+    packet
+}

@@ -1,0 +1,130 @@
+ghost use Rattle.std.specs.Prelude.{◌≡◌, ℕ, List, Some, None, IfOk, IfErr, IsOk, ◌↔◌};
+ghost use Rattle.ts_packet.specs.Fields.{pid, payload_unit_start_indicator, is_scrambled, continuity_counter, random_access_indicator, has_adaptation_field, has_payload, is_adaptation_field_long, payload, fault_of};
+
+use std::marker::Model;
+use thiserror::Error;
+
+/// Why 188 bytes are dropped. The first that stands is told, in this order.
+#[derive(Clone, Copy, Debug, PartialEq, Eq, Error)]
+pub enum PacketFault {
+    #[error("the first byte isn't 0x47")]
+    NoSync,
+    #[error("transport_error_indicator is set")]
+    Errored,
+    #[error("adaptation_field_control is 00, which is reserved")]
+    Reserved,
+    #[error("the adaptation field is longer than the packet")]
+    LongAdaptation,
+}
+
+/// A transport packet that isn't dropped. Clauses see it as its 188 bytes.
+#[derive(Clone, Copy, Debug, PartialEq, Eq)]
+pub struct Packet {
+    bytes: [u8; 188],
+}
+
+impl Model for Packet {
+    ghost use Rattle.std.specs.Prelude.{◌≡◌, ℕ, List, None};
+
+    ghost Value = { List ℕ };
+
+    ghost use Rattle.ts_packet.specs.Fields.{fault_of};
+
+    ghost view = { λ p. p.bytes };
+
+    ghost invariant = { λ p. fault_of p.bytes ≡ None };
+
+    ghost inverse = { λ bytes. record { bytes = bytes } };
+}
+
+impl Packet {
+    /// The packet of 188 bytes, or why they are dropped (ISO/IEC 13818-1, 2.4.3.2 to 2.4.3.5).
+    pub fn parse(bytes: &[u8; 188]) -> Result<Packet, PacketFault>
+        ensures taken { IsOk result ↔ (fault_of bytes.now ≡ None) }
+        ensures whole { IfOk result (λ packet. packet ≡ bytes.now) }
+        ensures fault { IfErr result (λ fault. fault_of bytes.now ≡ Some fault) }
+    {
+        if bytes[0] != 0x47 {
+            return Err(PacketFault::NoSync);
+        }
+        if bytes[1] & 0x80 != 0 {
+            return Err(PacketFault::Errored);
+        }
+        if bytes[3] >> 4 & 3 == 0 {
+            return Err(PacketFault::Reserved);
+        }
+        if is_adaptation_long(bytes) {
+            return Err(PacketFault::LongAdaptation);
+        }
+        Ok(Packet { bytes: *bytes })
+    }
+
+    /// The packet's PID, 13 bits.
+    pub fn pid(&self) -> u16
+        ensures { result ≡ pid self.now }
+    {
+        u16::from(self.bytes[1] & 0x1F) << 8 | u16::from(self.bytes[2])
+    }
+
+    /// payload_unit_start_indicator: a section or a PES packet begins in the payload.
+    pub fn starts(&self) -> bool
+        ensures { result ≡ payload_unit_start_indicator self.now }
+    {
+        self.bytes[1] & 0x40 != 0
+    }
+
+    /// transport_scrambling_control isn't 00.
+    pub fn scrambled(&self) -> bool
+        ensures { result ≡ is_scrambled self.now }
+    {
+        self.bytes[3] & 0xC0 != 0
+    }
+
+    /// continuity_counter, 4 bits.
+    pub fn counter(&self) -> u8
+        ensures { result ≡ continuity_counter self.now }
+    {
+        self.bytes[3] & 0x0F
+    }
+
+    /// random_access_indicator of the adaptation field; false where there is none, or one of length 0.
+    pub fn random_access(&self) -> bool
+        ensures { result ≡ random_access_indicator self.now }
+    {
+        has_adaptation(&self.bytes) && self.bytes[4] > 0 && self.bytes[5] >> 6 & 1 == 1
+    }
+
+    /// The payload; empty where adaptation_field_control says that there is none.
+    pub fn payload(&self) -> &[u8]
+        ensures { result.now ≡ payload self.now }
+    {
+        if !has_payload(&self.bytes) {
+            return &[];
+        }
+        let start = if has_adaptation(&self.bytes) {
+            5 + usize::from(self.bytes[4])
+        } else {
+            4
+        };
+        &self.bytes[start..]
+    }
+}
+
+fn has_adaptation(bytes: &[u8; 188]) -> bool
+    ensures { result ≡ has_adaptation_field bytes.now }
+{
+    bytes[3] >> 5 & 1 == 1
+}
+
+fn has_payload(bytes: &[u8; 188]) -> bool
+    ensures { result ≡ Rattle.ts_packet.specs.Fields.has_payload bytes.now }
+{
+    bytes[3] >> 4 & 1 == 1
+}
+
+fn is_adaptation_long(bytes: &[u8; 188]) -> bool
+    ensures { result ≡ is_adaptation_field_long bytes.now }
+{
+    let most = if has_payload(bytes) { 182 } else { 183 };
+    has_adaptation(bytes) && bytes[4] > most
+}

@@ -1,0 +1,89 @@
+ghost use Rattle.std.specs.Prelude.{◌≡◌, ◌+◌, ◌<◌, ◌≤◌, ◌^◌, ◌++◌, [], length, IfOk, OnOk, OnErr};
+ghost use Rattle.ts_packet.specs.Packets.{decided, packets, skipped};
+ghost use Rattle.ts_packet.specs.Reading.{GrowsAlike};
+
+use crate::joined::{Joined, UNDECIDED};
+use crate::scan::scan;
+use arrayvec::ArrayVec;
+use ghost_list::GhostList;
+use std::alloc::AllocError;
+use std::marker::Model;
+
+/// Takes the packets from a stream of bytes that comes in pieces.
+///
+/// Clauses see a reader as the list of the bytes that it was fed since it stood as new. What it gives depends on that
+/// list alone, so it doesn't matter how the stream was cut into pieces. A reader keeps at most 376 bytes.
+#[derive(Drop)]
+pub struct Reader {
+    rest: ArrayVec<u8, UNDECIDED>,
+    locked: bool,
+    passed: u64,
+    fed: GhostList<u8>,
+}
+
+impl Model for Reader {
+    ghost use Rattle.std.specs.Prelude.{ℕ, ◌<◌, ◌^◌, List, length};
+    ghost use Rattle.ts_packet.specs.Reading.{Keeps};
+
+    ghost Value = { List ℕ };
+
+    ghost view = { λ r. r.fed.items };
+
+    ghost invariant = { λ r. Keeps r.fed.items r.locked r.rest.items r.passed × (length r.fed.items < 2 ^ 63) };
+}
+
+/// How many bytes of a stream lie in no packet.
+#[derive(Clone, Copy, Debug, PartialEq, Eq)]
+pub struct Skipped {
+    pub bytes: u64,
+}
+
+impl Reader {
+    /// A reader that was fed nothing.
+    pub fn new() -> Reader
+        ensures { result ≡ [] }
+    {
+        Reader {
+            rest: ArrayVec::new(),
+            locked: false,
+            passed: 0,
+            fed: GhostList::new(),
+        }
+    }
+
+    /// Takes the next piece of the stream, and appends the packets that are decided now: those that come first
+    /// however the stream goes on. A refusal leaves the reader and the packets as they were.
+    pub fn feed(&mut self, piece: &[u8], out: &mut Vec<[u8; 188]>) -> Result<(), AllocError>
+        requires { length self.old + length piece.now < 2 ^ 63 }
+        ensures fed { OnOk result (self.new ≡ self.old ++ piece.now) }
+        ensures packets { OnOk result (GrowsAlike (decided self.old) (decided self.new) out.old.items out.new.items) }
+        ensures err { OnErr result ((self.new ≡ self.old) × (out.new.items ≡ out.old.items)) }
+    {
+        let bytes = Joined::new(&self.rest, piece);
+        out.reserve(bytes.len() / 188)?;
+        let scanned = scan(&bytes, self.locked, false, out);
+        let rest = bytes.rest(scanned.at);
+        self.rest = rest;
+        self.locked = scanned.locked;
+        self.passed += scanned.passed as u64;
+        self.fed.append(piece);
+        Ok(())
+    }
+
+    /// Ends the stream: appends the packets that weren't decided yet, and tells how many bytes were skipped.
+    /// The reader then stands as a new one. A refusal leaves the reader and the packets as they were.
+    pub fn finish(&mut self, out: &mut Vec<[u8; 188]>) -> Result<Skipped, AllocError>
+        ensures packets { OnOk result (GrowsAlike (decided self.old) (packets self.old) out.old.items out.new.items) }
+        ensures skipped { IfOk result (λ gone. gone.bytes ≡ skipped self.old) }
+        ensures fresh { OnOk result (self.new ≡ []) }
+        ensures err { OnErr result ((self.new ≡ self.old) × (out.new.items ≡ out.old.items)) }
+    {
+        let bytes = Joined::new(&self.rest, &[]);
+        out.reserve(bytes.len() / 188)?;
+        let scanned = scan(&bytes, self.locked, true, out);
+        let left = bytes.len() - scanned.at;
+        let skipped = self.passed + scanned.passed as u64 + left as u64;
+        *self = Reader::new();
+        Ok(Skipped { bytes: skipped })
+    }
+}
