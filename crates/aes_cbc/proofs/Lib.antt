@@ -1,0 +1,14 @@
+pub mod EachByte
+pub mod SboxTable
+pub mod SmallProducts
+pub mod BlockLemmas
+pub mod KeySchedule
+pub mod CipherRounds
+pub mod ChainSteps
+pub mod TextBlocks
+pub mod InverseFacts
+pub mod Remainders
+pub mod Lengths
+pub mod KeyWords
+pub mod XorLaws
+pub mod ProductBytes
