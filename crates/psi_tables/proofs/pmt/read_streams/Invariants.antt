@@ -1,0 +1,13 @@
+use Rattle.std.proofs.Common.{◌≡◌, ◌+◌, ◌-◌, ◌*◌, ◌<◌, length}
+use Rattle.psi_tables.specs.ProgramMap.{streams}
+use Rattle.psi_tables.proofs.Entries.{behind, streams_from}
+use Rattle.psi_tables.proofs.pmt.read_streams.Given as goal
+
+abbrev pub invariant-loop-at : goal.invariant-loop-at
+invariant-loop-at l = record {
+  below : l.at < 2 * 4096;
+  so_far : streams l.fn.descriptors l.bytes ≡ behind l.entries.items (streams_from l.at l.bytes);
+}
+
+abbrev pub decreases-loop-at : goal.decreases-loop-at
+decreases-loop-at l = length l.bytes + 1 - l.at

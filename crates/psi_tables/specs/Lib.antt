@@ -1,0 +1,4 @@
+pub mod Crc
+pub mod Section
+pub mod Association
+pub mod ProgramMap

@@ -1,0 +1,232 @@
+use crate::{Pat, Pmt, TableFault, crc_32};
+use std::alloc::{AllocError, Global};
+use std::test::Fail;
+
+/// Program 1 with its PMT on PID 0x1000.
+const PAT: &[u8] = b"\x00\xb0\x0d\x00\x01\xc1\x00\x00\x00\x01\xf0\x00\x2a\xb1\x04\xb2";
+
+/// Program 1, H.264 on PID 0x100 with the PCR.
+const PMT: &[u8] =
+    b"\x02\xb0\x12\x00\x01\xc1\x00\x00\xe1\x00\xf0\x00\x1b\xe1\x00\xf0\x00\x15\xbd\x4d\x56";
+
+/// The same with AAC on PID 0x101.
+const PMT_WITH_SOUND: &[u8] =
+    b"\x02\xb0\x17\x00\x01\xc1\x00\x00\xe1\x00\xf0\x00\x1b\xe1\x00\xf0\x00\x0f\xe1\x01\xf0\x00\x2f\x44\xb9\x9b";
+
+/// Sections of 12 bytes at least and what is wrong with each as a PAT; the CRCs come from another program.
+const FAULTY_PATS: [(&[u8], TableFault); 10] = [
+    (
+        b"\x00\xb0\x0d\x00\x01\xc1\x00\x00\x00\x01\xf0",
+        TableFault::Short,
+    ),
+    (PMT, TableFault::WrongTable),
+    (
+        b"\x00\x30\x0d\x00\x01\xc1\x00\x00\x00\x01\xf0\x00\x29\x4a\x75\x31",
+        TableFault::WrongTable,
+    ),
+    (
+        b"\x00\xb0\x0d\x00\x01\xc1\x00\x00\x00\x01\xf0\x00\x2a\xb1\x04\xb3",
+        TableFault::BadCrc,
+    ),
+    (
+        b"\x00\xb0\x0d\x00\x01\xc0\x00\x00\x00\x01\xf0\x00\x65\xe6\x6c\xa3",
+        TableFault::NotCurrent,
+    ),
+    (
+        b"\x00\xb0\x0d\x00\x01\xc0\x01\x00\x00\x01\xf0\x00\x7e\xce\x61\xdb",
+        TableFault::NotCurrent,
+    ),
+    (
+        b"\x00\xb0\x0d\x00\x01\xc1\x01\x00\x00\x01\xf0\x00\x31\x99\x09\xca",
+        TableFault::ManySections,
+    ),
+    (
+        b"\x00\xb0\x0d\x00\x01\xc1\x00\x01\x00\x01\xf0\x00\x63\xbc\x63\x3f",
+        TableFault::ManySections,
+    ),
+    (
+        b"\x00\xb0\x0e\x00\x01\xc1\x00\x00\x00\x01\xf0\x00\xaf\xc1\xf9\xac",
+        TableFault::BadLengths,
+    ),
+    (
+        b"\x00\xb0\x0f\x00\x01\xc1\x00\x00\x00\x01\xf0\x00\x00\x02\xb1\x3b\x86\xd0",
+        TableFault::BadLengths,
+    ),
+];
+
+/// Sections and what is wrong with each as a PMT.
+const FAULTY_PMTS: [(&[u8], TableFault); 10] = [
+    (
+        b"\x02\xb0\x0c\x00\x01\xc1\x00\x00\xe1\x00\xf0\x00\x00\x00\x00",
+        TableFault::Short,
+    ),
+    (PAT, TableFault::WrongTable),
+    (
+        b"\x02\x30\x0d\x00\x01\xc1\x00\x00\xe1\x00\xf0\x00\x66\x0e\x6e\xb4",
+        TableFault::WrongTable,
+    ),
+    (
+        b"\x02\xb0\x12\x00\x01\xc1\x00\x00\xe1\x00\xf0\x00\x1b\xe1\x00\xf0\x00\x15\xbd\x4d\x57",
+        TableFault::BadCrc,
+    ),
+    (
+        b"\x02\xb0\x12\x00\x01\xc0\x00\x00\xe1\x00\xf0\x00\x1b\xe1\x00\xf0\x00\x12\x4b\xae\x50",
+        TableFault::NotCurrent,
+    ),
+    (
+        b"\x02\xb0\x12\x00\x01\xc1\x00\x01\xe1\x00\xf0\x00\x1b\xe1\x00\xf0\x00\x95\x2d\xed\x31",
+        TableFault::ManySections,
+    ),
+    // section_length one too great
+    (
+        b"\x02\xb0\x13\x00\x01\xc1\x00\x00\xe1\x00\xf0\x00\x1b\xe1\x00\xf0\x00\xc8\xb2\xac\x24",
+        TableFault::BadLengths,
+    ),
+    // descriptors of the program that pass the CRC
+    (
+        b"\x02\xb0\x12\x00\x01\xc1\x00\x00\xe1\x00\xf0\x06\x1b\xe1\x00\xf0\x00\x4f\x4d\x62\x46",
+        TableFault::BadLengths,
+    ),
+    // descriptors of the stream that pass the CRC
+    (
+        b"\x02\xb0\x12\x00\x01\xc1\x00\x00\xe1\x00\xf0\x00\x1b\xe1\x00\xf0\x01\x11\x7c\x50\xe1",
+        TableFault::BadLengths,
+    ),
+    // an entry cut short
+    (
+        b"\x02\xb0\x11\x00\x01\xc1\x00\x00\xe1\x00\xf0\x00\x1b\xe1\x00\xf0\x40\x42\xea\x03",
+        TableFault::BadLengths,
+    ),
+];
+
+/// A PMT with descriptors: program 3, PCR on 0x1FFF, H.264 on 0x1FF, AAC on 0x1F00, another type on 0x123.
+const PMT_WITH_DESCRIPTORS: &[u8] =
+    b"\x02\xb0\x2e\x00\x03\xc5\x00\x00\xff\xff\xf0\x06\x05\x04\x48\x44\x4d\x56\x1b\xe1\xff\xf0\x06\x28\x04\x4d\x40\x1e\x3f\x0f\xff\x00\xf0\x06\x0a\x04\x65\x6e\x67\x00\x06\xe1\x23\xf0\x00\x8d\x23\x4e\x85";
+
+/// Stream 0x1234: the network PID 0x10, program 1 on 0x100, program 2 on 0x200.
+const PAT_WITH_NETWORK: &[u8] =
+    b"\x00\xb0\x15\x12\x34\xc1\x00\x00\x00\x00\xe0\x10\x00\x01\xe1\x00\x00\x02\xe2\x00\x38\xfc\x93\x56";
+
+/// A PMT section: these bytes, so many bytes of descriptors, one stream, the CRC.
+fn pmt_with(
+    alloc: Global,
+    front: &[u8],
+    descriptors: usize,
+    crc: &[u8],
+) -> Result<Vec<u8>, AllocError> {
+    let mut section = Vec::from_slice(alloc, front)?;
+    for _ in 0..descriptors {
+        section.push(0)?;
+    }
+    section.extend_from_slice(b"\x1b\xe1\x00\xf0\x00")?;
+    section.extend_from_slice(crc)?;
+    Ok(section)
+}
+
+#[test]
+fn computes_crcs(rt: HostRuntime) {
+    assert_eq!(rt; crc_32(PAT), 0);
+    assert_eq!(rt; crc_32(PMT), 0);
+    assert_eq!(rt; crc_32(PMT_WITH_SOUND), 0);
+    assert_eq!(rt;
+        crc_32(b"\x00\xb0\x0d\x00\x01\xc1\x00\x00\x00\x01\xf0\x00"),
+        0x2AB1_04B2
+    );
+    assert_eq!(rt; crc_32(b"123456789"), 0x0376_E6E7);
+    assert_eq!(rt; crc_32(b""), 0xFFFF_FFFF);
+}
+
+#[test]
+fn reads_a_pat(rt: HostRuntime) -> Result<(), Fail> {
+    let pat = Pat::read(rt.alloc(), PAT)?;
+    assert_eq!(rt; pat.transport_stream_id(), 1);
+    for (program, chosen) in [
+        (None, Some((1, 0x1000))),
+        (Some(1), Some((1, 0x1000))),
+        (Some(2), None),
+    ] {
+        assert_eq!(rt; pat.choose(program), chosen, "at {program:?}");
+    }
+    let pat = Pat::read(rt.alloc(), PAT_WITH_NETWORK)?;
+    assert_eq!(rt; pat.transport_stream_id(), 0x1234);
+    for (program, chosen) in [
+        (None, Some((1, 0x100))),
+        (Some(0), Some((0, 0x10))),
+        (Some(2), Some((2, 0x200))),
+        (Some(3), None),
+    ] {
+        assert_eq!(rt; pat.choose(program), chosen, "at {program:?}");
+    }
+    let empty = Pat::read(
+        rt.alloc(),
+        b"\x00\xb0\x09\x00\x01\xc1\x00\x00\xef\x22\x62\x17",
+    )?;
+    assert_eq!(rt; empty.choose(None), None);
+    Ok(())
+}
+
+#[test]
+fn reads_a_pmt(rt: HostRuntime) -> Result<(), Fail> {
+    let pmt = Pmt::read(rt.alloc(), PMT)?;
+    assert_eq!(rt; pmt.program(), 1);
+    assert_eq!(rt; pmt.video(), Some(0x100));
+    for (pid, carried) in [(0x100, true), (0x101, false), (0x1B, false)] {
+        assert_eq!(rt; pmt.carries(pid), carried, "at {pid}");
+    }
+    assert_eq!(rt; Pmt::read(rt.alloc(), PMT_WITH_SOUND)?.carries(0x101), true);
+    let pmt = Pmt::read(rt.alloc(), PMT_WITH_DESCRIPTORS)?;
+    assert_eq!(rt; pmt.program(), 3);
+    assert_eq!(rt; pmt.video(), Some(0x1FF));
+    for (pid, carried) in [
+        (0x1FF, true),
+        (0x1F00, true),
+        (0x123, true),
+        (0x1FFF, true),
+        (0x504, false),
+    ] {
+        assert_eq!(rt; pmt.carries(pid), carried, "at {pid}");
+    }
+    Ok(())
+}
+
+#[test]
+fn tells_each_fault(rt: HostRuntime) {
+    for (section, fault) in FAULTY_PATS {
+        assert_eq!(rt;
+            Pat::read(rt.alloc(), section).err(),
+            Some(fault),
+            "at {section:?}"
+        );
+    }
+    for (section, fault) in FAULTY_PMTS {
+        assert_eq!(rt;
+            Pmt::read(rt.alloc(), section).err(),
+            Some(fault),
+            "at {section:?}"
+        );
+    }
+}
+
+#[test]
+fn reads_the_longest_section(rt: HostRuntime) -> Result<(), Fail> {
+    let alloc = rt.alloc();
+    let longest = pmt_with(
+        alloc,
+        b"\x02\xb3\xfd\x00\x01\xc1\x00\x00\xe1\x00\xf3\xeb",
+        1003,
+        b"\x05\x26\x68\x59",
+    )?;
+    assert_eq!(rt; longest.len(), 1024);
+    assert_eq!(rt; Pmt::read(alloc, &longest)?.video(), Some(0x100));
+    let longer = pmt_with(
+        alloc,
+        b"\x02\xb3\xfe\x00\x01\xc1\x00\x00\xe1\x00\xf3\xec",
+        1004,
+        b"\x1b\x80\x35\x9f",
+    )?;
+    assert_eq!(rt;
+        Pmt::read(alloc, &longer).err(),
+        Some(TableFault::BadLengths)
+    );
+    Ok(())
+}
