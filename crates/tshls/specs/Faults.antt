@@ -1,0 +1,37 @@
+-- What faults stand for.
+use Rattle.std.specs.Prelude.{ℕ}
+use Rattle.tshls.specs.declared.fault.Fault.{Fault}
+use Rattle.tshls.specs.declared.fault.Fault.TheVariants.{Usage, NotUtf8, BadKey, BadVector, Unread, ReadLimit, Unwritten, NoMemory}
+
+-- the status that the process ends with
+abbrev pub status_of : Fault → ℕ
+status_of (Usage error) = 2
+status_of NotUtf8 = 2
+status_of BadKey = 2
+status_of BadVector = 2
+status_of Unread = 1
+status_of ReadLimit = 1
+status_of Unwritten = 1
+status_of NoMemory = 1
+
+-- a refused command line, or want of memory: nothing was read or written
+abbrev pub IsOfCommandLine : Fault → Type 0
+IsOfCommandLine (Usage error) = Unit {0}
+IsOfCommandLine NotUtf8 = Unit {0}
+IsOfCommandLine BadKey = Unit {0}
+IsOfCommandLine BadVector = Unit {0}
+IsOfCommandLine Unread = ⊥
+IsOfCommandLine ReadLimit = ⊥
+IsOfCommandLine Unwritten = ⊥
+IsOfCommandLine NoMemory = Unit {0}
+
+-- what may end the reading of an input
+abbrev pub IsOfReading : Fault → Type 0
+IsOfReading (Usage error) = ⊥
+IsOfReading NotUtf8 = ⊥
+IsOfReading BadKey = ⊥
+IsOfReading BadVector = ⊥
+IsOfReading Unread = Unit {0}
+IsOfReading ReadLimit = Unit {0}
+IsOfReading Unwritten = ⊥
+IsOfReading NoMemory = Unit {0}

@@ -1,0 +1,20 @@
+-- Texts of hex digits, as keys, vectors and lines have them.
+use Rattle.std.specs.Prelude.{ℕ, List, [], ◌∷◌, ◌++◌, Option, Some, None}
+use Rattle.std.specs.Result.{result_ok}
+use Rattle.hex.specs.Hex.{decode_sized, encode_lower}
+use Rattle.segment_job.specs.Vectors.{vector}
+
+-- the 16 bytes that 32 hex digits of either case stand for; None for any other text
+abbrev pub block_of : List ℕ → Option (List ℕ)
+block_of text = result_ok (decode_sized text 16)
+
+-- the vector that exactly one of the two ways gives: a segment's number, or 32 hex digits
+abbrev pub vector_of : Option ℕ → Option (List ℕ) → Option (List ℕ)
+vector_of (Some number) None = Some (vector number)
+vector_of None (Some text) = block_of text
+vector_of None None = None
+vector_of (Some number) (Some text) = None
+
+-- bytes as a line of lower-case hex digits
+abbrev pub hex_line : List ℕ → List ℕ
+hex_line bytes = encode_lower bytes ++ 10 ∷ []

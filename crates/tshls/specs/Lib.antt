@@ -1,0 +1,3 @@
+pub mod Faults
+pub mod Hex
+pub mod Streams

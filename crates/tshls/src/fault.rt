@@ -1,0 +1,78 @@
+ghost use Rattle.std.specs.Prelude.{◌≡◌};
+
+use std::alloc::AllocError;
+use std::fmt;
+
+/// Why a command ends without having done its work. It prints as the line that standard error gets.
+#[derive(Debug, Drop)]
+pub enum Fault {
+    /// The command line isn't one; clap's text says why, or is the help that was asked for.
+    Usage(clap::Error),
+    /// A word of the command line isn't UTF-8.
+    NotUtf8,
+    /// A key isn't 32 hex digits.
+    BadKey,
+    /// A vector isn't 32 hex digits, or not exactly one of the two ways to give it was used.
+    BadVector,
+    /// A read failed.
+    Unread,
+    /// 2^40 reads each gave a byte, and the end hadn't come.
+    ReadLimit,
+    /// A write failed; what was written is a beginning of the answer.
+    Unwritten,
+    /// Memory was refused.
+    NoMemory,
+}
+
+impl Fault {
+    ghost use Rattle.tshls.specs.Faults.{status_of};
+
+    /// The status that the process ends with: 2 for a refused command line, else 1.
+    pub fn status(&self) -> u8
+        ensures { result ≡ status_of self.now }
+    {
+        match self {
+            Fault::Usage(_) | Fault::NotUtf8 | Fault::BadKey | Fault::BadVector => 2,
+            Fault::Unread | Fault::ReadLimit | Fault::Unwritten | Fault::NoMemory => 1,
+        }
+    }
+}
+
+impl fmt::Display for Fault {
+    fn fmt<W: fmt::Write>(&self, f: &mut fmt::Formatter<W>) -> fmt::Result {
+        let name = match self {
+            Fault::Usage(error) => return write!(f, "{error}"),
+            Fault::NotUtf8 => "NotUtf8",
+            Fault::BadKey => "BadKey",
+            Fault::BadVector => "BadVector",
+            Fault::Unread => "Unread",
+            Fault::ReadLimit => "ReadLimit",
+            Fault::Unwritten => "Unwritten",
+            Fault::NoMemory => "NoMemory",
+        };
+        writeln!(f, "tshls: {name}")
+    }
+}
+
+impl From<AllocError> for Fault {
+    ghost use Rattle.tshls.specs.declared.fault.Fault.TheVariants.{NoMemory};
+
+    ghost from_gives = { λ _ fault. fault ≡ NoMemory };
+
+    fn from(_: AllocError) -> Fault {
+        Fault::NoMemory
+    }
+}
+
+impl From<clap::Error> for Fault {
+    ghost use Rattle.tshls.specs.Faults.{IsOfCommandLine};
+
+    ghost from_gives = { λ _ fault. IsOfCommandLine fault };
+
+    fn from(error: clap::Error) -> Fault {
+        match error.kind() {
+            clap::error::ErrorKind::OutOfMemory => Fault::NoMemory,
+            _ => Fault::Usage(error),
+        }
+    }
+}

@@ -1,0 +1,48 @@
+//! tshls: MPEG-2 transport streams to encrypted HLS.
+#![tactic(auto)]
+
+mod cipher_options;
+mod command_line;
+mod fault;
+mod input;
+mod output;
+mod seal;
+#[cfg(test)]
+mod tests;
+
+use crate::command_line::{Job, line};
+use crate::fault::Fault;
+use crate::seal::seal;
+use std::process::ExitCode;
+use std::{env, io};
+
+/// Why the words of the command line can't be had.
+fn unread_words(error: io::Error) -> Fault {
+    match error.kind() {
+        io::ErrorKind::OutOfMemory => Fault::NoMemory,
+        _ => Fault::NotUtf8,
+    }
+}
+
+fn run(rt: &HostRuntime) -> Result<(), Fault> {
+    let words: Vec<String> = env::args(rt).map_err(unread_words)?.collect(rt.alloc())?;
+    match line(rt.alloc(), words.as_slice())? {
+        Job::Seal(options) => seal(
+            rt.alloc(),
+            &options.key,
+            &options.vector,
+            &mut rt.stdin(),
+            &mut rt.stdout(),
+        ),
+    }
+}
+
+fn main(rt: HostRuntime) -> ExitCode {
+    match run(&rt) {
+        Ok(()) => ExitCode::SUCCESS,
+        Err(fault) => {
+            let _ = rt.eprint(&fault);
+            ExitCode::from(fault.status())
+        }
+    }
+}
