@@ -12,3 +12,16 @@ pub mod Lengths
 pub mod KeyWords
 pub mod XorLaws
 pub mod ProductBytes
+pub mod ByteLists
+pub mod InverseSboxTable
+pub mod InverseProducts
+pub mod ProductSums
+pub mod MixingInverse
+pub mod StepInverses
+pub mod RoundKeyBlocks
+pub mod CipherInverse
+pub mod ChainInverse
+pub mod BlockLists
+pub mod PaddingFacts
+pub mod Openings
+pub mod SealedEnds

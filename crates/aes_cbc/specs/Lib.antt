@@ -6,3 +6,5 @@ pub mod KeyExpansion
 pub mod Cipher
 pub mod Padding
 pub mod Chain
+pub mod InverseCipher
+pub mod Opening

@@ -3,7 +3,9 @@
 ghost use Rattle.std.specs.Prelude.{◌≡◌};
 ghost use Rattle.aes_cbc.specs.Block.{IsBlock};
 ghost use Rattle.aes_cbc.specs.Cipher.{aes};
+ghost use Rattle.aes_cbc.specs.InverseCipher.{inv_aes};
 
+use crate::inverse_round::{inv_round, last_inv_round};
 use crate::round::{last_round, round, xor_blocks};
 use crate::schedule::round_keys;
 use std::marker::Model;
@@ -53,5 +55,18 @@ impl Key {
             state = next;
         }
         last_round(&state, &self.round_keys[10])
+    }
+
+    /// The block of which `block` is the cipher block (FIPS 197, 5.3).
+    pub fn decrypt_block(&self, block: &[u8; 16]) -> [u8; 16]
+        ensures value { result ≡ inv_aes self.now block.now }
+        ensures inverse { aes self.now result ≡ block.now }
+    {
+        let mut state = xor_blocks(block, &self.round_keys[10]);
+        'round: for i in 1..10 {
+            let next = inv_round(&state, &self.round_keys[10 - i]);
+            state = next;
+        }
+        last_inv_round(&state, &self.round_keys[0])
     }
 }

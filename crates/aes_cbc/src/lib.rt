@@ -1,13 +1,16 @@
 //! AES-128 in CBC mode with padding, as HLS seals segments (RFC 8216, 4.3.2.4: METHOD=AES-128).
 //!
-//! A [`Key`] encrypts single blocks of 16 bytes (FIPS 197). [`seal`] pads a text (RFC 5652, 6.3) and encrypts it as a
-//! chain of blocks from a vector on (SP 800-38A, 6.2). The functions of [`laws`] do nothing: their contracts are
-//! theorems about the definitions in `specs/`.
+//! A [`Key`] encrypts and decrypts single blocks of 16 bytes (FIPS 197). [`seal`] pads a text (RFC 5652, 6.3) and
+//! encrypts it as a chain of blocks from a vector on (SP 800-38A, 6.2), and [`open`] gives the text back. The functions
+//! of [`laws`] do nothing: their contracts are theorems about the definitions in `specs/`.
 #![tactic(auto)]
 
 mod cbc;
+mod fault;
+mod inverse_round;
 mod key;
 pub mod laws;
+mod opening;
 mod padding;
 mod round;
 mod sbox;
@@ -16,4 +19,6 @@ mod schedule;
 mod tests;
 
 pub use cbc::seal;
+pub use fault::OpenFault;
 pub use key::Key;
+pub use opening::open;

@@ -66,7 +66,7 @@ pub(crate) fn shift_rows(s: &[u8; 16]) -> [u8; 16]
 }
 
 /// Twice a byte in GF(2^8).
-fn double(b: u8) -> u8
+pub(crate) fn double(b: u8) -> u8
     ensures { result ≡ times 2 b }
 {
     if b < 0x80 { b << 1 } else { (b << 1) ^ 0x1b }

@@ -66,34 +66,66 @@ const SHORT_SEALED: [u8; 48] = [
 ];
 
 #[test]
-fn encrypts_the_example_of_appendix_b(rt: HostRuntime) {
-    assert_eq!(rt; Key::new(KEY).encrypt_block(&BLOCK), BLOCK_CIPHER);
+fn ciphers_the_example_of_appendix_b(rt: HostRuntime) {
+    let key = Key::new(KEY);
+    assert_eq!(rt; key.encrypt_block(&BLOCK), BLOCK_CIPHER);
+    assert_eq!(rt; key.decrypt_block(&BLOCK_CIPHER), BLOCK);
 }
 
 #[test]
-fn encrypts_the_block_of_appendix_c1(rt: HostRuntime) {
+fn ciphers_the_block_of_appendix_c1(rt: HostRuntime) {
     let key = Key::new(COUNTING_KEY);
     assert_eq!(rt; *key.as_bytes(), COUNTING_KEY);
     assert_eq!(rt; key.encrypt_block(&COUNTING_BLOCK), COUNTING_CIPHER);
+    assert_eq!(rt; key.decrypt_block(&COUNTING_CIPHER), COUNTING_BLOCK);
 }
 
 #[test]
-fn seals_whole_blocks(rt: HostRuntime) -> Result<(), Fail> {
-    let sealed = seal(rt.alloc(), &Key::new(KEY), &VECTOR, &PLAIN)?;
+fn seals_and_opens_whole_blocks(rt: HostRuntime) -> Result<(), Fail> {
+    let key = Key::new(KEY);
+    let sealed = seal(rt.alloc(), &key, &VECTOR, &PLAIN)?;
     assert_eq!(rt; sealed.as_slice(), PLAIN_SEALED.as_slice());
+    let text = open(rt.alloc(), &key, &VECTOR, &PLAIN_SEALED)?;
+    assert_eq!(rt; text.as_slice(), PLAIN.as_slice());
     Ok(())
 }
 
 #[test]
-fn seals_a_short_last_block(rt: HostRuntime) -> Result<(), Fail> {
-    let sealed = seal(rt.alloc(), &Key::new(KEY), &VECTOR, &PLAIN[..37])?;
+fn seals_and_opens_a_short_last_block(rt: HostRuntime) -> Result<(), Fail> {
+    let key = Key::new(KEY);
+    let sealed = seal(rt.alloc(), &key, &VECTOR, &PLAIN[..37])?;
     assert_eq!(rt; sealed.as_slice(), SHORT_SEALED.as_slice());
+    let text = open(rt.alloc(), &key, &VECTOR, &SHORT_SEALED)?;
+    assert_eq!(rt; text.as_slice(), &PLAIN[..37]);
     Ok(())
 }
 
 #[test]
-fn seals_no_bytes(rt: HostRuntime) -> Result<(), Fail> {
-    let sealed = seal(rt.alloc(), &Key::new(COUNTING_KEY), &PADDING_VECTOR, &[])?;
+fn seals_and_opens_no_bytes(rt: HostRuntime) -> Result<(), Fail> {
+    let key = Key::new(COUNTING_KEY);
+    let sealed = seal(rt.alloc(), &key, &PADDING_VECTOR, &[])?;
     assert_eq!(rt; sealed.as_slice(), COUNTING_CIPHER.as_slice());
+    let text = open(rt.alloc(), &key, &PADDING_VECTOR, &COUNTING_CIPHER)?;
+    assert!(rt; text.is_empty());
     Ok(())
+}
+
+#[test]
+fn refuses_what_is_not_sealed(rt: HostRuntime) {
+    let key = Key::new(KEY);
+    let of = |bytes: &[u8]| open(rt.alloc(), &key, &VECTOR, bytes);
+    assert!(rt; matches!(of(&[]), Err(OpenFault::NotBlocks)));
+    assert!(rt; matches!(of(&SHORT_SEALED[..47]), Err(OpenFault::NotBlocks)));
+    // The padding ends in its count, and another of its bytes is not the count.
+    let mut tampered = SHORT_SEALED;
+    tampered[24] ^= 1;
+    assert!(rt; matches!(of(&tampered), Err(OpenFault::BadPadding)));
+    // The plain block ends in ff.
+    let other = Key::new(COUNTING_KEY);
+    assert!(rt;
+        matches!(
+            open(rt.alloc(), &other, &[0; 16], &COUNTING_CIPHER),
+            Err(OpenFault::BadPadding)
+        )
+    );
 }
