@@ -1,7 +1,9 @@
 -- What faults stand for.
 use Rattle.std.specs.Prelude.{ℕ}
+use Rattle.aes_cbc.specs.declared.fault.OpenFault.{OpenFault}
+use Rattle.aes_cbc.specs.declared.fault.OpenFault.TheVariants as opening
 use Rattle.tshls.specs.declared.fault.Fault.{Fault}
-use Rattle.tshls.specs.declared.fault.Fault.TheVariants.{Usage, NotUtf8, BadKey, BadVector, Unread, ReadLimit, Unwritten, NoMemory}
+use Rattle.tshls.specs.declared.fault.Fault.TheVariants.{Usage, NotUtf8, BadKey, BadVector, BadHex, NotBlocks, BadPadding, Unread, ReadLimit, Unwritten, NoMemory}
 
 -- the status that the process ends with
 abbrev pub status_of : Fault → ℕ
@@ -9,6 +11,9 @@ status_of (Usage error) = 2
 status_of NotUtf8 = 2
 status_of BadKey = 2
 status_of BadVector = 2
+status_of BadHex = 1
+status_of NotBlocks = 1
+status_of BadPadding = 1
 status_of Unread = 1
 status_of ReadLimit = 1
 status_of Unwritten = 1
@@ -20,6 +25,9 @@ IsOfCommandLine (Usage error) = Unit {0}
 IsOfCommandLine NotUtf8 = Unit {0}
 IsOfCommandLine BadKey = Unit {0}
 IsOfCommandLine BadVector = Unit {0}
+IsOfCommandLine BadHex = ⊥
+IsOfCommandLine NotBlocks = ⊥
+IsOfCommandLine BadPadding = ⊥
 IsOfCommandLine Unread = ⊥
 IsOfCommandLine ReadLimit = ⊥
 IsOfCommandLine Unwritten = ⊥
@@ -31,7 +39,16 @@ IsOfReading (Usage error) = ⊥
 IsOfReading NotUtf8 = ⊥
 IsOfReading BadKey = ⊥
 IsOfReading BadVector = ⊥
+IsOfReading BadHex = ⊥
+IsOfReading NotBlocks = ⊥
+IsOfReading BadPadding = ⊥
 IsOfReading Unread = Unit {0}
 IsOfReading ReadLimit = Unit {0}
 IsOfReading Unwritten = ⊥
 IsOfReading NoMemory = Unit {0}
+
+-- what the program tells of a sealed text that doesn't open
+abbrev pub fault_of_opening : OpenFault → Fault
+fault_of_opening opening.NotBlocks = NotBlocks
+fault_of_opening opening.BadPadding = BadPadding
+fault_of_opening opening.NoMemory = NoMemory

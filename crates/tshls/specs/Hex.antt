@@ -1,5 +1,5 @@
 -- Texts of hex digits, as keys, vectors and lines have them.
-use Rattle.std.specs.Prelude.{ℕ, List, [], ◌∷◌, ◌++◌, Option, Some, None}
+use Rattle.std.specs.Prelude.{ℕ, ◌-◌, ◌==◌, if◌then◌else◌, List, [], ◌∷◌, ◌++◌, length, take, slice_index, Option, Some, None}
 use Rattle.std.specs.Result.{result_ok}
 use Rattle.hex.specs.Hex.{decode_sized, encode_lower}
 use Rattle.segment_job.specs.Vectors.{vector}
@@ -18,3 +18,7 @@ vector_of (Some number) (Some text) = None
 -- bytes as a line of lower-case hex digits
 abbrev pub hex_line : List ℕ → List ℕ
 hex_line bytes = encode_lower bytes ++ 10 ∷ []
+
+-- without one last LF, where there is one
+abbrev pub without_end : List ℕ → List ℕ
+without_end text = if slice_index text (length text - 1) == 10 then take (length text - 1) text else text

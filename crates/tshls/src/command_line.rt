@@ -14,6 +14,8 @@ use std::convert::AsStr;
 pub enum Job {
     /// Reads a transport stream and writes its packets, sealed, as one line of hex digits.
     Seal(CipherOptions),
+    /// Reads a line of hex digits and writes what was sealed, as one line of hex digits.
+    Open(CipherOptions),
 }
 
 /// The job that the words of a command line ask for, the program's name first. No fault of the command line comes
@@ -23,8 +25,10 @@ pub fn line<'a, S: AsStr>(alloc: Global, words: &'a [S]) -> Result<Job, Fault>
 {
     let mut command = program(alloc)?;
     let matches = command.try_get_matches_from_mut(words)?;
-    if let Some(("seal", options)) = matches.subcommand() {
-        return Ok(Job::Seal(cipher_options(options)?));
+    match matches.subcommand() {
+        Some(("seal", options)) => return Ok(Job::Seal(cipher_options(options)?)),
+        Some(("open", options)) => return Ok(Job::Open(cipher_options(options)?)),
+        _ => {}
     }
     Err(Fault::from(command.error(ErrorKind::MissingSubcommand, "a command is wanted")?))
 }
@@ -40,11 +44,15 @@ fn program<'a>(alloc: Global) -> Result<Command<'a>, AllocError> {
     let seal = Command::new(alloc, "seal").about(
         "Read a transport stream, and print its packets, sealed, as one line of hex digits",
     );
+    let open = Command::new(alloc, "open").about(
+        "Read what seal prints, and print what was sealed, as one line of hex digits",
+    );
     Command::new(alloc, "tshls")
         .about("MPEG-2 transport streams to encrypted HLS")
         .subcommand_required(true)
         .arg_required_else_help(true)
-        .subcommand(with_cipher_options(alloc, seal)?)
+        .subcommand(with_cipher_options(alloc, seal)?)?
+        .subcommand(with_cipher_options(alloc, open)?)
 }
 
 fn with_cipher_options<'a>(alloc: Global, command: Command<'a>) -> Result<Command<'a>, AllocError> {

@@ -1,5 +1,6 @@
 ghost use Rattle.std.specs.Prelude.{◌≡◌};
 
+use aes_cbc::OpenFault;
 use std::alloc::AllocError;
 use std::fmt;
 
@@ -14,6 +15,12 @@ pub enum Fault {
     BadKey,
     /// A vector isn't 32 hex digits, or not exactly one of the two ways to give it was used.
     BadVector,
+    /// The input isn't one line of an even number of hex digits.
+    BadHex,
+    /// The sealed bytes aren't whole blocks, or there are none.
+    NotBlocks,
+    /// No text has these sealed bytes under the key and the vector.
+    BadPadding,
     /// A read failed.
     Unread,
     /// 2^40 reads each gave a byte, and the end hadn't come.
@@ -33,7 +40,7 @@ impl Fault {
     {
         match self {
             Fault::Usage(_) | Fault::NotUtf8 | Fault::BadKey | Fault::BadVector => 2,
-            Fault::Unread | Fault::ReadLimit | Fault::Unwritten | Fault::NoMemory => 1,
+            _ => 1,
         }
     }
 }
@@ -45,6 +52,9 @@ impl fmt::Display for Fault {
             Fault::NotUtf8 => "NotUtf8",
             Fault::BadKey => "BadKey",
             Fault::BadVector => "BadVector",
+            Fault::BadHex => "BadHex",
+            Fault::NotBlocks => "NotBlocks",
+            Fault::BadPadding => "BadPadding",
             Fault::Unread => "Unread",
             Fault::ReadLimit => "ReadLimit",
             Fault::Unwritten => "Unwritten",
@@ -73,6 +83,20 @@ impl From<clap::Error> for Fault {
         match error.kind() {
             clap::error::ErrorKind::OutOfMemory => Fault::NoMemory,
             _ => Fault::Usage(error),
+        }
+    }
+}
+
+impl From<OpenFault> for Fault {
+    ghost use Rattle.tshls.specs.Faults.{fault_of_opening};
+
+    ghost from_gives = { λ error fault. fault ≡ fault_of_opening error };
+
+    fn from(error: OpenFault) -> Fault {
+        match error {
+            OpenFault::NotBlocks => Fault::NotBlocks,
+            OpenFault::BadPadding => Fault::BadPadding,
+            OpenFault::NoMemory => Fault::NoMemory,
         }
     }
 }

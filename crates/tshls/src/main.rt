@@ -5,13 +5,16 @@ mod cipher_options;
 mod command_line;
 mod fault;
 mod input;
+mod open;
 mod output;
+mod packets;
 mod seal;
 #[cfg(test)]
 mod tests;
 
 use crate::command_line::{Job, line};
 use crate::fault::Fault;
+use crate::open::open;
 use crate::seal::seal;
 use std::process::ExitCode;
 use std::{env, io};
@@ -28,6 +31,13 @@ fn run(rt: &HostRuntime) -> Result<(), Fault> {
     let words: Vec<String> = env::args(rt).map_err(unread_words)?.collect(rt.alloc())?;
     match line(rt.alloc(), words.as_slice())? {
         Job::Seal(options) => seal(
+            rt.alloc(),
+            &options.key,
+            &options.vector,
+            &mut rt.stdin(),
+            &mut rt.stdout(),
+        ),
+        Job::Open(options) => open(
             rt.alloc(),
             &options.key,
             &options.vector,

@@ -1,11 +1,11 @@
 ghost use Rattle.std.specs.Prelude.{◌≡◌, ◌≢◌, OnOk, IfErr};
 ghost use Rattle.std.specs.Io.KnownBytes.{Keeps};
 ghost use Rattle.tshls.specs.Faults.{IsOfReading};
-ghost use Rattle.tshls.specs.Streams.{Seals, BeginsToSeal};
+ghost use Rattle.tshls.specs.Streams.{WritesSealed, BeginsSealed};
 
 use crate::fault::Fault;
-use crate::input::read_packets;
 use crate::output::write_hex_line;
+use crate::packets::read_packets;
 use aes_cbc::Key;
 use std::alloc::Global;
 use std::io::{Read, Write};
@@ -21,8 +21,8 @@ pub fn seal<R: Read, W: Write>(
     input: &mut R,
     output: &mut W,
 ) -> Result<(), Fault>
-    ensures ok { OnOk result (Seals key.now vector.now (R.remaining input.old) (R.remaining input.new) (W.contents output.old) (W.contents output.new)) }
-    ensures unwritten { IfErr result (λ fault. fault ≡ Fault.Unwritten → BeginsToSeal key.now vector.now (R.remaining input.old) (R.remaining input.new) (W.contents output.old) (W.contents output.new)) }
+    ensures ok { OnOk result (WritesSealed key.now vector.now (R.remaining input.old) (R.remaining input.new) (W.contents output.old) (W.contents output.new)) }
+    ensures unwritten { IfErr result (λ fault. fault ≡ Fault.Unwritten → BeginsSealed key.now vector.now (R.remaining input.old) (R.remaining input.new) (W.contents output.old) (W.contents output.new)) }
     ensures other { IfErr result (λ fault. fault ≢ Fault.Unwritten → IsOfReading fault) }
     ensures untouched { IfErr result (λ fault. fault ≢ Fault.Unwritten → output.new ≡ output.old) }
 {

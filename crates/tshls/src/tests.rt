@@ -1,7 +1,9 @@
 ghost use Rattle.std.specs.Prelude.{◌≤◌, length};
 
+use crate::cipher_options::CipherOptions;
 use crate::command_line::{Job, line};
 use crate::fault::Fault;
+use crate::open::open;
 use crate::seal::seal;
 use aes_cbc::Key;
 use std::alloc::{AllocError, Global};
@@ -14,8 +16,10 @@ const KEY: &str = "000102030405060708090a0b0c0d0e0f";
 const VECTOR: &str = "10013223544576679889baabdccdfeef";
 
 /// The key and the vector of those digits.
-fn options(alloc: Global) -> Result<Job, Fault> {
-    line(alloc, &["tshls", "seal", "--key", KEY, "--iv", VECTOR])
+fn options(alloc: Global) -> Result<CipherOptions, Fault> {
+    match line(alloc, &["tshls", "seal", "--key", KEY, "--iv", VECTOR])? {
+        Job::Seal(options) | Job::Open(options) => Ok(options),
+    }
 }
 
 /// The first packet of a key frame at time 0.
@@ -31,7 +35,7 @@ fn key_frame() -> [u8; 188] {
 
 /// What `seal` writes of an input with the key and the vector above.
 fn sealed(alloc: Global, input: &[u8]) -> Result<Vec<u8>, Fault> {
-    let Job::Seal(options) = options(alloc)?;
+    let options = options(alloc)?;
     let mut input = input;
     let mut output = Vec::new(alloc);
     seal(
@@ -78,62 +82,55 @@ fn told(alloc: Global, words: &[&str]) -> Result<(String, u8), AllocError> {
 }
 
 #[test]
-fn the_command_line(rt: HostRuntime) -> Result<(), Fail> {
-    let upper = "000102030405060708090A0B0C0D0E0F";
-    let table: [(&[&str], &str, u8); 9] = [
-        (&["tshls", "seal", "--key", KEY, "--iv", VECTOR], "", 0),
-        (
-            &[
-                "tshls",
-                "seal",
-                "--key",
-                upper,
-                "--seq",
-                "18446744073709551615",
-            ],
-            "",
-            0,
-        ),
-        (&["tshls", "seal", "--key", KEY], "tshls: BadVector\n", 2),
+fn keys_on_the_command_line(rt: HostRuntime) -> Result<(), Fail> {
+    let table = [
+        (KEY, "", 0),
+        ("000102030405060708090A0B0C0D0E0F", "", 0),
+        ("00", "tshls: BadKey\n", 2),
+        ("", "tshls: BadKey\n", 2),
+        ("000102030405060708090a0b0c0d0e0g", "tshls: BadKey\n", 2),
+    ];
+    for (key, text, status) in table {
+        let told = told(rt.alloc(), &["tshls", "seal", "--key", key, "--seq", "0"])?;
+        assert_eq!(rt; told.0.as_str(), text, "at {key:?}");
+        assert_eq!(rt; told.1, status, "at {key:?}");
+    }
+    Ok(())
+}
+
+#[test]
+fn vectors_on_the_command_line(rt: HostRuntime) -> Result<(), Fail> {
+    let table: [(&[&str], &str); 6] = [
+        (&["tshls", "open", "--key", KEY], "tshls: BadVector\n"),
+        (&["tshls", "seal", "--key", KEY], "tshls: BadVector\n"),
         (
             &["tshls", "seal", "--key", KEY, "--iv", VECTOR, "--seq", "0"],
             "tshls: BadVector\n",
-            2,
         ),
         (
             &["tshls", "seal", "--key", KEY, "--iv", "00"],
             "tshls: BadVector\n",
-            2,
         ),
-        (&["tshls", "seal", "--key", "00"], "tshls: BadKey\n", 2),
+        (&["tshls", "seal", "--key", "00"], "tshls: BadKey\n"),
         (
             &["tshls", "seal", "--key", "00", "--iv", "00"],
             "tshls: BadKey\n",
-            2,
-        ),
-        (
-            &["tshls", "seal", "--key", "", "--seq", "0"],
-            "tshls: BadKey\n",
-            2,
-        ),
-        (
-            &[
-                "tshls",
-                "seal",
-                "--key",
-                "000102030405060708090a0b0c0d0e0g",
-                "--seq",
-                "0",
-            ],
-            "tshls: BadKey\n",
-            2,
         ),
     ];
-    for (words, text, status) in table {
+    for (words, text) in table {
         let told = told(rt.alloc(), words)?;
         assert_eq!(rt; told.0.as_str(), text, "at {words:?}");
-        assert_eq!(rt; told.1, status, "at {words:?}");
+        assert_eq!(rt; told.1, 2, "at {words:?}");
     }
+    let last = [
+        "tshls",
+        "open",
+        "--key",
+        KEY,
+        "--seq",
+        "18446744073709551615",
+    ];
+    assert_eq!(rt; told(rt.alloc(), &last)?.1, 0);
     Ok(())
 }
 
@@ -217,7 +214,7 @@ fn a_failed_read_is_unread(rt: HostRuntime) -> Result<(), Fail> {
 fn a_failed_write_leaves_a_beginning(rt: HostRuntime) -> Result<(), Fail> {
     let alloc = rt.alloc();
     let whole = sealed(alloc, &key_frame()).map_err(|_| "whole")?;
-    let Job::Seal(options) = options(alloc).map_err(|_| "options")?;
+    let options = options(alloc).map_err(|_| "options")?;
     for room in [0, 1, 384] {
         let packet = key_frame();
         let mut input = packet.as_slice();
@@ -239,5 +236,68 @@ fn a_failed_write_leaves_a_beginning(rt: HostRuntime) -> Result<(), Fail> {
         assert_eq!(rt; output.taken.len(), room);
         assert!(rt; whole.starts_with(&output.taken), "with room for {room}");
     }
+    Ok(())
+}
+
+/// What `open` writes of an input, or the line that its fault prints.
+fn opened(alloc: Global, options: &CipherOptions, input: &[u8]) -> Result<Vec<u8>, Fail> {
+    let mut input = input;
+    let mut output = Vec::new(alloc);
+    match open(
+        alloc,
+        &options.key,
+        &options.vector,
+        &mut input,
+        &mut output,
+    ) {
+        Ok(()) => Ok(output),
+        Err(fault) => Ok(format!(in alloc; "{fault}")?.into_bytes()),
+    }
+}
+
+#[test]
+fn opens_what_was_sealed(rt: HostRuntime) -> Result<(), Fail> {
+    let alloc = rt.alloc();
+    let options = options(alloc).map_err(|_| "options")?;
+    let empty = opened(alloc, &options, b"69c4e0d86a7b0430d8cdb78070b4c55a\n")?;
+    assert_eq!(rt; empty.as_slice(), b"\n".as_slice());
+    let line = sealed(alloc, &key_frame()).map_err(|_| "line")?;
+    let packet = opened(alloc, &options, &line)?;
+    assert_eq!(rt; packet.len(), 377);
+    assert!(rt; packet.starts_with(b"474100300140000001e000008080052100010001ffff"));
+    assert!(rt; packet.ends_with(b"ffff\n"));
+    Ok(())
+}
+
+#[test]
+fn open_refuses_by_name(rt: HostRuntime) -> Result<(), Fail> {
+    let alloc = rt.alloc();
+    let options = options(alloc).map_err(|_| "options")?;
+    let table: [(&[u8], &[u8]); 14] = [
+        (b"", b"tshls: NotBlocks\n"),
+        (b"\n", b"tshls: NotBlocks\n"),
+        (b"69c4e0d86a7b0430d8cdb78070b4c5", b"tshls: NotBlocks\n"),
+        (b"6", b"tshls: BadHex\n"),
+        (b"\n\n", b"tshls: BadHex\n"),
+        (b"69c4e0d86a7b0430d8cdb78070b4c55a\r\n", b"tshls: BadHex\n"),
+        (b"69c4e0d86a7b0430d8cdb78070b4c55a\n\n", b"tshls: BadHex\n"),
+        (b" 69c4e0d86a7b0430d8cdb78070b4c55a", b"tshls: BadHex\n"),
+        (b"69c4e0d86a7b0430\nd8cdb78070b4c55a\n", b"tshls: BadHex\n"),
+        (b"69c4e0d86a7b0430d8cdb78070b4c55g", b"tshls: BadHex\n"),
+        (b"79c4e0d86a7b0430d8cdb78070b4c55a", b"tshls: BadPadding\n"),
+        (b"69C4E0D86A7B0430d8cdb78070b4c55a", b"\n"),
+        (b"69c4e0d86a7b0430d8cdb78070b4c55a", b"\n"),
+        (b"69c4e0d86a7b0430d8cdb78070b4c55a\n", b"\n"),
+    ];
+    for (input, text) in table {
+        let told = opened(alloc, &options, input)?;
+        assert_eq!(rt; told.as_slice(), text, "at {input:?}");
+    }
+    let other_vector = CipherOptions {
+        key: Key::new(*options.key.as_bytes()),
+        vector: [0; 16],
+    };
+    let told = opened(alloc, &other_vector, b"69c4e0d86a7b0430d8cdb78070b4c55a\n")?;
+    assert_eq!(rt; told.as_slice(), b"tshls: BadPadding\n".as_slice());
     Ok(())
 }

@@ -1,7 +1,7 @@
 use Rattle.std.proofs.Common.{◌≡◌, ◌*◌, ◌≤◌, length}
 use Rattle.std.specs.Io.KnownBytes.{Consumes}
 use Rattle.ts_packet.specs.Packets.{decided}
-use Rattle.tshls.proofs.input.read_packets.Given as goal
+use Rattle.tshls.proofs.packets.read_packets.Given as goal
 
 abbrev pub invariant-loop : goal.invariant-loop
 invariant-loop g l = record {
