@@ -1,0 +1,3 @@
+pub mod Pes
+pub mod Times
+pub mod State
