@@ -5,3 +5,14 @@ pub mod Remainders
 pub mod Messages
 pub mod Closing
 pub mod Entries
+pub mod Fronts
+pub mod Flow
+pub mod Carrying
+pub mod Keeping
+pub mod Choosing
+pub mod Watching
+pub mod Good
+pub mod Changes
+pub mod Whole
+pub mod Packets
+pub mod Heads

@@ -1,16 +1,41 @@
-//! Program-specific information of an MPEG-2 transport stream (ISO/IEC 13818-1, 2.4.4): CRC_32, and the program association
-//! and program map tables that sections carry.
+//! Program-specific information of an MPEG-2 transport stream (ISO/IEC 13818-1, 2.4.4): CRC_32, the sections that
+//! packets carry, the program association and program map tables that sections carry, the tables in force, and the head
+//! that brings them to a segment.
 #![tactic(auto)]
 
+mod assembler;
+mod choice;
 mod crc;
 mod fault;
+#[cfg(test)]
+mod fixtures;
+mod gather;
+#[cfg(test)]
+mod gathering_tests;
+#[cfg(test)]
+mod head_tests;
+mod laws;
+mod next;
 mod pat;
 mod pmt;
 mod section;
+mod segment_head;
+mod tables;
 #[cfg(test)]
 mod tests;
+mod watch;
+#[cfg(test)]
+mod watch_tests;
 
+pub use assembler::Assembler;
 pub use crc::{crc_32, crc_is_the_remainder, crc_of_a_closed_message};
 pub use fault::TableFault;
+pub use laws::{
+    gathered_since_the_last_change, length_of_a_head, one_head_begins_bytes, sections_are_whole,
+    sections_only_grow, tables_hang_on_earlier_packets, tables_in_force_are_good,
+};
 pub use pat::{Pat, ProgramEntry};
 pub use pmt::{Pmt, StreamEntry};
+pub use segment_head::{head, pmt_packets};
+pub use tables::Tables;
+pub use watch::Watch;

@@ -78,6 +78,18 @@ impl Pmt {
     {
         lists(&self.entries, pid) || pid == self.pcr_pid
     }
+
+    /// The same table once more.
+    pub(crate) fn copy(&self) -> Result<Pmt, AllocError>
+        ensures { IfOk result (λ copy. copy ≡ self.now) }
+    {
+        let entries = Vec::from_slice(*self.entries.allocator(), &self.entries)?;
+        Ok(Pmt {
+            program: self.program,
+            pcr_pid: self.pcr_pid,
+            entries,
+        })
+    }
 }
 
 /// Whether an entry has this PID.

@@ -3,14 +3,14 @@ use std::alloc::{AllocError, Global};
 use std::test::Fail;
 
 /// Program 1 with its PMT on PID 0x1000.
-const PAT: &[u8] = b"\x00\xb0\x0d\x00\x01\xc1\x00\x00\x00\x01\xf0\x00\x2a\xb1\x04\xb2";
+pub const PAT: &[u8] = b"\x00\xb0\x0d\x00\x01\xc1\x00\x00\x00\x01\xf0\x00\x2a\xb1\x04\xb2";
 
 /// Program 1, H.264 on PID 0x100 with the PCR.
-const PMT: &[u8] =
+pub const PMT: &[u8] =
     b"\x02\xb0\x12\x00\x01\xc1\x00\x00\xe1\x00\xf0\x00\x1b\xe1\x00\xf0\x00\x15\xbd\x4d\x56";
 
 /// The same with AAC on PID 0x101.
-const PMT_WITH_SOUND: &[u8] =
+pub const PMT_WITH_SOUND: &[u8] =
     b"\x02\xb0\x17\x00\x01\xc1\x00\x00\xe1\x00\xf0\x00\x1b\xe1\x00\xf0\x00\x0f\xe1\x01\xf0\x00\x2f\x44\xb9\x9b";
 
 /// Sections of 12 bytes at least and what is wrong with each as a PAT; the CRCs come from another program.

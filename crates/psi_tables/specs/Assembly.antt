@@ -1,0 +1,78 @@
+-- What an assembler stands for, and what it keeps.
+use Rattle.std.specs.Prelude.{◌≡◌, ℕ, ◌<◌, ◌≤◌, Bool, false, ◌&&◌, nat_lt, if◌then◌else◌, List, [], ◌∷◌, ◌++◌, length, Option, Some, None}
+use Rattle.psi_tables.specs.Sections.{Carrier, carriers, follows, pointed, is_whole, is_open, first_section, begun_in, flow_behind, unfinished, bring_too_long, is_given_up, opening, sections_in, sections}
+
+-- a PID whose sections are gathered, and the packets that came, of all PIDs
+pub record Gathered : Type 0 where
+  pub pid : ℕ
+  pub packets : List (List ℕ)
+
+abbrev pub gathered_sections : Gathered → List (List ℕ)
+gathered_sections g = sections g.pid g.packets
+
+-- with one packet more
+abbrev pub with_packet : Gathered → List ℕ → Gathered
+with_packet g p = record { pid = g.pid; packets = g.packets ++ p ∷ [] }
+
+-- the sections to come in the packets behind one with this counter, where the front of a section was begun
+abbrev pub to_come_behind : List ℕ → ℕ → List Carrier → List (List ℕ)
+to_come_behind begun counter cs = begun_in 0 begun (flow_behind counter cs) ++ sections_in (is_given_up begun counter cs) cs
+
+unfoldable pub to_come : ℕ → Option ℕ → List ℕ → List (List ℕ) → List (List ℕ)
+to_come on None begun ps = sections_in false (carriers on None ps)
+to_come on (Some counter) begun ps = to_come_behind begun counter (carriers on (Some counter) ps)
+
+-- the last counter, if there is one, has four bits
+abbrev pub IsCounter : Option ℕ → Type 0
+IsCounter None = Unit {0}
+IsCounter (Some counter) = counter < 16
+
+-- the last counter and the front of the section that was begun tell all that counts of the packets, whichever come next
+pub record Keeps (g : Gathered) (last : Option ℕ) (begun : List ℕ) : Type 0 where
+  pub goes_on : (more : List (List ℕ)) → sections g.pid (g.packets ++ more) ≡ gathered_sections g ++ to_come g.pid last begun more
+  pub only_a_front : unfinished 0 begun ≡ begun
+  pub short : length begun ≤ 1024
+  pub four_bits : IsCounter last
+
+-- so many bytes are kept: a front of the section that was begun
+pub record IsKept (g : Gathered) (count : ℕ) : Type 0 where
+  pub last : Option ℕ
+  pub begun : List ℕ
+  pub keeps : Keeps g last begun
+  pub all : count ≡ length begun
+
+-- the section at the front, where it is open
+abbrev pub open_front : List ℕ → List ℕ
+open_front s = if is_open s then s else []
+
+-- the section at the front, where it is whole
+abbrev pub whole_front : List ℕ → List (List ℕ)
+whole_front s = if is_whole s then first_section s ∷ [] else []
+
+-- what is left of the section at the front where it isn't whole
+abbrev pub open_rest : List ℕ → List ℕ
+open_rest s = if is_whole s then [] else open_front s
+
+-- what is left of a section that was begun when more of its bytes came
+abbrev pub left_open : List ℕ → List ℕ → List ℕ
+left_open [] more = []
+left_open (b ∷ begun) more = open_rest ((b ∷ begun) ++ more)
+
+-- the pointer's bytes give up the section that was begun, and with it the rest of the packet
+abbrev pub gives_up : List ℕ → List ℕ → Bool
+gives_up begun more = nat_lt 0 (length begun) && bring_too_long begun more
+
+-- the sections that a packet completes, where the front of a section was begun
+abbrev pub completed : List ℕ → Carrier → List (List ℕ)
+completed begun c =
+    if c.starts then begun_in 0 begun (pointed c) ++ begun_in 0 (opening (gives_up begun (pointed c)) c) []
+    else begun_in 0 begun c.payload
+
+-- the front of a section that is begun behind the packet
+abbrev pub left_behind : List ℕ → Carrier → List ℕ
+left_behind begun c = if c.starts then unfinished 0 (opening (gives_up begun (pointed c)) c) else left_open begun c.payload
+
+-- the front of the section that was begun, where no packet is missing before this one
+abbrev pub continued : Option ℕ → List ℕ → Carrier → List ℕ
+continued None begun c = []
+continued (Some counter) begun c = if follows counter c then begun else []

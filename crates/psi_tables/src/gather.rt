@@ -1,0 +1,176 @@
+ghost use Rattle.std.specs.Prelude.{◌≡◌, ◌≢◌, ◌≤◌, [], length, map, IfOk};
+ghost use Rattle.psi_tables.specs.Sections.{carrier, begun_in, unfinished, opening};
+ghost use Rattle.psi_tables.specs.Assembly.{whole_front, open_rest, left_open, completed, left_behind};
+
+use crate::section::read_length;
+use std::alloc::{AllocError, Global};
+use ts_packet::Packet;
+
+/// The sections that some bytes complete, and the front of the section that they leave begun.
+#[derive(Drop)]
+pub struct Brought {
+    pub found: Vec<Vec<u8>>,
+    pub begun: Vec<u8>,
+}
+
+/// Whether a whole section stands at the front.
+fn is_whole(bytes: &[u8]) -> bool
+    ensures { result ≡ Rattle.psi_tables.specs.Sections.is_whole bytes.now }
+{
+    if bytes.len() < 3 || bytes[0] == 0xFF {
+        return false;
+    }
+    let length = read_length(bytes, 1);
+    length <= 1021 && 3 + length <= bytes.len()
+}
+
+/// Whether a section stands at the front of which not all bytes are there.
+fn is_open(bytes: &[u8]) -> bool
+    requires { bytes.now ≢ [] }
+    ensures { result ≡ Rattle.psi_tables.specs.Sections.is_open bytes.now }
+{
+    if bytes[0] == 0xFF {
+        return false;
+    }
+    if bytes.len() < 3 {
+        return true;
+    }
+    let length = read_length(bytes, 1);
+    length <= 1021 && bytes.len() < 3 + length
+}
+
+/// The section at the front, where not all its bytes are there.
+fn open_front(bytes: &[u8]) -> &[u8]
+    ensures { result.now ≡ Rattle.psi_tables.specs.Assembly.open_front bytes.now }
+{
+    if bytes.is_empty() || !is_open(bytes) {
+        return &[];
+    }
+    bytes
+}
+
+/// The section at the front of these bytes, whole or not.
+fn first_in(alloc: Global, bytes: &[u8]) -> Result<Brought, AllocError>
+    ensures found { IfOk result (λ brought. map (λ section. section.items) brought.found.items ≡ whole_front bytes.now) }
+    ensures begun { IfOk result (λ brought. brought.begun.items ≡ open_rest bytes.now) }
+{
+    let mut found = Vec::new(alloc);
+    if is_whole(bytes) {
+        let (section, _) = bytes.split_at(3 + read_length(bytes, 1));
+        found.push(Vec::from_slice(alloc, section)?)?;
+        return Ok(Brought {
+            found,
+            begun: Vec::new(alloc),
+        });
+    }
+    Ok(Brought {
+        found,
+        begun: Vec::from_slice(alloc, open_front(bytes))?,
+    })
+}
+
+/// The sections that begin in these bytes, one behind another.
+fn begin_in(alloc: Global, bytes: &[u8]) -> Result<Brought, AllocError>
+    ensures found { IfOk result (λ brought. map (λ section. section.items) brought.found.items ≡ begun_in 0 bytes.now []) }
+    ensures begun { IfOk result (λ brought. brought.begun.items ≡ unfinished 0 bytes.now) }
+{
+    let mut found = Vec::new(alloc);
+    let mut rest = bytes;
+    while is_whole(rest) {
+        let (section, behind) = rest.split_at(3 + read_length(rest, 1));
+        found.push(Vec::from_slice(alloc, section)?)?;
+        rest = behind;
+    }
+    Ok(Brought {
+        found,
+        begun: Vec::from_slice(alloc, open_front(rest))?,
+    })
+}
+
+/// What more bytes make of a section that was begun. What comes behind its end is left out.
+fn bring(alloc: Global, begun: &[u8], more: &[u8]) -> Result<Brought, AllocError>
+    requires { unfinished 0 begun.now ≡ begun.now }
+    ensures found { IfOk result (λ brought. map (λ section. section.items) brought.found.items ≡ begun_in 0 begun.now more.now) }
+    ensures begun { IfOk result (λ brought. brought.begun.items ≡ left_open begun.now more.now) }
+{
+    if begun.is_empty() {
+        return Ok(Brought {
+            found: Vec::new(alloc),
+            begun: Vec::new(alloc),
+        });
+    }
+    let mut bytes = Vec::from_slice(alloc, begun)?;
+    bytes.extend_from_slice(more)?;
+    first_in(alloc, &bytes)
+}
+
+/// Whether these bytes bring the section_length of a section that was begun, and it is above 1021.
+fn gives_up(begun: &[u8], more: &[u8]) -> bool
+    ensures { result ≡ Rattle.psi_tables.specs.Assembly.gives_up begun.now more.now }
+{
+    let have = begun.len();
+    if have == 0 || have >= 3 || more.len() < 3 - have {
+        return false;
+    }
+    let high = if have == 1 { more[0] } else { begun[1] };
+    let low = more[2 - have];
+    u16::from_be_bytes([high, low]) % 0x1000 > 1021
+}
+
+/// The bytes of a packet with start indicator that belong to the section begun before it.
+fn pointed(packet: &Packet) -> &[u8]
+    ensures { result.now ≡ Rattle.psi_tables.specs.Sections.pointed (carrier packet.now) }
+{
+    let payload = packet.payload();
+    if payload.is_empty() {
+        return &[];
+    }
+    let pointer = usize::from(payload[0]);
+    if pointer >= payload.len() {
+        return &[];
+    }
+    &payload[1..1 + pointer]
+}
+
+/// The bytes of a packet with start indicator behind those.
+fn behind_pointer(packet: &Packet) -> &[u8]
+    ensures { result.now ≡ Rattle.psi_tables.specs.Sections.behind_pointer (carrier packet.now) }
+{
+    let payload = packet.payload();
+    if payload.is_empty() {
+        return &[];
+    }
+    let pointer = usize::from(payload[0]);
+    if pointer >= payload.len() {
+        return &[];
+    }
+    &payload[1 + pointer..]
+}
+
+/// The bytes of a packet with start indicator in which sections begin.
+fn opening_behind<'a>(begun: &[u8], packet: &'a Packet) -> &'a [u8]
+    ensures { result.now ≡ opening (Rattle.psi_tables.specs.Assembly.gives_up begun.now (Rattle.psi_tables.specs.Sections.pointed (carrier packet.now))) (carrier packet.now) }
+{
+    if gives_up(begun, pointed(packet)) {
+        return &[];
+    }
+    behind_pointer(packet)
+}
+
+/// What a packet makes of a section that was begun.
+pub fn gather(alloc: Global, begun: &[u8], packet: &Packet) -> Result<Brought, AllocError>
+    requires { unfinished 0 begun.now ≡ begun.now }
+    ensures found { IfOk result (λ brought. map (λ section. section.items) brought.found.items ≡ completed begun.now (carrier packet.now)) }
+    ensures begun { IfOk result (λ brought. brought.begun.items ≡ left_behind begun.now (carrier packet.now)) }
+{
+    if !packet.starts() {
+        return bring(alloc, begun, packet.payload());
+    }
+    let mut front = bring(alloc, begun, pointed(packet))?;
+    let mut back = begin_in(alloc, opening_behind(begun, packet))?;
+    front.found.append(&mut back.found)?;
+    Ok(Brought {
+        found: front.found,
+        begun: back.begun,
+    })
+}

@@ -1,0 +1,114 @@
+//! The head of a segment (RFC 8216, 3.2).
+
+ghost use Rattle.std.specs.Prelude.{◌≡◌, ◌+◌, ◌<◌, ◌^◌, ◌++◌, ◌/◌, true, length, IfOk, OnOk};
+ghost use Rattle.psi_tables.specs.Head.{head, packet_count, packets, stuffed, section_packets};
+
+use crate::crc::crc_32;
+use crate::tables::Tables;
+use std::alloc::{AllocError, Global};
+
+/// The bytes of a packet without an adaptation field behind its header.
+const PAYLOAD: usize = 184;
+
+/// The packets that bring a segment its tables: one PAT packet with the one program, then the packets of the PMT section
+/// as it came (RFC 8216, 3.2; ISO/IEC 13818-1, 2.4.4). The counters are the continuity_counters of the first packet of
+/// each, modulo 16.
+pub fn head(
+    alloc: Global,
+    tables: &Tables,
+    pat_counter: u8,
+    pmt_counter: u8,
+) -> Result<Vec<u8>, AllocError>
+    ensures { IfOk result (λ bytes. bytes.items ≡ head tables.now pat_counter pmt_counter) }
+{
+    let pat = pat_section(tables.stream_id(), tables.program(), tables.pmt_pid());
+    let mut bytes = Vec::new(alloc);
+    append_section(&mut bytes, 0, pat_counter, &pat)?;
+    append_section(&mut bytes, tables.pmt_pid(), pmt_counter, tables.section())?;
+    Ok(bytes)
+}
+
+/// How many packets of a head carry the PMT section, with the pointer_field in front of it.
+pub fn pmt_packets(tables: &Tables) -> usize
+    ensures count { result ≡ packet_count tables.now.section }
+    ensures few { result < 2 ^ 62 }
+{
+    packet_count(tables.section())
+}
+
+fn packet_count(section: &[u8]) -> usize
+    ensures count { result ≡ Rattle.psi_tables.specs.Head.packet_count section.now }
+    ensures few { result < 2 ^ 62 }
+{
+    (section.len() + PAYLOAD) / PAYLOAD
+}
+
+/// A PAT section of one program.
+fn pat_section(stream_id: u16, program: u16, pmt_pid: u16) -> [u8; 16]
+    ensures { result ≡ Rattle.psi_tables.specs.Head.pat_section stream_id program pmt_pid }
+{
+    let [a, b] = stream_id.to_be_bytes();
+    let [c, d] = program.to_be_bytes();
+    let [e, f] = (0xE000 + pmt_pid % 0x2000).to_be_bytes();
+    let fields = [0x00, 0xB0, 13, a, b, 0xC1, 0, 0, c, d, e, f];
+    let [g, h, i, j] = crc_32(&fields).to_be_bytes();
+    [0x00, 0xB0, 13, a, b, 0xC1, 0, 0, c, d, e, f, g, h, i, j]
+}
+
+/// Appends the packets of a PID that carry one section.
+fn append_section(
+    bytes: &mut Vec<u8>,
+    pid: u16,
+    counter: u8,
+    section: &[u8],
+) -> Result<(), AllocError>
+    ensures { OnOk result (bytes.new.items ≡ bytes.old.items ++ section_packets pid counter section.now) }
+{
+    let mut carried = Vec::new(*bytes.allocator());
+    carried.push(0)?;
+    carried.extend_from_slice(section)?;
+    append_packets(bytes, pid, counter, &carried)
+}
+
+/// Appends packets of a PID that carry these bytes, the first with payload_unit_start_indicator.
+fn append_packets(
+    bytes: &mut Vec<u8>,
+    pid: u16,
+    counter: u8,
+    carried: &[u8],
+) -> Result<(), AllocError>
+    ensures { OnOk result (bytes.new.items ≡ bytes.old.items ++ packets ((length carried.now + 183) / 184) true pid counter carried.now) }
+{
+    let mut starts = true;
+    let mut counter = usize::from(counter);
+    let mut rest = carried;
+    'packet: while !rest.is_empty() {
+        append_packet(bytes, header(starts, pid, counter), rest)?;
+        starts = false;
+        counter += 1;
+        let (_, later) = rest.split_at(usize::min(PAYLOAD, rest.len()));
+        rest = later;
+    }
+    Ok(())
+}
+
+/// Appends one packet with this header, as many of the bytes as it has room for, and stuffing to its end.
+fn append_packet(bytes: &mut Vec<u8>, header: [u8; 4], carried: &[u8]) -> Result<(), AllocError>
+    ensures { OnOk result (bytes.new.items ≡ bytes.old.items ++ header ++ stuffed carried.now) }
+{
+    let (payload, _) = carried.split_at(usize::min(PAYLOAD, carried.len()));
+    bytes.extend_from_slice(&header)?;
+    bytes.extend_from_slice(payload)?;
+    let (_, stuffing) = [0xFF; PAYLOAD].split_at(payload.len());
+    bytes.extend_from_slice(stuffing)?;
+    Ok(())
+}
+
+/// The header of a packet that has a payload alone.
+fn header(starts: bool, pid: u16, counter: usize) -> [u8; 4]
+    ensures { result ≡ Rattle.psi_tables.specs.Head.header starts pid counter }
+{
+    let start = if starts { 0x4000 } else { 0 };
+    let [high, low] = (start + pid % 0x2000).to_be_bytes();
+    [0x47, high, low, 0x10 + (counter % 16) as u8]
+}
