@@ -1,0 +1,77 @@
+-- Media playlists, line by line (RFC 8216, 4.3).
+use Rattle.std.specs.Prelude.{ℕ, Bool, ◌==◌, if◌then◌else◌, Option, Some, None, List, [], ◌∷◌, ◌++◌, codes}
+use Rattle.std.specs.Fmt.{decimal}
+use Rattle.playlist_text.specs.Numbers.{seconds}
+use Rattle.playlist_text.specs.Uris.{segment_uri, key_uri}
+use Rattle.playlist_text.specs.Attributes.{quoted, attribute, attribute_list}
+
+-- one segment of a playlist: its number, the index of its key, its microseconds, and whether it is a discontinuity
+pub record Entry : Type 0 where
+  pub number : ℕ
+  pub key : ℕ
+  pub micros : ℕ
+  pub discontinuity : Bool
+
+-- a media playlist: the rendition's name, the target duration in seconds, the numbers of media and of discontinuities at its beginning, its segments, and whether it has ended
+pub record Listing : Type 0 where
+  pub name : List ℕ
+  pub target : ℕ
+  pub sequence : ℕ
+  pub discontinuity_sequence : ℕ
+  pub entries : List Entry
+  pub ended : Bool
+
+-- the lines that both kinds of media playlist begin with (4.3.1 and 4.3.3.1 to 4.3.3.3)
+unfoldable pub head_lines : ℕ → ℕ → ℕ → List (List ℕ)
+head_lines target sequence discontinuity_sequence =
+    codes "#EXTM3U"
+    ∷ codes "#EXT-X-VERSION:4"
+    ∷ (codes "#EXT-X-TARGETDURATION:" ++ decimal target)
+    ∷ (codes "#EXT-X-MEDIA-SEQUENCE:" ++ decimal sequence)
+    ∷ (codes "#EXT-X-DISCONTINUITY-SEQUENCE:" ++ decimal discontinuity_sequence)
+    ∷ []
+
+-- the line before a discontinuity (4.3.2.3)
+unfoldable pub discontinuity_lines : Bool → List (List ℕ)
+discontinuity_lines discontinuity = if discontinuity then codes "#EXT-X-DISCONTINUITY" ∷ [] else []
+
+-- the attributes of a key of AES-128 at a URI (4.3.2.4)
+abbrev pub key_attributes : List ℕ → List (List ℕ)
+key_attributes uri =
+    attribute (codes "METHOD") (codes "AES-128") ∷ attribute (codes "URI") (quoted uri) ∷ []
+
+-- the line of a key
+unfoldable pub key_line : List ℕ → ℕ → List ℕ
+key_line name index = codes "#EXT-X-KEY:" ++ attribute_list (key_attributes (key_uri name index))
+
+-- a key's line, unless the segment before had that key
+unfoldable pub key_lines : List ℕ → Option ℕ → ℕ → List (List ℕ)
+key_lines name None index = key_line name index ∷ []
+key_lines name (Some before) index = if before == index then [] else key_line name index ∷ []
+
+-- the line of a duration in microseconds (4.3.2.1)
+unfoldable pub duration_line : ℕ → List ℕ
+duration_line micros = codes "#EXTINF:" ++ seconds micros ++ codes ","
+
+-- the lines of a segment behind one with a key, or behind none
+unfoldable pub entry_lines : List ℕ → Option ℕ → Entry → List (List ℕ)
+entry_lines name before entry =
+    discontinuity_lines entry.discontinuity ++ key_lines name before entry.key
+    ++ duration_line entry.micros ∷ segment_uri name entry.number ∷ []
+
+-- the lines of all segments
+unfoldable pub entries_lines : List ℕ → Option ℕ → List Entry → List (List ℕ)
+entries_lines name before [] = []
+entries_lines name before (entry ∷ entries) =
+    entry_lines name before entry ++ entries_lines name (Some entry.key) entries
+
+-- the last line of a playlist that has ended (4.3.3.4)
+unfoldable pub end_lines : Bool → List (List ℕ)
+end_lines ended = if ended then codes "#EXT-X-ENDLIST" ∷ [] else []
+
+-- the lines of a media playlist
+unfoldable pub listing_lines : Listing → List (List ℕ)
+listing_lines listing =
+    head_lines listing.target listing.sequence listing.discontinuity_sequence
+    ++ entries_lines listing.name None listing.entries
+    ++ end_lines listing.ended

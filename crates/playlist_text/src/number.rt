@@ -1,0 +1,51 @@
+ghost use Rattle.std.specs.Prelude.{◌≡◌, ◌+◌, ◌<◌, ◌∷◌, [], ◌++◌, OnOk};
+ghost use Rattle.std.specs.String.{string_bytes};
+ghost use Rattle.std.specs.Fmt.{decimal};
+ghost use Rattle.playlist_text.specs.Numbers;
+ghost use Rattle.playlist_text.specs.Numbers.{six_digits, seconds};
+
+use itoa::Buffer;
+use std::alloc::AllocError;
+
+/// The whole microseconds of a time in ticks of 1/90000 s, to the nearest.
+pub fn micros(ticks: u64) -> u128
+    ensures { result ≡ Numbers.micros ticks }
+{
+    (200 * u128::from(ticks) + 9) / 18
+}
+
+/// Appends a decimal integer, with no zeros in front (RFC 8216, 4.2).
+pub fn push_decimal(out: &mut String, number: u128) -> Result<(), AllocError>
+    ensures { OnOk result (string_bytes out.new ≡ string_bytes out.old ++ decimal number) }
+{
+    out.push_str(Buffer::new().format(number))
+}
+
+/// Appends microseconds as a decimal number of seconds, with six digits behind the point (RFC 8216, 4.2).
+#[tactic(auto, unfolding(crate::specs::Numbers::seconds))]
+pub fn push_seconds(out: &mut String, micros: u128) -> Result<(), AllocError>
+    ensures { OnOk result (string_bytes out.new ≡ string_bytes out.old ++ seconds micros) }
+{
+    push_decimal(out, micros / 1_000_000)?;
+    out.push('.')?;
+    push_six_digits(out, micros % 1_000_000)
+}
+
+#[tactic(auto, unfolding(crate::specs::Numbers::six_digits))]
+fn push_six_digits(out: &mut String, number: u128) -> Result<(), AllocError>
+    ensures { OnOk result (string_bytes out.new ≡ string_bytes out.old ++ six_digits number) }
+{
+    push_digit(out, number / 100_000 % 10)?;
+    push_digit(out, number / 10_000 % 10)?;
+    push_digit(out, number / 1_000 % 10)?;
+    push_digit(out, number / 100 % 10)?;
+    push_digit(out, number / 10 % 10)?;
+    push_digit(out, number % 10)
+}
+
+fn push_digit(out: &mut String, digit: u128) -> Result<(), AllocError>
+    requires { digit < 10 }
+    ensures { OnOk result (string_bytes out.new ≡ string_bytes out.old ++ (48 + digit) ∷ []) }
+{
+    out.push(char::from(b'0' + digit as u8))
+}

@@ -1,0 +1,61 @@
+ghost use Rattle.std.specs.Prelude.{◌≡◌, ◌++◌, OnOk};
+ghost use Rattle.std.specs.String.{string_bytes};
+ghost use Rattle.playlist_text.specs.Uris.{escaped, segment_uri, key_uri, media_uri, frames_uri};
+
+use crate::number::push_decimal;
+use percent_encoding::{AsciiSet, NON_ALPHANUMERIC, ascii_set, utf8_percent_encode};
+use std::alloc::AllocError;
+
+/// The URI of the master playlist.
+pub const MASTER_URI: &str = "master.m3u8";
+
+/// The bytes of ASCII that are escaped in the URIs of a name.
+const ESCAPED: AsciiSet = ascii_set!(NON_ALPHANUMERIC.remove(b'-').remove(b'_').remove(b'~'));
+
+/// Appends a name as it stands in URIs: bytes other than letters, digits, `-`, `_` and `~` as `%XX`, in upper case.
+pub fn push_escaped(out: &mut String, name: &str) -> Result<(), AllocError>
+    ensures { OnOk result (string_bytes out.new ≡ string_bytes out.old ++ escaped name.now) }
+{
+    utf8_percent_encode(name, ESCAPED).append_to(out)?;
+    Ok(())
+}
+
+/// Appends the URI of a segment: `NAME.number.ts`.
+#[tactic(auto, unfolding(crate::specs::Uris::segment_uri))]
+pub fn push_segment_uri(out: &mut String, name: &str, number: u64) -> Result<(), AllocError>
+    ensures { OnOk result (string_bytes out.new ≡ string_bytes out.old ++ segment_uri name.now number) }
+{
+    push_escaped(out, name)?;
+    out.push_str(".")?;
+    push_decimal(out, u128::from(number))?;
+    out.push_str(".ts")
+}
+
+/// Appends the URI of a key: `NAME.index.key`.
+#[tactic(auto, unfolding(crate::specs::Uris::key_uri))]
+pub fn push_key_uri(out: &mut String, name: &str, index: u64) -> Result<(), AllocError>
+    ensures { OnOk result (string_bytes out.new ≡ string_bytes out.old ++ key_uri name.now index) }
+{
+    push_escaped(out, name)?;
+    out.push_str(".")?;
+    push_decimal(out, u128::from(index))?;
+    out.push_str(".key")
+}
+
+/// Appends the URI of a media playlist: `NAME.m3u8`.
+#[tactic(auto, unfolding(crate::specs::Uris::media_uri))]
+pub fn push_media_uri(out: &mut String, name: &str) -> Result<(), AllocError>
+    ensures { OnOk result (string_bytes out.new ≡ string_bytes out.old ++ media_uri name.now) }
+{
+    push_escaped(out, name)?;
+    out.push_str(".m3u8")
+}
+
+/// Appends the URI of a playlist of I-frames: `NAME.iframes.m3u8`.
+#[tactic(auto, unfolding(crate::specs::Uris::frames_uri))]
+pub fn push_frames_uri(out: &mut String, name: &str) -> Result<(), AllocError>
+    ensures { OnOk result (string_bytes out.new ≡ string_bytes out.old ++ frames_uri name.now) }
+{
+    push_escaped(out, name)?;
+    out.push_str(".iframes.m3u8")
+}
