@@ -1,0 +1,74 @@
+-- The playlists of a window, line by line (RFC 8216, 4.3).
+use Rattle.std.specs.Prelude.{ℕ, Bool, List, [], ◌∷◌, ◌++◌, map, codes}
+use Rattle.std.specs.List.{flat_map}
+use Rattle.std.specs.Fmt.{decimal}
+use Rattle.std.specs.Int.{to_be_bytes, w128}
+use Rattle.playlist_text.specs.Attributes.{attribute, attribute_list, hexadecimal}
+use Rattle.playlist_text.specs.Uris.{segment_uri, key_uri}
+use Rattle.playlist_text.specs.MediaLines.{Entry, head_lines, discontinuity_lines, key_attributes, duration_line, end_lines, listing_lines}
+use Rattle.media_playlist.specs.declared.row.FrameRow.{FrameRow}
+use Rattle.media_playlist.specs.Rows.{SegmentRow}
+use Rattle.media_playlist.specs.Listed.{Pushed, first, listed, removed, discontinuity_count, frame_count}
+
+-- what the media playlist tells of a row
+abbrev pub entry_of : SegmentRow → Entry
+entry_of row =
+    record { number = row.number; key = row.key; micros = row.micros; discontinuity = row.discontinuity }
+
+-- the lines of rows, or none where there is no row
+abbrev pub unless_empty : List SegmentRow → List (List ℕ) → List (List ℕ)
+unless_empty [] lines = []
+unless_empty (row ∷ rows) lines = lines
+
+-- the lines of the media playlist; its media sequence is the number of rows removed
+unfoldable pub media_lines : Pushed → Bool → List (List ℕ)
+media_lines pushed ended = unless_empty pushed.rows
+    (listing_lines (record {
+      name = pushed.name;
+      target = pushed.target;
+      sequence = first pushed;
+      discontinuity_sequence = discontinuity_count (removed pushed);
+      entries = map entry_of (listed pushed);
+      ended = ended;
+    }))
+
+-- the vector of a segment: its number in 16 bytes, big-endian (RFC 8216, 5.2)
+abbrev pub vector_of : ℕ → List ℕ
+vector_of number = to_be_bytes w128 number
+
+-- the attributes of a key at a URI, with a vector (RFC 8216, 4.3.2.4)
+abbrev pub vector_key_attributes : List ℕ → List ℕ → List (List ℕ)
+vector_key_attributes uri vector = key_attributes uri ++ attribute (codes "IV") (hexadecimal vector) ∷ []
+
+-- the line of a key with the vector of a segment
+unfoldable pub vector_key_line : List ℕ → ℕ → ℕ → List ℕ
+vector_key_line name index number =
+    codes "#EXT-X-KEY:" ++ attribute_list (vector_key_attributes (key_uri name index) (vector_of number))
+
+-- the line of a part of a segment: its bytes, and where it begins (RFC 8216, 4.3.2.2)
+unfoldable pub range_line : ℕ → ℕ → List ℕ
+range_line len offset = codes "#EXT-X-BYTERANGE:" ++ decimal len ++ codes "@" ++ decimal offset
+
+-- the lines of an I-frame of a segment
+unfoldable pub frame_lines : List ℕ → ℕ → FrameRow → List (List ℕ)
+frame_lines name number frame =
+    duration_line frame.micros ∷ range_line frame.len frame.offset ∷ segment_uri name number ∷ []
+
+-- the lines of the I-frames of a row
+unfoldable pub row_frame_lines : List ℕ → SegmentRow → List (List ℕ)
+row_frame_lines name row =
+    discontinuity_lines row.discontinuity
+    ++ vector_key_line name row.key row.number ∷ []
+    ++ flat_map (frame_lines name row.number) row.frames
+
+-- the line of a playlist of I-frames (RFC 8216, 4.3.3.6)
+abbrev pub frames_only_line : List ℕ
+frames_only_line = codes "#EXT-X-I-FRAMES-ONLY"
+
+-- the lines of the playlist of I-frames; its media sequence is the number of I-frames removed
+unfoldable pub iframe_lines : Pushed → Bool → List (List ℕ)
+iframe_lines pushed ended = unless_empty pushed.rows
+    (head_lines pushed.target (frame_count (removed pushed)) (discontinuity_count (removed pushed))
+    ++ frames_only_line ∷ []
+    ++ flat_map (row_frame_lines pushed.name) (listed pushed)
+    ++ end_lines ended)

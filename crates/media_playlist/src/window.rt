@@ -1,0 +1,125 @@
+ghost use Rattle.std.specs.Prelude.{◌≡◌, ◌≢◌, ◌<◌, ◌^◌, ◌↔◌, [], ◌∷◌, ◌++◌, length, IsTrue, IfOk, OnOk, OnErr, IsErrOf, false};
+ghost use Rattle.std.specs.String.{string_bytes};
+ghost use Rattle.playlist_text.specs.Lines.{text_of};
+ghost use Rattle.media_playlist.specs.Rows;
+ghost use Rattle.media_playlist.specs.Lines.{media_lines, iframe_lines};
+
+use crate::fault::WindowFault;
+use crate::iframes::{push_frames, push_frames_only};
+use crate::lines::{push_end, push_head};
+use crate::media::push_entries;
+use crate::row::{Row, is_long};
+use crate::start::{Start, moved_on};
+use std::alloc::{AllocError, Global};
+use std::marker::Model;
+
+/// The rows of a rendition as they come, of which its playlists list the last: as few as are as many as the window and
+/// last at least three target durations (RFC 8216, 6.2.2).
+///
+/// Clauses see a window as its name, its target duration in seconds, the least number of rows to list, and the list of
+/// all rows that it was pushed.
+#[derive(Drop)]
+pub struct Window {
+    name: String,
+    target: u64,
+    window: u64,
+    rows: Vec<Row>,
+    start: Start,
+}
+
+impl Model for Window {
+    ghost use Rattle.media_playlist.specs.Listed.{Pushed};
+
+    ghost Value = { Pushed };
+
+    ghost use Rattle.media_playlist.specs.State.{pushed, IsTied};
+
+    ghost view = { pushed };
+
+    ghost invariant = { IsTied };
+}
+
+impl Window {
+    /// A window that was pushed nothing. The target duration is in seconds.
+    pub fn new(alloc: Global, name: &str, target: u64, window: u64) -> Result<Window, AllocError>
+        ensures { IfOk result (λ new.
+            new ≡ record { name = name.now; target = target; window = window; rows = [] }) }
+    {
+        let name = String::from_str(alloc, name)?;
+        Ok(Window {
+            name,
+            target,
+            window,
+            rows: Vec::new(alloc),
+            start: Start::new(),
+        })
+    }
+
+    /// How many rows it was pushed.
+    pub fn row_count(&self) -> u64
+        ensures { result ≡ length self.now.rows }
+    {
+        self.rows.len() as u64
+    }
+
+    /// Takes the next row. Fewer than 2^52 rows came before: the caller's care.
+    ///
+    /// A refusal leaves the window as it was. LongRow is told before OutOfOrder, and both before the want of memory.
+    pub fn push(&mut self, row: Row) -> Result<(), WindowFault>
+        requires { length self.old.rows < 2 ^ 52 }
+        ensures pushed { OnOk result (self.new ≡ record self.old { rows = self.old.rows ++ row ∷ [] }) }
+        ensures long { IsErrOf result WindowFault.LongRow ↔ IsTrue (Rows.is_long self.old.target row) }
+        ensures order { IsErrOf result WindowFault.OutOfOrder
+            ↔ ((Rows.is_long self.old.target row ≡ false) × (row.number ≢ length self.old.rows)) }
+        ensures err { OnErr result (self.new ≡ self.old) }
+    {
+        if is_long(self.target, &row) {
+            return Err(WindowFault::LongRow);
+        }
+        if row.number != self.row_count() {
+            return Err(WindowFault::OutOfOrder);
+        }
+        let start = self.start.with_micros(row.micros);
+        self.rows.push(row)?;
+        self.start = moved_on(self.target, self.window, &self.rows, start);
+        Ok(())
+    }
+
+    /// The text of the media playlist, ended or not (RFC 8216, 4.3). With no row it is empty.
+    pub fn media_text(&self, ended: bool) -> Result<String, AllocError>
+        ensures { IfOk result (λ text. string_bytes text ≡ text_of (media_lines self.now ended)) }
+    {
+        let mut out = String::new(*self.rows.allocator());
+        let rows = self.rows.as_slice();
+        if rows.is_empty() {
+            return Ok(out);
+        }
+        let start = self.start;
+        push_head(
+            &mut out,
+            self.target,
+            start.first as u128,
+            start.discontinuities,
+        )?;
+        push_entries(&mut out, &self.name, &rows[start.first..])?;
+        push_end(&mut out, ended)?;
+        Ok(out)
+    }
+
+    /// The text of the playlist of I-frames, ended or not (RFC 8216, 4.3.3.6). With no row it is empty.
+    pub fn iframe_text(&self, ended: bool) -> Result<String, AllocError>
+        ensures { IfOk result (λ text. string_bytes text ≡ text_of (iframe_lines self.now ended)) }
+    {
+        let mut out = String::new(*self.rows.allocator());
+        let rows = self.rows.as_slice();
+        if rows.is_empty() {
+            return Ok(out);
+        }
+        let start = self.start;
+        push_head(&mut out, self.target, start.frames, start.discontinuities)?;
+        push_frames_only(&mut out)?;
+        push_frames(&mut out, &self.name, &rows[start.first..])?;
+        push_end(&mut out, ended)?;
+        Ok(out)
+    }
+}
