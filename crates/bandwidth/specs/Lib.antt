@@ -1,0 +1,5 @@
+pub mod Runs
+pub mod Peaks
+pub mod Pushed
+pub mod Steps
+pub mod Kept
