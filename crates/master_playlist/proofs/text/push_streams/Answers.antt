@@ -1,0 +1,13 @@
+use Rattle.std.proofs.Common.{List, ℕ, ◌++◌, ap, sym, ◌∙◌}
+use Rattle.std.specs.String.{string_bytes}
+use Rattle.std.proofs.lemmas.List.{append-nil, at_drop_all}
+use Rattle.master_playlist.proofs.Texts.{streams_text, streams_text-is}
+use Rattle.master_playlist.proofs.text.push_streams.Goals as goal
+
+pub returns : goal.returns
+returns c =
+    let none_left = at_drop_all streams_text c.args.variants.now c.loop-variant.variant-index c.loop-variant-test.false in
+    sym (append-nil (string_bytes c.loop-variant.out))
+    ∙ ap (λ (t : List ℕ). string_bytes c.loop-variant.out ++ t) (sym none_left)
+    ∙ c.loop-variant.invariant
+    ∙ ap (λ (t : List ℕ). string_bytes c.args.out.now ++ t) (sym (streams_text-is c.args.variants.now))

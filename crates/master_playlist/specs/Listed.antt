@@ -1,0 +1,13 @@
+-- A variant, as it is listed.
+use Rattle.std.specs.Prelude.{ℕ, List}
+
+-- its name and codecs as bytes, its size in pixels, and rates in bits a second
+pub record Listed : Type 0 where
+  pub name : List ℕ
+  pub codecs : List ℕ
+  pub width : ℕ
+  pub height : ℕ
+  pub peak : ℕ
+  pub average : ℕ
+  pub frame_peak : ℕ
+  pub frame_average : ℕ
