@@ -1,0 +1,115 @@
+-- What a cutter keeps, behind each of its calls.
+use Rattle.std.proofs.Common.{◌≡◌, ◌∙◌, ◌⊎◌, inl, inr, ℕ, ◌<◌, ◌^◌, Bool, true, false, List, [], ◌∷◌, ◌++◌, length, Option, None, refl, ap, sym, arith}
+use Rattle.psi_tables.specs.InForce.{InForce, tables_behind}
+use Rattle.psi_tables.specs.Watching.{Watched}
+use Rattle.pes_time.specs.Times.{Pushed as Timed}
+use Rattle.pes_time.specs.declared.clock.Stamp.{Stamp}
+use Rattle.cutter.specs.declared.look.Look.{Look}
+use Rattle.cutter.specs.declared.fault.CutFault.{CutFault}
+use Rattle.cutter.specs.declared.fault.CutFault.TheVariants.{NoMemory, Limit}
+use Rattle.cutter.specs.declared.cutter.Cutter.TheInside.{Inside}
+use Rattle.cutter.specs.Settings.{Pushed}
+use Rattle.cutter.specs.Plans.{SegmentPlan}
+use Rattle.cutter.specs.Stream.{packet_list, packets_of, pts_from, pts_list, pts_at, with_pts, in_force, look_by, is_lost, facts_from, Fact, fact_behind}
+use Rattle.cutter.specs.Points.{mark, counted, top_after}
+use Rattle.cutter.specs.Cuts.{cut_from, closed, made, Ends}
+use Rattle.cutter.specs.Held.{Gathered, taken, gives, faults}
+use Rattle.cutter.specs.Tied.{pushed, Keeps}
+use Rattle.cutter.proofs.Facts.{packets_of-more, pts_list-more, pts_list-length}
+use Rattle.cutter.proofs.Running.{Placed, placed-more, placed-fault, lost-fault}
+
+-- a new one
+pub new-keeps : (c : Inside) → c.watch ≡ record { program = c.settings.program; packets = [] } → c.clock ≡ record { gap = c.settings.gap; list = [] }
+    → c.fed.items ≡ [] → c.top ≡ None → c.going ≡ None → Keeps c
+unfolding cut_from packets_of pts_from facts_from
+new-keeps c watch clock fed top going = record {
+  watch = rw fed watch;
+  clock = rw fed clock;
+  cuts = rw fed (record { sound = refl; top = sym top; going = sym going });
+}
+
+-- what the code reads of what it keeps is what the packet is
+abbrev tables_in : Inside → Option InForce
+tables_in c = tables_behind c.watch.program c.watch.packets
+
+tables-are : (c : Inside) → Keeps c → tables_in c ≡ in_force c.settings c.fed.items
+tables-are c k = ap (λ (w : Watched). tables_behind w.program w.packets) k.watch
+
+by-kept : {A : Type 0} (c : Inside) (read : ℕ → List ℕ → Option InForce → A) → Keeps c
+    → read c.clock.gap c.clock.list (tables_in c) ≡ read c.settings.gap (pts_list c.settings c.fed.items) (in_force c.settings c.fed.items)
+by-kept c read k =
+    ap (λ (t : Timed). read t.gap t.list (tables_in c)) k.clock ∙ ap (read c.settings.gap (pts_list c.settings c.fed.items)) (tables-are c k)
+
+-- what the code found out of a packet
+pub record Read (c : Inside) (p : List ℕ) (look : Look) (now : Option Gathered) (t : Option InForce) (c' : Option Stamp) : Type 0 where
+  pub look_is : look ≡ look_by c.clock.gap c.clock.list (tables_in c) p
+  pub kept : is_lost c.clock.gap c.clock.list (pts_at (tables_in c) p) ≡ false
+  pub going : now ≡ c.going
+  pub tables : t ≡ tables_in c
+  pub counted_is : c' ≡ counted c.top look
+
+abbrev fact : Inside → List ℕ → Fact
+fact c p = fact_behind c.settings c.fed.items p
+
+-- the same, said of the packet
+taken-is : (c : Inside) (p : List ℕ) (look : Look) (now : Option Gathered) (t : Option InForce) (c' : Option Stamp) → Keeps c → Read c p look now t c'
+    → taken c.rendition c.settings now t c' (mark p look c')
+    ≡ taken c.rendition c.settings c.going (fact c p).tables (counted c.top (fact c p).look) (mark p (fact c p).look (counted c.top (fact c p).look))
+taken-is c p look now t c' k r =
+    let sight : look ≡ (fact c p).look = r.look_is ∙ by-kept c (λ gap list tables. look_by gap list tables p) k in
+    let point : c' ≡ counted c.top (fact c p).look = r.counted_is ∙ ap (counted c.top) sight in
+    rw (r.going, r.tables, tables-are c k, point, sight) refl
+
+lost-is : (c : Inside) (p : List ℕ) (test : Bool) → Keeps c → is_lost c.clock.gap c.clock.list (pts_at (tables_in c) p) ≡ test → (fact c p).is_lost ≡ test
+lost-is c p test k is = sym (by-kept c (λ gap list tables. is_lost gap list (pts_at tables p)) k) ∙ is
+
+placed-by : (c : Inside) (p : List ℕ) (look : Look) (now after : Option Gathered) (t : Option InForce) (c' : Option Stamp) (plan : Option SegmentPlan)
+    → Keeps c → Read c p look now t c' → taken c.rendition c.settings now t c' (mark p look c') ≡ gives after plan
+    → Placed c.rendition c.settings c.fed.items p (top_after c.top (counted c.top (fact c p).look)) after plan
+placed-by c p look now after t c' plan k r gave =
+    placed-more c.rendition c.settings c.fed.items (fact c p) p c.top c.going after plan refl k.cuts (lost-is c p false k r.kept) (sym (taken-is c p look now t c' k r) ∙ gave)
+
+-- the plan that a packet closes
+pub push-plan : (c : Inside) (v : Pushed) (p : List ℕ) (look : Look) (now after : Option Gathered) (t : Option InForce) (c' : Option Stamp) (plan : Option SegmentPlan)
+    → pushed c ≡ v → Keeps c → Read c p look now t c' → taken c.rendition c.settings now t c' (mark p look c') ≡ gives after plan
+    → closed v.rendition v.settings (v.list ++ p ∷ []) ≡ closed v.rendition v.settings v.list ++ made plan
+push-plan c v p look now after t c' plan is k r gave = rw (← is) (placed-by c p look now after t c' plan k r gave).plans
+
+-- the fault that a packet brings
+abbrev pub Told : Pushed → List ℕ → CutFault → Type 0
+Told v p e = (e ≡ NoMemory) ⊎ ((more : List (List ℕ)) → Ends v.rendition v.settings (v.list ++ p ∷ more) e (closed v.rendition v.settings v.list))
+
+pub push-fault : (c : Inside) (v : Pushed) (p : List ℕ) (look : Look) (now : Option Gathered) (t : Option InForce) (c' : Option Stamp) (e : CutFault)
+    → pushed c ≡ v → Keeps c → Read c p look now t c' → (e ≡ NoMemory) ⊎ (taken c.rendition c.settings now t c' (mark p look c') ≡ faults e) → Told v p e
+push-fault c v p look now t c' e is k r (inl none) = inl none
+push-fault c v p look now t c' e is k r (inr brought) =
+    inr (rw (← is) (λ more. placed-fault c.rendition c.settings c.fed.items (fact c p) p c.top c.going e more refl k.cuts (lost-is c p false k r.kept) (sym (taken-is c p look now t c' k r) ∙ brought)))
+
+pub push-lost : (c : Inside) (v : Pushed) (p : List ℕ) (e : CutFault)
+    → pushed c ≡ v → Keeps c → (e ≡ Limit) × (is_lost c.clock.gap c.clock.list (pts_at (tables_in c) p) ≡ true) → Told v p e
+push-lost c v p e is k lost =
+    inr (rw (← is, lost.0) (λ more. lost-fault c.rendition c.settings c.fed.items p c.top c.going more k.cuts (lost-is c p true k lost.1)))
+
+-- what is kept behind a packet
+pub push-keeps : (c d : Inside) (p : List ℕ) (look : Look) (now : Option Gathered) (t : Option InForce) (c' : Option Stamp) (plan : Option SegmentPlan)
+    → Keeps c → Read c p look now t c' → taken c.rendition c.settings now t c' (mark p look c') ≡ gives d.going plan
+    → d.rendition ≡ c.rendition → d.settings ≡ c.settings
+    → d.watch ≡ record { program = c.watch.program; packets = c.watch.packets ++ packet_list p }
+    → d.clock ≡ record { gap = c.clock.gap; list = with_pts c.clock.list (pts_at (tables_in c) p) }
+    → d.top ≡ top_after c.top c' → d.fed.items ≡ c.fed.items ++ p ∷ []
+    → Keeps d
+push-keeps c d p look now t c' plan k r gave rendition settings watch clock top fed =
+    let placed = placed-by c p look now d.going t c' plan k r gave in
+    let point : c' ≡ counted c.top (fact c p).look = r.counted_is ∙ ap (counted c.top) (r.look_is ∙ by-kept c (λ gap list tables. look_by gap list tables p) k) in
+    record {
+      watch = rw (settings, fed, packets_of-more c.fed.items p) (watch ∙ ap (λ (w : Watched). record { program = w.program; packets = w.packets ++ packet_list p }) k.watch);
+      clock = rw (settings, fed, pts_list-more c.settings c.fed.items p) (clock ∙ by-kept {A = Timed} c (λ gap list tables. record { gap = gap; list = with_pts list (pts_at tables p) }) k);
+      cuts = rw (rendition, settings, fed, top, point) placed.at;
+    }
+
+-- the values that a clock was pushed are no more than the packets
+pub few : (c : Inside) (v : Pushed) → pushed c ≡ v → Keeps c → length v.list < 2 ^ 63 → length c.clock.list < 2 ^ 63
+few c v is k below =
+    let list : length c.clock.list ≡ length (pts_list c.settings c.fed.items) = ap (λ (t : Timed). length t.list) k.clock in
+    let same : length c.fed.items ≡ length v.list = ap (λ (v : Pushed). length v.list) is in
+    omega (arith, list, same, below, pts_list-length c.settings c.fed.items)

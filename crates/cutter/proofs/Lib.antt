@@ -1,0 +1,10 @@
+pub mod Ranges
+pub mod Facts
+pub mod Gathering
+pub mod Placing
+pub mod Running
+pub mod Keeping
+pub mod Ending
+pub mod Streams
+pub mod Fronts
+pub mod Parts

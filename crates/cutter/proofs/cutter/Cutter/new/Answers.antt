@@ -1,0 +1,6 @@
+use Rattle.std.proofs.Common.{refl}
+use Rattle.cutter.proofs.Keeping.{new-keeps}
+use Rattle.cutter.proofs.cutter.Cutter.new.Goals as goal
+
+pub invariant_of-result : goal.invariant_of-result
+invariant_of-result c = record { settings = c.requires; keeps = λ _. new-keeps _ c.new.ensures c.new-2.ensures c.new-3.ensures refl refl }

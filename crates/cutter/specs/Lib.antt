@@ -1,0 +1,10 @@
+pub mod Plans
+pub mod Stream
+pub mod Points
+pub mod Segments
+pub mod Cuts
+pub mod Settings
+pub mod Held
+pub mod Inside
+pub mod Tied
+pub mod Dividing

@@ -1,0 +1,134 @@
+ghost use Rattle.std.specs.Prelude.{◌≡◌, ◌<◌, ◌^◌, ◌⊎◌, [], ◌∷◌, ◌++◌, ℕ, List, Err, true, false, None, length, IfOk, IfErr, OnOk, OnErr};
+ghost use Rattle.cutter.specs.declared.fault.CutFault.TheVariants.{NoMemory, Ended};
+ghost use Rattle.cutter.specs.Cuts.{closed, fault, plans, made, Ends};
+ghost use Rattle.cutter.specs.Settings.{IsAllowed};
+
+use crate::fault::CutFault;
+use crate::following::{look_behind, watch_packet};
+use crate::going::Going;
+use crate::place::{Placed, finish, place};
+use crate::plan::Plan;
+use crate::point::{counted, top_after};
+use crate::settings::CutSettings;
+use ghost_list::GhostList;
+use pes_time::{Clock, Stamp};
+use psi_tables::Watch;
+use std::alloc::Global;
+use std::marker::Model;
+
+/// Cuts the packets of a rendition into segments, and gives the plan of each as soon as the next one begins.
+///
+/// Clauses see a cutter as its rendition, its settings, the list of the packets that it was pushed, and whether it has
+/// ended. It ends at a fault and at the end of the stream; from then on every call answers Ended.
+#[derive(Drop)]
+pub struct Cutter {
+    alloc: Global,
+    rendition: usize,
+    settings: CutSettings,
+    watch: Watch,
+    clock: Clock,
+    top: Option<Stamp>,
+    going: Option<Going>,
+    ended: bool,
+    fed: GhostList<[u8; 188]>,
+}
+
+impl Model for Cutter {
+    ghost use Rattle.cutter.specs.Settings.{Pushed};
+
+    ghost Value = { Pushed };
+
+    ghost use Rattle.cutter.specs.Tied.{pushed, IsTied};
+
+    ghost view = { pushed };
+
+    ghost invariant = { IsTied };
+}
+
+impl Cutter {
+    /// A cutter that was pushed nothing.
+    pub fn new(alloc: Global, rendition: usize, settings: CutSettings) -> Cutter
+        requires { IsAllowed settings }
+        ensures { result ≡ record { rendition = rendition; settings = settings; list = []; ended = false } }
+    {
+        Cutter {
+            alloc,
+            rendition,
+            settings,
+            watch: Watch::new(alloc, settings.program),
+            clock: Clock::new(settings.gap),
+            top: None,
+            going: None,
+            ended: false,
+            fed: GhostList::new(),
+        }
+    }
+
+    /// Takes the next 188 bytes of the stream, and gives the plan of the segment that they close, if they close one. Bytes
+    /// that are no packet take no part. The caller pushes fewer than 2^63 packets.
+    ///
+    /// A fault is told at the packet that brings it, however the stream goes on: LongSegment, BigSegment, Limit. The plans
+    /// that were given before are then all that come before the fault.
+    pub fn push(&mut self, packet: &[u8; 188]) -> Result<Option<Plan>, CutFault>
+        requires { length self.old.list < 2 ^ 63 }
+        ensures pushed { OnOk result (self.new ≡ record self.old { list = self.old.list ++ packet.now ∷ [] }) }
+        ensures going { OnOk result (self.old.ended ≡ false) }
+        ensures plan { IfOk result (λ plan.
+            closed self.old.rendition self.old.settings (self.old.list ++ packet.now ∷ [])
+            ≡ closed self.old.rendition self.old.settings self.old.list ++ made plan) }
+        ensures ended { self.old.ended ≡ true → result ≡ Err Ended }
+        ensures fault { self.old.ended ≡ false → IfErr result (λ e. (e ≡ NoMemory) ⊎ ((more : List (List ℕ)) →
+            Ends self.old.rendition self.old.settings (self.old.list ++ packet.now ∷ more) e
+            (closed self.old.rendition self.old.settings self.old.list))) }
+        ensures err { OnErr result (self.new ≡ record self.old { ended = true }) }
+    {
+        if self.ended {
+            return Err(CutFault::Ended);
+        }
+        self.ended = true;
+        let look = look_behind(&self.watch, &mut self.clock, packet)?;
+        let counted = counted(self.top, look);
+        let (alloc, rendition, settings) = (self.alloc, self.rendition, self.settings);
+        let going = self.going.take();
+        let Placed { going, plan } = place(
+            alloc,
+            rendition,
+            settings,
+            going,
+            self.watch.tables(),
+            packet,
+            look,
+            counted,
+        )?;
+        watch_packet(&mut self.watch, packet)?;
+        self.top = top_after(self.top, counted);
+        self.going = going;
+        self.fed.push(packet);
+        self.ended = false;
+        Ok(plan)
+    }
+
+    /// Ends the stream, and gives the plan of its last segment. The cutter has then ended.
+    ///
+    /// Told are NoProgram where no tables were ever in force, NoStart where no segment begins, and LongSegment.
+    pub fn finish(&mut self) -> Result<Option<Plan>, CutFault>
+        ensures done { self.new ≡ record self.old { ended = true } }
+        ensures going { OnOk result (self.old.ended ≡ false) }
+        ensures plan { IfOk result (λ plan.
+            plans self.old.rendition self.old.settings self.old.list
+            ≡ closed self.old.rendition self.old.settings self.old.list ++ made plan) }
+        ensures sound { OnOk result (fault self.old.rendition self.old.settings self.old.list ≡ None) }
+        ensures ended { self.old.ended ≡ true → result ≡ Err Ended }
+        ensures fault { self.old.ended ≡ false → IfErr result (λ e. (e ≡ NoMemory)
+            ⊎ Ends self.old.rendition self.old.settings self.old.list e
+            (closed self.old.rendition self.old.settings self.old.list)) }
+    {
+        if self.ended {
+            return Err(CutFault::Ended);
+        }
+        self.ended = true;
+        let going = self.going.take();
+        let plan = finish(self.rendition, self.settings, self.watch.tables(), going)?;
+        Ok(Some(plan))
+    }
+}

@@ -1,0 +1,248 @@
+//! The segment that goes on.
+
+ghost use Rattle.std.specs.Prelude.{◌≡◌, ◌+◌, ◌≤◌, ◌<◌, ◌^◌, ◌++◌, false, length, IfOk, OnOk};
+ghost use Rattle.cutter.specs.Points.{mark};
+ghost use Rattle.cutter.specs.Segments;
+ghost use Rattle.cutter.specs.Inside.{IsWithin};
+ghost use Rattle.cutter.specs.Held.{added, empty, end_of, next_of, pending_at, plan_from, IsInRange, HasRange};
+
+use crate::look::Look;
+use crate::plan::{Frame, Plan};
+use crate::point;
+use crate::settings::CutSettings;
+use pes_time::Stamp;
+use psi_tables::{Tables, pmt_packets};
+use std::alloc::{AllocError, Global};
+use std::marker::Model;
+
+/// An I-frame whose end hasn't come.
+#[derive(Clone, Copy)]
+pub struct Pending {
+    pub offset: u64,
+    pub start: u64,
+}
+
+/// A segment whose end hasn't come.
+#[derive(Drop)]
+pub struct Going {
+    number: u64,
+    discontinuity: bool,
+    start: Stamp,
+    tables: Tables,
+    pmt_counter: u8,
+    body: Vec<u8>,
+    frames: Vec<Frame>,
+    pending: Option<Pending>,
+    greatest: i64,
+}
+
+impl Model for Going {
+    ghost use Rattle.cutter.specs.Held.{Gathered};
+
+    ghost Value = { Gathered };
+
+    ghost use Rattle.cutter.specs.Inside.{gathered_by, IsSound};
+
+    ghost view = { gathered_by };
+
+    ghost invariant = { IsSound };
+}
+
+impl Going {
+    /// The first segment of a stream, with no packet yet.
+    pub fn first(alloc: Global, start: Stamp, tables: Tables) -> Going
+        requires { IsInRange start.time }
+        ensures { result ≡ empty 0 false 0 (record { stamp = start; tables = tables }) }
+    {
+        Going {
+            number: 0,
+            discontinuity: false,
+            start,
+            tables,
+            pmt_counter: 0,
+            body: Vec::new(alloc),
+            frames: Vec::new(alloc),
+            pending: None,
+            greatest: start.time,
+        }
+    }
+
+    /// The segment behind this one, with no packet yet.
+    pub fn next(&self, alloc: Global, start: Stamp, tables: Tables) -> Going
+        requires start { IsInRange start.time }
+        requires number { self.now.number < 2 ^ 32 }
+        ensures { result ≡ next_of self.now (record { stamp = start; tables = tables }) }
+    {
+        let discontinuity = point::breaks(self.start, &self.tables, start, &tables);
+        let counter = (usize::from(self.pmt_counter) + pmt_packets(&self.tables)) % 16;
+        Going {
+            number: self.number + 1,
+            discontinuity,
+            start,
+            tables,
+            pmt_counter: counter as u8,
+            body: Vec::new(alloc),
+            frames: Vec::new(alloc),
+            pending: None,
+            greatest: start.time,
+        }
+    }
+
+    /// Takes one packet more.
+    pub fn add(
+        &mut self,
+        packet: &[u8; 188],
+        look: Look,
+        counted: Option<Stamp>,
+    ) -> Result<(), AllocError>
+        requires { HasRange look.stamp }
+        ensures { OnOk result (self.new ≡ added self.old (mark packet.now look counted)) }
+    {
+        let offset = self.body.len() as u64;
+        if look.is_accepted {
+            self.body.extend_from_slice(packet)?;
+        }
+        if look.starts_video {
+            let pending = self.pending;
+            self.pending = None;
+            end_frame(&mut self.frames, pending, offset)?;
+            self.pending = pending_from(self.start, offset, counted);
+        }
+        self.greatest = later(self.start.epoch, self.greatest, look.stamp);
+        Ok(())
+    }
+
+    /// How long the segment lasts, up to a cut with this stamp or the end of the stream.
+    pub fn ticks(&self, settings: CutSettings, next: Option<Stamp>) -> u64
+        requires frame { settings.frame ≤ 900000 }
+        requires next { HasRange next }
+        ensures is { result ≡ Segments.ticks_to settings self.now.head.stamp self.now.greatest next }
+        ensures most { result ≤ 2 ^ 63 + 900000 }
+    {
+        ticks_to(settings, self.start, self.greatest, next)
+    }
+
+    /// Ends the segment, at a cut with this stamp or at the end of the stream.
+    pub fn close(
+        self,
+        rendition: usize,
+        settings: CutSettings,
+        next: Option<Stamp>,
+    ) -> Result<Plan, AllocError>
+        requires frame { settings.frame ≤ 900000 }
+        requires next { HasRange next }
+        ensures { IfOk result (λ plan. plan ≡ plan_from rendition settings self next) }
+    {
+        let ticks = ticks_to(settings, self.start, self.greatest, next);
+        let Going {
+            number,
+            discontinuity,
+            tables,
+            pmt_counter,
+            body,
+            mut frames,
+            pending,
+            ..
+        } = self;
+        end_frame(&mut frames, pending, body.len() as u64)?;
+        Ok(Plan {
+            rendition,
+            number,
+            tables,
+            pat_counter: (number % 16) as u8,
+            pmt_counter,
+            body,
+            frames,
+            ticks,
+            discontinuity,
+        })
+    }
+
+    pub fn number(&self) -> u64
+        ensures { result ≡ self.now.number }
+    {
+        self.number
+    }
+
+    /// Whether a counted point is the next cut.
+    pub fn is_cut(&self, settings: CutSettings, stamp: Stamp, tables: &Tables) -> bool
+        requires { settings.segment < 2 ^ 62 }
+        ensures { result ≡ Segments.is_cut settings self.now.head (record { stamp = stamp; tables = tables.now }) }
+    {
+        point::breaks(self.start, &self.tables, stamp, tables)
+            || point::is_due(settings, self.start, stamp)
+    }
+
+    /// How many bytes the body has.
+    pub fn size(&self) -> u64
+        ensures { result ≡ length self.now.body }
+    {
+        self.body.len() as u64
+    }
+}
+
+/// Ends the I-frame that goes on, if one does.
+fn end_frame(
+    frames: &mut Vec<Frame>,
+    pending: Option<Pending>,
+    offset: u64,
+) -> Result<(), AllocError>
+    requires { IsWithin pending offset }
+    ensures { OnOk result (frames.new.items ≡ frames.old.items ++ end_of pending offset) }
+{
+    let Some(pending) = pending else {
+        return Ok(());
+    };
+    frames.push(Frame {
+        offset: pending.offset,
+        len: offset - pending.offset,
+        start: pending.start,
+    })?;
+    Ok(())
+}
+
+/// The I-frame that begins at a counted point.
+fn pending_from(head: Stamp, offset: u64, counted: Option<Stamp>) -> Option<Pending>
+    ensures is { result ≡ pending_at head offset counted }
+    ensures within { IsWithin result offset }
+{
+    let Some(stamp) = counted else {
+        return None;
+    };
+    let start = stamp.time.abs_diff(head.time);
+    Some(Pending { offset, start })
+}
+
+/// The greatest time of this epoch, with one stamp more.
+fn later(epoch: u64, greatest: i64, stamp: Option<Stamp>) -> i64
+    requires greatest { IsInRange greatest }
+    requires stamp { HasRange stamp }
+    ensures is { result ≡ Segments.later epoch greatest stamp }
+    ensures range { IsInRange result }
+{
+    let Some(stamp) = stamp else {
+        return greatest;
+    };
+    if stamp.epoch == epoch && greatest < stamp.time {
+        return stamp.time;
+    }
+    greatest
+}
+
+/// How long a segment lasts, in ticks.
+fn ticks_to(settings: CutSettings, head: Stamp, greatest: i64, next: Option<Stamp>) -> u64
+    requires head { IsInRange head.time }
+    requires greatest { IsInRange greatest }
+    requires next { HasRange next }
+    requires frame { settings.frame ≤ 900000 }
+    ensures is { result ≡ Segments.ticks_to settings head greatest next }
+    ensures most { result ≤ 2 ^ 63 + 900000 }
+{
+    let Some(next) = next else {
+        return greatest.abs_diff(head.time) + settings.frame;
+    };
+    if next.epoch == head.epoch {
+        return next.time.abs_diff(head.time);
+    }
+    greatest.abs_diff(head.time) + settings.frame
+}

@@ -1,0 +1,28 @@
+//! Cuts a transport stream into segments at key frames: which packets of a stream belong to the output, where a segment
+//! may begin, and the plan of each segment.
+#![tactic(auto)]
+
+mod cutter;
+mod fault;
+#[cfg(test)]
+mod fixtures;
+mod following;
+mod going;
+mod laws;
+mod look;
+mod place;
+mod plan;
+mod point;
+mod settings;
+mod stream;
+#[cfg(test)]
+mod tests;
+
+pub use crate::cutter::Cutter;
+pub use fault::CutFault;
+pub use laws::{
+    plans_only_grow, seconds_of_ticks_are_those_of_microseconds, segments_divide_a_stream,
+};
+pub use plan::{Frame, Plan};
+pub use settings::CutSettings;
+pub use stream::cut_stream;

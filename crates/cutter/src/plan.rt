@@ -1,0 +1,35 @@
+use psi_tables::Tables;
+use std::marker::Model;
+
+/// An I-frame of a segment's body: where its packets lie, in bytes from the body's start on, and when it is shown, in
+/// ticks of 1/90000 s from the segment's start on.
+#[derive(Clone, Copy, Debug, PartialEq, Eq, Drop)]
+pub struct Frame {
+    pub offset: u64,
+    pub len: u64,
+    pub start: u64,
+}
+
+/// All that makes one segment of a rendition, before it is sealed.
+#[derive(Debug, Drop)]
+pub struct Plan {
+    pub rendition: usize,
+    pub number: u64,
+    pub tables: Tables,
+    pub pat_counter: u8,
+    pub pmt_counter: u8,
+    pub body: Vec<u8>,
+    pub frames: Vec<Frame>,
+    pub ticks: u64,
+    pub discontinuity: bool,
+}
+
+impl Model for Plan {
+    ghost use Rattle.cutter.specs.Plans.{SegmentPlan};
+
+    ghost Value = { SegmentPlan };
+
+    ghost use Rattle.cutter.specs.Inside.{segment_plan};
+
+    ghost view = { segment_plan };
+}
