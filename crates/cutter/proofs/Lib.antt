@@ -8,3 +8,7 @@ pub mod Ending
 pub mod Streams
 pub mod Fronts
 pub mod Parts
+pub mod Rising
+pub mod Ordering
+pub mod Sharing
+pub mod Counting

@@ -7,4 +7,6 @@ pub mod Settings
 pub mod Held
 pub mod Inside
 pub mod Tied
+pub mod Counted
 pub mod Dividing
+pub mod Ordered

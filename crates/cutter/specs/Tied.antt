@@ -1,5 +1,5 @@
 -- What a cutter keeps of the packets that it was pushed.
-use Rattle.std.specs.Prelude.{◌≡◌, false, Option, Some, None}
+use Rattle.std.specs.Prelude.{◌≡◌, false, Option, Some, None, All}
 use Rattle.pes_time.specs.declared.clock.Stamp.{Stamp}
 use Rattle.cutter.specs.declared.cutter.Cutter.TheInside.{Inside}
 use Rattle.cutter.specs.Settings.{Pushed, IsAllowed}
@@ -7,6 +7,7 @@ use Rattle.cutter.specs.Stream.{packets_of, pts_list}
 use Rattle.cutter.specs.Segments.{Segment}
 use Rattle.cutter.specs.Cuts.{Cuts, cuts}
 use Rattle.cutter.specs.Held.{Gathered, gathered}
+use Rattle.cutter.specs.Ordered.{IsPacketLong}
 
 abbrev pub pushed : Inside → Pushed
 pushed c = record { rendition = c.rendition; settings = c.settings; list = c.fed.items; ended = c.ended }
@@ -29,4 +30,5 @@ pub record Keeps (c : Inside) : Type 0 where
 
 pub record IsTied (c : Inside) : Type 0 where
   pub settings : IsAllowed c.settings
+  pub packets : All IsPacketLong c.fed.items
   pub keeps : c.ended ≡ false → Keeps c

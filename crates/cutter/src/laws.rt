@@ -1,9 +1,25 @@
 //! What the words of the contracts mean.
-ghost use Rattle.std.specs.Prelude.{◌≡◌, ◌+◌, ◌*◌, ◌/◌, ◌≤◌, ℕ, List, [], ◌++◌, None, length};
+ghost use Rattle.std.specs.Prelude.{◌≡◌, ◌+◌, ◌-◌, ◌*◌, ◌/◌, ◌≤◌, ℕ, List, [], ◌∷◌, ◌++◌, None, Some, length, sum, All, slice_get};
 ghost use Rattle.cutter.specs.declared.settings.CutSettings.{CutSettings};
 ghost use Rattle.cutter.specs.Segments.{seconds};
 ghost use Rattle.cutter.specs.Cuts.{cuts, closed, plans, IsFront};
-ghost use Rattle.cutter.specs.Dividing.{sights, IsDivided};
+ghost use Rattle.cutter.specs.Points.{Mark};
+ghost use Rattle.cutter.specs.Counted.{IsRight};
+ghost use Rattle.cutter.specs.Dividing.{sights, marks_of, IsDivided};
+ghost use Rattle.cutter.specs.declared.plan.Frame.{Frame};
+ghost use Rattle.cutter.specs.Plans.{SegmentPlan};
+ghost use Rattle.cutter.specs.Ordered.{IsPlan, AreFrames, IsInside, IsPacketLong, lengths_on};
+
+use pes_time::stamps_go_on;
+
+/// A packet of a stream is a counted point exactly where it is a stamped start with random_access_indicator, whose time is
+/// above that of every earlier one of its epoch.
+pub fn points_count_above_all_earlier()
+    ensures { (s : CutSettings) (ps : List (List ℕ)) (before : List Mark) (m : Mark) (behind : List Mark) →
+        marks_of (sights s ps) ≡ before ++ m ∷ behind → IsRight before m }
+{
+    stamps_go_on();
+}
 
 /// The packets of a stream are some before the first counted point, and then those of its segments, in order, none lost
 /// and none twice. Each segment begins at a counted point that is a cut behind the one before, no packet within it is
@@ -25,4 +41,19 @@ pub fn plans_only_grow()
 /// Whole seconds of ticks are those of their microseconds, to the nearest.
 pub fn seconds_of_ticks_are_those_of_microseconds()
     ensures { (ticks : ℕ) → seconds ticks ≡ ((200 * ticks + 9) / 18 + 500000) / 1000000 }
+{}
+
+/// Plan n of a stream is that of segment n: it has that number, which is below 2^32 - 1, and a body, a duration and
+/// I-frames within the limits of its rendition.
+pub fn plans_are_in_order()
+    ensures { (r : ℕ) (s : CutSettings) (ps : List (List ℕ)) → All IsPacketLong ps →
+        (n : ℕ) (plan : SegmentPlan) → slice_get (plans r s ps) n ≡ Some plan → IsPlan r s n plan }
+{}
+
+/// The I-frames of a segment share out its time: on any clock that never falls, as one of microseconds, they last as long
+/// together as the segment does. Each lies within the body and the segment's time.
+pub fn frames_share_the_time()
+    ensures sum { (clock : ℕ → ℕ) (size ticks : ℕ) (frames : List Frame) → ((a b : ℕ) → a ≤ b → clock a ≤ clock b) →
+        AreFrames size ticks frames → sum (lengths_on clock ticks frames) ≡ clock ticks - clock 0 }
+    ensures each { (size ticks : ℕ) (frames : List Frame) → AreFrames size ticks frames → All (IsInside size ticks) frames }
 {}

@@ -1,361 +1,460 @@
-use crate::fixtures::{PMT, PMT_WITH_SOUND, SETTINGS, Stream, cut, long_pmt, ticks};
-use crate::{CutFault, CutSettings, Cutter, Frame};
+ghost use Rattle.std.specs.Prelude.{◌≤◌, length};
+
+use crate::fixtures::Row::{Breaks, GoesOn};
+use crate::fixtures::Step::{
+    BadPat, Frame, Key, LongPmt, LongPmtEnd, Pat, Pmt, PmtWithSound, Scrambled, Sound, Video,
+};
+use crate::fixtures::{Case, SETTINGS, cut, first_wrong, long_section, section, stream};
+use crate::{CutFault, CutSettings, Cutter, Plan};
+use std::alloc::Global;
 use std::test::Fail;
 
-fn frame(offset: u64, len: u64, start: u64) -> Frame {
-    Frame { offset, len, start }
-}
+/// What a segment of one key frame in front has.
+const FIRST: &[(u64, u64, u64)] = &[(0, 188, 0)];
+
+const CUTS: [Case; 4] = [
+    Case {
+        name: "two segments",
+        settings: SETTINGS,
+        steps: &[
+            Pat,
+            Pmt,
+            Key(0),
+            Frame(270_000),
+            Key(540_000),
+            Frame(810_000),
+        ],
+        rows: &[
+            GoesOn(540_000, &[2, 3], FIRST),
+            GoesOn(273_600, &[4, 5], FIRST),
+        ],
+        fault: None,
+    },
+    Case {
+        name: "a segment over the end of the clock",
+        settings: SETTINGS,
+        steps: &[Pat, Pmt, Key(8_589_934_000), Key(539_408)],
+        rows: &[GoesOn(540_000, &[2], FIRST), GoesOn(3600, &[3], FIRST)],
+        fault: None,
+    },
+    Case {
+        name: "key frames within a segment",
+        settings: SETTINGS,
+        steps: &[
+            Pat,
+            Pmt,
+            Key(0),
+            Key(180_000),
+            Video,
+            Frame(183_600),
+            Key(539_999),
+            Key(540_000),
+        ],
+        rows: &[
+            GoesOn(
+                540_000,
+                &[2, 3, 4, 5, 6],
+                &[(0, 188, 0), (188, 376, 180_000), (752, 188, 539_999)],
+            ),
+            GoesOn(3600, &[7], FIRST),
+        ],
+        fault: None,
+    },
+    // a key frame that isn't above the last one is no counted point
+    Case {
+        name: "frames out of order",
+        settings: SETTINGS,
+        steps: &[
+            Pat,
+            Pmt,
+            Frame(3_600),
+            Key(10_800),
+            Frame(3_600),
+            Frame(7_200),
+            Key(10_800),
+            Key(7_200),
+            Frame(21_600),
+            Frame(14_400),
+        ],
+        rows: &[GoesOn(14_400, &[3, 4, 5, 6, 7, 8, 9], FIRST)],
+        fault: None,
+    },
+];
 
 #[test]
-fn two_segments(rt: HostRuntime) -> Result<(), Fail> {
-    let mut stream = Stream::with_tables(rt.alloc())?;
-    stream.key_frame(0)?;
-    stream.frame(270_000)?;
-    stream.key_frame(540_000)?;
-    stream.frame(810_000)?;
-    let cut = cut(rt.alloc(), SETTINGS, &stream);
-    assert_eq!(rt; cut.fault, None);
-    assert_eq!(rt; cut.plans.len(), 2);
-    for (n, plan) in cut.plans.iter().enumerate() {
-        assert_eq!(rt; plan.number, n as u64);
-        assert_eq!(rt; plan.body.len(), 376);
-        assert_eq!(rt; plan.frames.as_slice(), [frame(0, 188, 0)].as_slice());
-        assert_eq!(rt; plan.pat_counter, n as u8);
-        assert_eq!(rt; plan.pmt_counter, n as u8);
-        assert!(rt; !plan.discontinuity);
-        assert!(rt; plan.tables.section() == PMT);
-    }
-    assert_eq!(rt;
-        ticks(rt.alloc(), &cut)?.as_slice(),
-        [540_000, 273_600].as_slice()
-    );
-    assert!(rt; cut.plan(0)?.body.starts_with(stream.packet(2)?));
-    assert!(rt; cut.plan(0)?.body.ends_with(stream.packet(3)?));
-    assert!(rt; cut.plan(1)?.body.starts_with(stream.packet(4)?));
+fn segments_and_their_iframes(rt: HostRuntime) -> Result<(), Fail> {
+    assert_eq!(rt; first_wrong(rt.alloc(), &CUTS)?, None);
     Ok(())
 }
 
+const OUTSIDE: [Case; 2] = [
+    Case {
+        name: "packets before the first cut",
+        settings: SETTINGS,
+        steps: &[
+            Key(0),
+            Pat,
+            PmtWithSound,
+            Sound,
+            Frame(4_500_000),
+            Key(4_503_600),
+            Sound,
+        ],
+        rows: &[GoesOn(3600, &[5, 6], &[(0, 376, 0)])],
+        fault: None,
+    },
+    // the scrambled start ends the I-frame
+    Case {
+        name: "a scrambled start",
+        settings: SETTINGS,
+        steps: &[Pat, Pmt, Key(0), Scrambled(540_000), Frame(540_000)],
+        rows: &[GoesOn(543_600, &[2, 3, 4], FIRST)],
+        fault: None,
+    },
+];
+
 #[test]
-fn a_segment_over_the_end_of_the_clock(rt: HostRuntime) -> Result<(), Fail> {
-    let mut stream = Stream::with_tables(rt.alloc())?;
-    stream.key_frame(8_589_934_000)?;
-    stream.key_frame(539_408)?;
-    let cut = cut(rt.alloc(), SETTINGS, &stream);
-    assert_eq!(rt; cut.fault, None);
-    assert_eq!(rt;
-        ticks(rt.alloc(), &cut)?.as_slice(),
-        [540_000, 3600].as_slice()
-    );
+fn packets_that_make_no_cut(rt: HostRuntime) -> Result<(), Fail> {
+    assert_eq!(rt; first_wrong(rt.alloc(), &OUTSIDE)?, None);
     Ok(())
 }
+
+/// Two key frames, with a gap of ten seconds at most.
+const TEN: CutSettings = CutSettings {
+    target: 10,
+    ..SETTINGS
+};
+
+const BREAKS: [Case; 5] = [
+    Case {
+        name: "a jump of time",
+        settings: SETTINGS,
+        steps: &[
+            Pat,
+            Pmt,
+            Key(0),
+            Frame(270_000),
+            Frame(324_270_000),
+            Key(324_540_000),
+        ],
+        rows: &[
+            GoesOn(273_600, &[2, 3, 4], FIRST),
+            Breaks(3600, &[5], FIRST),
+        ],
+        fault: None,
+    },
+    Case {
+        name: "a gap",
+        settings: TEN,
+        steps: &[Pat, Pmt, Key(0), Key(900_000)],
+        rows: &[GoesOn(900_000, &[2], FIRST), GoesOn(3600, &[3], FIRST)],
+        fault: None,
+    },
+    Case {
+        name: "a gap and one tick more",
+        settings: TEN,
+        steps: &[Pat, Pmt, Key(0), Key(900_001)],
+        rows: &[GoesOn(3600, &[2], FIRST), Breaks(3600, &[3], FIRST)],
+        fault: None,
+    },
+    Case {
+        name: "tables that change",
+        settings: SETTINGS,
+        steps: &[Pat, Pmt, Key(0), Frame(270_000), PmtWithSound, Key(300_000)],
+        rows: &[GoesOn(300_000, &[2, 3], FIRST), Breaks(3600, &[5], FIRST)],
+        fault: None,
+    },
+    // tables and the sound that they don't have are left out
+    Case {
+        name: "tables that change back",
+        settings: SETTINGS,
+        steps: &[
+            Pat,
+            Pmt,
+            Key(0),
+            Pmt,
+            Key(90_000),
+            PmtWithSound,
+            Frame(180_000),
+            Sound,
+            Pmt,
+            Sound,
+            Key(270_000),
+        ],
+        rows: &[GoesOn(
+            273_600,
+            &[2, 4, 6, 7, 10],
+            &[(0, 188, 0), (188, 188, 90_000), (752, 188, 270_000)],
+        )],
+        fault: None,
+    },
+];
+
+#[test]
+fn times_and_tables_that_break(rt: HostRuntime) -> Result<(), Fail> {
+    assert_eq!(rt; first_wrong(rt.alloc(), &BREAKS)?, None);
+    Ok(())
+}
+
+/// The tables alone.
+const TABLES: &[crate::fixtures::Step] = &[Pat, Pmt];
+
+const WITHOUT: [Case; 5] = [
+    Case {
+        name: "no packets",
+        settings: SETTINGS,
+        steps: &[],
+        rows: &[],
+        fault: Some(CutFault::NoProgram),
+    },
+    Case {
+        name: "a PAT with a bad CRC",
+        settings: SETTINGS,
+        steps: &[BadPat, Pmt, Key(0)],
+        rows: &[],
+        fault: Some(CutFault::NoProgram),
+    },
+    Case {
+        name: "another program",
+        settings: CutSettings {
+            program: Some(2),
+            ..SETTINGS
+        },
+        steps: TABLES,
+        rows: &[],
+        fault: Some(CutFault::NoProgram),
+    },
+    Case {
+        name: "tables alone",
+        settings: SETTINGS,
+        steps: TABLES,
+        rows: &[],
+        fault: Some(CutFault::NoStart),
+    },
+    Case {
+        name: "sound alone",
+        settings: SETTINGS,
+        steps: &[Pat, Pmt, PmtWithSound, Sound],
+        rows: &[],
+        fault: Some(CutFault::NoStart),
+    },
+];
 
 #[test]
 fn streams_without_a_segment(rt: HostRuntime) -> Result<(), Fail> {
-    let empty = Stream::new(rt.alloc());
-    assert_eq!(rt;
-        cut(rt.alloc(), SETTINGS, &empty).fault,
-        Some(CutFault::NoProgram)
-    );
-    let mut bad = Stream::new(rt.alloc());
-    bad.bad_pat()?;
-    bad.pmt(PMT)?;
-    bad.key_frame(0)?;
-    assert_eq!(rt;
-        cut(rt.alloc(), SETTINGS, &bad).fault,
-        Some(CutFault::NoProgram)
-    );
-    let tables = Stream::with_tables(rt.alloc())?;
-    assert_eq!(rt;
-        cut(rt.alloc(), SETTINGS, &tables).fault,
-        Some(CutFault::NoStart)
-    );
-    let mut sound = Stream::with_tables(rt.alloc())?;
-    sound.pmt(PMT_WITH_SOUND)?;
-    sound.sound()?;
-    assert_eq!(rt;
-        cut(rt.alloc(), SETTINGS, &sound).fault,
-        Some(CutFault::NoStart)
-    );
-    let other = CutSettings {
-        program: Some(2),
-        ..SETTINGS
+    assert_eq!(rt; first_wrong(rt.alloc(), &WITHOUT)?, None);
+    Ok(())
+}
+
+/// Two key frames eight seconds apart.
+const EIGHT: &[crate::fixtures::Step] = &[Pat, Pmt, Key(0), Key(720_000)];
+
+const LONG: [Case; 5] = [
+    Case {
+        name: "eight seconds",
+        settings: SETTINGS,
+        steps: EIGHT,
+        rows: &[],
+        fault: Some(CutFault::LongSegment(0)),
+    },
+    Case {
+        name: "eight seconds within the target",
+        settings: CutSettings {
+            target: 8,
+            ..SETTINGS
+        },
+        steps: EIGHT,
+        rows: &[GoesOn(720_000, &[2], FIRST), GoesOn(3600, &[3], FIRST)],
+        fault: None,
+    },
+    Case {
+        name: "the last tick that rounds to the target",
+        settings: SETTINGS,
+        steps: &[Pat, Pmt, Key(0), Key(584_999)],
+        rows: &[GoesOn(584_999, &[2], FIRST), GoesOn(3600, &[3], FIRST)],
+        fault: None,
+    },
+    Case {
+        name: "the first tick that doesn't",
+        settings: SETTINGS,
+        steps: &[Pat, Pmt, Key(0), Key(585_000)],
+        rows: &[],
+        fault: Some(CutFault::LongSegment(0)),
+    },
+    Case {
+        name: "a target of one second more",
+        settings: CutSettings {
+            target: 7,
+            ..SETTINGS
+        },
+        steps: &[Pat, Pmt, Key(0), Key(585_000)],
+        rows: &[GoesOn(585_000, &[2], FIRST), GoesOn(3600, &[3], FIRST)],
+        fault: None,
+    },
+];
+
+#[test]
+fn segments_longer_than_the_target(rt: HostRuntime) -> Result<(), Fail> {
+    assert_eq!(rt; first_wrong(rt.alloc(), &LONG)?, None);
+    Ok(())
+}
+
+/// Two segments of two packets.
+const FOUR: &[crate::fixtures::Step] = &[
+    Pat,
+    Pmt,
+    Key(0),
+    Frame(270_000),
+    Key(540_000),
+    Frame(810_000),
+];
+
+const BIG: [Case; 2] = [
+    Case {
+        name: "one packet",
+        settings: CutSettings {
+            most: 1,
+            ..SETTINGS
+        },
+        steps: FOUR,
+        rows: &[],
+        fault: Some(CutFault::BigSegment(0)),
+    },
+    Case {
+        name: "two packets",
+        settings: CutSettings {
+            most: 2,
+            ..SETTINGS
+        },
+        steps: FOUR,
+        rows: &[
+            GoesOn(540_000, &[2, 3], FIRST),
+            GoesOn(273_600, &[4, 5], FIRST),
+        ],
+        fault: None,
+    },
+];
+
+#[test]
+fn the_most_packets_of_a_body(rt: HostRuntime) -> Result<(), Fail> {
+    assert_eq!(rt; first_wrong(rt.alloc(), &BIG)?, None);
+    Ok(())
+}
+
+/// Whether each plan has this section, and counters of its PMT that run on by so many packets a head.
+fn have_tables(plans: &[Plan], section: &[u8], packets: usize) -> bool {
+    for (n, plan) in plans.iter().enumerate() {
+        if plan.tables.section() != section {
+            return false;
+        }
+        if usize::from(plan.pmt_counter) != n.wrapping_mul(packets) % 16 {
+            return false;
+        }
+    }
+    true
+}
+
+/// The PMT's counter of plan 1 where its tables are those with sound and the first ones those without.
+fn counter_of_new_tables(plans: &[Plan]) -> Option<u8> {
+    let [first, second] = plans else {
+        return None;
     };
-    assert_eq!(rt;
-        cut(rt.alloc(), other, &tables).fault,
-        Some(CutFault::NoProgram)
-    );
+    if first.tables.section() != section(false) || second.tables.section() != section(true) {
+        return None;
+    }
+    Some(second.pmt_counter)
+}
+
+#[test]
+fn tables_of_plans(rt: HostRuntime) -> Result<(), Fail> {
+    let packets = stream(rt.alloc(), FOUR)?;
+    let same = cut(rt.alloc(), SETTINGS, &packets)?;
+    assert!(rt; have_tables(&same.plans, section(false), 1));
+    let packets = stream(rt.alloc(), &[Pat, Pmt, Key(0), PmtWithSound, Key(300_000)])?;
+    let changed = cut(rt.alloc(), SETTINGS, &packets)?;
+    assert_eq!(rt; counter_of_new_tables(&changed.plans), Some(1));
     Ok(())
 }
 
 #[test]
-fn segments_longer_than_the_target(rt: HostRuntime) -> Result<(), Fail> {
-    let table = [
-        (720_000, 6, Some(CutFault::LongSegment(0))),
-        (720_000, 8, None),
-        (584_999, 6, None),
-        (585_000, 6, Some(CutFault::LongSegment(0))),
-        (585_000, 7, None),
+fn counters_of_long_tables(rt: HostRuntime) -> Result<(), Fail> {
+    let steps = [
+        Pat,
+        LongPmt,
+        LongPmtEnd,
+        Key(0),
+        Key(540_000),
+        Key(1_080_000),
+        Key(1_620_000),
+        Key(2_160_000),
+        Key(2_700_000),
+        Key(3_240_000),
+        Key(3_780_000),
+        Key(4_320_000),
     ];
-    for (second, target, fault) in table {
-        let mut stream = Stream::with_tables(rt.alloc())?;
-        stream.key_frame(0)?;
-        stream.key_frame(second)?;
-        let settings = CutSettings { target, ..SETTINGS };
-        let cut = cut(rt.alloc(), settings, &stream);
-        assert_eq!(rt; cut.fault, fault, "{second}");
-        if fault.is_none() {
-            assert_eq!(rt;
-                ticks(rt.alloc(), &cut)?.as_slice(),
-                [second, 3600].as_slice()
-            );
-        } else {
-            assert!(rt; cut.plans.is_empty());
-        }
-    }
+    let packets = stream(rt.alloc(), &steps)?;
+    let cut = cut(rt.alloc(), SETTINGS, &packets)?;
+    assert_eq!(rt; cut.plans.len(), 9);
+    assert!(rt; have_tables(&cut.plans, &long_section(), 2));
     Ok(())
+}
+
+/// A cutter that was pushed some packets, few, and the fault that the last one brought.
+fn pushed(alloc: Global, packets: &[[u8; 188]]) -> (Cutter, Option<CutFault>)
+    ensures { length result.0.list ≤ 16 }
+{
+    let mut cutter = Cutter::new(alloc, 7, SETTINGS);
+    let mut fault = None;
+    if packets.len() > 16 {
+        return (cutter, fault);
+    }
+    for packet in packets {
+        fault = cutter.push(packet).err();
+    }
+    (cutter, fault)
 }
 
 #[test]
 fn a_cutter_ends_at_a_fault(rt: HostRuntime) -> Result<(), Fail> {
-    let mut stream = Stream::with_tables(rt.alloc())?;
-    stream.key_frame(0)?;
-    stream.key_frame(720_000)?;
-    let mut cutter = Cutter::new(rt.alloc(), 0, SETTINGS);
-    assert!(rt; cutter.push(stream.packet(0)?)?.is_none());
-    assert!(rt; cutter.push(stream.packet(1)?)?.is_none());
-    assert!(rt; cutter.push(stream.packet(2)?)?.is_none());
-    let told = cutter.push(stream.packet(3)?).err();
-    assert_eq!(rt; told, Some(CutFault::LongSegment(0)));
-    assert_eq!(rt; cutter.push(stream.packet(0)?).err(), Some(CutFault::Ended));
+    let packets = stream(rt.alloc(), EIGHT)?;
+    let (mut cutter, fault) = pushed(rt.alloc(), &packets);
+    assert_eq!(rt; fault, Some(CutFault::LongSegment(0)));
+    assert_eq!(rt; cutter.push(&[0; 188]).err(), Some(CutFault::Ended));
     assert_eq!(rt; cutter.finish().err(), Some(CutFault::Ended));
     Ok(())
 }
 
 #[test]
 fn a_cutter_ends_at_the_end(rt: HostRuntime) -> Result<(), Fail> {
-    let mut stream = Stream::with_tables(rt.alloc())?;
-    stream.key_frame(0)?;
-    let mut cutter = Cutter::new(rt.alloc(), 7, SETTINGS);
-    assert!(rt; cutter.push(stream.packet(0)?)?.is_none());
-    assert!(rt; cutter.push(stream.packet(1)?)?.is_none());
-    assert!(rt; cutter.push(stream.packet(2)?)?.is_none());
-    let Some(plan) = cutter.finish()? else {
-        return Err(Fail::from("no plan"));
-    };
-    assert_eq!(rt; plan.rendition, 7);
-    assert_eq!(rt; cutter.push(stream.packet(0)?).err(), Some(CutFault::Ended));
+    let packets = stream(rt.alloc(), &[Pat, Pmt, Key(0)])?;
+    let (mut cutter, fault) = pushed(rt.alloc(), &packets);
+    assert_eq!(rt; fault, None);
+    let plan = cutter.finish()?;
+    assert_eq!(rt; plan.map(|plan| plan.rendition), Some(7));
+    assert_eq!(rt; cutter.push(&[0; 188]).err(), Some(CutFault::Ended));
     assert_eq!(rt; cutter.finish().err(), Some(CutFault::Ended));
     Ok(())
 }
 
-#[test]
-fn a_jump_of_time(rt: HostRuntime) -> Result<(), Fail> {
-    let mut stream = Stream::with_tables(rt.alloc())?;
-    stream.key_frame(0)?;
-    stream.frame(270_000)?;
-    stream.frame(324_270_000)?;
-    stream.key_frame(324_540_000)?;
-    let cut = cut(rt.alloc(), SETTINGS, &stream);
-    assert_eq!(rt; cut.fault, None);
-    assert_eq!(rt;
-        ticks(rt.alloc(), &cut)?.as_slice(),
-        [273_600, 3600].as_slice()
-    );
-    assert_eq!(rt; cut.plan(0)?.body.len(), 3 * 188);
-    assert!(rt; !cut.plan(0)?.discontinuity);
-    assert!(rt; cut.plan(1)?.discontinuity);
-    Ok(())
-}
-
-#[test]
-fn a_gap_and_one_tick_more(rt: HostRuntime) -> Result<(), Fail> {
-    for (second, jumps) in [(900_000, false), (900_001, true)] {
-        let mut stream = Stream::with_tables(rt.alloc())?;
-        stream.key_frame(0)?;
-        stream.key_frame(second)?;
-        let settings = CutSettings {
-            target: 10,
-            ..SETTINGS
-        };
-        let cut = cut(rt.alloc(), settings, &stream);
-        assert_eq!(rt; cut.fault, None);
-        assert_eq!(rt; cut.plans.len(), 2);
-        assert_eq!(rt; cut.plan(1)?.discontinuity, jumps, "{second}");
-        assert_eq!(rt; cut.plan(0)?.ticks, if jumps { 3600 } else { second });
-    }
-    Ok(())
-}
-
-#[test]
-fn key_frames_within_a_segment(rt: HostRuntime) -> Result<(), Fail> {
-    let mut stream = Stream::with_tables(rt.alloc())?;
-    stream.key_frame(0)?;
-    stream.key_frame(180_000)?;
-    stream.more_video()?;
-    stream.frame(183_600)?;
-    stream.key_frame(539_999)?;
-    stream.key_frame(540_000)?;
-    let cut = cut(rt.alloc(), SETTINGS, &stream);
-    assert_eq!(rt; cut.fault, None);
-    assert_eq!(rt;
-        ticks(rt.alloc(), &cut)?.as_slice(),
-        [540_000, 3600].as_slice()
-    );
-    assert_eq!(rt;
-        cut.plan(0)?.frames.as_slice(),
-        [
-            frame(0, 188, 0),
-            frame(188, 376, 180_000),
-            frame(752, 188, 539_999)
-        ]
-        .as_slice()
-    );
-    assert_eq!(rt;
-        cut.plan(1)?.frames.as_slice(),
-        [frame(0, 188, 0)].as_slice()
-    );
-    Ok(())
-}
-
-#[test]
-fn frames_out_of_order(rt: HostRuntime) -> Result<(), Fail> {
-    let mut stream = Stream::with_tables(rt.alloc())?;
-    stream.frame(3_600)?;
-    stream.key_frame(10_800)?;
-    stream.frame(3_600)?;
-    stream.frame(7_200)?;
-    stream.key_frame(10_800)?;
-    stream.key_frame(7_200)?;
-    stream.frame(21_600)?;
-    stream.frame(14_400)?;
-    let cut = cut(rt.alloc(), SETTINGS, &stream);
-    assert_eq!(rt; cut.fault, None);
-    assert_eq!(rt; ticks(rt.alloc(), &cut)?.as_slice(), [14_400].as_slice());
-    assert_eq!(rt; cut.plan(0)?.body.len(), 7 * 188);
-    // a key frame that isn't above the last one is no counted point
-    assert_eq!(rt;
-        cut.plan(0)?.frames.as_slice(),
-        [frame(0, 188, 0)].as_slice()
-    );
-    Ok(())
-}
-
-#[test]
-fn tables_that_change(rt: HostRuntime) -> Result<(), Fail> {
-    let mut stream = Stream::with_tables(rt.alloc())?;
-    stream.key_frame(0)?;
-    stream.frame(270_000)?;
-    stream.pmt(PMT_WITH_SOUND)?;
-    stream.key_frame(300_000)?;
-    let cut = cut(rt.alloc(), SETTINGS, &stream);
-    assert_eq!(rt; cut.fault, None);
-    assert_eq!(rt;
-        ticks(rt.alloc(), &cut)?.as_slice(),
-        [300_000, 3600].as_slice()
-    );
-    assert!(rt; cut.plan(1)?.discontinuity);
-    assert_eq!(rt; cut.plan(1)?.pmt_counter, 1);
-    assert!(rt; cut.plan(0)?.tables.section() == PMT);
-    assert!(rt; cut.plan(1)?.tables.section() == PMT_WITH_SOUND);
-    Ok(())
-}
-
-#[test]
-fn tables_that_make_no_cut(rt: HostRuntime) -> Result<(), Fail> {
-    let mut stream = Stream::with_tables(rt.alloc())?;
-    stream.key_frame(0)?;
-    stream.pmt(PMT)?;
-    stream.key_frame(90_000)?;
-    stream.pmt(PMT_WITH_SOUND)?;
-    stream.frame(180_000)?;
-    stream.sound()?;
-    stream.pmt(PMT)?;
-    stream.sound()?;
-    stream.key_frame(270_000)?;
-    let cut = cut(rt.alloc(), SETTINGS, &stream);
-    assert_eq!(rt; cut.fault, None);
-    assert_eq!(rt; ticks(rt.alloc(), &cut)?.as_slice(), [273_600].as_slice());
-    // tables and the sound that they don't have are left out
-    assert_eq!(rt; cut.plan(0)?.body.len(), 5 * 188);
-    Ok(())
-}
-
-#[test]
-fn packets_before_the_first_cut(rt: HostRuntime) -> Result<(), Fail> {
-    let mut stream = Stream::new(rt.alloc());
-    stream.key_frame(0)?;
-    stream.pat()?;
-    stream.pmt(PMT_WITH_SOUND)?;
-    stream.sound()?;
-    stream.frame(4_500_000)?;
-    stream.key_frame(4_503_600)?;
-    stream.sound()?;
-    let cut = cut(rt.alloc(), SETTINGS, &stream);
-    assert_eq!(rt; cut.fault, None);
-    assert_eq!(rt; ticks(rt.alloc(), &cut)?.as_slice(), [3600].as_slice());
-    assert_eq!(rt; cut.plan(0)?.body.len(), 2 * 188);
-    Ok(())
-}
-
-#[test]
-fn scrambled_starts(rt: HostRuntime) -> Result<(), Fail> {
-    let mut stream = Stream::with_tables(rt.alloc())?;
-    stream.key_frame(0)?;
-    stream.key_frame(540_000)?;
-    stream.scramble(3);
-    stream.frame(540_000)?;
-    let cut = cut(rt.alloc(), SETTINGS, &stream);
-    assert_eq!(rt; cut.fault, None);
-    assert_eq!(rt; ticks(rt.alloc(), &cut)?.as_slice(), [543_600].as_slice());
-    assert_eq!(rt; cut.plan(0)?.body.len(), 3 * 188);
-    // the scrambled start ends the I-frame
-    assert_eq!(rt;
-        cut.plan(0)?.frames.as_slice(),
-        [frame(0, 188, 0)].as_slice()
-    );
-    Ok(())
-}
-
-#[test]
-fn the_most_packets_of_a_body(rt: HostRuntime) -> Result<(), Fail> {
-    let mut stream = Stream::with_tables(rt.alloc())?;
-    stream.key_frame(0)?;
-    stream.frame(270_000)?;
-    stream.key_frame(540_000)?;
-    stream.frame(810_000)?;
-    let one = CutSettings {
-        most: 1,
-        ..SETTINGS
+/// Of which plans a plan is the same as the first one of a stream.
+fn same_as_first(plans: &[Plan], other: &[Plan]) -> Option<[bool; 2]> {
+    let [first, ..] = plans else {
+        return None;
     };
-    let refused = cut(rt.alloc(), one, &stream);
-    assert_eq!(rt; refused.fault, Some(CutFault::BigSegment(0)));
-    assert!(rt; refused.plans.is_empty());
-    let two = CutSettings {
-        most: 2,
-        ..SETTINGS
+    let [one, two, ..] = other else {
+        return None;
     };
-    let taken = cut(rt.alloc(), two, &stream);
-    assert_eq!(rt; taken.fault, None);
-    assert_eq!(rt; taken.plans.len(), 2);
-    Ok(())
+    Some([first.same(one), first.same(two)])
 }
 
 #[test]
-fn counters_of_long_tables(rt: HostRuntime) -> Result<(), Fail> {
-    let section = long_pmt(rt.alloc(), 184)?;
-    let mut stream = Stream::new(rt.alloc());
-    stream.pat()?;
-    stream.long_pmt(&section)?;
-    for n in 0..9 {
-        stream.key_frame(n * 540_000)?;
-    }
-    let cut = cut(rt.alloc(), SETTINGS, &stream);
-    assert_eq!(rt; cut.fault, None);
-    assert_eq!(rt; cut.plans.len(), 9);
-    for (n, plan) in cut.plans.iter().enumerate() {
-        assert_eq!(rt; usize::from(plan.pmt_counter), 2 * n % 16);
-        assert_eq!(rt; usize::from(plan.pat_counter), n);
-        assert!(rt; plan.tables.section() == section.as_slice());
-    }
+fn equal_plans(rt: HostRuntime) -> Result<(), Fail> {
+    let packets = stream(rt.alloc(), FOUR)?;
+    let once = cut(rt.alloc(), SETTINGS, &packets)?;
+    let again = cut(rt.alloc(), SETTINGS, &packets)?;
+    assert_eq!(rt;
+        same_as_first(&once.plans, &again.plans),
+        Some([true, false])
+    );
     Ok(())
 }

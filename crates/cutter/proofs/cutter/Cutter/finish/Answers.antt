@@ -1,4 +1,6 @@
+use Rattle.std.proofs.Common.{Some}
 use Rattle.std.proofs.lemmas.Result.{err_from_is_err_and}
+use Rattle.cutter.proofs.Ordering.{finish-order}
 use Rattle.cutter.proofs.Ending.{finish-plan, finish-sound, finish-fault}
 use Rattle.cutter.proofs.cutter.Cutter.finish.Goals as goal
 
@@ -15,3 +17,8 @@ returns-clause-plan c = finish-plan c.self.inside c.args.self.now c.take-going.r
 pub returns-clause-sound : goal.returns-clause-sound
 returns-clause-sound c = finish-sound c.self.inside c.args.self.now c.take-going.result _ c.in_ok-plan.plan c.self.view_is (c.self.invariant.keeps c.if-self.false)
     c.take-going.ensures.value c.tables.ensures c.in_ok-plan.ensures.ok
+
+pub returns-clause-order : goal.returns-clause-order
+returns-clause-order c =
+    finish-order c.self.inside c.args.self.now (Some c.in_ok-plan.plan) c.self.view_is c.self.invariant.packets
+    (finish-plan c.self.inside c.args.self.now c.take-going.result _ c.in_ok-plan.plan c.self.view_is (c.self.invariant.keeps c.if-self.false) c.take-going.ensures.value c.tables.ensures c.in_ok-plan.ensures.ok)

@@ -1,4 +1,7 @@
-use Rattle.std.proofs.Common.{refl}
+use Rattle.std.proofs.Common.{refl, subst, sym, All, rules}
+use Rattle.std.proofs.lemmas.List.Elements.{All-push}
+use Rattle.cutter.specs.Ordered.{IsPacketLong}
+use Rattle.cutter.proofs.Ordering.{push-order}
 use Rattle.std.specs.Prelude.{option_copied}
 use Rattle.std.proofs.lemmas.Result.{err_from_is_err_and}
 use Rattle.cutter.proofs.Keeping.{few, push-lost, push-fault, push-plan, push-keeps, Read}
@@ -24,6 +27,7 @@ invariant_of-self-2 c =
     let read : Read c.self.inside c.args.packet.now c.in_ok-look.look c.take-going.result (option_copied c.tables.result) c.counted-counted.result = record { look_is = c.in_ok-look.ensures.look; kept = c.in_ok-look.ensures.kept; going = c.take-going.ensures.value; tables = c.tables.ensures; counted_is = c.counted-counted.ensures.is } in
     record {
       settings = c.self.invariant.settings;
+      packets = subst (All IsPacketLong) (sym c.push.ensures) (All-push IsPacketLong c.self.inside.fed.items c.args.packet.now c.self.invariant.packets (search rules));
       keeps = λ _. push-keeps c.self.inside _ c.args.packet.now c.in_ok-look.look c.take-going.result _ c.counted-counted.result _
           (c.self.invariant.keeps c.if-self.false) read c.in_ok-going.ensures.ok refl refl c.in_ok-watch_packet.ensures c.in_ok-look.ensures.pushed c.top_after-self-inside.ensures c.push.ensures;
     }
@@ -32,3 +36,9 @@ pub returns-clause-plan : goal.returns-clause-plan
 returns-clause-plan c =
     let read : Read c.self.inside c.args.packet.now c.in_ok-look.look c.take-going.result (option_copied c.tables.result) c.counted-counted.result = record { look_is = c.in_ok-look.ensures.look; kept = c.in_ok-look.ensures.kept; going = c.take-going.ensures.value; tables = c.tables.ensures; counted_is = c.counted-counted.ensures.is } in
     push-plan c.self.inside c.args.self.now c.args.packet.now c.in_ok-look.look c.take-going.result _ _ c.counted-counted.result _ c.self.view_is (c.self.invariant.keeps c.if-self.false) read c.in_ok-going.ensures.ok
+
+pub returns-clause-order : goal.returns-clause-order
+returns-clause-order c =
+    let read : Read c.self.inside c.args.packet.now c.in_ok-look.look c.take-going.result (option_copied c.tables.result) c.counted-counted.result = record { look_is = c.in_ok-look.ensures.look; kept = c.in_ok-look.ensures.kept; going = c.take-going.ensures.value; tables = c.tables.ensures; counted_is = c.counted-counted.ensures.is } in
+    push-order c.self.inside c.args.self.now c.args.packet.now _ c.self.view_is c.self.invariant.packets (search rules)
+    (push-plan c.self.inside c.args.self.now c.args.packet.now c.in_ok-look.look c.take-going.result _ _ c.counted-counted.result _ c.self.view_is (c.self.invariant.keeps c.if-self.false) read c.in_ok-going.ensures.ok)
