@@ -1,1 +1,4 @@
 pub mod Vectors
+pub mod Rotation
+pub mod Segments
+pub mod Ranges

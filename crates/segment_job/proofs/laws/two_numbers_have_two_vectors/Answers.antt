@@ -1,6 +1,6 @@
 use Rattle.std.proofs.Common.{ℕ, List, ap, arith}
 use Rattle.std.specs.Prelude.{slice_index}
-use Rattle.segment_job.proofs.vectors.two_numbers_have_two_vectors.Goals as goal
+use Rattle.segment_job.proofs.laws.two_numbers_have_two_vectors.Goals as goal
 
 pub returns : goal.returns
 returns c = λ m n small_m small_n same.

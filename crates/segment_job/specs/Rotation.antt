@@ -1,0 +1,21 @@
+-- Which key a segment is sealed under: the keys of a rendition take turns (RFC 8216, 4.3.2.4).
+use Rattle.std.specs.Prelude.{ℕ, ◌/◌, ◌%◌, ◌≤◌, ◌<◌, List, [], length, slice_index_or}
+
+-- the keys of a rendition in their order, and how many segments in a row each of them seals
+pub record KeyRotation : Type 0 where
+  pub keys : List (List ℕ)
+  pub period : ℕ
+
+-- at least one key and at most 4,096, of which each seals at least one segment in its turn
+pub record IsRotation (r : KeyRotation) : Type 0 where
+  pub some : 0 < length r.keys
+  pub few : length r.keys ≤ 4096
+  pub turns : 0 < r.period
+
+-- the index of the key of segment n: the keys take turns of a period each, from the first on
+abbrev pub key_index : KeyRotation → ℕ → ℕ
+key_index r n = n / r.period % length r.keys
+
+-- the key of segment n
+abbrev pub key_of : KeyRotation → ℕ → List ℕ
+key_of r n = slice_index_or r.keys (key_index r n) []

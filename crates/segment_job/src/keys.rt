@@ -1,0 +1,91 @@
+//! The keys of a rendition.
+
+ghost use Rattle.std.specs.Prelude.{◌≡◌, ◌<◌, ◌≤◌, ◌↔◌, length, IfOk, IsErrOf};
+ghost use Rattle.segment_job.specs.Rotation.{key_index, key_of, IsRotation};
+
+use crate::fault::KeyFault;
+use std::alloc::{AllocError, Global};
+use std::fmt::{self, Debug, Formatter, Write};
+use std::marker::Model;
+
+/// The most keys of a rendition.
+const MOST_KEYS: usize = 4096;
+
+/// The keys of a rendition, which take turns: each seals as many segments in a row as the period says, and behind the
+/// last one the first has its turn again.
+///
+/// Clauses see the list of the keys, of 16 bytes each, and the period.
+#[derive(Drop)]
+pub struct Keys {
+    keys: Vec<[u8; 16]>,
+    period: u64,
+}
+
+impl Model for Keys {
+    ghost use Rattle.segment_job.specs.Rotation.{KeyRotation, IsRotation};
+
+    ghost Value = { KeyRotation };
+
+    ghost view = { λ k. record { keys = k.keys.items; period = k.period } };
+
+    ghost invariant = { λ k. IsRotation (record { keys = k.keys.items; period = k.period }) };
+}
+
+impl Debug for Keys {
+    /// How many they are, and their period: a key is not to be printed.
+    fn fmt<W: Write>(&self, f: &mut Formatter<W>) -> fmt::Result {
+        f.debug_struct("Keys")
+            .field("count", &self.keys.len())
+            .field("period", &self.period)
+            .finish_non_exhaustive()
+    }
+}
+
+impl Keys {
+    /// Keys in the order in which they take turns: 1 to 4,096, and a period of at least one segment.
+    pub fn new(keys: Vec<[u8; 16]>, period: u64) -> Result<Keys, KeyFault>
+        ensures ok { IfOk result (λ made. made ≡ record { keys = keys.items; period = period }) }
+        ensures no_keys { IsErrOf result KeyFault.NoKeys ↔ (length keys.items ≡ 0) }
+        ensures too_many { IsErrOf result KeyFault.TooMany ↔ (4096 < length keys.items) }
+        ensures zero_period { IsErrOf result KeyFault.ZeroPeriod
+            ↔ ((0 < length keys.items) × (length keys.items ≤ 4096) × (period ≡ 0)) }
+    {
+        if keys.is_empty() {
+            return Err(KeyFault::NoKeys);
+        }
+        if keys.len() > MOST_KEYS {
+            return Err(KeyFault::TooMany);
+        }
+        if period == 0 {
+            return Err(KeyFault::ZeroPeriod);
+        }
+        Ok(Keys { keys, period })
+    }
+
+    /// The index of the key of segment `n`, from 0 on.
+    pub fn index(&self, n: u64) -> u64
+        ensures value { result ≡ key_index self.now n }
+        ensures below { result < length self.now.keys }
+        ensures sound { IsRotation self.now }
+    {
+        n / self.period % self.keys.len() as u64
+    }
+
+    /// The bytes of the key of segment `n`.
+    pub fn key(&self, n: u64) -> [u8; 16]
+        ensures { result ≡ key_of self.now n }
+    {
+        self.keys[self.index(n) as usize]
+    }
+
+    /// The same keys once more.
+    pub fn copy(&self) -> Result<Keys, AllocError>
+        ensures { IfOk result (λ copy. copy ≡ self.now) }
+    {
+        let keys = Vec::from_slice(*self.keys.allocator(), &self.keys)?;
+        Ok(Keys {
+            keys,
+            period: self.period,
+        })
+    }
+}

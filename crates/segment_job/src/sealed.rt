@@ -1,0 +1,141 @@
+//! Segments that are sealed.
+
+ghost use Rattle.std.specs.Prelude.{◌≡◌, ◌↔◌, length, IsTrue, IfOk};
+ghost use Rattle.std.specs.Arc.{arc_value};
+ghost use Rattle.aes_cbc.specs.Block.{IsBlock};
+ghost use Rattle.aes_cbc.specs.Opening.{Seals};
+ghost use Rattle.segment_job.specs.Segments.{plan_head, sealed_segment, IsSealed};
+
+use crate::keys::Keys;
+use crate::plain::plain_text;
+use crate::vectors::vector;
+use aes_cbc::{Key, seal};
+use cutter::Plan;
+use psi_tables::{length_of_a_head, pmt_packets};
+use std::alloc::{AllocError, Global};
+use std::fmt::{self, Debug, Formatter, Write};
+use std::marker::Model;
+use std::sync::Arc;
+
+/// A segment that is sealed: its bytes are those of its own plan, under its own key and vector. No other is ever made.
+///
+/// Clauses see its plan, its key, its vector and its bytes.
+#[derive(Drop)]
+pub struct Sealed {
+    plan: Arc<Plan, Global>,
+    key: [u8; 16],
+    vector: [u8; 16],
+    bytes: Vec<u8>,
+}
+
+impl Model for Sealed {
+    ghost use Rattle.std.specs.Arc.{arc_value};
+    ghost use Rattle.segment_job.specs.Segments.{SealedSegment, IsSealed};
+
+    ghost Value = { SealedSegment };
+
+    ghost view = { λ s. record { plan = arc_value s.plan; key = s.key; vector = s.vector; bytes = s.bytes.items } };
+
+    ghost invariant = { λ s. IsSealed (record { plan = arc_value s.plan; key = s.key; vector = s.vector; bytes = s.bytes.items }) };
+}
+
+impl Debug for Sealed {
+    /// Its rendition and its number: a key is not to be printed.
+    fn fmt<W: Write>(&self, f: &mut Formatter<W>) -> fmt::Result {
+        f.debug_struct("Sealed")
+            .field("rendition", &self.plan.rendition)
+            .field("number", &self.plan.number)
+            .finish_non_exhaustive()
+    }
+}
+
+impl Sealed {
+    /// The plan of which this is the segment.
+    pub fn plan(&self) -> &Plan
+        ensures { result.now ≡ self.now.plan }
+    {
+        &self.plan
+    }
+
+    /// The bytes of its key.
+    pub fn key(&self) -> [u8; 16]
+        ensures { result ≡ self.now.key }
+    {
+        self.key
+    }
+
+    /// Its initialization vector.
+    pub fn vector(&self) -> [u8; 16]
+        ensures { result ≡ self.now.vector }
+    {
+        self.vector
+    }
+
+    /// Its bytes, as a player gets them.
+    pub fn bytes(&self) -> &[u8]
+        ensures value { result.now ≡ self.now.bytes }
+        ensures sealed { IsSealed self.now }
+    {
+        &self.bytes
+    }
+
+    /// How long its head is before it is sealed, in bytes.
+    pub fn head_len(&self) -> u64
+        ensures { result ≡ length (plan_head self.now.plan) }
+    {
+        length_of_a_head();
+        let tables = &self.plan.tables;
+        // A proof learns here that the section has at most 1,024 bytes.
+        let _ = tables.section();
+        188 * (1 + pmt_packets(tables) as u64)
+    }
+
+    /// Whether these keys sealed it: it is the segment that they make of its plan.
+    pub fn is_by(&self, keys: &Keys) -> bool
+        ensures { IsTrue result ↔ (self.now ≡ sealed_segment keys.now self.now.plan) }
+    {
+        let number = self.plan.number;
+        self.key == keys.key(number) && self.vector == vector(number)
+    }
+
+    /// Its plan and its bytes.
+    pub fn into_parts(self) -> (Arc<Plan, Global>, Vec<u8>)
+        ensures plan { arc_value result.0 ≡ self.plan }
+        ensures bytes { result.1.items ≡ self.bytes }
+    {
+        let Sealed { plan, bytes, .. } = self;
+        (plan, bytes)
+    }
+}
+
+/// Seals the segment of a plan, under the key and the vector of its number.
+///
+/// The segment is made once, and let go when it is sealed.
+pub fn seal_plan(alloc: Global, plan: Arc<Plan, Global>, keys: &Keys) -> Result<Sealed, AllocError>
+    ensures { IfOk result (λ sealed. sealed ≡ sealed_segment keys.now (arc_value plan)) }
+{
+    let key = keys.key(plan.number);
+    let vector = vector(plan.number);
+    let text = plain_text(alloc, &plan)?;
+    let bytes = seal_text(alloc, &key, &vector, &text)?;
+    Ok(Sealed {
+        plan,
+        key,
+        vector,
+        bytes,
+    })
+}
+
+/// The bytes that a text is sealed to under a key from a vector on.
+fn seal_text(
+    alloc: Global,
+    key: &[u8; 16],
+    vector: &[u8; 16],
+    text: &[u8],
+) -> Result<Vec<u8>, AllocError>
+    ensures seals { IfOk result (λ sealed. Seals key.now vector.now text.now sealed.items) }
+    ensures key { IsBlock key.now }
+    ensures vector { IsBlock vector.now }
+{
+    seal(alloc, &Key::new(*key), vector, text)
+}
