@@ -1,0 +1,5 @@
+mod fixtures;
+mod folder;
+mod lines;
+mod outlets;
+mod sources;
