@@ -1,53 +1,142 @@
 //! Packets for the tests.
-ghost use Rattle.std.specs.Prelude.{◌≤◌, ◌<◌, ◌^◌, length};
-
-use std::alloc::{AllocError, Global};
+use crate::{Assembler, Tables, Watch};
+use std::alloc::Global;
 use std::test::Fail;
 use ts_packet::Packet;
 
-/// The packet with this header of four bytes and these bytes behind it, filled up with FF.
-pub fn packet(header: [u8; 4], behind: &[u8]) -> Result<Packet, Fail>
-    requires { length behind.now ≤ 184 }
-{
-    let mut bytes = [0xFF; 188];
-    bytes[..4].copy_from_slice(&header);
-    bytes[4..4 + behind.len()].copy_from_slice(behind);
-    Ok(Packet::parse(&bytes)?)
+/// A packet that a test sends.
+#[derive(Clone, Copy)]
+pub enum Sent {
+    /// With this header of four bytes and these bytes behind it, filled up with FF.
+    Filled([u8; 4], &'static [u8]),
+    /// With this header, which tells an adaptation field and a payload, and with this payload: the adaptation field takes
+    /// the room that is left.
+    Exactly([u8; 4], &'static [u8]),
+    /// With start indicator, of this PID and with this counter, carrying these bytes as sections.
+    Carrying(u16, u8, &'static [u8]),
 }
 
-/// The packet with this header, which tells an adaptation field and a payload, and with this payload: the adaptation
-/// field takes the room that is left.
-pub fn exactly(header: [u8; 4], payload: &[u8]) -> Result<Packet, Fail>
-    requires some { 1 ≤ length payload.now }
-    requires fits { length payload.now ≤ 182 }
-{
-    let mut bytes = [0xFF; 188];
-    let at = 188 - payload.len();
-    bytes[..4].copy_from_slice(&header);
-    bytes[4] = (at - 5) as u8;
-    bytes[5] = 0;
-    bytes[at..].copy_from_slice(payload);
-    Ok(Packet::parse(&bytes)?)
-}
-
-/// Lists of bytes.
-pub fn lists(alloc: Global, lists: &[&[u8]]) -> Result<Vec<Vec<u8>>, AllocError> {
-    let mut all = Vec::new(alloc);
-    for list in lists {
-        all.push(Vec::from_slice(alloc, list)?)?;
+/// Writes bytes into others, from a place on.
+pub fn write(out: &mut [u8], from: usize, bytes: &[u8]) {
+    for (at, byte) in bytes.iter().enumerate() {
+        if let Some(there) = out.get_mut(from.wrapping_add(at)) {
+            *there = *byte;
+        }
     }
-    Ok(all)
 }
 
-/// A packet of this PID with start indicator that carries these bytes as sections.
-pub fn carrying(pid: u16, counter: u8, sections: &[u8]) -> Result<Packet, Fail>
-    requires pid { pid < 2 ^ 13 }
-    requires counter { counter < 16 }
-    requires fits { length sections.now ≤ 183 }
-{
+/// A packet of a header, what is behind it, and bytes FF.
+pub fn filled(header: &[u8], behind: &[u8]) -> [u8; 188] {
     let mut bytes = [0xFF; 188];
-    let [high, low] = pid.to_be_bytes();
-    bytes[..5].copy_from_slice(&[0x47, 0x40 | high, low, 0x10 | counter, 0x00]);
-    bytes[5..5 + sections.len()].copy_from_slice(sections);
-    Ok(Packet::parse(&bytes)?)
+    write(&mut bytes, 0, header);
+    write(&mut bytes, header.len(), behind);
+    bytes
+}
+
+/// A packet of a header, an adaptation field, and this payload at its end.
+fn exactly(header: &[u8], payload: &[u8]) -> [u8; 188] {
+    let at = 188usize.saturating_sub(payload.len());
+    let mut bytes = filled(header, &[(at.saturating_sub(5) & 0xFF) as u8, 0]);
+    write(&mut bytes, at, payload);
+    bytes
+}
+
+/// The 188 bytes of a packet.
+pub fn bytes_of(sent: Sent) -> [u8; 188] {
+    match sent {
+        Sent::Filled(header, behind) => filled(&header, behind),
+        Sent::Exactly(header, payload) => exactly(&header, payload),
+        Sent::Carrying(pid, counter, sections) => {
+            let [high, low] = pid.to_be_bytes();
+            filled(&[0x47, 0x40 | high, low, 0x10 | counter, 0x00], sections)
+        }
+    }
+}
+
+/// The sections of a PID that these packets carry.
+fn sections(alloc: Global, pid: u16, packets: &[Sent]) -> Result<Vec<Vec<u8>>, Fail> {
+    let mut assembler = Assembler::new(alloc, pid);
+    let mut found = Vec::new(alloc);
+    for sent in packets {
+        let packet = Packet::parse(&bytes_of(*sent))?;
+        assembler.push(&packet, &mut found)?;
+    }
+    Ok(found)
+}
+
+/// Whether sections are these.
+pub fn are(found: &[Vec<u8>], sections: &[&[u8]]) -> bool {
+    if found.len() != sections.len() {
+        return false;
+    }
+    for (one, other) in found.iter().zip(sections) {
+        if one.as_slice() != *other {
+            return false;
+        }
+    }
+    true
+}
+
+/// Packets, and the sections of a PID that they carry.
+pub struct Carried {
+    pub name: &'static str,
+    pub pid: u16,
+    pub packets: &'static [Sent],
+    pub sections: &'static [&'static [u8]],
+}
+
+/// The name of the first packets whose sections are others.
+pub fn first_wrong(alloc: Global, cases: &[Carried]) -> Result<Option<&'static str>, Fail> {
+    for case in cases {
+        let found = sections(alloc, case.pid, case.packets)?;
+        if !are(&found, case.sections) {
+            return Ok(Some(case.name));
+        }
+    }
+    Ok(None)
+}
+
+/// The stream, the program, the PMT's PID and the video's of some tables.
+pub type Told = Option<(u16, u16, u16, Option<u16>)>;
+
+/// What tables tell.
+fn told(tables: Option<&Tables>) -> Told {
+    let Some(tables) = tables else {
+        return None;
+    };
+    Some((
+        tables.stream_id(),
+        tables.program(),
+        tables.pmt_pid(),
+        tables.video(),
+    ))
+}
+
+/// A watch that was pushed these packets.
+pub fn watched(alloc: Global, program: Option<u16>, packets: &[Sent]) -> Result<Watch, Fail> {
+    let mut watch = Watch::new(alloc, program);
+    for sent in packets {
+        let packet = Packet::parse(&bytes_of(*sent))?;
+        watch.push(&packet)?;
+    }
+    Ok(watch)
+}
+
+/// Packets, the program that is asked for, and the tables in force behind them.
+pub struct Behind {
+    pub name: &'static str,
+    pub program: Option<u16>,
+    pub packets: &'static [Sent],
+    pub tables: Told,
+}
+
+/// The name of the first packets behind which other tables are in force.
+pub fn first_other(alloc: Global, cases: &[Behind]) -> Result<Option<&'static str>, Fail> {
+    for case in cases {
+        let watch = watched(alloc, case.program, case.packets)?;
+        if told(watch.tables()) != case.tables {
+            return Ok(Some(case.name));
+        }
+    }
+    Ok(None)
 }

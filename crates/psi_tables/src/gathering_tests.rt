@@ -1,7 +1,8 @@
-use crate::fixtures::{exactly, lists, packet};
+use crate::fixtures::Sent::{Exactly, Filled};
+use crate::fixtures::{Carried, Sent, bytes_of, first_wrong};
 use crate::tests::{PAT, PMT};
 use crate::{Assembler, Pat};
-use std::alloc::{AllocError, Global};
+use std::alloc::Global;
 use std::test::Fail;
 use ts_packet::Packet;
 
@@ -10,230 +11,396 @@ const FRONT: &[u8] = b"\x00\x00\xb0\x0d\x00\x01\xc1\x00\x00";
 
 const BACK: &[u8] = b"\x00\x01\xf0\x00\x2a\xb1\x04\xb2";
 
-/// The sections of a PID that these packets carry.
-fn sections(alloc: Global, pid: u16, packets: &[Packet]) -> Result<Vec<Vec<u8>>, AllocError> {
-    let mut assembler = Assembler::new(alloc, pid);
-    let mut found = Vec::new(alloc);
-    for packet in packets {
-        assembler.push(packet, &mut found)?;
-    }
-    Ok(found)
-}
+/// The packets of the halves, and one of the second half with the counter behind its own.
+const A: Sent = Exactly([0x47, 0x40, 0x00, 0x30], FRONT);
+
+const B: Sent = Filled([0x47, 0x00, 0x00, 0x11], BACK);
+
+const C: Sent = Filled([0x47, 0x00, 0x00, 0x12], BACK);
+
+const HALVES: [Carried; 6] = [
+    Carried {
+        name: "both",
+        pid: 0,
+        packets: &[A, B],
+        sections: &[PAT],
+    },
+    Carried {
+        name: "the first repeated",
+        pid: 0,
+        packets: &[A, A, B],
+        sections: &[PAT],
+    },
+    Carried {
+        name: "the second repeated",
+        pid: 0,
+        packets: &[A, B, B],
+        sections: &[PAT],
+    },
+    Carried {
+        name: "another PID",
+        pid: 0x1FFF,
+        packets: &[A, B],
+        sections: &[],
+    },
+    Carried {
+        name: "a gap",
+        pid: 0,
+        packets: &[A, C],
+        sections: &[],
+    },
+    Carried {
+        name: "the first counter behind the last",
+        pid: 0,
+        packets: &[
+            Exactly([0x47, 0x40, 0x00, 0x3F], FRONT),
+            Filled([0x47, 0x00, 0x00, 0x10], BACK),
+        ],
+        sections: &[PAT],
+    },
+];
 
 #[test]
 fn a_section_in_two_packets(rt: HostRuntime) -> Result<(), Fail> {
-    let alloc = rt.alloc();
-    let mut front = [0xFF; 184];
-    front[..2].copy_from_slice(&[0xAE, 0x00]);
-    front[175..].copy_from_slice(FRONT);
-    let a = packet([0x47, 0x40, 0x00, 0x30], &front)?;
-    let b = packet([0x47, 0x00, 0x00, 0x11], BACK)?;
-    let one = lists(alloc, &[PAT])?;
-    assert_eq!(rt; sections(alloc, 0, &[a, b])?, one);
-    assert_eq!(rt; sections(alloc, 0, &[a, a, b])?, one);
-    assert_eq!(rt; sections(alloc, 0, &[a, b, b])?, one);
-    assert_eq!(rt; sections(alloc, 0x1FFF, &[a, b])?, lists(alloc, &[])?);
-    let late = packet([0x47, 0x00, 0x00, 0x12], BACK)?;
-    assert_eq!(rt; sections(alloc, 0, &[a, late])?, lists(alloc, &[])?);
+    assert_eq!(rt; first_wrong(rt.alloc(), &HALVES)?, None);
     Ok(())
 }
 
-#[test]
-fn the_last_counter_is_followed_by_the_first(rt: HostRuntime) -> Result<(), Fail> {
-    let alloc = rt.alloc();
-    let a = exactly([0x47, 0x40, 0x00, 0x3F], FRONT)?;
-    let b = packet([0x47, 0x00, 0x00, 0x10], BACK)?;
-    assert_eq!(rt; sections(alloc, 0, &[a, b])?, lists(alloc, &[PAT])?);
-    Ok(())
-}
+const SCRAMBLED: Sent = Filled([0x47, 0x00, 0x00, 0x91], BACK);
+
+const WITHOUT_PAYLOAD: Sent = Filled([0x47, 0x00, 0x00, 0x21], b"\xb7\x00");
+
+const OTHER_PID: Sent = Filled([0x47, 0x00, 0x01, 0x11], BACK);
+
+/// A repeat that says other things.
+const REPEAT: Sent = Filled([0x47, 0x40, 0x00, 0x10], b"\x00");
+
+const WITH_OTHERS: [Carried; 8] = [
+    Carried {
+        name: "scrambled",
+        pid: 0,
+        packets: &[A, SCRAMBLED, B],
+        sections: &[PAT],
+    },
+    Carried {
+        name: "scrambled, gap",
+        pid: 0,
+        packets: &[A, SCRAMBLED, C],
+        sections: &[],
+    },
+    Carried {
+        name: "no payload",
+        pid: 0,
+        packets: &[A, WITHOUT_PAYLOAD, B],
+        sections: &[PAT],
+    },
+    Carried {
+        name: "no payload, gap",
+        pid: 0,
+        packets: &[A, WITHOUT_PAYLOAD, C],
+        sections: &[],
+    },
+    Carried {
+        name: "other PID",
+        pid: 0,
+        packets: &[A, OTHER_PID, B],
+        sections: &[PAT],
+    },
+    Carried {
+        name: "other PID, gap",
+        pid: 0,
+        packets: &[A, OTHER_PID, C],
+        sections: &[],
+    },
+    Carried {
+        name: "repeat",
+        pid: 0,
+        packets: &[A, REPEAT, B],
+        sections: &[PAT],
+    },
+    Carried {
+        name: "repeat, gap",
+        pid: 0,
+        packets: &[A, REPEAT, C],
+        sections: &[],
+    },
+];
 
 #[test]
 fn packets_that_do_not_count(rt: HostRuntime) -> Result<(), Fail> {
-    let alloc = rt.alloc();
-    let a = exactly([0x47, 0x40, 0x00, 0x30], FRONT)?;
-    let b = packet([0x47, 0x00, 0x00, 0x11], BACK)?;
-    let c = packet([0x47, 0x00, 0x00, 0x12], BACK)?;
-    let table = [
-        // scrambled
-        packet([0x47, 0x00, 0x00, 0x91], BACK)?,
-        // without payload
-        packet([0x47, 0x00, 0x00, 0x21], b"\xb7\x00")?,
-        // of another PID
-        packet([0x47, 0x00, 0x01, 0x11], BACK)?,
-        // a repeat that says other things
-        packet([0x47, 0x40, 0x00, 0x10], b"\x00")?,
-    ];
-    for other in table {
-        assert_eq!(rt; sections(alloc, 0, &[a, other, b])?, lists(alloc, &[PAT])?);
-        assert_eq!(rt; sections(alloc, 0, &[a, other, c])?, lists(alloc, &[])?);
-    }
+    assert_eq!(rt; first_wrong(rt.alloc(), &WITH_OTHERS)?, None);
     Ok(())
 }
+
+/// A PMT in three packets, and a packet of video.
+const ONE: Sent = Exactly([0x47, 0x50, 0x00, 0x37], b"\x00\x02\xb0\x12\x00\x01\xc1");
+
+const TWO: Sent = Exactly([0x47, 0x10, 0x00, 0x38], b"\x00\x00\xe1\x00\xf0\x00\x1b");
+
+const THREE: Sent = Filled(
+    [0x47, 0x10, 0x00, 0x19],
+    b"\xe1\x00\xf0\x00\x15\xbd\x4d\x56",
+);
+
+const VIDEO: Sent = Filled([0x47, 0x01, 0x00, 0x10], b"");
+
+const THIRDS: [Carried; 4] = [
+    Carried {
+        name: "all",
+        pid: 0x1000,
+        packets: &[ONE, TWO, THREE],
+        sections: &[PMT],
+    },
+    Carried {
+        name: "with video and a repeat",
+        pid: 0x1000,
+        packets: &[ONE, VIDEO, TWO, TWO, VIDEO, THREE],
+        sections: &[PMT],
+    },
+    Carried {
+        name: "without the second",
+        pid: 0x1000,
+        packets: &[ONE, THREE],
+        sections: &[],
+    },
+    Carried {
+        name: "without the first",
+        pid: 0x1000,
+        packets: &[TWO, THREE],
+        sections: &[],
+    },
+];
 
 #[test]
 fn a_section_in_three_packets(rt: HostRuntime) -> Result<(), Fail> {
-    let alloc = rt.alloc();
-    let a = exactly([0x47, 0x50, 0x00, 0x37], b"\x00\x02\xb0\x12\x00\x01\xc1")?;
-    let b = exactly([0x47, 0x10, 0x00, 0x38], b"\x00\x00\xe1\x00\xf0\x00\x1b")?;
-    let c = packet(
-        [0x47, 0x10, 0x00, 0x19],
-        b"\xe1\x00\xf0\x00\x15\xbd\x4d\x56",
-    )?;
-    let video = packet([0x47, 0x01, 0x00, 0x10], b"")?;
-    let one = lists(alloc, &[PMT])?;
-    assert_eq!(rt; sections(alloc, 0x1000, &[a, b, c])?, one);
-    assert_eq!(rt; sections(alloc, 0x1000, &[a, video, b, b, video, c])?, one);
-    assert_eq!(rt; sections(alloc, 0x1000, &[a, c])?, lists(alloc, &[])?);
-    assert_eq!(rt; sections(alloc, 0x1000, &[b, c])?, lists(alloc, &[])?);
+    assert_eq!(rt; first_wrong(rt.alloc(), &THIRDS)?, None);
     Ok(())
 }
+
+const TO_THE_END: Sent = Exactly(
+    [0x47, 0x40, 0x00, 0x31],
+    b"\x08\x00\x01\xf0\x00\x2a\xb1\x04\xb2",
+);
+
+const PAST_THE_END: Sent = Exactly(
+    [0x47, 0x40, 0x00, 0x31],
+    b"\x09\x00\x01\xf0\x00\x2a\xb1\x04\xb2",
+);
+
+/// The rest of the PAT, and the PMT.
+const BOTH: Sent = Filled(
+    [0x47, 0x40, 0x00, 0x11],
+    b"\x08\x00\x01\xf0\x00\x2a\xb1\x04\xb2\x02\xb0\x12\x00\x01\xc1\x00\x00\xe1\x00\xf0\x00\x1b\xe1\x00\xf0\x00\x15\xbd\x4d\x56",
+);
+
+/// A byte too few for the PAT.
+const FEW: Sent = Filled(
+    [0x47, 0x40, 0x00, 0x11],
+    b"\x07\x00\x01\xf0\x00\x2a\xb1\x04\xb2\xb0\x00",
+);
+
+const POINTERS: [Carried; 6] = [
+    Carried {
+        name: "to the payload's end",
+        pid: 0,
+        packets: &[A, TO_THE_END],
+        sections: &[PAT],
+    },
+    Carried {
+        name: "past it",
+        pid: 0,
+        packets: &[A, PAST_THE_END],
+        sections: &[],
+    },
+    Carried {
+        name: "past it, and the counter counts all the same",
+        pid: 0,
+        packets: &[
+            A,
+            PAST_THE_END,
+            Exactly([0x47, 0x40, 0x00, 0x32], FRONT),
+            Filled([0x47, 0x00, 0x00, 0x13], BACK),
+        ],
+        sections: &[PAT],
+    },
+    Carried {
+        name: "another section begins behind them",
+        pid: 0,
+        packets: &[A, BOTH],
+        sections: &[PAT, PMT],
+    },
+    Carried {
+        name: "another section alone",
+        pid: 0,
+        packets: &[BOTH],
+        sections: &[PMT],
+    },
+    Carried {
+        name: "they don't complete the section that was begun",
+        pid: 0,
+        packets: &[A, FEW],
+        sections: &[b"\xb2\xb0\x00"],
+    },
+];
 
 #[test]
 fn sections_behind_a_pointer(rt: HostRuntime) -> Result<(), Fail> {
-    let alloc = rt.alloc();
-    let a = exactly([0x47, 0x40, 0x00, 0x30], FRONT)?;
-    let two = lists(alloc, &[PAT, PMT])?;
-    let mut payload = Vec::from_slice(alloc, b"\x08")?;
-    payload.extend_from_slice(BACK)?;
-    // the pointer's bytes end with the payload
-    let to_the_end = exactly(
-        [0x47, 0x40, 0x00, 0x31],
-        b"\x08\x00\x01\xf0\x00\x2a\xb1\x04\xb2",
-    )?;
-    assert_eq!(rt;
-        sections(alloc, 0, &[a, to_the_end])?,
-        lists(alloc, &[PAT])?
-    );
-    // they pass it
-    let past_the_end = exactly(
-        [0x47, 0x40, 0x00, 0x31],
-        b"\x09\x00\x01\xf0\x00\x2a\xb1\x04\xb2",
-    )?;
-    assert_eq!(rt; sections(alloc, 0, &[a, past_the_end])?, lists(alloc, &[])?);
-    // its counter counts all the same
-    let b = exactly([0x47, 0x40, 0x00, 0x32], FRONT)?;
-    let c = packet([0x47, 0x00, 0x00, 0x13], BACK)?;
-    assert_eq!(rt;
-        sections(alloc, 0, &[a, past_the_end, b, c])?,
-        lists(alloc, &[PAT])?
-    );
-    // another section begins behind them
-    payload.extend_from_slice(PMT)?;
-    if payload.len() <= 184 {
-        let both = packet([0x47, 0x40, 0x00, 0x11], &payload)?;
-        assert_eq!(rt; sections(alloc, 0, &[a, both])?, two);
-        assert_eq!(rt; sections(alloc, 0, &[both])?, lists(alloc, &[PMT])?);
-    }
-    // they don't complete the section that was begun
-    let few = packet(
-        [0x47, 0x40, 0x00, 0x11],
-        b"\x07\x00\x01\xf0\x00\x2a\xb1\x04\xb2\xb0\x00",
-    )?;
-    assert_eq!(rt;
-        sections(alloc, 0, &[a, few])?,
-        lists(alloc, &[b"\xb2\xb0\x00"])?
-    );
+    assert_eq!(rt; first_wrong(rt.alloc(), &POINTERS)?, None);
     Ok(())
 }
+
+/// A short section of another table.
+const SHORT: &[u8] = b"\x42\xb0\x01\x07";
+
+const ONE_BEHIND_ANOTHER: [Carried; 3] = [
+    Carried {
+        name: "two in a packet",
+        pid: 0,
+        packets: &[Filled(
+            [0x47, 0x40, 0x00, 0x10],
+            b"\x00\x00\xb0\x0d\x00\x01\xc1\x00\x00\x00\x01\xf0\x00\x2a\xb1\x04\xb2\x42\xb0\x01\x07",
+        )],
+        sections: &[PAT, SHORT],
+    },
+    Carried {
+        name: "what follows a section in a packet without start indicator is left out",
+        pid: 0,
+        packets: &[
+            Exactly([0x47, 0x40, 0x00, 0x3F], FRONT),
+            Filled(
+                [0x47, 0x00, 0x00, 0x10],
+                b"\x00\x01\xf0\x00\x2a\xb1\x04\xb2\x42\xb0\x01\x07",
+            ),
+        ],
+        sections: &[PAT],
+    },
+    Carried {
+        name: "nothing begins behind stuffing",
+        pid: 0,
+        packets: &[Filled(
+            [0x47, 0x40, 0x00, 0x10],
+            b"\x00\x42\xb0\x01\x07\xff\x42\xb0\x01\x07",
+        )],
+        sections: &[SHORT],
+    },
+];
 
 #[test]
 fn sections_one_behind_another(rt: HostRuntime) -> Result<(), Fail> {
-    let alloc = rt.alloc();
-    let both = packet(
-        [0x47, 0x40, 0x00, 0x10],
-        b"\x00\x00\xb0\x0d\x00\x01\xc1\x00\x00\x00\x01\xf0\x00\x2a\xb1\x04\xb2\x42\xb0\x01\x07",
-    )?;
-    let two = lists(alloc, &[PAT, b"\x42\xb0\x01\x07"])?;
-    assert_eq!(rt; sections(alloc, 0, &[both])?, two);
-    // what follows a section in a packet without start indicator is left out
-    let a = exactly([0x47, 0x40, 0x00, 0x3F], FRONT)?;
-    let behind = packet(
-        [0x47, 0x00, 0x00, 0x10],
-        b"\x00\x01\xf0\x00\x2a\xb1\x04\xb2\x42\xb0\x01\x07",
-    )?;
-    assert_eq!(rt; sections(alloc, 0, &[a, behind])?, lists(alloc, &[PAT])?);
-    // nothing begins behind stuffing
-    let stuffed = packet(
-        [0x47, 0x40, 0x00, 0x10],
-        b"\x00\x42\xb0\x01\x07\xff\x42\xb0\x01\x07",
-    )?;
-    assert_eq!(rt;
-        sections(alloc, 0, &[stuffed])?,
-        lists(alloc, &[b"\x42\xb0\x01\x07"])?
-    );
+    assert_eq!(rt; first_wrong(rt.alloc(), &ONE_BEHIND_ANOTHER)?, None);
     Ok(())
 }
+
+const LONG: Sent = Filled([0x47, 0x50, 0x00, 0x10], b"\x00\x02\xb3\xfe");
+
+const GOOD: Sent = Filled(
+    [0x47, 0x50, 0x00, 0x11],
+    b"\x00\x02\xb0\x12\x00\x01\xc1\x00\x00\xe1\x00\xf0\x00\x1b\xe1\x00\xf0\x00\x15\xbd\x4d\x56",
+);
+
+/// A section of another table is begun, with one byte.
+const BEGUN: Sent = Exactly([0x47, 0x40, 0x00, 0x30], b"\x00\x42");
+
+const TOO_GREAT: [Carried; 5] = [
+    Carried {
+        name: "alone",
+        pid: 0x1000,
+        packets: &[LONG],
+        sections: &[],
+    },
+    Carried {
+        name: "a good one behind",
+        pid: 0x1000,
+        packets: &[LONG, GOOD],
+        sections: &[PMT],
+    },
+    Carried {
+        name: "a good section in front",
+        pid: 0,
+        packets: &[Filled(
+            [0x47, 0x40, 0x00, 0x10],
+            b"\x00\x42\xb0\x01\x07\x42\xb3\xfe\x42\xb0\x01\x07",
+        )],
+        sections: &[SHORT],
+    },
+    Carried {
+        name: "in the pointer's bytes",
+        pid: 0,
+        packets: &[
+            BEGUN,
+            Filled(
+                [0x47, 0x40, 0x00, 0x11],
+                b"\x02\xb3\xfe\x00\xb0\x0d\x00\x01\xc1\x00\x00\x00\x01\xf0\x00\x2a\xb1\x04\xb2",
+            ),
+        ],
+        sections: &[],
+    },
+    Carried {
+        name: "one less in the pointer's bytes",
+        pid: 0,
+        packets: &[
+            BEGUN,
+            Filled(
+                [0x47, 0x40, 0x00, 0x11],
+                b"\x02\xb3\xfd\x00\xb0\x0d\x00\x01\xc1\x00\x00\x00\x01\xf0\x00\x2a\xb1\x04\xb2",
+            ),
+        ],
+        sections: &[PAT],
+    },
+];
 
 #[test]
 fn lengths_that_are_too_great(rt: HostRuntime) -> Result<(), Fail> {
-    let alloc = rt.alloc();
-    let long = packet([0x47, 0x50, 0x00, 0x10], b"\x00\x02\xb3\xfe")?;
-    let good = packet(
-        [0x47, 0x50, 0x00, 0x11],
-        b"\x00\x02\xb0\x12\x00\x01\xc1\x00\x00\xe1\x00\xf0\x00\x1b\xe1\x00\xf0\x00\x15\xbd\x4d\x56",
-    )?;
-    assert_eq!(rt; sections(alloc, 0x1000, &[long])?, lists(alloc, &[])?);
-    assert_eq!(rt;
-        sections(alloc, 0x1000, &[long, good])?,
-        lists(alloc, &[PMT])?
-    );
-    // a good section in front
-    let behind = packet(
-        [0x47, 0x40, 0x00, 0x10],
-        b"\x00\x42\xb0\x01\x07\x42\xb3\xfe\x42\xb0\x01\x07",
-    )?;
-    assert_eq!(rt;
-        sections(alloc, 0, &[behind])?,
-        lists(alloc, &[b"\x42\xb0\x01\x07"])?
-    );
+    assert_eq!(rt; first_wrong(rt.alloc(), &TOO_GREAT)?, None);
     Ok(())
 }
 
-#[test]
-fn a_length_in_the_pointers_bytes(rt: HostRuntime) -> Result<(), Fail> {
-    let alloc = rt.alloc();
-    let begun = exactly([0x47, 0x40, 0x00, 0x30], b"\x00\x42")?;
-    let long = packet(
-        [0x47, 0x40, 0x00, 0x11],
-        b"\x02\xb3\xfe\x00\xb0\x0d\x00\x01\xc1\x00\x00\x00\x01\xf0\x00\x2a\xb1\x04\xb2",
-    )?;
-    assert_eq!(rt; sections(alloc, 0, &[begun, long])?, lists(alloc, &[])?);
-    let less = packet(
-        [0x47, 0x40, 0x00, 0x11],
-        b"\x02\xb3\xfd\x00\xb0\x0d\x00\x01\xc1\x00\x00\x00\x01\xf0\x00\x2a\xb1\x04\xb2",
-    )?;
-    assert_eq!(rt; sections(alloc, 0, &[begun, less])?, lists(alloc, &[PAT])?);
-    Ok(())
+/// How many bytes an assembler keeps behind each of some packets.
+fn kept(
+    assembler: &mut Assembler,
+    packets: &[Sent; 8],
+    found: &mut Vec<Vec<u8>>,
+) -> Result<[usize; 8], Fail> {
+    let mut kept = [0; 8];
+    for (there, sent) in kept.iter_mut().zip(packets) {
+        let packet = Packet::parse(&bytes_of(*sent))?;
+        assembler.push(&packet, found)?;
+        *there = assembler.kept();
+    }
+    Ok(kept)
 }
+
+/// The choice of the PAT that the first section is.
+fn chosen(alloc: Global, found: &[Vec<u8>]) -> Option<(u16, u16)> {
+    let [first, ..] = found else {
+        return None;
+    };
+    match Pat::read(alloc, first) {
+        Ok(pat) => pat.choose(None),
+        Err(_fault) => None,
+    }
+}
+
+/// The PAT, and a section of 1,024 bytes, the most.
+const LONGEST: [Sent; 8] = [
+    A,
+    B,
+    Filled([0x47, 0x40, 0x00, 0x12], b"\x00\x42\xb3\xfd"),
+    Filled([0x47, 0x00, 0x00, 0x13], b""),
+    Filled([0x47, 0x00, 0x00, 0x14], b""),
+    Filled([0x47, 0x00, 0x00, 0x15], b""),
+    Filled([0x47, 0x00, 0x00, 0x16], b""),
+    Filled([0x47, 0x00, 0x00, 0x17], b""),
+];
 
 #[test]
 fn keeps_what_was_begun(rt: HostRuntime) -> Result<(), Fail> {
-    let alloc = rt.alloc();
-    let mut assembler = Assembler::new(alloc, 0);
-    let mut found = Vec::new(alloc);
+    let mut assembler = Assembler::new(rt.alloc(), 0);
+    let mut found = Vec::new(rt.alloc());
+    let kept = kept(&mut assembler, &LONGEST, &mut found)?;
+    assert_eq!(rt; kept, [8, 0, 183, 367, 551, 735, 919, 0]);
     assert_eq!(rt; assembler.pid(), 0);
-    assembler.push(&exactly([0x47, 0x40, 0x00, 0x30], FRONT)?, &mut found)?;
-    assert_eq!(rt; assembler.kept(), 8);
-    assembler.push(&packet([0x47, 0x00, 0x00, 0x11], BACK)?, &mut found)?;
-    assert_eq!(rt; assembler.kept(), 0);
-    assert_eq!(rt; found.len(), 1);
-    if let Some(section) = found.first() {
-        assert_eq!(rt; Pat::read(alloc, section)?.choose(None), Some((1, 0x1000)));
-    }
-    // the longest section: 1,024 bytes
-    let first = packet([0x47, 0x40, 0x00, 0x12], b"\x00\x42\xb3\xfd")?;
-    assembler.push(&first, &mut found)?;
-    for header in [
-        [0x47, 0x00, 0x00, 0x13],
-        [0x47, 0x00, 0x00, 0x14],
-        [0x47, 0x00, 0x00, 0x15],
-        [0x47, 0x00, 0x00, 0x16],
-    ] {
-        assembler.push(&packet(header, b"")?, &mut found)?;
-    }
-    assert_eq!(rt; assembler.kept(), 919);
-    assembler.push(&packet([0x47, 0x00, 0x00, 0x17], b"")?, &mut found)?;
-    assert_eq!(rt; assembler.kept(), 0);
     assert_eq!(rt; found.len(), 2);
+    assert_eq!(rt; chosen(rt.alloc(), &found), Some((1, 0x1000)));
     Ok(())
 }

@@ -1,5 +1,6 @@
+use crate::fixtures::write;
 use crate::{Pat, Pmt, TableFault, crc_32};
-use std::alloc::{AllocError, Global};
+use std::alloc::Global;
 use std::test::Fail;
 
 /// Program 1 with its PMT on PID 0x1000.
@@ -107,20 +108,20 @@ const PMT_WITH_DESCRIPTORS: &[u8] =
 const PAT_WITH_NETWORK: &[u8] =
     b"\x00\xb0\x15\x12\x34\xc1\x00\x00\x00\x00\xe0\x10\x00\x01\xe1\x00\x00\x02\xe2\x00\x38\xfc\x93\x56";
 
-/// A PMT section: these bytes, so many bytes of descriptors, one stream, the CRC.
-fn pmt_with(
+/// The fault of a PMT section of so many bytes, 1,024 or one more: these bytes, zero bytes of descriptors, one stream, the
+/// CRC. Or its video.
+fn long_pmt(
     alloc: Global,
     front: &[u8],
-    descriptors: usize,
+    len: usize,
     crc: &[u8],
-) -> Result<Vec<u8>, AllocError> {
-    let mut section = Vec::from_slice(alloc, front)?;
-    for _ in 0..descriptors {
-        section.push(0)?;
-    }
-    section.extend_from_slice(b"\x1b\xe1\x00\xf0\x00")?;
-    section.extend_from_slice(crc)?;
-    Ok(section)
+) -> Result<Option<u16>, TableFault> {
+    let mut section = [0; 1025];
+    write(&mut section, 0, front);
+    write(&mut section, len.saturating_sub(9), b"\x1b\xe1\x00\xf0\x00");
+    write(&mut section, len.saturating_sub(4), crc);
+    let (section, _) = section.split_at(usize::min(len, 1025));
+    Ok(Pmt::read(alloc, section)?.video())
 }
 
 #[test]
@@ -136,97 +137,120 @@ fn computes_crcs(rt: HostRuntime) {
     assert_eq!(rt; crc_32(b""), 0xFFFF_FFFF);
 }
 
-#[test]
-fn reads_a_pat(rt: HostRuntime) -> Result<(), Fail> {
-    let pat = Pat::read(rt.alloc(), PAT)?;
-    assert_eq!(rt; pat.transport_stream_id(), 1);
-    for (program, chosen) in [
-        (None, Some((1, 0x1000))),
-        (Some(1), Some((1, 0x1000))),
-        (Some(2), None),
-    ] {
-        assert_eq!(rt; pat.choose(program), chosen, "at {program:?}");
-    }
-    let pat = Pat::read(rt.alloc(), PAT_WITH_NETWORK)?;
-    assert_eq!(rt; pat.transport_stream_id(), 0x1234);
-    for (program, chosen) in [
-        (None, Some((1, 0x100))),
-        (Some(0), Some((0, 0x10))),
-        (Some(2), Some((2, 0x200))),
-        (Some(3), None),
-    ] {
-        assert_eq!(rt; pat.choose(program), chosen, "at {program:?}");
-    }
-    let empty = Pat::read(
-        rt.alloc(),
-        b"\x00\xb0\x09\x00\x01\xc1\x00\x00\xef\x22\x62\x17",
-    )?;
-    assert_eq!(rt; empty.choose(None), None);
-    Ok(())
+/// A PAT without entries.
+const EMPTY_PAT: &[u8] = b"\x00\xb0\x09\x00\x01\xc1\x00\x00\xef\x22\x62\x17";
+
+/// The stream of a PAT, and what it chooses for each of some programs.
+fn choices(
+    alloc: Global,
+    section: &[u8],
+    programs: [Option<u16>; 4],
+) -> Result<(u16, [Option<(u16, u16)>; 4]), TableFault> {
+    let pat = Pat::read(alloc, section)?;
+    let [a, b, c, d] = programs;
+    let chosen = [pat.choose(a), pat.choose(b), pat.choose(c), pat.choose(d)];
+    Ok((pat.transport_stream_id(), chosen))
 }
 
 #[test]
-fn reads_a_pmt(rt: HostRuntime) -> Result<(), Fail> {
-    let pmt = Pmt::read(rt.alloc(), PMT)?;
-    assert_eq!(rt; pmt.program(), 1);
-    assert_eq!(rt; pmt.video(), Some(0x100));
-    for (pid, carried) in [(0x100, true), (0x101, false), (0x1B, false)] {
-        assert_eq!(rt; pmt.carries(pid), carried, "at {pid}");
+fn reads_a_pat(rt: HostRuntime) {
+    let one = Some((1, 0x1000));
+    assert_eq!(rt;
+        choices(rt.alloc(), PAT, [None, Some(1), Some(2), Some(0)]),
+        Ok((1, [one, one, None, None]))
+    );
+    assert_eq!(rt;
+        choices(
+            rt.alloc(),
+            PAT_WITH_NETWORK,
+            [None, Some(0), Some(2), Some(3)]
+        ),
+        Ok((
+            0x1234,
+            [Some((1, 0x100)), Some((0, 0x10)), Some((2, 0x200)), None]
+        ))
+    );
+    assert_eq!(rt;
+        choices(rt.alloc(), EMPTY_PAT, [None, Some(0), Some(1), Some(2)]),
+        Ok((1, [None; 4]))
+    );
+}
+
+/// The program of a PMT, its video, and whether it carries each of some PIDs.
+fn carried(
+    alloc: Global,
+    section: &[u8],
+    pids: [u16; 5],
+) -> Result<(u16, Option<u16>, [bool; 5]), TableFault> {
+    let pmt = Pmt::read(alloc, section)?;
+    let mut carried = [false; 5];
+    for (there, pid) in carried.iter_mut().zip(pids) {
+        *there = pmt.carries(pid);
     }
-    assert_eq!(rt; Pmt::read(rt.alloc(), PMT_WITH_SOUND)?.carries(0x101), true);
-    let pmt = Pmt::read(rt.alloc(), PMT_WITH_DESCRIPTORS)?;
-    assert_eq!(rt; pmt.program(), 3);
-    assert_eq!(rt; pmt.video(), Some(0x1FF));
-    for (pid, carried) in [
-        (0x1FF, true),
-        (0x1F00, true),
-        (0x123, true),
-        (0x1FFF, true),
-        (0x504, false),
-    ] {
-        assert_eq!(rt; pmt.carries(pid), carried, "at {pid}");
+    Ok((pmt.program(), pmt.video(), carried))
+}
+
+#[test]
+fn reads_a_pmt(rt: HostRuntime) {
+    let pids = [0x100, 0x101, 0x1B, 0, 0x1FFF];
+    assert_eq!(rt;
+        carried(rt.alloc(), PMT, pids),
+        Ok((1, Some(0x100), [true, false, false, false, false]))
+    );
+    assert_eq!(rt;
+        carried(rt.alloc(), PMT_WITH_SOUND, pids),
+        Ok((1, Some(0x100), [true, true, false, false, false]))
+    );
+    assert_eq!(rt;
+        carried(
+            rt.alloc(),
+            PMT_WITH_DESCRIPTORS,
+            [0x1FF, 0x1F00, 0x123, 0x1FFF, 0x504]
+        ),
+        Ok((3, Some(0x1FF), [true, true, true, true, false]))
+    );
+}
+
+/// The first PAT in which something else is wrong.
+fn first_wrong_pat(alloc: Global) -> Option<usize> {
+    for (n, (section, fault)) in FAULTY_PATS.iter().enumerate() {
+        if Pat::read(alloc, section).err() != Some(*fault) {
+            return Some(n);
+        }
     }
-    Ok(())
+    None
+}
+
+/// The first PMT in which something else is wrong.
+fn first_wrong_pmt(alloc: Global) -> Option<usize> {
+    for (n, (section, fault)) in FAULTY_PMTS.iter().enumerate() {
+        if Pmt::read(alloc, section).err() != Some(*fault) {
+            return Some(n);
+        }
+    }
+    None
 }
 
 #[test]
 fn tells_each_fault(rt: HostRuntime) {
-    for (section, fault) in FAULTY_PATS {
-        assert_eq!(rt;
-            Pat::read(rt.alloc(), section).err(),
-            Some(fault),
-            "at {section:?}"
-        );
-    }
-    for (section, fault) in FAULTY_PMTS {
-        assert_eq!(rt;
-            Pmt::read(rt.alloc(), section).err(),
-            Some(fault),
-            "at {section:?}"
-        );
-    }
+    assert_eq!(rt; first_wrong_pat(rt.alloc()), None);
+    assert_eq!(rt; first_wrong_pmt(rt.alloc()), None);
 }
 
 #[test]
-fn reads_the_longest_section(rt: HostRuntime) -> Result<(), Fail> {
-    let alloc = rt.alloc();
-    let longest = pmt_with(
-        alloc,
+fn reads_the_longest_section(rt: HostRuntime) {
+    let longest = long_pmt(
+        rt.alloc(),
         b"\x02\xb3\xfd\x00\x01\xc1\x00\x00\xe1\x00\xf3\xeb",
-        1003,
+        1024,
         b"\x05\x26\x68\x59",
-    )?;
-    assert_eq!(rt; longest.len(), 1024);
-    assert_eq!(rt; Pmt::read(alloc, &longest)?.video(), Some(0x100));
-    let longer = pmt_with(
-        alloc,
-        b"\x02\xb3\xfe\x00\x01\xc1\x00\x00\xe1\x00\xf3\xec",
-        1004,
-        b"\x1b\x80\x35\x9f",
-    )?;
-    assert_eq!(rt;
-        Pmt::read(alloc, &longer).err(),
-        Some(TableFault::BadLengths)
     );
-    Ok(())
+    assert_eq!(rt; longest, Ok(Some(0x100)));
+    let longer = long_pmt(
+        rt.alloc(),
+        b"\x02\xb3\xfe\x00\x01\xc1\x00\x00\xe1\x00\xf3\xec",
+        1025,
+        b"\x1b\x80\x35\x9f",
+    );
+    assert_eq!(rt; longer, Err(TableFault::BadLengths));
 }

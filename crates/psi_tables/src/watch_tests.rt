@@ -1,7 +1,8 @@
-use crate::fixtures::{carrying, exactly, packet};
+use crate::fixtures::Sent::{Carrying, Exactly, Filled};
+use crate::fixtures::{Behind, Sent, Told, first_other, watched};
 use crate::tests::{PAT, PMT, PMT_WITH_SOUND};
 use crate::{Tables, Watch};
-use std::alloc::{AllocError, Global};
+use std::alloc::Global;
 use std::test::Fail;
 use ts_packet::Packet;
 
@@ -18,227 +19,348 @@ const OTHER_PROGRAM: &[u8] = b"\x00\xb0\x0d\x00\x01\xc1\x00\x00\x00\x02\xf0\x00\
 const PMT_OF_PROGRAM_2: &[u8] =
     b"\x02\xb0\x12\x00\x02\xc1\x00\x00\xe3\x00\xf0\x00\x1b\xe3\x00\xf0\x00\x74\x4a\xcb\x4c";
 
+/// The PAT and the PMT in a packet each.
+const P: Sent = Carrying(0, 0, PAT);
+
+const M: Sent = Carrying(0x1000, 0, PMT);
+
+/// The PMT with the next counter.
+const AGAIN: Sent = Carrying(0x1000, 1, PMT);
+
 /// The halves of the packets of a PMT on PID 0x1000 that begins with this counter.
-const PMT_FRONT: &[u8] = b"\x00\x02\xb0\x12\x00\x01\xc1\x00\x00\xe1\x00";
+const A: Sent = Exactly(
+    [0x47, 0x50, 0x00, 0x30],
+    b"\x00\x02\xb0\x12\x00\x01\xc1\x00\x00\xe1\x00",
+);
 
-const PMT_BACK: &[u8] = b"\xf0\x00\x1b\xe1\x00\xf0\x00\x15\xbd\x4d\x56";
+const B: Sent = Filled(
+    [0x47, 0x10, 0x00, 0x11],
+    b"\xf0\x00\x1b\xe1\x00\xf0\x00\x15\xbd\x4d\x56",
+);
 
-/// The stream, the program, the PMT's PID and the video's of the tables in force behind these packets.
-fn behind(
-    alloc: Global,
-    program: Option<u16>,
-    packets: &[Packet],
-) -> Result<Option<(u16, u16, u16, Option<u16>)>, AllocError> {
-    let mut watch = Watch::new(alloc, program);
-    for packet in packets {
-        watch.push(packet)?;
-    }
-    Ok(match watch.tables() {
-        None => None,
-        Some(tables) => Some((
-            tables.stream_id(),
-            tables.program(),
-            tables.pmt_pid(),
-            tables.video(),
-        )),
-    })
-}
+const VIDEO: Sent = Filled([0x47, 0x41, 0x00, 0x10], b"\x00\x00\x01\xe0");
 
-const STANDARD: Option<(u16, u16, u16, Option<u16>)> = Some((1, 1, 0x1000, Some(0x100)));
+const STANDARD: Told = Some((1, 1, 0x1000, Some(0x100)));
 
-#[test]
-fn tables_from_the_next_packet_on(rt: HostRuntime) -> Result<(), Fail> {
-    let alloc = rt.alloc();
-    let mut watch = Watch::new(alloc, None);
-    assert!(rt; watch.tables().is_none());
-    watch.push(&carrying(0, 0, PAT)?)?;
-    assert!(rt; watch.tables().is_none());
-    watch.push(&carrying(0x1000, 0, PMT)?)?;
-    let first = match watch.tables() {
-        None => None,
-        Some(tables) => {
-            assert_eq!(rt; tables.section(), PMT);
-            assert!(rt; tables.carries(0x100));
-            assert!(rt; !tables.carries(0x101));
-            Some(tables.copy()?)
-        }
-    };
-    watch.push(&carrying(0x1000, 1, PMT_WITH_SOUND)?)?;
-    assert!(rt; watch.tables().is_some());
-    if let (Some(first), Some(second)) = (first, watch.tables()) {
-        assert_eq!(rt; second.section(), PMT_WITH_SOUND);
-        assert!(rt; second.carries(0x101));
-        assert_eq!(rt; first.section(), PMT);
-        assert!(rt; first.same(&first));
-        assert!(rt; !first.same(second));
-    }
-    Ok(())
-}
+const ORDERS: [Behind; 5] = [
+    Behind {
+        name: "PAT and PMT",
+        program: None,
+        packets: &[P, M],
+        tables: STANDARD,
+    },
+    Behind {
+        name: "a PMT before its PAT isn't used",
+        program: None,
+        packets: &[M, P],
+        tables: None,
+    },
+    Behind {
+        name: "a PMT behind",
+        program: None,
+        packets: &[M, P, AGAIN],
+        tables: STANDARD,
+    },
+    Behind {
+        name: "a packet with the counter of one before the PAT is no repeat",
+        program: None,
+        packets: &[M, P, M],
+        tables: STANDARD,
+    },
+    Behind {
+        name: "other packets don't matter",
+        program: None,
+        packets: &[VIDEO, P, VIDEO, M, VIDEO],
+        tables: STANDARD,
+    },
+];
 
 #[test]
 fn tables_come_in_order(rt: HostRuntime) -> Result<(), Fail> {
-    let alloc = rt.alloc();
-    let pat = carrying(0, 0, PAT)?;
-    let pmt = carrying(0x1000, 0, PMT)?;
-    let again = carrying(0x1000, 1, PMT)?;
-    assert_eq!(rt; behind(alloc, None, &[pat, pmt])?, STANDARD);
-    // a PMT that came before its PAT isn't used, but a packet with its counter is no repeat
-    assert_eq!(rt; behind(alloc, None, &[pmt, pat])?, None);
-    assert_eq!(rt; behind(alloc, None, &[pmt, pat, again])?, STANDARD);
-    assert_eq!(rt; behind(alloc, None, &[pmt, pat, pmt])?, STANDARD);
-    // other packets don't matter
-    let video = packet([0x47, 0x41, 0x00, 0x10], b"\x00\x00\x01\xe0")?;
-    assert_eq!(rt;
-        behind(alloc, None, &[video, pat, video, pmt, video])?,
-        STANDARD
-    );
+    assert_eq!(rt; first_other(rt.alloc(), &ORDERS)?, None);
     Ok(())
 }
 
-#[test]
-fn the_program_that_was_asked_for(rt: HostRuntime) -> Result<(), Fail> {
-    let alloc = rt.alloc();
-    // stream 0x1234: the network PID 0x10, program 1 on 0x100, program 2 on 0x200
-    let pat = carrying(
+/// Stream 0x1234: the network PID 0x10, program 1 on 0x100, program 2 on 0x200. And a PMT of each.
+const PROGRAMS: &[Sent] = &[
+    Carrying(
         0,
         0,
         b"\x00\xb0\x15\x12\x34\xc1\x00\x00\x00\x00\xe0\x10\x00\x01\xe1\x00\x00\x02\xe2\x00\x38\xfc\x93\x56",
-    )?;
-    let one = carrying(0x100, 0, PMT)?;
-    let two = carrying(0x200, 0, PMT_OF_PROGRAM_2)?;
-    let packets = [pat, one, two];
-    for (program, tables) in [
-        (None, Some((0x1234, 1, 0x100, Some(0x100)))),
-        (Some(1), Some((0x1234, 1, 0x100, Some(0x100)))),
-        (Some(2), Some((0x1234, 2, 0x200, Some(0x300)))),
-        (Some(3), None),
-        (Some(0), None),
-    ] {
-        assert_eq!(rt; behind(alloc, program, &packets)?, tables, "at {program:?}");
-    }
+    ),
+    Carrying(0x100, 0, PMT),
+    Carrying(0x200, 0, PMT_OF_PROGRAM_2),
+];
+
+const ASKED: [Behind; 5] = [
+    Behind {
+        name: "none is asked for",
+        program: None,
+        packets: PROGRAMS,
+        tables: Some((0x1234, 1, 0x100, Some(0x100))),
+    },
+    Behind {
+        name: "program 1",
+        program: Some(1),
+        packets: PROGRAMS,
+        tables: Some((0x1234, 1, 0x100, Some(0x100))),
+    },
+    Behind {
+        name: "program 2",
+        program: Some(2),
+        packets: PROGRAMS,
+        tables: Some((0x1234, 2, 0x200, Some(0x300))),
+    },
+    Behind {
+        name: "program 3",
+        program: Some(3),
+        packets: PROGRAMS,
+        tables: None,
+    },
+    Behind {
+        name: "program 0",
+        program: Some(0),
+        packets: PROGRAMS,
+        tables: None,
+    },
+];
+
+#[test]
+fn the_program_that_was_asked_for(rt: HostRuntime) -> Result<(), Fail> {
+    assert_eq!(rt; first_other(rt.alloc(), &ASKED)?, None);
     Ok(())
 }
+
+/// The PAT chooses otherwise; and the PMT of that choice.
+const OTHER: Sent = Carrying(0, 1, OTHER_PROGRAM);
+
+const CHOSEN: Sent = Carrying(0x1000, 1, PMT_OF_PROGRAM_2);
+
+const STAYS: [Behind; 5] = [
+    Behind {
+        name: "a PAT that chooses otherwise",
+        program: None,
+        packets: &[P, M, OTHER],
+        tables: STANDARD,
+    },
+    Behind {
+        name: "a PMT of a program that isn't chosen",
+        program: None,
+        packets: &[P, M, OTHER, Carrying(0x1000, 1, PMT_WITH_SOUND)],
+        tables: STANDARD,
+    },
+    Behind {
+        name: "the PMT of the chosen one",
+        program: None,
+        packets: &[P, M, OTHER, CHOSEN],
+        tables: Some((1, 2, 0x1000, Some(0x300))),
+    },
+    Behind {
+        name: "where the other one was asked for",
+        program: Some(1),
+        packets: &[P, M, OTHER, CHOSEN],
+        tables: STANDARD,
+    },
+    Behind {
+        name: "a PAT and a PMT whose CRC is wrong",
+        program: None,
+        packets: &[
+            P,
+            M,
+            Carrying(
+                0,
+                1,
+                b"\x00\xb0\x0d\x00\x01\xc1\x00\x00\x00\x02\xf0\x00\x28\xd8\xf1\x3c",
+            ),
+            Carrying(
+                0x1000,
+                1,
+                b"\x02\xb0\x12\x00\x01\xc1\x00\x00\xe1\x00\xf0\x00\x1b\xe1\x01\xf0\x00\x15\xbd\x4d\x56",
+            ),
+        ],
+        tables: STANDARD,
+    },
+];
 
 #[test]
 fn tables_stay_in_force(rt: HostRuntime) -> Result<(), Fail> {
-    let alloc = rt.alloc();
-    let pat = carrying(0, 0, PAT)?;
-    let pmt = carrying(0x1000, 0, PMT)?;
-    // the PAT chooses otherwise
-    let other = carrying(0, 1, OTHER_PROGRAM)?;
-    assert_eq!(rt; behind(alloc, None, &[pat, pmt, other])?, STANDARD);
-    // a PMT of a program that isn't chosen
-    let again = carrying(0x1000, 1, PMT_WITH_SOUND)?;
-    assert_eq!(rt; behind(alloc, None, &[pat, pmt, other, again])?, STANDARD);
-    // the chosen one
-    let two = carrying(0x1000, 1, PMT_OF_PROGRAM_2)?;
-    assert_eq!(rt;
-        behind(alloc, None, &[pat, pmt, other, two])?,
-        Some((1, 2, 0x1000, Some(0x300)))
-    );
-    assert_eq!(rt; behind(alloc, Some(1), &[pat, pmt, other, two])?, STANDARD);
-    // a PAT and a PMT whose CRC is wrong
-    let bad = carrying(
-        0,
-        1,
-        b"\x00\xb0\x0d\x00\x01\xc1\x00\x00\x00\x02\xf0\x00\x28\xd8\xf1\x3c",
-    )?;
-    let bad_pmt = carrying(
-        0x1000,
-        1,
-        b"\x02\xb0\x12\x00\x01\xc1\x00\x00\xe1\x00\xf0\x00\x1b\xe1\x01\xf0\x00\x15\xbd\x4d\x56",
-    )?;
-    assert_eq!(rt; behind(alloc, None, &[pat, pmt, bad, bad_pmt])?, STANDARD);
+    assert_eq!(rt; first_other(rt.alloc(), &STAYS)?, None);
     Ok(())
 }
+
+/// Program 1 with its PMT on PID 0.
+const ON_0: Sent = Carrying(
+    0,
+    0,
+    b"\x00\xb0\x0d\x00\x01\xc1\x00\x00\x00\x01\xe0\x00\x3a\xe0\x9f\xa1",
+);
+
+/// A PMT behind another such PAT, in one packet.
+const BOTH: Sent = Carrying(
+    0,
+    1,
+    b"\x00\xb0\x0d\x00\x02\xc1\x00\x00\x00\x01\xe0\x00\xd6\x02\xfa\xff\x02\xb0\x12\x00\x01\xc1\x00\x00\xe1\x00\xf0\x00\x1b\xe1\x00\xf0\x00\x15\xbd\x4d\x56",
+);
+
+/// Program 1 with its PMT on the PID of null packets.
+const ON_8191: Sent = Carrying(
+    0,
+    0,
+    b"\x00\xb0\x0d\x00\x01\xc1\x00\x00\x00\x01\xff\xff\x26\xc1\x79\x2e",
+);
+
+const ON_THE_PID_OF_PATS: [Behind; 5] = [
+    Behind {
+        name: "a PMT on PID 0",
+        program: None,
+        packets: &[ON_0, Carrying(0, 1, PMT)],
+        tables: Some((1, 1, 0, Some(0x100))),
+    },
+    Behind {
+        name: "by the choice before the packet",
+        program: None,
+        packets: &[ON_0, BOTH],
+        tables: Some((1, 1, 0, Some(0x100))),
+    },
+    Behind {
+        name: "no choice before it",
+        program: None,
+        packets: &[BOTH],
+        tables: None,
+    },
+    Behind {
+        name: "the PMT once more",
+        program: None,
+        packets: &[BOTH, Carrying(0, 2, PMT)],
+        tables: Some((2, 1, 0, Some(0x100))),
+    },
+    Behind {
+        name: "on the PID of null packets",
+        program: None,
+        packets: &[ON_8191, Carrying(0x1FFF, 0, PMT)],
+        tables: Some((1, 1, 0x1FFF, Some(0x100))),
+    },
+];
 
 #[test]
 fn sections_on_the_pid_of_pats(rt: HostRuntime) -> Result<(), Fail> {
-    let alloc = rt.alloc();
-    // program 1 with its PMT on PID 0
-    let pat = carrying(
-        0,
-        0,
-        b"\x00\xb0\x0d\x00\x01\xc1\x00\x00\x00\x01\xe0\x00\x3a\xe0\x9f\xa1",
-    )?;
-    let pmt = carrying(0, 1, PMT)?;
-    let on_0 = Some((1, 1, 0, Some(0x100)));
-    assert_eq!(rt; behind(alloc, None, &[pat, pmt])?, on_0);
-    // the PMT behind another PAT, in one packet: by the choice before the packet
-    let both = carrying(
-        0,
-        1,
-        b"\x00\xb0\x0d\x00\x02\xc1\x00\x00\x00\x01\xe0\x00\xd6\x02\xfa\xff\x02\xb0\x12\x00\x01\xc1\x00\x00\xe1\x00\xf0\x00\x1b\xe1\x00\xf0\x00\x15\xbd\x4d\x56",
-    )?;
-    assert_eq!(rt; behind(alloc, None, &[pat, both])?, on_0);
-    assert_eq!(rt; behind(alloc, None, &[both])?, None);
-    let again = carrying(0, 2, PMT)?;
-    assert_eq!(rt;
-        behind(alloc, None, &[both, again])?,
-        Some((2, 1, 0, Some(0x100)))
-    );
-    // program 1 with its PMT on the PID of null packets
-    let pat = carrying(
-        0,
-        0,
-        b"\x00\xb0\x0d\x00\x01\xc1\x00\x00\x00\x01\xff\xff\x26\xc1\x79\x2e",
-    )?;
-    let pmt = carrying(0x1FFF, 0, PMT)?;
-    assert_eq!(rt;
-        behind(alloc, None, &[pat, pmt])?,
-        Some((1, 1, 0x1FFF, Some(0x100)))
-    );
+    assert_eq!(rt; first_other(rt.alloc(), &ON_THE_PID_OF_PATS)?, None);
     Ok(())
 }
 
-#[test]
-fn the_last_of_several(rt: HostRuntime) -> Result<(), Fail> {
-    let alloc = rt.alloc();
-    let pat = carrying(0, 0, PAT)?;
-    let two = carrying(
-        0x1000,
-        0,
-        b"\x02\xb0\x17\x00\x01\xc1\x00\x00\xe1\x00\xf0\x00\x1b\xe1\x00\xf0\x00\x0f\xe1\x01\xf0\x00\x2f\x44\xb9\x9b\x02\xb0\x12\x00\x01\xc1\x00\x00\xe1\x00\xf0\x00\x1b\xe1\x00\xf0\x00\x15\xbd\x4d\x56",
-    )?;
-    let mut watch = Watch::new(alloc, None);
-    watch.push(&pat)?;
-    watch.push(&two)?;
-    assert_eq!(rt; watch.tables().map(Tables::section), Some(PMT));
-    // of two PATs too, and the second brings no change
-    let pats = carrying(
-        0,
-        1,
-        b"\x00\xb0\x0d\x00\x01\xc1\x00\x00\x00\x01\xe2\x00\x9a\x12\x01\xae\x00\xb0\x0d\x00\x01\xc1\x00\x00\x00\x01\xf0\x00\x2a\xb1\x04\xb2",
-    )?;
-    let a = exactly([0x47, 0x50, 0x00, 0x30], PMT_FRONT)?;
-    let b = packet([0x47, 0x10, 0x00, 0x11], PMT_BACK)?;
-    assert_eq!(rt; behind(alloc, None, &[pat, a, pats, b])?, STANDARD);
-    Ok(())
-}
+/// Another choice and the same one, in one packet.
+const TWO_PATS: Sent = Carrying(
+    0,
+    1,
+    b"\x00\xb0\x0d\x00\x01\xc1\x00\x00\x00\x01\xe2\x00\x9a\x12\x01\xae\x00\xb0\x0d\x00\x01\xc1\x00\x00\x00\x01\xf0\x00\x2a\xb1\x04\xb2",
+);
+
+const STREAM: Sent = Carrying(0, 1, OTHER_STREAM);
+
+const AWAY: Sent = Carrying(0, 1, OTHER_PID);
+
+const BACK: Sent = Carrying(0, 2, PAT);
+
+/// A PMT on the other PID.
+const THERE: Sent = Carrying(0x200, 5, PMT);
+
+const GATHERED: [Behind; 6] = [
+    Behind {
+        name: "in two packets",
+        program: None,
+        packets: &[P, A, B],
+        tables: STANDARD,
+    },
+    Behind {
+        name: "the same PID once more, with another stream id",
+        program: None,
+        packets: &[P, A, STREAM, B],
+        tables: Some((2, 1, 0x1000, Some(0x100))),
+    },
+    Behind {
+        name: "the last of two PATs brings no change",
+        program: None,
+        packets: &[P, A, TWO_PATS, B],
+        tables: STANDARD,
+    },
+    Behind {
+        name: "away, and back",
+        program: None,
+        packets: &[P, A, AWAY, BACK, B],
+        tables: None,
+    },
+    Behind {
+        name: "begun anew",
+        program: None,
+        packets: &[P, A, AWAY, BACK, A, B],
+        tables: STANDARD,
+    },
+    Behind {
+        name: "on the other PID a counter that came before is no repeat",
+        program: None,
+        packets: &[P, THERE, AWAY, THERE],
+        tables: Some((1, 1, 0x200, Some(0x100))),
+    },
+];
 
 #[test]
 fn gathered_anew_where_the_pid_changes(rt: HostRuntime) -> Result<(), Fail> {
-    let alloc = rt.alloc();
-    let pat = carrying(0, 0, PAT)?;
-    let a = exactly([0x47, 0x50, 0x00, 0x30], PMT_FRONT)?;
-    let b = packet([0x47, 0x10, 0x00, 0x11], PMT_BACK)?;
-    assert_eq!(rt; behind(alloc, None, &[pat, a, b])?, STANDARD);
-    // the same PID once more, with another stream id: nothing begins anew
-    let stream = carrying(0, 1, OTHER_STREAM)?;
-    assert_eq!(rt;
-        behind(alloc, None, &[pat, a, stream, b])?,
-        Some((2, 1, 0x1000, Some(0x100)))
-    );
-    // away, and back
-    let away = carrying(0, 1, OTHER_PID)?;
-    let back = carrying(0, 2, PAT)?;
-    assert_eq!(rt; behind(alloc, None, &[pat, a, away, back, b])?, None);
-    assert_eq!(rt; behind(alloc, None, &[pat, a, away, back, a, b])?, STANDARD);
-    // on the other PID a counter that came before is no repeat
-    let there = carrying(0x200, 5, PMT)?;
-    assert_eq!(rt;
-        behind(alloc, None, &[pat, there, away, there])?,
-        Some((1, 1, 0x200, Some(0x100)))
-    );
+    assert_eq!(rt; first_other(rt.alloc(), &GATHERED)?, None);
+    Ok(())
+}
+
+/// A PMT with sound and then one without, in one packet.
+const TWO_PMTS: Sent = Carrying(
+    0x1000,
+    0,
+    b"\x02\xb0\x17\x00\x01\xc1\x00\x00\xe1\x00\xf0\x00\x1b\xe1\x00\xf0\x00\x0f\xe1\x01\xf0\x00\x2f\x44\xb9\x9b\x02\xb0\x12\x00\x01\xc1\x00\x00\xe1\x00\xf0\x00\x1b\xe1\x00\xf0\x00\x15\xbd\x4d\x56",
+);
+
+#[test]
+fn the_last_of_several(rt: HostRuntime) -> Result<(), Fail> {
+    let watch = watched(rt.alloc(), None, &[P, TWO_PMTS])?;
+    assert_eq!(rt; watch.tables().map(Tables::section), Some(PMT));
+    Ok(())
+}
+
+#[test]
+fn tables_from_the_next_packet_on(rt: HostRuntime) -> Result<(), Fail> {
+    assert!(rt; Watch::new(rt.alloc(), None).tables().is_none());
+    assert!(rt; watched(rt.alloc(), None, &[P])?.tables().is_none());
+    Ok(())
+}
+
+/// A copy of the tables in force.
+fn copied(watch: &Watch) -> Result<Tables, Fail> {
+    match watch.tables() {
+        Some(tables) => Ok(tables.copy()?),
+        None => Err(Fail::from("no tables")),
+    }
+}
+
+/// The tables of the PMT without sound, and those that a PMT with sound makes of them.
+fn changed(alloc: Global) -> Result<(Tables, Tables), Fail> {
+    let mut watch = watched(alloc, None, &[P, M])?;
+    let first = copied(&watch)?;
+    let packet = Packet::parse(&crate::fixtures::bytes_of(Carrying(0x1000, 1, PMT_WITH_SOUND)))?;
+    watch.push(&packet)?;
+    Ok((first, copied(&watch)?))
+}
+
+/// Whether tables are of this section, and carry the video and the sound.
+fn has(tables: &Tables, section: &[u8]) -> (bool, bool, bool) {
+    (
+        tables.section() == section,
+        tables.carries(0x100),
+        tables.carries(0x101),
+    )
+}
+
+#[test]
+fn tables_that_change(rt: HostRuntime) -> Result<(), Fail> {
+    let (first, second) = changed(rt.alloc())?;
+    assert_eq!(rt; has(&first, PMT), (true, true, false));
+    assert_eq!(rt; has(&second, PMT_WITH_SOUND), (true, true, true));
+    assert_eq!(rt; (first.same(&first), first.same(&second)), (true, false));
     Ok(())
 }
