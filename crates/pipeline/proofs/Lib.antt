@@ -1,0 +1,10 @@
+pub mod Growing
+pub mod Taking
+pub mod Zipped
+pub mod Listing
+pub mod Framing
+pub mod Puts
+pub mod RowFacts
+pub mod Nexts
+pub mod Blocks
+pub mod Rows

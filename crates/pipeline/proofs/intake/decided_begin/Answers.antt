@@ -1,0 +1,8 @@
+use Rattle.std.proofs.Common.{[], subst}
+use Rattle.std.proofs.lemmas.List.{append-nil}
+use Rattle.ts_packet.specs.Packets.{packets, decided, IsBeginning}
+use Rattle.pipeline.proofs.intake.decided_begin.Goals as goal
+
+pub returns-clause-begin : goal.returns-clause-begin
+returns-clause-begin c stream =
+    subst (λ s. IsBeginning (decided stream) (packets s)) (append-nil stream) ((c.decided_is_the_longest.ensures.is stream).always [])

@@ -1,0 +1,12 @@
+pub mod Streams
+pub mod Shown
+pub mod Kept
+pub mod Intakes
+pub mod Ladder
+pub mod Masters
+pub mod Inside
+pub mod Rows
+pub mod Items
+pub mod Weave
+pub mod Putting
+pub mod Giving

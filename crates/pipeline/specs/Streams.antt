@@ -1,0 +1,50 @@
+-- What comes of the bytes that a rendition's input gave: its packets, the plans of its segments, and its fault.
+use Rattle.std.specs.Prelude.{◌≡◌, ℕ, ◌+◌, Bool, List, [], ◌∷◌, ◌++◌, length, Option, Some}
+use Rattle.ts_packet.specs.Packets.{packets, decided}
+use Rattle.cutter.specs.declared.settings.CutSettings.{CutSettings}
+use Rattle.cutter.specs.declared.fault.CutFault.{CutFault}
+use Rattle.cutter.specs.Plans.{SegmentPlan}
+use Rattle.cutter.specs.Ordered.{IsPlan}
+use Rattle.cutter.specs.Cuts.{closed, plans, fault}
+use Rattle.cutter.specs.Settings.{Pushed}
+
+-- the plans of a whole stream
+unfoldable pub plans_of : ℕ → CutSettings → List ℕ → List SegmentPlan
+plans_of r s stream = plans r s (packets stream)
+
+-- the fault of a whole stream
+unfoldable pub fault_of : ℕ → CutSettings → List ℕ → Option CutFault
+fault_of r s stream = fault r s (packets stream)
+
+-- the plans that are closed by what the bytes so far decide
+unfoldable pub closed_of : ℕ → CutSettings → List ℕ → List SegmentPlan
+closed_of r s stream = closed r s (decided stream)
+
+-- what an intake stands for: its rendition, its settings, the bytes that it took, and whether it ended
+pub record Taken : Type 0 where
+  pub rendition : ℕ
+  pub settings : CutSettings
+  pub stream : List ℕ
+  pub ended : Bool
+
+-- the plans that come behind so many others of a rendition, in order
+abbrev pub AreNext : ℕ → CutSettings → ℕ → List SegmentPlan → Type 0
+AreNext r s n [] = Unit {0}
+AreNext r s n (plan ∷ plans) = IsPlan r s n plan × AreNext r s (n + 1) plans
+
+-- `new` goes on from `old` as `after` does from `before`, by plans that come next
+pub record GrowsAlike (r : ℕ) (s : CutSettings) (before after old new : List SegmentPlan) : Type 0 where
+  pub more : List SegmentPlan
+  pub grown : after ≡ before ++ more
+  pub given : new ≡ old ++ more
+  pub order : AreNext r s (length before) more
+
+-- a stream of these packets has this fault, and the plans that come before it went behind those that were there
+pub record Stops (pushed : Pushed) (whole : List (List ℕ)) (told : CutFault) (old new : List SegmentPlan) : Type 0 where
+  pub fault : fault pushed.rendition pushed.settings whole ≡ Some told
+  pub plans : GrowsAlike pushed.rendition pushed.settings (closed pushed.rendition pushed.settings pushed.list) (plans pushed.rendition pushed.settings whole) old new
+
+-- a stream of these bytes has this fault, and the plans that come before it went behind those that were there
+pub record Faults (taken : Taken) (whole : List ℕ) (told : CutFault) (old new : List SegmentPlan) : Type 0 where
+  pub fault : fault_of taken.rendition taken.settings whole ≡ Some told
+  pub plans : GrowsAlike taken.rendition taken.settings (closed_of taken.rendition taken.settings taken.stream) (plans_of taken.rendition taken.settings whole) old new
