@@ -1,5 +1,5 @@
 -- A block of items, put one after another.
-use Rattle.std.proofs.Common.{◌≡◌, ◌∙◌, ℕ, ◌<◌, false, List, [], ◌∷◌, ◌++◌, get_or, length, ap, subst, arith}
+use Rattle.std.proofs.Common.{◌≡◌, ◌∙◌, ℕ, ◌<◌, true, false, List, [], ◌∷◌, ◌++◌, get_or, length, ap, subst, arith}
 use Rattle.std.specs.List.{All}
 use Rattle.std.proofs.lemmas.List.{get_or_default, get_or-set_same, length-set}
 use Rattle.cutter.specs.Plans.{SegmentPlan}
@@ -10,11 +10,11 @@ use Rattle.pipeline.specs.Ladder.{Ladder, RenditionValue, rendition_at}
 use Rattle.pipeline.specs.Shown.{Shown}
 use Rattle.pipeline.specs.Masters.{master_of}
 use Rattle.pipeline.specs.Items.{Part, no_part, part_at, shown_of, shown_all, segment_of, media_of, frames_of}
-use Rattle.pipeline.specs.Weave.{Row, grown, after, block}
+use Rattle.pipeline.specs.Weave.{Row, End, grown, after, block}
 use Rattle.pipeline.specs.Giving.{IsGoing, no_shown, block_of}
 use Rattle.pipeline.specs.Putting.{PutSome}
 use Rattle.pipeline.proofs.Puts.{grows-more, put-more, put-front, put-first}
-use Rattle.pipeline.proofs.Nexts.{shown-at, shown-long}
+use Rattle.pipeline.proofs.Nexts.{shown-at, shown-long, here}
 
 abbrev block_by : ℕ → RenditionValue → SealedSegment → Shown → List ℕ → List ItemValue
 block_by r rendition s mine text =
@@ -79,3 +79,11 @@ shown-going ladder parts shown each is k d below =
 pub shown-each : (ladder : Ladder) (parts : List Part) (shown : List Shown) → length parts ≡ length ladder.renditions → shown ≡ shown_all ladder parts
     → length shown ≡ length ladder.renditions
 shown-each ladder parts shown each is = ap length is ∙ (shown-long ladder parts each ∙ each)
+
+-- the last playlists of r
+pub ends-are : (ladder : Ladder) (r : ℕ) (parts : List Part) (shown : List Shown) (rendition : RenditionValue) (mine : Shown)
+    → IsGoing ladder r parts shown → rendition ≡ rendition_at ladder r → mine ≡ get_or shown r mine
+    → media_of r rendition mine true ∷ frames_of r rendition mine true ∷ [] ≡ block ladder parts (End r)
+ends-are ladder r parts shown rendition mine g e at =
+    ap (λ q. media_of r q mine true ∷ frames_of r q mine true ∷ []) e
+    ∙ ap (λ m. media_of r (rendition_at ladder r) m true ∷ frames_of r (rendition_at ladder r) m true ∷ []) (here ladder r parts shown mine g at)

@@ -8,3 +8,5 @@ pub mod RowFacts
 pub mod Nexts
 pub mod Blocks
 pub mod Rows
+pub mod Feeding
+pub mod Closing

@@ -10,3 +10,4 @@ pub mod Items
 pub mod Weave
 pub mod Putting
 pub mod Giving
+pub mod Lanes

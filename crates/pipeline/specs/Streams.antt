@@ -48,3 +48,7 @@ pub record Stops (pushed : Pushed) (whole : List (List ℕ)) (told : CutFault) (
 pub record Faults (taken : Taken) (whole : List ℕ) (told : CutFault) (old new : List SegmentPlan) : Type 0 where
   pub fault : fault_of taken.rendition taken.settings whole ≡ Some told
   pub plans : GrowsAlike taken.rendition taken.settings (closed_of taken.rendition taken.settings taken.stream) (plans_of taken.rendition taken.settings whole) old new
+
+-- some plans begin others
+abbrev pub IsFrontOf : List SegmentPlan → List SegmentPlan → Type 0
+IsFrontOf front whole = (rest : List SegmentPlan) × (whole ≡ front ++ rest)

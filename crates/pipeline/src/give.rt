@@ -6,8 +6,8 @@ ghost use Rattle.item_io.specs.Outlets.{Grows};
 ghost use Rattle.pipeline.specs.declared.fault.PackFault.TheVariants.{NoMemory};
 ghost use Rattle.pipeline.specs.Ladder.{rendition_at, unmeasured, IsAllowed};
 ghost use Rattle.pipeline.specs.Items.{Part, shown_all};
-ghost use Rattle.pipeline.specs.Weave.{Row, after, after_all, block, blocks};
-ghost use Rattle.pipeline.specs.Giving.{IsNext, AreNextPlans, rows, block_of};
+ghost use Rattle.pipeline.specs.Weave.{Row, End, after, after_all, block, blocks};
+ghost use Rattle.pipeline.specs.Giving.{IsGoing, IsNext, AreNextPlans, rows, block_of};
 ghost use Rattle.pipeline.specs.Putting.{PutSome, SaysFailures};
 
 use crate::fault::PackFault;
@@ -44,6 +44,28 @@ pub fn give_segments<O: Outlet>(
     for plan in plans {
         give_segment(alloc, outlet, settings, r, plan, playlists)?;
     }
+    Ok(())
+}
+
+/// Gives the last playlists of rendition `r`, which end.
+pub fn give_end<O: Outlet>(
+    outlet: &mut O,
+    settings: &Settings,
+    r: usize,
+    playlists: &[Playlists],
+) -> Result<(), PackFault>
+    requires failures { O.failures outlet.old < 2 ^ 63 }
+    requires rendition { r < length settings.now.renditions }
+    requires within { r < length playlists.now }
+    ensures ok { OnOk result ((parts : List Part) → IsGoing settings.now r parts playlists.now →
+        Grows (O.holds outlet.old) (O.holds outlet.new) (block settings.now parts (End r))) }
+    ensures err { OnErr result ((parts : List Part) → IsGoing settings.now r parts playlists.now →
+        PutSome (O.holds outlet.old) (O.holds outlet.new) (block settings.now parts (End r))) }
+    ensures failures { OnOk result (O.failures outlet.new ≡ O.failures outlet.old) }
+    ensures fault { IfErr result (λ fault. SaysFailures fault (O.failures outlet.old) (O.failures outlet.new)) }
+{
+    let rendition = rendition_of(settings, r);
+    put_playlists(outlet, r, rendition, &playlists[r], true)?;
     Ok(())
 }
 

@@ -1,9 +1,10 @@
 ghost use Rattle.std.specs.Prelude.{◌≡◌, ◌+◌, ◌<◌, ◌≤◌, ◌^◌, ◌⊎◌, ℕ, List, [], ◌++◌, None, true, false, length, IfOk, IfErr, OnOk, OnErr};
 ghost use Rattle.ts_packet.specs.Packets.{packets, decided, skipped, IsBeginning};
+ghost use Rattle.cutter.specs.declared.settings.CutSettings.{CutSettings};
 ghost use Rattle.cutter.specs.declared.fault.CutFault.TheVariants.{NoMemory};
 ghost use Rattle.cutter.specs.Cuts.{closed, made};
 ghost use Rattle.cutter.specs.Settings.{IsAllowed};
-ghost use Rattle.pipeline.specs.Streams.{plans_of, fault_of, closed_of, GrowsAlike, Stops, Faults};
+ghost use Rattle.pipeline.specs.Streams.{plans_of, fault_of, closed_of, GrowsAlike, Stops, Faults, IsFrontOf};
 
 use cutter::{CutFault, CutSettings, Cutter, Plan};
 use std::alloc::{AllocError, Global};
@@ -103,6 +104,14 @@ fn decided_begin()
 {
     ts_packet::decided_is_the_longest();
     ts_packet::each_byte_is_counted();
+}
+
+/// The plans that some bytes close begin those of each stream that begins with the bytes.
+pub fn closed_plans_begin_all()
+    ensures { (r : ℕ) (s : CutSettings) (stream more : List ℕ) → IsFrontOf (closed_of r s stream) (plans_of r s (stream ++ more)) }
+{
+    ts_packet::decided_is_the_longest();
+    cutter::plans_only_grow();
 }
 
 /// Pushes packets, and appends the plans of the segments that they close.

@@ -4,6 +4,7 @@
 mod fault;
 mod give;
 mod intake;
+mod lane;
 mod master;
 mod playlists;
 mod put;

@@ -1,0 +1,112 @@
+ghost use Rattle.std.specs.Prelude.{◌≡◌, ◌≢◌, ◌+◌, ◌<◌, ◌^◌, ◌++◌, ℕ, List, Some, true, false, length, IfOk, IfErr, OnOk, OnErr};
+ghost use Rattle.cutter.specs.declared.fault.CutFault.TheVariants.{NoMemory};
+ghost use Rattle.pipeline.specs.Ladder.{IsAllowed};
+ghost use Rattle.pipeline.specs.Items.{Part};
+ghost use Rattle.pipeline.specs.Lanes.{Before, Reaches, IsCutOff};
+ghost use Rattle.pipeline.specs.Putting.{SaysFailures};
+
+use crate::fault::PackFault;
+use crate::give::{give_end, give_segments};
+use crate::intake::{Intake, closed_plans_begin_all};
+use crate::playlists::Playlists;
+use crate::settings::Settings;
+use cutter::CutFault;
+use item_io::Outlet;
+use std::alloc::Global;
+
+/// Why a rendition gives no more.
+#[derive(Clone, Copy, Debug, PartialEq, Eq)]
+pub enum Stop {
+    /// Its input came to its end, and all was given. So many bytes lay in no packet.
+    Good(u64),
+    /// Its stream has a fault.
+    Cut(CutFault),
+    /// A read failed.
+    Read,
+    /// Too many reads gave a byte.
+    ReadLimit,
+}
+
+/// Takes the next bytes of rendition `r`, and gives the segments that they close.
+fn feed<O: Outlet>(
+    alloc: Global,
+    outlet: &mut O,
+    settings: &Settings,
+    r: usize,
+    intake: &mut Intake,
+    playlists: &mut Vec<Playlists>,
+    piece: &[u8],
+) -> Result<Option<Stop>, PackFault>
+    requires failures { O.failures outlet.old < 2 ^ 63 }
+    requires allowed { IsAllowed settings.now }
+    requires few { length intake.old.stream + length piece.now < 2 ^ 63 }
+    requires going { (parts : List Part) × Before settings.now r parts playlists.old.items intake.old }
+    ensures ok { IfOk result (λ stop. (parts : List Part) → Before settings.now r parts playlists.old.items intake.old →
+        Reaches settings.now r parts (O.holds outlet.old) (O.holds outlet.new) playlists.new.items stop (intake.old.stream ++ piece.now) intake.new) }
+    ensures err { OnErr result ((parts : List Part) → Before settings.now r parts playlists.old.items intake.old →
+        IsCutOff settings.now r parts (O.holds outlet.old) (O.holds outlet.new) (intake.old.stream ++ piece.now)) }
+    ensures failures { OnOk result (O.failures outlet.new ≡ O.failures outlet.old) }
+    ensures fault { IfErr result (λ fault. SaysFailures fault (O.failures outlet.old) (O.failures outlet.new)) }
+{
+    closed_plans_begin_all();
+    let mut plans = Vec::new(alloc);
+    match intake.take(piece, &mut plans) {
+        Ok(()) => {
+            give_segments(alloc, outlet, settings, r, plans, playlists)?;
+            Ok(None)
+        }
+        Err(fault) => {
+            if is_memory(fault) {
+                return Err(PackFault::NoMemory);
+            }
+            give_segments(alloc, outlet, settings, r, plans, playlists)?;
+            Ok(Some(Stop::Cut(fault)))
+        }
+    }
+}
+
+/// Ends rendition `r`: gives its last segments, and behind them its last playlists where its stream has no fault.
+fn close<O: Outlet>(
+    alloc: Global,
+    outlet: &mut O,
+    settings: &Settings,
+    r: usize,
+    intake: &mut Intake,
+    playlists: &mut Vec<Playlists>,
+) -> Result<Stop, PackFault>
+    requires failures { O.failures outlet.old < 2 ^ 63 }
+    requires allowed { IsAllowed settings.now }
+    requires few { length intake.old.stream < 2 ^ 63 }
+    requires going { (parts : List Part) × Before settings.now r parts playlists.old.items intake.old }
+    ensures ok { IfOk result (λ stop. (parts : List Part) → Before settings.now r parts playlists.old.items intake.old →
+        Reaches settings.now r parts (O.holds outlet.old) (O.holds outlet.new) playlists.new.items (Some stop) intake.old.stream intake.new) }
+    ensures err { OnErr result ((parts : List Part) → Before settings.now r parts playlists.old.items intake.old →
+        IsCutOff settings.now r parts (O.holds outlet.old) (O.holds outlet.new) intake.old.stream) }
+    ensures failures { OnOk result (O.failures outlet.new ≡ O.failures outlet.old) }
+    ensures fault { IfErr result (λ fault. SaysFailures fault (O.failures outlet.old) (O.failures outlet.new)) }
+{
+    closed_plans_begin_all();
+    let mut plans = Vec::new(alloc);
+    match intake.finish(&mut plans) {
+        Ok(skipped) => {
+            give_segments(alloc, outlet, settings, r, plans, playlists)?;
+            give_end(outlet, settings, r, playlists)?;
+            Ok(Stop::Good(skipped.bytes))
+        }
+        Err(fault) => {
+            if is_memory(fault) {
+                return Err(PackFault::NoMemory);
+            }
+            give_segments(alloc, outlet, settings, r, plans, playlists)?;
+            Ok(Stop::Cut(fault))
+        }
+    }
+}
+
+/// Whether memory was wanted: that is no fault of a stream.
+fn is_memory(fault: CutFault) -> bool
+    ensures memory { result ≡ true → fault ≡ NoMemory }
+    ensures other { result ≡ false → fault ≢ NoMemory }
+{
+    matches!(fault, CutFault::NoMemory)
+}
