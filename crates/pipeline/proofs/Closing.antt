@@ -14,7 +14,7 @@ use Rattle.pipeline.specs.Shown.{Shown}
 use Rattle.pipeline.specs.Items.{Part, no_part, part_at, shown_all}
 use Rattle.pipeline.specs.Weave.{Event, End, rendition_of, AreLegal, closed_part, after, after_all, block, blocks}
 use Rattle.pipeline.specs.Giving.{IsGoing, rows, no_shown}
-use Rattle.pipeline.specs.Lanes.{IsWhole, Before, AreOf, Reaches, IsCutOff}
+use Rattle.pipeline.specs.Lanes.{IsWhole, Begins, Before, AreOf, Reaches, IsCutOff}
 use Rattle.pipeline.specs.Putting.{PutSome}
 use Rattle.pipeline.proofs.Puts.{grows-more, put-more}
 use Rattle.pipeline.proofs.Nexts.{shown-at, shown-set}
@@ -43,7 +43,7 @@ end-at parts r below = get_or-set_same parts r (closed_part (part_at parts r)) n
 abbrev pub ended_rows : ℕ → List SegmentPlan → List Event
 ended_rows r ps = rows r ps ++ End r ∷ []
 
-legal-append : (parts : List Part) (xs ys : List Event) → AreLegal parts xs → AreLegal (after_all parts xs) ys → AreLegal parts (xs ++ ys)
+pub legal-append : (parts : List Part) (xs ys : List Event) → AreLegal parts xs → AreLegal (after_all parts xs) ys → AreLegal parts (xs ++ ys)
 unfolding AreLegal after_all
 legal-append parts [] ys h k = k
 legal-append parts (x ∷ xs) ys h k = (h.0, h.1, legal-append (after parts x) xs ys h.2 k)
@@ -112,7 +112,7 @@ pub cut-off-end : (ladder : Ladder) (r : ℕ) (parts : List Part) (a b c : Held 
     → Gave ladder r parts shown (plans_of intake.rendition intake.settings intake.stream) ps
     → Grows a b (blocks ladder parts (rows r ps)) × (now ≡ shown_all ladder (after_all parts (rows r ps)))
     → PutSome b c (block ladder (after_all parts (rows r ps)) (End r))
-    → IsCutOff ladder r parts a c intake.stream
+    → IsCutOff ladder r parts a c (Begins ladder r intake.stream)
 cut-off-end ladder r parts a b c shown now intake ps before sound g given end =
     let h = going-on ladder r parts shown now ps before.goes_on given.1 in
     let whole = whole-part ladder r parts shown intake ps before sound g in

@@ -12,12 +12,12 @@ use Rattle.cutter.specs.Cuts.{closed, plans, IsFront}
 use Rattle.item_io.specs.Outlets.{Held, Grows}
 use Rattle.pipeline.specs.declared.lane.Stop.TheVariants.{Cut}
 use Rattle.pipeline.specs.Ladder.{Ladder}
-use Rattle.pipeline.specs.Streams.{Taken, AreNext, GrowsAlike, closed_of, plans_of, fault_of, IsFrontOf}
+use Rattle.pipeline.specs.Streams.{Taken, AreNext, GrowsAlike, Stays, closed_of, plans_of, fault_of, IsFrontOf}
 use Rattle.pipeline.specs.Shown.{Shown}
 use Rattle.pipeline.specs.Items.{Part, part_at, count, shown_all}
 use Rattle.pipeline.specs.Weave.{Event, Row, rendition_of, AreLegal, after, after_all, blocks}
 use Rattle.pipeline.specs.Giving.{IsGoing, AreNextPlans, rows}
-use Rattle.pipeline.specs.Lanes.{IsOpen, Before, AreOf, Reaches, IsCutOff}
+use Rattle.pipeline.specs.Lanes.{IsOpen, Begins, BeginsClosed, Before, AreOf, Reaches, IsCutOff}
 use Rattle.pipeline.specs.Putting.{PutSome}
 use Rattle.pipeline.proofs.Puts.{grows-none, put-none}
 use Rattle.pipeline.proofs.Blocks.{grown-at, after-each}
@@ -40,7 +40,15 @@ begins-all r s stream more (rest, whole) front grow =
       b.1 ∙ (ap (λ l. l ++ b.0) (ap (closed r s) whole ∙ a.1) ∙ append_assoc (closed r s (decided stream)) a.0 b.0),
     )
 
-none-of-r : (r : ℕ) → All (λ (e : Event). rendition_of e ≡ r) []
+-- what is closed by the packets decided begins what is closed by more
+pub grows-all : (r : ℕ) (s : CutSettings) (stream more : List ℕ) → IsBeginning (decided stream) (decided (stream ++ more)) → Grow r s
+    → IsFrontOf (closed_of r s stream) (closed_of r s (stream ++ more))
+unfolding closed_of
+grows-all r s stream more (rest, whole) grow =
+    let a = grow (decided stream) rest in
+    (a.0, ap (closed r s) whole ∙ a.1)
+
+pub none-of-r : (r : ℕ) → All (λ (e : Event). rendition_of e ≡ r) []
 none-of-r r k d below = absurd (omega (arith, below))
 
 pub rows-of-r : (r : ℕ) (ps : List SegmentPlan) → All (λ (e : Event). rendition_of e ≡ r) (rows r ps)
@@ -122,29 +130,43 @@ reaches-on ladder r parts old new shown now intake then stream ps b is g given =
       );
     }
 
--- a step that was cut off behind some bytes, whose plans begin all
-pub cut-off : (ladder : Ladder) (r : ℕ) (parts : List Part) (old new : Held → Type 0) (shown : List Shown) (whole : List SegmentPlan) (stream : List ℕ) (ps : List SegmentPlan)
-    → Gave ladder r parts shown whole ps → IsFrontOf whole (plans_of r ladder.cut stream)
-    → PutSome old new (blocks ladder parts (rows r ps)) → IsCutOff ladder r parts old new stream
-cut-off ladder r parts old new shown whole stream ps g front some =
-    let part = part-behind ladder r parts shown whole ps g in
-    record {
-      events = rows r ps;
-      are_of = rows-are-of ladder r parts shown ps g.next.goes_on;
-      some = some;
-      begins = record {
-        plans = (front.0, front.1 ∙ ap (λ (q : Part). q.plans ++ front.0) (sym part));
-        ended = λ t. absurd (not_ended (sym t ∙ ap (λ (q : Part). q.ended) part));
-      };
-    }
+-- a step that was cut off behind some segments
+pub cut-off : (ladder : Ladder) (r : ℕ) (parts : List Part) (old new : Held → Type 0) (shown : List Shown) (whole ps : List SegmentPlan) (P : Part → Type 0)
+    → Gave ladder r parts shown whole ps → P (record { plans = whole; ended = false })
+    → PutSome old new (blocks ladder parts (rows r ps)) → IsCutOff ladder r parts old new P
+cut-off ladder r parts old new shown whole ps P g begins some = record {
+  events = rows r ps;
+  are_of = rows-are-of ladder r parts shown ps g.next.goes_on;
+  some = some;
+  begins = subst P (sym (part-behind ladder r parts shown whole ps g)) begins;
+}
 
--- in the words of the rendition
-pub front-of : (ladder : Ladder) (r : ℕ) (intake : Taken) (part : Part) (closing stream : List ℕ) → IsOpen ladder r intake part
-    → IsFrontOf (closed_of r ladder.cut closing) (plans_of r ladder.cut stream) → IsFrontOf (closed_of intake.rendition intake.settings closing) (plans_of r ladder.cut stream)
-front-of ladder r intake part closing stream o front = (
-  front.0,
-  front.1 ∙ ap (λ l. l ++ front.0) (ap (λ q. closed_of q ladder.cut closing) (sym o.rendition) ∙ ap (λ q. closed_of intake.rendition q closing) (sym o.settings)),
-)
+-- some plans, which begin all
+pub begun : (ladder : Ladder) (r : ℕ) (stream : List ℕ) (whole : List SegmentPlan) → IsFrontOf whole (plans_of r ladder.cut stream)
+    → Begins ladder r stream (record { plans = whole; ended = false })
+begun ladder r stream whole front = record { plans = front; ended = λ t. absurd (not_ended (sym t)) }
+
+-- the segments that some bytes close
+pub closes : (ladder : Ladder) (r : ℕ) (intake : Taken) (part : Part) (stream : List ℕ) → IsOpen ladder r intake part
+    → BeginsClosed ladder r stream (record { plans = closed_of intake.rendition intake.settings stream; ended = false })
+closes ladder r intake part stream o = record {
+  plans = ([], sym (append-nil _ ∙ (ap (λ q. closed_of q intake.settings stream) o.rendition ∙ ap (λ q. closed_of r q stream) o.settings)));
+  ended = refl;
+}
+
+-- all that come before a fault
+pub closes-all : (ladder : Ladder) (r : ℕ) (intake : Taken) (part : Part) (stream : List ℕ) (told : CutFault) → IsOpen ladder r intake part
+    → Stays intake.rendition intake.settings stream told
+    → BeginsClosed ladder r stream (record { plans = plans_of intake.rendition intake.settings stream; ended = false })
+closes-all ladder r intake part stream told o stays =
+    let all : plans_of intake.rendition intake.settings stream ≡ closed_of intake.rendition intake.settings stream =
+    ap (plans_of intake.rendition intake.settings) (sym (append-nil stream)) ∙ stays.plans [] in
+    subst (λ (l : List SegmentPlan). BeginsClosed ladder r stream (record { plans = l; ended = false })) (sym all) (closes ladder r intake part stream o)
+
+-- those that fewer bytes close
+pub closed-first : (ladder : Ladder) (r : ℕ) (before stream : List ℕ) → IsFrontOf (closed_of r ladder.cut before) (closed_of r ladder.cut stream)
+    → BeginsClosed ladder r stream (record { plans = closed_of r ladder.cut before; ended = false })
+closed-first ladder r before stream front = record { plans = front; ended = refl }
 
 pub plans-in : (ladder : Ladder) (r : ℕ) (intake : Taken) (part : Part) (stream : List ℕ) → IsOpen ladder r intake part
     → plans_of intake.rendition intake.settings stream ≡ plans_of r ladder.cut stream
@@ -181,17 +203,16 @@ reaches-fault ladder r parts old new shown now intake then stream told ps b faul
     }
 
 -- nothing was given of these bytes
-pub cut-off-first : (ladder : Ladder) (r : ℕ) (parts : List Part) (a : Held → Type 0) (shown : List Shown) (intake : Taken) (stream : List ℕ)
-    → Before ladder r parts shown intake → IsFrontOf (closed_of r ladder.cut intake.stream) (plans_of r ladder.cut stream) → IsCutOff ladder r parts a a stream
+pub cut-off-first : (ladder : Ladder) (r : ℕ) (parts : List Part) (a : Held → Type 0) (shown : List Shown) (intake : Taken) (P : Part → Type 0)
+    → Before ladder r parts shown intake → P (record { plans = closed_of r ladder.cut intake.stream; ended = false }) → IsCutOff ladder r parts a a P
 unfolding after_all blocks AreLegal
-cut-off-first ladder r parts a shown intake stream b front = record {
+cut-off-first ladder r parts a shown intake P b begins = record {
   events = [];
   are_of = record { of_r = none-of-r r; legal = tt };
   some = put-none a a [] (grows-none a);
-  begins = record {
-    plans = (front.0, front.1 ∙ ap (λ l. l ++ front.0) (sym b.is_open.plans));
-    ended = λ t. absurd (not_ended (sym t ∙ b.is_open.ended));
-  };
+  begins = subst P
+      (ap (λ (l : List SegmentPlan). record { plans = l; ended = false }) (sym b.is_open.plans) ∙ ap (λ (e : Bool). record { plans = (part_at parts r).plans; ended = e }) (sym b.is_open.ended))
+      begins;
 }
 
 -- a fault that isn't want of memory is the stream's

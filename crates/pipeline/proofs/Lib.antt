@@ -1,3 +1,4 @@
+pub mod Fronts
 pub mod Growing
 pub mod Taking
 pub mod Zipped
@@ -10,3 +11,10 @@ pub mod Blocks
 pub mod Rows
 pub mod Feeding
 pub mod Closing
+pub mod Turns
+pub mod Starts
+pub mod Elsewhere
+pub mod Stages
+pub mod Worlds
+pub mod Endings
+pub mod Reports

@@ -1,16 +1,17 @@
 -- From the packets that a cutter is pushed to the bytes that an intake takes.
-use Rattle.std.proofs.Common.{◌≡◌, ◌∙◌, ◌⊎◌, inl, inr, ℕ, ◌+◌, ◌<◌, ◌≤◌, ◌^◌, Bool, false, List, [], ◌++◌, length, Option, None, ap, sym, subst, arith, length-append}
-use Rattle.std.proofs.lemmas.List.{append-nil}
+use Rattle.std.proofs.Common.{◌≡◌, ◌∙◌, ◌⊎◌, inl, inr, ℕ, ◌+◌, ◌<◌, ◌≤◌, ◌^◌, Bool, false, List, [], ◌++◌, length, Option, Some, None, ap, sym, subst, arith, length-append}
+use Rattle.std.proofs.lemmas.List.{append-nil, append_cancel_left}
 use Rattle.ts_packet.specs.Packets.{packets, decided, IsBeginning}
 use Rattle.ts_packet.specs.Reading as Reading
 use Rattle.cutter.specs.declared.fault.CutFault.{CutFault}
 use Rattle.cutter.specs.declared.fault.CutFault.TheVariants.{NoMemory}
 use Rattle.cutter.specs.Settings.{Pushed}
+use Rattle.cutter.specs.declared.settings.CutSettings.{CutSettings}
 use Rattle.cutter.specs.Plans.{SegmentPlan}
 use Rattle.std.specs.Prelude.{IfSome}
 use Rattle.cutter.specs.Ordered.{IsPlan}
 use Rattle.cutter.specs.Cuts.{closed, plans, fault, made, Ends}
-use Rattle.pipeline.specs.Streams.{Taken, AreNext, GrowsAlike, Stops, Faults, plans_of, fault_of, closed_of}
+use Rattle.pipeline.specs.Streams.{Taken, AreNext, GrowsAlike, Stops, Faults, Stays, plans_of, fault_of, closed_of}
 use Rattle.pipeline.proofs.Growing.{grows-more, next-made}
 
 pub few-packets : (ps more : List (List ℕ)) (next : List ℕ) → decided next ≡ ps ++ more → IsBeginning (decided next) (packets next)
@@ -64,14 +65,45 @@ faults-by ended v stream next whole e old new is all stops = record {
 abbrev pub StopsAll : Pushed → List (List ℕ) → CutFault → List SegmentPlan → List SegmentPlan → Type 0
 StopsAll v ps e old new = (e ≡ NoMemory) ⊎ ((more : List (List ℕ)) → Stops v ((v.list ++ ps) ++ more) e old new)
 
+-- all plans that come before a fault are closed
+plans-closed : (r : ℕ) (s : CutSettings) (ps : List (List ℕ)) (e : CutFault) → fault r s ps ≡ Some e → plans r s ps ≡ closed r s ps
+unfolding plans
+plans-closed r s ps e told = rw told (append-nil (closed r s ps))
+
+-- a fault that stands whatever packets come behind stands whatever bytes do
+stays-by : (v : Pushed) (next : List ℕ) (ps : List (List ℕ)) (e : CutFault) (old new : List SegmentPlan)
+    → v.list ++ ps ≡ decided next → ((more : List ℕ) → IsBeginning (decided next) (packets (next ++ more)))
+    → ((more : List (List ℕ)) → Stops v ((v.list ++ ps) ++ more) e old new) → Stays v.rendition v.settings next e
+unfolding closed_of plans_of fault_of
+stays-by v next ps e old new is always told =
+    let r = v.rendition in
+    let s = v.settings in
+    let none = told [] in
+    let sound : fault r s (v.list ++ ps) ≡ Some e = ap (fault r s) (sym (append-nil (v.list ++ ps))) ∙ none.fault in
+    let all : plans r s ((v.list ++ ps) ++ []) ≡ closed r s (decided next) =
+    ap (plans r s) (append-nil (v.list ++ ps)) ∙ (plans-closed r s (v.list ++ ps) e sound ∙ ap (closed r s) is) in
+    record {
+      fault = λ more.
+          let begin = always more in
+          ap (fault r s) (begin.1 ∙ ap (λ list. list ++ begin.0) (sym is)) ∙ (told begin.0).fault;
+      plans = λ more.
+          let begin = always more in
+          let mine = (told begin.0).plans in
+          ap (plans r s) (begin.1 ∙ ap (λ list. list ++ begin.0) (sym is))
+          ∙ (mine.grown
+          ∙ (ap (λ list. closed r s v.list ++ list) (append_cancel_left old mine.more none.plans.more (sym mine.given ∙ none.plans.given)) ∙ (sym none.plans.grown ∙ all)));
+    }
+
 -- a fault at bytes that were taken
 pub faults-at : (ended : Bool) (v : Pushed) (stream next : List ℕ) (ps : List (List ℕ)) (e : CutFault) (old new : List SegmentPlan)
     → v.list ≡ decided stream → decided next ≡ decided stream ++ ps → IsBeginning (decided next) (packets next)
-    → StopsAll v ps e old new → (e ≡ NoMemory) ⊎ Faults (intake_of ended v stream) next e old new
-faults-at ended v stream next ps e old new is grown begin (inl none) = inl none
-faults-at ended v stream next ps e old new is grown begin (inr told) =
-    let whole = ap (λ list. list ++ begin.0) (ap (λ list. list ++ ps) is ∙ sym grown) ∙ sym begin.1 in
-    inr (faults-by ended v stream next _ e old new is whole (told begin.0))
+    → ((more : List ℕ) → IsBeginning (decided next) (packets (next ++ more)))
+    → StopsAll v ps e old new → (e ≡ NoMemory) ⊎ (Faults (intake_of ended v stream) next e old new × Stays v.rendition v.settings next e)
+faults-at ended v stream next ps e old new is grown begin always (inl none) = inl none
+faults-at ended v stream next ps e old new is grown begin always (inr told) =
+    let all : v.list ++ ps ≡ decided next = ap (λ list. list ++ ps) is ∙ sym grown in
+    let whole = ap (λ list. list ++ begin.0) all ∙ sym begin.1 in
+    inr (faults-by ended v stream next _ e old new is whole (told begin.0), stays-by v next ps e old new all always told)
 
 -- a fault at packets that only the end of the stream decides
 pub faults-at-end : (ended : Bool) (v : Pushed) (stream : List ℕ) (ps : List (List ℕ)) (e : CutFault) (old new : List SegmentPlan)

@@ -2,11 +2,12 @@
 use Rattle.std.specs.Prelude.{◌≡◌, ℕ, true, false, List, Option, Some, None, All}
 use Rattle.ts_packet.specs.Packets.{skipped}
 use Rattle.cutter.specs.declared.fault.CutFault.{CutFault}
+use Rattle.cutter.specs.declared.settings.CutSettings.{CutSettings}
 use Rattle.item_io.specs.Outlets.{Held, Grows}
 use Rattle.pipeline.specs.declared.lane.Stop.{Stop}
-use Rattle.pipeline.specs.declared.lane.Stop.TheVariants.{Good, Cut, Read, ReadLimit}
+use Rattle.pipeline.specs.declared.lane.Stop.TheVariants.{Good, Cut, Read}
 use Rattle.pipeline.specs.Ladder.{Ladder}
-use Rattle.pipeline.specs.Streams.{Taken, plans_of, fault_of, closed_of, IsFrontOf}
+use Rattle.pipeline.specs.Streams.{Taken, Stays, plans_of, fault_of, closed_of, IsFrontOf}
 use Rattle.pipeline.specs.Shown.{Shown}
 use Rattle.pipeline.specs.Items.{Part, part_at, shown_all}
 use Rattle.pipeline.specs.Weave.{Event, rendition_of, AreLegal, after_all, blocks}
@@ -43,7 +44,24 @@ abbrev pub HasStopped : Stop → Ladder → ℕ → List ℕ → Part → Type 0
 HasStopped (Good gone) ladder r stream part = IsWhole ladder r stream part × (gone ≡ skipped stream)
 HasStopped (Cut told) ladder r stream part = IsFaulted ladder r stream told part
 HasStopped Read ladder r stream part = IsClosed ladder r stream part
-HasStopped ReadLimit ladder r stream part = IsClosed ladder r stream part
+
+-- What is known of a stop at a piece of a stream: only a fault comes so, and it stands however the stream goes on.
+abbrev pub IsOfPiece : Option Stop → ℕ → CutSettings → List ℕ → Type 0
+IsOfPiece None r s stream = Unit {0}
+IsOfPiece (Some (Good gone)) r s stream = ⊥
+IsOfPiece (Some (Cut told)) r s stream = Stays r s stream told
+IsOfPiece (Some Read) r s stream = ⊥
+
+-- a stop at the end of a stream
+abbrev pub IsOfEnd : Stop → Type 0
+IsOfEnd (Good gone) = Unit {0}
+IsOfEnd (Cut told) = Unit {0}
+IsOfEnd Read = ⊥
+
+-- it has given a beginning of what the bytes so far close
+pub record BeginsClosed (ladder : Ladder) (r : ℕ) (stream : List ℕ) (part : Part) : Type 0 where
+  pub plans : IsFrontOf part.plans (closed_of r ladder.cut stream)
+  pub ended : part.ended ≡ false
 
 -- it has given a beginning of what it gives of the whole stream
 pub record Begins (ladder : Ladder) (r : ℕ) (stream : List ℕ) (part : Part) : Type 0 where
@@ -73,9 +91,9 @@ pub record Reaches (ladder : Ladder) (r : ℕ) (parts : List Part) (old new : He
   pub shown_are : shown ≡ shown_all ladder (after_all parts events)
   pub stage : InStage stop ladder r stream intake (part_at (after_all parts events) r)
 
--- a step of rendition r was cut off
-pub record IsCutOff (ladder : Ladder) (r : ℕ) (parts : List Part) (old new : Held → Type 0) (stream : List ℕ) : Type 0 where
+-- a step of rendition r was cut off, and what it was to give is such a beginning
+pub record IsCutOff (ladder : Ladder) (r : ℕ) (parts : List Part) (old new : Held → Type 0) (IsBegun : Part → Type 0) : Type 0 where
   pub events : List Event
   pub are_of : AreOf r parts events
   pub some : PutSome old new (blocks ladder parts events)
-  pub begins : Begins ladder r stream (part_at (after_all parts events) r)
+  pub begins : IsBegun (part_at (after_all parts events) r)

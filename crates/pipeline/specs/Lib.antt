@@ -11,3 +11,6 @@ pub mod Weave
 pub mod Putting
 pub mod Giving
 pub mod Lanes
+pub mod Sources
+pub mod World
+pub mod Packed

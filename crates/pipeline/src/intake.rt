@@ -4,7 +4,7 @@ ghost use Rattle.cutter.specs.declared.settings.CutSettings.{CutSettings};
 ghost use Rattle.cutter.specs.declared.fault.CutFault.TheVariants.{NoMemory};
 ghost use Rattle.cutter.specs.Cuts.{closed, made};
 ghost use Rattle.cutter.specs.Settings.{IsAllowed};
-ghost use Rattle.pipeline.specs.Streams.{plans_of, fault_of, closed_of, GrowsAlike, Stops, Faults, IsFrontOf};
+ghost use Rattle.pipeline.specs.Streams.{plans_of, fault_of, closed_of, GrowsAlike, Stops, Faults, Stays, IsFrontOf};
 
 use cutter::{CutFault, CutSettings, Cutter, Plan};
 use std::alloc::{AllocError, Global};
@@ -60,7 +60,8 @@ impl Intake {
             (closed_of self.old.rendition self.old.settings (self.old.stream ++ piece.now))
             plans.old.items plans.new.items) }
         ensures fault { IfErr result (λ e. (e ≡ NoMemory)
-            ⊎ Faults self.old (self.old.stream ++ piece.now) e plans.old.items plans.new.items) }
+            ⊎ (Faults self.old (self.old.stream ++ piece.now) e plans.old.items plans.new.items
+            × Stays self.old.rendition self.old.settings (self.old.stream ++ piece.now) e)) }
         ensures err { OnErr result (self.new.ended ≡ true) }
     {
         decided_begin();
@@ -100,15 +101,19 @@ impl Intake {
 /// What is decided begins the packets of a stream, of which there are no more than bytes.
 fn decided_begin()
     ensures begin { (stream : List ℕ) → IsBeginning (decided stream) (packets stream) }
+    ensures always { (stream more : List ℕ) → IsBeginning (decided stream) (packets (stream ++ more)) }
     ensures few { (stream : List ℕ) → length (packets stream) ≤ length stream }
 {
     ts_packet::decided_is_the_longest();
     ts_packet::each_byte_is_counted();
 }
 
-/// The plans that some bytes close begin those of each stream that begins with the bytes.
+/// The plans that some bytes close begin those of each stream that begins with the bytes, and those that more bytes
+/// close. No bytes close none.
 pub fn closed_plans_begin_all()
-    ensures { (r : ℕ) (s : CutSettings) (stream more : List ℕ) → IsFrontOf (closed_of r s stream) (plans_of r s (stream ++ more)) }
+    ensures none { (r : ℕ) (s : CutSettings) → closed_of r s [] ≡ [] }
+    ensures begin { (r : ℕ) (s : CutSettings) (stream more : List ℕ) → IsFrontOf (closed_of r s stream) (plans_of r s (stream ++ more)) }
+    ensures grow { (r : ℕ) (s : CutSettings) (stream more : List ℕ) → IsFrontOf (closed_of r s stream) (closed_of r s (stream ++ more)) }
 {
     ts_packet::decided_is_the_longest();
     cutter::plans_only_grow();

@@ -2,7 +2,7 @@ ghost use Rattle.std.specs.Prelude.{◌≡◌, ◌≢◌, ◌+◌, ◌<◌, ◌^
 ghost use Rattle.cutter.specs.declared.fault.CutFault.TheVariants.{NoMemory};
 ghost use Rattle.pipeline.specs.Ladder.{IsAllowed};
 ghost use Rattle.pipeline.specs.Items.{Part};
-ghost use Rattle.pipeline.specs.Lanes.{Before, Reaches, IsCutOff};
+ghost use Rattle.pipeline.specs.Lanes.{Before, Begins, BeginsClosed, IsOfPiece, IsOfEnd, Reaches, IsCutOff};
 ghost use Rattle.pipeline.specs.Putting.{SaysFailures};
 
 use crate::fault::PackFault;
@@ -23,12 +23,10 @@ pub enum Stop {
     Cut(CutFault),
     /// A read failed.
     Read,
-    /// Too many reads gave a byte.
-    ReadLimit,
 }
 
 /// Takes the next bytes of rendition `r`, and gives the segments that they close.
-fn feed<O: Outlet>(
+pub fn feed<O: Outlet>(
     alloc: Global,
     outlet: &mut O,
     settings: &Settings,
@@ -44,7 +42,8 @@ fn feed<O: Outlet>(
     ensures ok { IfOk result (λ stop. (parts : List Part) → Before settings.now r parts playlists.old.items intake.old →
         Reaches settings.now r parts (O.holds outlet.old) (O.holds outlet.new) playlists.new.items stop (intake.old.stream ++ piece.now) intake.new) }
     ensures err { OnErr result ((parts : List Part) → Before settings.now r parts playlists.old.items intake.old →
-        IsCutOff settings.now r parts (O.holds outlet.old) (O.holds outlet.new) (intake.old.stream ++ piece.now)) }
+        IsCutOff settings.now r parts (O.holds outlet.old) (O.holds outlet.new) (BeginsClosed settings.now r (intake.old.stream ++ piece.now))) }
+    ensures stop { IfOk result (λ stop. IsOfPiece stop intake.old.rendition intake.old.settings (intake.old.stream ++ piece.now)) }
     ensures failures { OnOk result (O.failures outlet.new ≡ O.failures outlet.old) }
     ensures fault { IfErr result (λ fault. SaysFailures fault (O.failures outlet.old) (O.failures outlet.new)) }
 {
@@ -66,7 +65,7 @@ fn feed<O: Outlet>(
 }
 
 /// Ends rendition `r`: gives its last segments, and behind them its last playlists where its stream has no fault.
-fn close<O: Outlet>(
+pub fn close<O: Outlet>(
     alloc: Global,
     outlet: &mut O,
     settings: &Settings,
@@ -81,7 +80,8 @@ fn close<O: Outlet>(
     ensures ok { IfOk result (λ stop. (parts : List Part) → Before settings.now r parts playlists.old.items intake.old →
         Reaches settings.now r parts (O.holds outlet.old) (O.holds outlet.new) playlists.new.items (Some stop) intake.old.stream intake.new) }
     ensures err { OnErr result ((parts : List Part) → Before settings.now r parts playlists.old.items intake.old →
-        IsCutOff settings.now r parts (O.holds outlet.old) (O.holds outlet.new) intake.old.stream) }
+        IsCutOff settings.now r parts (O.holds outlet.old) (O.holds outlet.new) (Begins settings.now r intake.old.stream)) }
+    ensures stop { IfOk result IsOfEnd }
     ensures failures { OnOk result (O.failures outlet.new ≡ O.failures outlet.old) }
     ensures fault { IfErr result (λ fault. SaysFailures fault (O.failures outlet.old) (O.failures outlet.new)) }
 {

@@ -85,7 +85,7 @@ fn measured<'a>(rendition: &'a Rendition, playlists: &Playlists) -> Variant<'a>
     }
 }
 
-fn rate(peak: Option<Peak>) -> u64
+pub fn rate(peak: Option<Peak>) -> u64
     ensures { result ≡ peak_rate peak }
 {
     match peak {
@@ -94,7 +94,7 @@ fn rate(peak: Option<Peak>) -> u64
     }
 }
 
-fn rate_or_none(rate: Option<u64>) -> u64
+pub fn rate_or_none(rate: Option<u64>) -> u64
     ensures { result ≡ Masters.rate_or_none rate }
 {
     match rate {

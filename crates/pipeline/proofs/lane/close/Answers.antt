@@ -3,11 +3,12 @@ use Rattle.std.proofs.lemmas.List.{append-nil}
 use Rattle.std.proofs.lemmas.Result.{err_from_is_err_and}
 use Rattle.cutter.specs.declared.fault.CutFault.TheVariants.{NoMemory}
 use Rattle.pipeline.specs.Items.{part_at}
+use Rattle.pipeline.specs.Lanes.{Begins}
 use Rattle.pipeline.specs.Weave.{after_all}
 use Rattle.pipeline.specs.Giving.{rows}
 use Rattle.pipeline.specs.Streams.{closed_of, plans_of, IsFrontOf}
 use Rattle.pipeline.proofs.Blocks.{shown-each}
-use Rattle.pipeline.proofs.Feeding.{gave, reaches-fault, cut-off, cut-off-first, all-of-them, told-fault}
+use Rattle.pipeline.proofs.Feeding.{gave, reaches-fault, cut-off, cut-off-first, begun, all-of-them, told-fault}
 use Rattle.pipeline.proofs.Closing.{going-on, reaches-end, cut-off-end}
 use Rattle.pipeline.proofs.lane.close.Goals as goal
 
@@ -18,8 +19,8 @@ returns-in_err-give_segments-in-Ok-clause-err g c =
     let stream = c.args.intake.now.stream in
     rw told.1 (λ parts b.
     let given = gave c.args.settings.now c.args.r parts c.args.playlists.now.items c.args.intake.now _ _ c.finish.new.plans.items b c.in-Ok.ensures.plans c.new-plans.ensures.items in
-    cut-off c.args.settings.now c.args.r parts _ _ c.args.playlists.now.items _ stream c.finish.new.plans.items given
-    (all-of-them c.args.settings.now c.args.r c.args.intake.now (part_at parts c.args.r) stream b.is_open) (c.in_err-give_segments-in-Ok.ensures.err parts given.next))
+    cut-off c.args.settings.now c.args.r parts _ _ c.args.playlists.now.items _ c.finish.new.plans.items (Begins c.args.settings.now c.args.r stream) given
+    (begun c.args.settings.now c.args.r stream _ (all-of-them c.args.settings.now c.args.r c.args.intake.now (part_at parts c.args.r) stream b.is_open)) (c.in_err-give_segments-in-Ok.ensures.err parts given.next))
 
 pub give_end-requires-clause-within : goal.give_end-requires-clause-within
 give_end-requires-clause-within g c =
@@ -45,8 +46,8 @@ pub returns-then-is_memory-clause-err : goal.returns-then-is_memory-clause-err
 returns-then-is_memory-clause-err g c parts b =
     let stream = c.args.intake.now.stream in
     let begin = subst (λ (s : List ℕ). IsFrontOf (closed_of c.args.r c.args.settings.now.cut stream) (plans_of c.args.r c.args.settings.now.cut s)) (append-nil stream)
-    (c.closed_plans_begin_all.ensures c.args.r c.args.settings.now.cut stream []) in
-    cut-off-first c.args.settings.now c.args.r parts _ c.args.playlists.now.items c.args.intake.now stream b begin
+    (c.closed_plans_begin_all.ensures.begin c.args.r c.args.settings.now.cut stream []) in
+    cut-off-first c.args.settings.now c.args.r parts _ c.args.playlists.now.items c.args.intake.now (Begins c.args.settings.now c.args.r stream) b (begun c.args.settings.now c.args.r stream _ begin)
 
 pub returns-in_err-give_segments-in-Err-clause-err :
     goal.returns-in_err-give_segments-in-Err-clause-err
@@ -57,8 +58,8 @@ returns-in_err-give_segments-in-Err-clause-err g c =
     let fault = told-fault c.in-Err.fault c.in-Err.ensures.fault other in
     rw told.1 (λ parts b.
     let given = gave c.args.settings.now c.args.r parts c.args.playlists.now.items c.args.intake.now _ _ c.finish.new.plans.items b fault.plans c.new-plans.ensures.items in
-    cut-off c.args.settings.now c.args.r parts _ _ c.args.playlists.now.items _ stream c.finish.new.plans.items given
-    (all-of-them c.args.settings.now c.args.r c.args.intake.now (part_at parts c.args.r) stream b.is_open) (c.in_err-give_segments-in-Err.ensures.err parts given.next))
+    cut-off c.args.settings.now c.args.r parts _ _ c.args.playlists.now.items _ c.finish.new.plans.items (Begins c.args.settings.now c.args.r stream) given
+    (begun c.args.settings.now c.args.r stream _ (all-of-them c.args.settings.now c.args.r c.args.intake.now (part_at parts c.args.r) stream b.is_open)) (c.in_err-give_segments-in-Err.ensures.err parts given.next))
 
 pub returns-in_ok-give_end-in-Ok-clause-ok : goal.returns-in_ok-give_end-in-Ok-clause-ok
 returns-in_ok-give_end-in-Ok-clause-ok g c parts b =

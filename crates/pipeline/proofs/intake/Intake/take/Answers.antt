@@ -22,7 +22,7 @@ returns-in_err-push_all-clause-fault c =
     let next = c.self.inside.reader ++ c.args.piece.now in
     let grown = ap decided (sym c.in_ok-feed.ensures.fed) ∙ appended _ _ _ _ c.deref.result.now c.in_ok-feed.ensures.packets c.clear.ensures.items c.deref.ensures.value in
     rw (told.1, told.2, ← c.self.view_is) (faults-at c.self.inside.ended c.self.inside.cutter c.self.inside.reader next c.deref.result.now c.in_err-push_all.field-0.0 c.args.plans.now.items c.push_all.new.plans.items
-    (c.self.invariant.list going) grown (c.decided_begin.ensures.begin next) c.in_err-push_all.ensures.fault)
+    (c.self.invariant.list going) grown (c.decided_begin.ensures.begin next) (c.decided_begin.ensures.always next) c.in_err-push_all.ensures.fault)
 
 pub returns-clause-plans : goal.returns-clause-plans
 returns-clause-plans c =

@@ -1,0 +1,23 @@
+-- What bytes decide only grows.
+use Rattle.std.proofs.Common.{◌≡◌, ◌∙◌, ℕ, ◌≤◌, List, [], ◌∷◌, ◌++◌, length, refl, ap, sym, subst, arith, append_assoc}
+use Rattle.std.proofs.lemmas.List.{append-nil}
+use Rattle.ts_packet.specs.Packets.{packets, decided, IsBeginning, IsDecided}
+
+-- of two beginnings of a list the shorter one begins the longer one
+front-of-longer : {A : Type 0} (a b x y : List A) → a ++ x ≡ b ++ y → length a ≤ length b → (rest : List A) × (b ≡ a ++ rest)
+front-of-longer [] b x y e short = (b, refl)
+front-of-longer (p ∷ a) [] x y e short = absurd (omega (arith, short))
+front-of-longer (p ∷ a) (q ∷ b) x y e short =
+    let same : p ≡ q = cc in
+    let more : a ++ x ≡ b ++ y = cc in
+    let rest = front-of-longer a b x y more (omega (arith, short)) in
+    (rest.0, ap (λ head. head ∷ b) (sym same) ∙ ap (λ list. p ∷ list) rest.1)
+
+-- the packets that some bytes decide begin those that more bytes decide
+pub decided-grows : ((front : List ℕ) → IsDecided front (decided front)) → (stream more : List ℕ) → IsBeginning (decided stream) (decided (stream ++ more))
+decided-grows law stream more =
+    let mine = (law stream).always more in
+    let all = (law (stream ++ more)).always [] in
+    let longer = (law (stream ++ more)).longest (decided stream)
+    (λ behind. subst (λ (l : List ℕ). IsBeginning (decided stream) (packets l)) (sym (append_assoc stream more behind)) ((law stream).always (more ++ behind))) in
+    front-of-longer (decided stream) (decided (stream ++ more)) mine.0 all.0 (sym mine.1 ∙ (ap packets (sym (append-nil (stream ++ more))) ∙ all.1)) longer

@@ -1,0 +1,36 @@
+-- One read of a rendition that goes on.
+use Rattle.std.proofs.Common.{◌∙◌, ℕ, ◌≤◌, List, [], ◌++◌, length, Option, Some, ap, sym, arith}
+use Rattle.std.specs.Io.KnownBytes.{Consumes, Keeps}
+use Rattle.std.proofs.lemmas.List.{append-nil}
+use Rattle.std.proofs.KnownBytes.{Consumes-nil, Consumes-kept}
+use Rattle.aes_cbc.specs.Block.{AreBytes}
+use Rattle.item_io.specs.Outlets.{Held}
+use Rattle.pipeline.specs.declared.lane.Stop.TheVariants.{Read}
+use Rattle.pipeline.specs.Ladder.{Ladder}
+use Rattle.pipeline.specs.Streams.{Taken, closed_of}
+use Rattle.pipeline.specs.Shown.{Shown}
+use Rattle.pipeline.specs.Items.{Part}
+use Rattle.pipeline.specs.Weave.{AreLegal, after_all, blocks}
+use Rattle.pipeline.specs.Lanes.{Before, Reaches}
+use Rattle.pipeline.proofs.Puts.{grows-none}
+use Rattle.pipeline.proofs.Feeding.{none-of-r}
+
+-- a read that failed took nothing, and nothing was given
+pub read-failed : (ladder : Ladder) (r : ℕ) (parts : List Part) (a : Held → Type 0) (shown : List Shown) (intake : Taken) (old new : Option (List ℕ)) (F : Type 0)
+    → Keeps old new → F → Before ladder r parts shown intake
+    → (more : List ℕ) × Consumes old new more × (length more ≤ 18800) × AreBytes more × Reaches ladder r parts a a shown (Some Read) (intake.stream ++ more) intake × F
+unfolding after_all blocks AreLegal
+read-failed ladder r parts a shown intake old new F keeps failed b = (
+  [],
+  Consumes-kept old old new [] (Consumes-nil old) keeps,
+  omega arith,
+  λ k d below. absurd (omega (arith, below)),
+  record {
+    events = [];
+    are_of = record { of_r = none-of-r r; legal = tt };
+    grows = grows-none a;
+    shown_are = b.goes_on.shown_are;
+    stage = record { plans = b.is_open.plans ∙ ap (closed_of r ladder.cut) (sym (append-nil intake.stream)); ended = b.is_open.ended };
+  },
+  failed,
+)

@@ -1,0 +1,93 @@
+ghost use Rattle.std.specs.Prelude.{◌≡◌, ◌<◌, ◌^◌, ◌⊎◌, ℕ, [], Some, None, length, slice_get, IfOk, IfErr, OnOk, OnErr};
+ghost use Rattle.pipeline.specs.declared.fault.PackFault.TheVariants.{Settings as SettingsFault, NoMemory};
+ghost use Rattle.item_io.specs.Outlets.{Grows};
+ghost use Rattle.pipeline.specs.declared.turn.Lane.{Lane};
+ghost use Rattle.pipeline.specs.Ladder.{IsAllowed};
+ghost use Rattle.pipeline.specs.Putting.{SaysFailures};
+ghost use Rattle.pipeline.specs.World.{HaveRoom, World};
+ghost use Rattle.pipeline.specs.Packed.{IsPacked, IsCutShort, FaultSays};
+
+use crate::allowed::is_allowed;
+use crate::ends::{have_stopped, standing};
+use crate::fault::PackFault;
+use crate::playlists::Playlists;
+use crate::report::{Report, report_of};
+use crate::settings::Settings;
+use crate::start::{first_lanes, first_playlists};
+use crate::turn::{Lane, turn};
+use item_io::{Outlet, Source};
+use std::alloc::Global;
+
+/// The most reads of an input that give a byte.
+const READS: u64 = 1 << 40;
+
+/// Packs the streams of all inputs, one for each rendition, on one thread.
+///
+/// Goes in turn over the renditions that aren't at their end, with one read of at most 18,800 bytes each. For each
+/// segment it puts the segment, the media playlist and the I-frame playlist of its rendition, and the master playlist;
+/// at a rendition's good end both playlists with an end. A fault of an input ends its rendition alone; the others go on
+/// to their ends, and then the fault is told, or one of several. After a failed put, and for want of memory, the run
+/// stops at once.
+pub fn pack_serial<S: Source, O: Outlet>(
+    alloc: Global,
+    sources: &mut Vec<S>,
+    settings: &Settings,
+    outlet: &mut O,
+) -> Result<Report, PackFault>
+    requires reads { HaveRoom S.failures S.reads sources.old.items }
+    requires failures { O.failures outlet.old < 2 ^ 63 }
+    ensures ok { IfOk result (IsPacked S.remaining settings.now sources.old.items sources.new.items (O.holds outlet.old) (O.holds outlet.new)) }
+    ensures failures { OnOk result (O.failures outlet.new ≡ O.failures outlet.old) }
+    ensures fault { IfErr result (FaultSays S.remaining S.failures S.reads settings.now sources.old.items sources.new.items
+        (O.holds outlet.old) (O.holds outlet.new) (O.failures outlet.old) (O.failures outlet.new)) }
+    ensures allowed { OnOk result (IsAllowed settings.now × (length sources.old.items ≡ length settings.now.renditions)) }
+    ensures breach { IfErr result (λ fault. ((IsAllowed settings.now × (length sources.old.items ≡ length settings.now.renditions)) → ⊥) →
+        ((fault ≡ SettingsFault) ⊎ (fault ≡ NoMemory)) × (sources.new.items ≡ sources.old.items) × Grows (O.holds outlet.old) (O.holds outlet.new) []) }
+{
+    crate::intake::closed_plans_begin_all();
+    if !is_allowed(alloc, settings, sources.len())? {
+        return Err(PackFault::Settings);
+    }
+    let mut lanes = first_lanes(alloc, settings)?;
+    let mut playlists = first_playlists(alloc, settings)?;
+    turns(alloc, sources, outlet, settings, &mut lanes, &mut playlists)?;
+    if let Some(fault) = standing(&lanes) {
+        return Err(fault);
+    }
+    Ok(report_of(alloc, &lanes, &playlists)?)
+}
+
+/// Gives each rendition its turns, until none goes on or one has had all its reads.
+fn turns<S: Source, O: Outlet>(
+    alloc: Global,
+    sources: &mut Vec<S>,
+    outlet: &mut O,
+    settings: &Settings,
+    lanes: &mut Vec<Lane>,
+    playlists: &mut Vec<Playlists>,
+) -> Result<(), PackFault>
+    requires failures { O.failures outlet.old < 2 ^ 63 }
+    requires allowed { IsAllowed settings.now }
+    requires reads { HaveRoom S.failures S.reads sources.old.items }
+    requires start { World S.remaining S.failures S.reads settings.now 0 0 sources.old.items sources.old.items lanes.old.items playlists.old.items (O.holds outlet.old) (O.holds outlet.old) }
+    ensures ok { OnOk result ((rounds : ℕ) × World S.remaining S.failures S.reads settings.now rounds 0 sources.old.items sources.new.items lanes.new.items playlists.new.items (O.holds outlet.old) (O.holds outlet.new)
+        × ((k : ℕ) (lane : Lane) → slice_get lanes.new.items k ≡ Some lane → lane.stop ≡ None → rounds ≡ 2 ^ 40)) }
+    ensures err { OnErr result (IsCutShort S.remaining settings.now sources.old.items sources.new.items (O.holds outlet.old) (O.holds outlet.new)) }
+    ensures failures { OnOk result (O.failures outlet.new ≡ O.failures outlet.old) }
+    ensures fault { IfErr result (λ fault. SaysFailures fault (O.failures outlet.old) (O.failures outlet.new)) }
+{
+    crate::intake::closed_plans_begin_all();
+    for _ in 0..READS {
+        if have_stopped(lanes) {
+            return Ok(());
+        }
+        for r in 0..lanes.len() {
+            let lane = &mut lanes[r];
+            if lane.stop.is_some() {
+                continue;
+            }
+            turn(alloc, &mut sources[r], outlet, settings, r, lane, playlists)?;
+        }
+    }
+    Ok(())
+}

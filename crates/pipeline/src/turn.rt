@@ -1,0 +1,82 @@
+ghost use Rattle.std.specs.Prelude.{◌≡◌, ◌+◌, ◌<◌, ◌≤◌, ◌^◌, ◌++◌, ℕ, List, None, length, IfErr, OnOk, OnErr};
+ghost use Rattle.std.specs.Io.KnownBytes.{Consumes};
+ghost use Rattle.aes_cbc.specs.Block.{AreBytes};
+ghost use Rattle.pipeline.specs.Ladder.{IsAllowed};
+ghost use Rattle.pipeline.specs.Items.{Part};
+ghost use Rattle.pipeline.specs.Lanes.{Before, Reaches, IsCutOff};
+ghost use Rattle.pipeline.specs.Sources.{SourceSays, HasBegun};
+ghost use Rattle.pipeline.specs.Putting.{SaysFailures};
+
+use crate::fault::PackFault;
+use crate::intake::Intake;
+use crate::lane::{Stop, close, feed};
+use crate::playlists::Playlists;
+use crate::settings::Settings;
+use item_io::{Outlet, Source};
+use std::alloc::Global;
+
+/// The most bytes of a read: 100 packets.
+const PIECE: usize = 18_800;
+
+/// A rendition on its way: what takes its bytes, and why it gives no more, if it stopped.
+#[derive(Drop)]
+pub struct Lane {
+    pub intake: Intake,
+    pub stop: Option<Stop>,
+}
+
+/// Reads once from the input of rendition `r`, which goes on, and gives all that comes of it.
+pub fn turn<S: Source, O: Outlet>(
+    alloc: Global,
+    source: &mut S,
+    outlet: &mut O,
+    settings: &Settings,
+    r: usize,
+    lane: &mut Lane,
+    playlists: &mut Vec<Playlists>,
+) -> Result<(), PackFault>
+    requires reads { S.reads source.old < 2 ^ 63 }
+    requires read_failures { S.failures source.old < 2 ^ 63 }
+    requires failures { O.failures outlet.old < 2 ^ 63 }
+    requires allowed { IsAllowed settings.now }
+    requires open { lane.old.stop ≡ None }
+    requires few { length lane.old.intake.stream + 18800 < 2 ^ 63 }
+    requires going { (parts : List Part) × Before settings.now r parts playlists.old.items lane.old.intake }
+    ensures ok { OnOk result ((parts : List Part) → Before settings.now r parts playlists.old.items lane.old.intake →
+        (more : List ℕ) × Consumes (S.remaining source.old) (S.remaining source.new) more × (length more ≤ 18800) × AreBytes more
+        × Reaches settings.now r parts (O.holds outlet.old) (O.holds outlet.new) playlists.new.items lane.new.stop (lane.old.intake.stream ++ more) lane.new.intake
+        × SourceSays S.remaining S.failures r settings.now.cut (lane.old.intake.stream ++ more) lane.new.stop source.old source.new) }
+    ensures err { OnErr result ((parts : List Part) → Before settings.now r parts playlists.old.items lane.old.intake →
+        (more : List ℕ) × Consumes (S.remaining source.old) (S.remaining source.new) more × AreBytes more
+        × IsCutOff settings.now r parts (O.holds outlet.old) (O.holds outlet.new) (HasBegun settings.now r (S.remaining source.new) (lane.old.intake.stream ++ more))) }
+    ensures failures { OnOk result (O.failures outlet.new ≡ O.failures outlet.old) }
+    ensures fault { IfErr result (λ fault. SaysFailures fault (O.failures outlet.old) (O.failures outlet.new)) }
+    ensures reads { OnOk result (lane.new.stop ≡ None → S.reads source.new ≡ S.reads source.old + 1) }
+{
+    let mut piece = [0; PIECE];
+    match source.read(&mut piece) {
+        Err(_) => lane.stop = Some(Stop::Read),
+        Ok(0) => {
+            lane.stop = Some(close(alloc, outlet, settings, r, &mut lane.intake, playlists)?);
+        }
+        Ok(count) => {
+            let piece = &piece[..count];
+            pieces_are_bytes(piece);
+            lane.stop = feed(
+                alloc,
+                outlet,
+                settings,
+                r,
+                &mut lane.intake,
+                playlists,
+                piece,
+            )?;
+        }
+    }
+    Ok(())
+}
+
+/// A piece of a stream is made of bytes.
+fn pieces_are_bytes(piece: &[u8])
+    ensures { AreBytes piece.now }
+{}
