@@ -18,3 +18,14 @@ pub mod Stages
 pub mod Worlds
 pub mod Endings
 pub mod Reports
+pub mod Alone
+pub mod Together
+pub mod Splitting
+pub mod Lengths
+pub mod KeyLines
+pub mod Opening
+pub mod HeadBytes
+pub mod SectionBytes
+pub mod TableBytes
+pub mod CutBytes
+pub mod FrameListing

@@ -14,3 +14,7 @@ pub mod Lanes
 pub mod Sources
 pub mod World
 pub mod Packed
+pub mod Seen
+pub mod Output
+pub mod Openings
+pub mod Listings

@@ -1,0 +1,62 @@
+//! What the segments of a rendition carry, and how a player opens them.
+ghost use Rattle.std.specs.Prelude.{◌≡◌, ◌∷◌, ◌++◌, All, None, ℕ, List, map};
+ghost use Rattle.aes_cbc.specs.Block.{AreBytes};
+ghost use Rattle.ts_packet.specs.Packets.{packets};
+ghost use Rattle.cutter.specs.declared.settings.CutSettings.{CutSettings};
+ghost use Rattle.cutter.specs.Plans.{SegmentPlan};
+ghost use Rattle.item_io.specs.Items.{ItemValue, SegmentValue, SegmentItem};
+ghost use Rattle.pipeline.specs.Ladder.{Ladder, IsAllowed};
+ghost use Rattle.pipeline.specs.Items.{Part, part_at, segment_item};
+ghost use Rattle.pipeline.specs.Listings.{segments_of, AreFramesListedBehind};
+ghost use Rattle.pipeline.specs.Weave.{Weaves};
+ghost use Rattle.pipeline.specs.Openings.{AreOfStreams, IsOfBytes, IsListedBehind};
+ghost use Rattle.pipeline.specs.Streams.{plans_of, fault_of, IsFrontOf};
+ghost use Rattle.pipeline.specs.Output.{output, bodies, BeginWith};
+
+/// The bodies of a rendition's segments, joined, are the accepted packets of its stream from the first cut on: all of
+/// them where the stream has no fault, and a beginning of them in the segments of each beginning of its plans.
+pub fn bodies_are_the_accepted_packets()
+    ensures whole { (r : ℕ) (s : CutSettings) (stream : List ℕ) → fault_of r s stream ≡ None →
+        bodies (plans_of r s stream) ≡ output s (packets stream) }
+    ensures begin { (r : ℕ) (s : CutSettings) (stream : List ℕ) (given : List SegmentPlan) → IsFrontOf given (plans_of r s stream) →
+        BeginWith (output s (packets stream)) given }
+{}
+
+/// In a weave, the media playlist right behind each segment lists it last, and under the key and the vector that are
+/// listed for it the segment opens to its head and its accepted packets: those of its place among the plans of its input.
+pub fn each_segment_opens_as_listed()
+    ensures { (ladder : Ladder) (parts : List Part) (streams : ℕ → List ℕ) (front : List ItemValue) (s : SegmentValue) (behind : List ItemValue) →
+        IsAllowed ladder → AreOfStreams ladder parts streams → Weaves ladder parts (front ++ SegmentItem s ∷ behind) →
+        IsListedBehind ladder streams s behind }
+{
+    cutter::plans_are_in_order();
+    media_playlist::listed_rows_suffice();
+    ts_packet::packets_are_at_their_positions();
+    plans_of_bytes_can_be_sealed();
+}
+
+/// Each plan of a stream of bytes can be sealed: its tables can be sent in a head, and its segment is made of bytes.
+pub fn plans_of_bytes_can_be_sealed()
+    ensures { (r : ℕ) (s : CutSettings) (stream : List ℕ) → AreBytes stream → All IsOfBytes (plans_of r s stream) }
+{
+    psi_tables::tables_in_force_are_good();
+    ts_packet::packets_are_at_their_positions();
+}
+
+/// The segments of a rendition in a weave are those of its plans, in their order.
+pub fn segments_are_those_of_the_plans()
+    ensures { (ladder : Ladder) (parts : List Part) (items : List ItemValue) (r : ℕ) → Weaves ladder parts items →
+        segments_of r items ≡ map (segment_item ladder r) (part_at parts r).plans }
+{}
+
+/// In a weave, the I-frame playlist behind each segment and its media playlist ends with the lines of the segment's
+/// I-frames, under its key and its vector.
+pub fn each_segment_has_its_iframes_listed()
+    ensures { (ladder : Ladder) (parts : List Part) (streams : ℕ → List ℕ) (front : List ItemValue) (s : SegmentValue) (behind : List ItemValue) →
+        IsAllowed ladder → AreOfStreams ladder parts streams → Weaves ladder parts (front ++ SegmentItem s ∷ behind) →
+        AreFramesListedBehind ladder streams s behind }
+{
+    cutter::plans_are_in_order();
+    media_playlist::listed_rows_suffice();
+    ts_packet::packets_are_at_their_positions();
+}
