@@ -1,5 +1,5 @@
 -- How a run ends.
-use Rattle.std.proofs.Common.{◌≡◌, ◌∙◌, ℕ, zero, suc, ◌<◌, ◌^◌, List, [], ◌∷◌, length, map, get_or, Option, Some, None, refl, ap, sym, subst, arith}
+use Rattle.std.proofs.Common.{◌≡◌, ◌∙◌, ℕ, zero, suc, ◌+◌, ◌<◌, ◌≤◌, ◌^◌, List, [], ◌∷◌, length, map, get_or, Option, Some, None, refl, ap, sym, subst, arith}
 use Rattle.std.specs.List.{slice_get}
 use Rattle.std.specs.Io.KnownBytes.{Consumes, IsAtEnd}
 use Rattle.std.proofs.lemmas.Option.{slice_get_within, same_Some, get_or_from_slice_get}
@@ -14,7 +14,7 @@ use Rattle.pipeline.specs.declared.lane.Stop.{Stop}
 use Rattle.pipeline.specs.declared.lane.Stop.TheVariants.{Good, Cut, Read as ReadFailed}
 use Rattle.pipeline.specs.declared.report.Report.{Report}
 use Rattle.pipeline.specs.declared.turn.Lane.{Lane}
-use Rattle.pipeline.specs.Ladder.{Ladder}
+use Rattle.pipeline.specs.Ladder.{Ladder, IsAllowed}
 use Rattle.pipeline.specs.Shown.{Shown}
 use Rattle.pipeline.specs.Items.{Part, part_at}
 use Rattle.pipeline.specs.Weave.{blocks, none_of}
@@ -53,9 +53,9 @@ map-at f (x ∷ xs) (suc k) y e = map-at f xs k y e
 -- at a good end all was given, and no byte is left
 good-part : {X : Type 0} (left : X → Option (List ℕ)) (fails : X → ℕ) (ladder : Ladder) (k : ℕ) (stop : Option Stop) (gone : ℕ) (intake : Taken) (stream : List ℕ) (part : Part) (a b : X) → stop ≡ Some (Good gone)
     → InStage stop ladder k stream intake part → SourceSays left fails k ladder.cut stream stop a b
-    → (IsWhole ladder k stream part × (gone_of stop ≡ skipped stream)) × IsAtEnd (left b)
+    → (IsWhole ladder k stream part × (gone_of stop ≡ skipped stream)) × IsAtEnd (left b) × (fails b ≡ fails a)
 good-part left fails ladder k None gone intake stream part a b is stage says = cc
-good-part left fails ladder k (Some (Good n)) gone intake stream part a b is stage says = (stage, says.1)
+good-part left fails ladder k (Some (Good n)) gone intake stream part a b is stage says = (stage, says.1, says.0)
 good-part left fails ladder k (Some (Cut told)) gone intake stream part a b is stage says = cc
 good-part left fails ladder k (Some ReadFailed) gone intake stream part a b is stage says = cc
 
@@ -73,12 +73,14 @@ module _ (X : Type 0) (left : X → Option (List ℕ)) (fails reads : X → ℕ)
   pub world-halted : (rounds : ℕ) (before now : List X) (lanes : List Lane) (shown : List Shown) (x y : Held → Type 0) (r : ℕ) (lane : Lane)
       → slice_get lanes r ≡ Some lane
       → ((k : ℕ) (lane : Lane) → slice_get lanes k ≡ Some lane → lane.stop ≡ None → rounds ≡ 2 ^ 40)
-      → World left fails reads ladder rounds 0 before now lanes shown x y → HasHalted left fails reads ladder before now x y r lane.stop
-  world-halted rounds before now lanes shown x y r lane f limit w = record {
+      → IsAllowed ladder → World left fails reads ladder rounds 0 before now lanes shown x y → HasHalted left fails reads ladder before now x y r lane.stop
+  world-halted rounds before now lanes shown x y r lane f limit allowed w = record {
     streams = w.streams;
     parts = parts-of ladder w.events;
     items = blocks ladder (none_of ladder) w.events;
     stops = stop_at lanes;
+    allowed = allowed;
+    same_now = w.same_now ∙ sym w.same_before;
     weave = record { events = w.events; legal = w.legal; parts_are = refl; items_are = refl };
     grows = w.grows;
     each = λ k a d e h.
@@ -99,18 +101,20 @@ module _ (X : Type 0) (left : X → Option (List ℕ)) (fails reads : X → ℕ)
   pub world-packed : (rounds : ℕ) (before now : List X) (lanes : List Lane) (shown : List Shown) (x y : Held → Type 0) (report : Report)
       → ((k : ℕ) (lane : Lane) → slice_get lanes k ≡ Some lane → told_of k lane.stop ≡ None)
       → IsReport shown (map (λ (l : Lane). gone_of l.stop) lanes) report
-      → World left fails reads ladder rounds 0 before now lanes shown x y → IsPacked left ladder before now x y report
-  world-packed rounds before now lanes shown x y report good is w =
+      → rounds ≤ 2 ^ 40 → World left fails reads ladder rounds 0 before now lanes shown x y → IsPacked left fails reads ladder before now x y report
+  world-packed rounds before now lanes shown x y report good is few w =
       let all : (k : ℕ) (a d : X) → slice_get before k ≡ Some a → slice_get now k ≡ Some d → (m : Lane) × (slice_get lanes k ≡ Some m)
       × (IsWhole ladder k (stream_at w.streams k) (part_at (parts-of ladder w.events) k) × (gone_of m.stop ≡ skipped (stream_at w.streams k)))
-      × AreBytes (stream_at w.streams k) × Consumes (left a) (left d) (stream_at w.streams k) × IsAtEnd (left d) =
+      × AreBytes (stream_at w.streams k) × Consumes (left a) (left d) (stream_at w.streams k) × IsAtEnd (left d) × (fails d ≡ fails a) × (reads d ≤ reads a + 2 ^ 40) =
       λ k a d e h.
       let within : k < length lanes = omega (arith, slice_get_within before k a e, w.same_before, w.same_lanes) in
       let m = some-at lanes k within in
       let u = w.each k a d m.0 e h m.1 in
       let end = good-end k m.0.stop (good k m.0 m.1) in
       let part = good-part left fails ladder k m.0.stop end.0 m.0.intake (stream_at w.streams k) (part_at (parts-of ladder w.events) k) a d end.1 u.stage u.says in
-      (m.0, m.1, part.0, u.bytes, u.read, part.1) in
+      let taken = u.few_reads in
+      let turns = turns-none rounds k in
+      (m.0, m.1, part.0, u.bytes, u.read, part.1, part.2, omega (arith, taken, turns, few)) in
       record {
         streams = w.streams;
         parts = parts-of ladder w.events;
@@ -118,7 +122,8 @@ module _ (X : Type 0) (left : X → Option (List ℕ)) (fails reads : X → ℕ)
         weave = record { events = w.events; legal = w.legal; parts_are = refl; items_are = refl };
         grows = w.grows;
         same_streams = w.same_streams;
-        each = λ k a d e h. let u = all k a d e h in (u.2.0, u.3, u.4, u.5);
+        same_now = w.same_now ∙ sym w.same_before;
+        each = λ k a d e h. let u = all k a d e h in (u.2.0, u.3, u.4, u.5, u.6, u.7);
         report_is = rw (← w.shown_are) (subst (λ (gone : List ℕ). IsReport shown gone report)
             (same-lists _ _ (length-map lanes _ ∙ (w.same_lanes ∙ (sym w.same_streams ∙ sym (length-map w.streams _)))) (λ k p q e h.
             let m = map-at _ lanes k p e in

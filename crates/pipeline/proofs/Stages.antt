@@ -35,6 +35,9 @@ turns-all rounds n k below = grind (arith, nat_tests, below)
 pub turns-none : (rounds k : ℕ) → turns_of rounds 0 k ≡ rounds
 turns-none rounds k = grind (arith, nat_tests)
 
+pub turns-more : (rounds r : ℕ) → turns_of rounds r r ≤ turns_of rounds (r + 1) r
+turns-more rounds r = omega (arith, turns-now rounds r, turns-then rounds r)
+
 -- a part of which no end was told
 whole-front : (ladder : Ladder) (r : ℕ) (stream : List ℕ) (part : Part) → IsWhole ladder r stream part → Begins ladder r stream part
 whole-front ladder r stream part whole = record { plans = ([], sym (append-nil _ ∙ whole.plans)); ended = λ e. whole }
@@ -88,14 +91,15 @@ module _ (X : Type 0) (left : X → Option (List ℕ)) (fails reads : X → ℕ)
       subst (λ (v : Part). Stage left fails reads ladder k turns a b lane s v) i stage)))))
 
   -- one that stopped has no more turns
-  pub stage-stopped : (k turns turns' : ℕ) (a b : X) (lane : Lane) (s : List ℕ) (p : Part) → (lane.stop ≡ None → ⊥)
+  pub stage-stopped : (k turns turns' : ℕ) (a b : X) (lane : Lane) (s : List ℕ) (p : Part) → (lane.stop ≡ None → ⊥) → turns ≤ turns'
       → Stage left fails reads ladder k turns a b lane s p → Stage left fails reads ladder k turns' a b lane s p
-  stage-stopped k turns turns' a b lane s p stopped stage = record {
+  stage-stopped k turns turns' a b lane s p stopped more stage = record {
     stage = stage.stage;
     read = stage.read;
     bytes = stage.bytes;
     says = stage.says;
     reads_are = λ e. absurd (stopped e);
+    few_reads = omega (arith, more, stage.few_reads);
     small = λ e. absurd (stopped e);
   }
 
@@ -111,9 +115,9 @@ module _ (X : Type 0) (left : X → Option (List ℕ)) (fails reads : X → ℕ)
       → Consumes (left b) (left c) more → length more ≤ 18800 → AreBytes more
       → InStage then.stop ladder k (lane.intake.stream ++ more) then.intake q
       → SourceSays left fails k ladder.cut (lane.intake.stream ++ more) then.stop b c
-      → (then.stop ≡ None → reads c ≡ reads b + 1)
+      → (then.stop ≡ None → reads c ≡ reads b + 1) → reads c ≤ reads b + 1
       → Stage left fails reads ladder k turns a b lane s p → Stage left fails reads ladder k (turns + 1) a c then (lane.intake.stream ++ more) q
-  stage-turned k turns a b c lane then s more p q goes_on read short bytes new says one stage =
+  stage-turned k turns a b c lane then s more p q goes_on read short bytes new says one few stage =
       let o = open-stage k turns a b lane s p goes_on stage in
       let small = stage.small goes_on in
       let same = ap length o.1 in
@@ -123,6 +127,7 @@ module _ (X : Type 0) (left : X → Option (List ℕ)) (fails reads : X → ℕ)
         bytes = All-append (λ (b : ℕ). b < 256) lane.intake.stream more (subst AreBytes (sym o.1) stage.bytes) bytes;
         says = says-more left fails k ladder.cut (lane.intake.stream ++ more) then.stop a b c (same-fails k turns a b lane s p goes_on stage) says;
         reads_are = λ e. let before = stage.reads_are goes_on in let now = one e in omega (arith, before, now);
+        few_reads = omega (arith, few, stage.few_reads);
         small = λ e. omega (arith, small, short, same, length-append lane.intake.stream more);
       }
 
@@ -143,6 +148,7 @@ module _ (X : Type 0) (left : X → Option (List ℕ)) (fails reads : X → ℕ)
     bytes = λ k d below. absurd (omega (arith, below));
     says = subst (λ (q : Option Stop). SourceSays left fails k ladder.cut [] q a a) (sym first.stop) refl;
     reads_are = λ e. omega arith;
+    few_reads = omega arith;
     small = λ e. omega arith;
   }
 

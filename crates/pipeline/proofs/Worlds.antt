@@ -11,7 +11,7 @@ use Rattle.std.proofs.lemmas.List.Elements.{All-append}
 use Rattle.aes_cbc.specs.Block.{AreBytes}
 use Rattle.item_io.specs.Outlets.{Held, Grows}
 use Rattle.pipeline.specs.declared.turn.Lane.{Lane}
-use Rattle.pipeline.specs.Ladder.{Ladder}
+use Rattle.pipeline.specs.Ladder.{Ladder, IsAllowed}
 use Rattle.pipeline.specs.Streams.{closed_of}
 use Rattle.pipeline.specs.Shown.{Shown}
 use Rattle.pipeline.specs.Items.{Part, no_part, part_at, shown_all}
@@ -24,7 +24,7 @@ use Rattle.pipeline.proofs.Puts.{grows-none, grows-more, put-more, put-all}
 use Rattle.pipeline.proofs.Rows.{after_all-append, blocks-append}
 use Rattle.pipeline.proofs.Closing.{legal-append}
 use Rattle.pipeline.proofs.Elsewhere.{set-here, set-elsewhere, some-at, all-length, all-other}
-use Rattle.pipeline.proofs.Stages.{turns-now, turns-then, turns-other, turns-all, turns-none, stage-begins, stage-moved, stage-stopped, open-stage, same-fails, stage-turned, stage-first}
+use Rattle.pipeline.proofs.Stages.{turns-now, turns-then, turns-other, turns-all, turns-none, turns-more, stage-begins, stage-moved, stage-stopped, open-stage, same-fails, stage-turned, stage-first}
 
 -- the parts behind some events
 abbrev pub parts-of : Ladder → List Event → List Part
@@ -88,9 +88,9 @@ module _ (X : Type 0) (left : X → Option (List ℕ)) (fails reads : X → ℕ)
       → ((parts : List Part) → Before ladder r parts shown lane.intake → (more : List ℕ) × Consumes (left b) (left c) more × (length more ≤ 18800) × AreBytes more
       × Reaches ladder r parts y z then moved.stop (lane.intake.stream ++ more) moved.intake
       × SourceSays left fails r ladder.cut (lane.intake.stream ++ more) moved.stop b c)
-      → (moved.stop ≡ None → reads c ≡ reads b + 1)
+      → (moved.stop ≡ None → reads c ≡ reads b + 1) → reads c ≤ reads b + 1
       → World left fails reads ladder rounds r before now lanes shown x y → World left fails reads ladder rounds (r + 1) before (set now r c) (set lanes r moved) then x z
-  world-step rounds r before now lanes shown then x y z b c lane moved f g goes_on turn one w =
+  world-step rounds r before now lanes shown then x y z b c lane moved f g goes_on turn one few w =
       let s = stage-at rounds r before now lanes shown x y w r b lane f g in
       let t = turn (parts-of ladder w.events) (before-of rounds r before now lanes shown x y w r b lane f g goes_on) in
       let reach = t.4 in
@@ -98,7 +98,7 @@ module _ (X : Type 0) (left : X → Option (List ℕ)) (fails reads : X → ℕ)
       let all = after_all-append (none_of ladder) w.events reach.events in
       let here : r < length w.streams = omega (arith, slice_get_within now r b f, w.same_now, w.same_streams) in
       let mine : stream_at (set w.streams r stream) r ≡ stream = get_or-set_same w.streams r stream [] here in
-      let turned = stage-turned X left fails reads ladder r _ s.0 b c lane moved _ t.0 _ _ goes_on t.1 t.2 t.3 reach.stage t.5 one s.2 in
+      let turned = stage-turned X left fails reads ladder r _ s.0 b c lane moved _ t.0 _ _ goes_on t.1 t.2 t.3 reach.stage t.5 one few s.2 in
       record {
         streams = set w.streams r stream;
         events = w.events ++ reach.events;
@@ -139,7 +139,8 @@ module _ (X : Type 0) (left : X → Option (List ℕ)) (fails reads : X → ℕ)
     each = λ k a d m e h i.
         elim (cases_eq k r) as (λ _. Stage left fails reads ladder k (turns_of rounds (r + 1) k) a d m (stream_at w.streams k) (part_at (parts-of ladder w.events) k)) [
           | inl q ↦ stage-stopped X left fails reads ladder k _ _ a d m _ _
-              (λ going. stopped (ap (λ (l : Lane). l.stop) (same_Some lane m (sym g ∙ (ap (slice_get lanes) (sym q) ∙ i))) ∙ going)) (w.each k a d m e h i)
+              (λ going. stopped (ap (λ (l : Lane). l.stop) (same_Some lane m (sym g ∙ (ap (slice_get lanes) (sym q) ∙ i))) ∙ going))
+              (subst (λ (j : ℕ). turns_of rounds r j ≤ turns_of rounds (r + 1) j) (sym q) (turns-more rounds r)) (w.each k a d m e h i)
           | inr q ↦ stage-moved X left fails reads ladder k _ _ a a d d m m _ _ _ _ (sym (turns-other rounds r k q)) refl refl refl refl refl (w.each k a d m e h i)
         ];
   }
@@ -191,8 +192,8 @@ module _ (X : Type 0) (left : X → Option (List ℕ)) (fails reads : X → ℕ)
       → slice_get now r ≡ Some b → slice_get lanes r ≡ Some lane → lane.stop ≡ None
       → ((parts : List Part) → Before ladder r parts shown lane.intake → (more : List ℕ) × Consumes (left b) (left c) more × AreBytes more
       × IsCutOff ladder r parts y z (HasBegun ladder r (left c) (lane.intake.stream ++ more)))
-      → World left fails reads ladder rounds next before now lanes shown x y → IsCutShort left ladder before (set now r c) x z
-  world-cut rounds next r before now lanes shown x y z b c lane f g goes_on turn w =
+      → IsAllowed ladder → World left fails reads ladder rounds next before now lanes shown x y → IsCutShort left ladder before (set now r c) x z
+  world-cut rounds next r before now lanes shown x y z b c lane f g goes_on turn allowed w =
       let s = stage-at rounds next before now lanes shown x y w r b lane f g in
       let o = open-stage X left fails reads ladder r _ s.0 b lane _ _ goes_on s.2 in
       let t = turn (parts-of ladder w.events) (before-of rounds next before now lanes shown x y w r b lane f g goes_on) in
@@ -212,6 +213,8 @@ module _ (X : Type 0) (left : X → Option (List ℕ)) (fails reads : X → ℕ)
         items = blocks ladder (none_of ladder) (w.events ++ cut.events);
         weave = record { events = w.events ++ cut.events; legal = legal-append (none_of ladder) w.events cut.events w.legal cut.are_of.legal; parts_are = refl; items_are = refl };
         some = rw (blocks-append ladder (none_of ladder) w.events cut.events) (put-more x y z _ _ w.grows cut.some);
+        allowed = inr allowed;
+        same_now = length-set _ _ _ ∙ (w.same_now ∙ sym w.same_before);
         each = λ k a d e h.
             elim (cases_eq k r) as (λ _. HasBegun ladder k (left d) (stream_at (set w.streams r stream) k) (part_at (parts-of ladder (w.events ++ cut.events)) k) × AreBytes (stream_at (set w.streams r stream) k) × Consumes (left a) (left d) (stream_at (set w.streams r stream) k)) [
               | inl q ↦ subst (λ (j : ℕ). slice_get before j ≡ Some a → slice_get (set now r c) j ≡ Some d
@@ -230,13 +233,15 @@ module _ (X : Type 0) (left : X → Option (List ℕ)) (fails reads : X → ℕ)
 
   -- the run was stopped between two turns
   pub world-stop : (rounds next : ℕ) (before now : List X) (lanes : List Lane) (shown : List Shown) (x y : Held → Type 0)
-      → World left fails reads ladder rounds next before now lanes shown x y → IsCutShort left ladder before now x y
-  world-stop rounds next before now lanes shown x y w = record {
+      → IsAllowed ladder → World left fails reads ladder rounds next before now lanes shown x y → IsCutShort left ladder before now x y
+  world-stop rounds next before now lanes shown x y allowed w = record {
     streams = w.streams;
     parts = parts-of ladder w.events;
     items = blocks ladder (none_of ladder) w.events;
     weave = record { events = w.events; legal = w.legal; parts_are = refl; items_are = refl };
     some = put-all x y (blocks ladder (none_of ladder) w.events) (sym (append-nil _)) w.grows;
+    allowed = inr allowed;
+    same_now = w.same_now ∙ sym w.same_before;
     each = λ k a d e h.
         let within : k < length lanes = omega (arith, slice_get_within before k a e, w.same_before, w.same_lanes) in
         let m = some-at lanes k within in
@@ -255,6 +260,8 @@ module _ (X : Type 0) (left : X → Option (List ℕ)) (fails reads : X → ℕ)
         items = [];
         weave = record { events = []; legal = tt; parts_are = refl; items_are = refl };
         some = put-all x x [] refl (grows-none x);
+        allowed = inl refl;
+        same_now = refl;
         each = λ k a d e h.
             let one : a ≡ d = same_Some a d (sym e ∙ h) in
             subst (λ (v : X). HasBegun ladder k (left v) (stream_at (replicate n []) k) (part_at (none_of ladder) k) × AreBytes (stream_at (replicate n []) k) × Consumes (left a) (left v) (stream_at (replicate n []) k)) one

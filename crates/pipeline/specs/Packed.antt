@@ -1,5 +1,5 @@
 -- How a run ends, and what it has given then.
-use Rattle.std.specs.Prelude.{◌≡◌, ℕ, ◌+◌, ◌^◌, List, [], length, map, sum, Option, Some, None, slice_get}
+use Rattle.std.specs.Prelude.{◌≡◌, ℕ, ◌+◌, ◌^◌, ◌≤◌, ◌⊎◌, List, [], length, map, sum, Option, Some, None, slice_get}
 use Rattle.std.specs.Io.KnownBytes.{Consumes, IsAtEnd}
 use Rattle.aes_cbc.specs.Block.{AreBytes}
 use Rattle.bandwidth.specs.Peaks.{peak_of, average_of}
@@ -36,15 +36,16 @@ pub record IsReport (shown : List Shown) (gone : List ℕ) (report : Report) : T
 
 -- The run ended well: each input came to its end, the items put are a weave of the whole lists of all renditions, and the
 -- report tells their numbers.
-pub record IsPacked {X : Type 0} (left : X → Option (List ℕ)) (ladder : Ladder) (before now : List X) (old new : Held → Type 0) (report : Report) : Type 0 where
+pub record IsPacked {X : Type 0} (left : X → Option (List ℕ)) (fails reads : X → ℕ) (ladder : Ladder) (before now : List X) (old new : Held → Type 0) (report : Report) : Type 0 where
   pub streams : List (List ℕ)
   pub parts : List Part
   pub items : List ItemValue
   pub weave : Weaves ladder parts items
   pub grows : Grows old new items
   pub same_streams : length streams ≡ length ladder.renditions
+  pub same_now : length now ≡ length before
   pub each : (k : ℕ) (a b : X) → slice_get before k ≡ Some a → slice_get now k ≡ Some b →
-      IsWhole ladder k (stream_at streams k) (part_at parts k) × AreBytes (stream_at streams k) × Consumes (left a) (left b) (stream_at streams k) × IsAtEnd (left b)
+      IsWhole ladder k (stream_at streams k) (part_at parts k) × AreBytes (stream_at streams k) × Consumes (left a) (left b) (stream_at streams k) × IsAtEnd (left b) × (fails b ≡ fails a) × (reads b ≤ reads a + 2 ^ 40)
   pub report_is : IsReport (shown_all ladder parts) (map skipped streams) report
 
 -- The run was stopped: the items put are a beginning of a weave of beginnings.
@@ -54,6 +55,8 @@ pub record IsCutShort {X : Type 0} (left : X → Option (List ℕ)) (ladder : La
   pub items : List ItemValue
   pub weave : Weaves ladder parts items
   pub some : PutSome old new items
+  pub allowed : (items ≡ []) ⊎ IsAllowed ladder
+  pub same_now : length now ≡ length before
   pub each : (k : ℕ) (a b : X) → slice_get before k ≡ Some a → slice_get now k ≡ Some b →
       HasBegun ladder k (left b) (stream_at streams k) (part_at parts k) × AreBytes (stream_at streams k) × Consumes (left a) (left b) (stream_at streams k)
 
@@ -76,8 +79,10 @@ pub record HasHalted {X : Type 0} (left : X → Option (List ℕ)) (fails reads 
   pub parts : List Part
   pub items : List ItemValue
   pub stops : ℕ → Option Stop
+  pub allowed : IsAllowed ladder
   pub weave : Weaves ladder parts items
   pub grows : Grows old new items
+  pub same_now : length now ≡ length before
   pub each : (k : ℕ) (a b : X) → slice_get before k ≡ Some a → slice_get now k ≡ Some b →
       IsLeft left fails reads ladder k a b (stops k) (stream_at streams k) (part_at parts k)
   pub within : (a : X) × (slice_get before r ≡ Some a)

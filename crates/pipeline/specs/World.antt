@@ -25,6 +25,7 @@ pub record Stage {X : Type 0} (left : X → Option (List ℕ)) (fails reads : X 
   pub bytes : AreBytes stream
   pub says : SourceSays left fails k ladder.cut stream lane.stop a b
   pub reads_are : lane.stop ≡ None → reads b ≡ reads a + turns
+  pub few_reads : reads b ≤ reads a + turns
   pub small : lane.stop ≡ None → length stream ≤ 18800 * turns
 
 -- rendition k before its first turn

@@ -1,4 +1,4 @@
-ghost use Rattle.std.specs.Prelude.{◌≡◌, ◌<◌, ◌^◌, ◌⊎◌, ℕ, [], Some, None, length, slice_get, IfOk, IfErr, OnOk, OnErr};
+ghost use Rattle.std.specs.Prelude.{◌≡◌, ◌<◌, ◌≤◌, ◌^◌, ◌⊎◌, ℕ, [], Some, None, length, slice_get, IfOk, IfErr, OnOk, OnErr};
 ghost use Rattle.pipeline.specs.declared.fault.PackFault.TheVariants.{Settings as SettingsFault, NoMemory};
 ghost use Rattle.item_io.specs.Outlets.{Grows};
 ghost use Rattle.pipeline.specs.declared.turn.Lane.{Lane};
@@ -36,7 +36,7 @@ pub fn pack_serial<S: Source, O: Outlet>(
 ) -> Result<Report, PackFault>
     requires reads { HaveRoom S.failures S.reads sources.old.items }
     requires failures { O.failures outlet.old < 2 ^ 63 }
-    ensures ok { IfOk result (IsPacked S.remaining settings.now sources.old.items sources.new.items (O.holds outlet.old) (O.holds outlet.new)) }
+    ensures ok { IfOk result (IsPacked S.remaining S.failures S.reads settings.now sources.old.items sources.new.items (O.holds outlet.old) (O.holds outlet.new)) }
     ensures failures { OnOk result (O.failures outlet.new ≡ O.failures outlet.old) }
     ensures fault { IfErr result (FaultSays S.remaining S.failures S.reads settings.now sources.old.items sources.new.items
         (O.holds outlet.old) (O.holds outlet.new) (O.failures outlet.old) (O.failures outlet.new)) }
@@ -70,7 +70,7 @@ fn turns<S: Source, O: Outlet>(
     requires allowed { IsAllowed settings.now }
     requires reads { HaveRoom S.failures S.reads sources.old.items }
     requires start { World S.remaining S.failures S.reads settings.now 0 0 sources.old.items sources.old.items lanes.old.items playlists.old.items (O.holds outlet.old) (O.holds outlet.old) }
-    ensures ok { OnOk result ((rounds : ℕ) × World S.remaining S.failures S.reads settings.now rounds 0 sources.old.items sources.new.items lanes.new.items playlists.new.items (O.holds outlet.old) (O.holds outlet.new)
+    ensures ok { OnOk result ((rounds : ℕ) × (rounds ≤ 2 ^ 40) × World S.remaining S.failures S.reads settings.now rounds 0 sources.old.items sources.new.items lanes.new.items playlists.new.items (O.holds outlet.old) (O.holds outlet.new)
         × ((k : ℕ) (lane : Lane) → slice_get lanes.new.items k ≡ Some lane → lane.stop ≡ None → rounds ≡ 2 ^ 40)) }
     ensures err { OnErr result (IsCutShort S.remaining settings.now sources.old.items sources.new.items (O.holds outlet.old) (O.holds outlet.new)) }
     ensures failures { OnOk result (O.failures outlet.new ≡ O.failures outlet.old) }

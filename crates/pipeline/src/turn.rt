@@ -52,6 +52,7 @@ pub fn turn<S: Source, O: Outlet>(
     ensures failures { OnOk result (O.failures outlet.new ≡ O.failures outlet.old) }
     ensures fault { IfErr result (λ fault. SaysFailures fault (O.failures outlet.old) (O.failures outlet.new)) }
     ensures reads { OnOk result (lane.new.stop ≡ None → S.reads source.new ≡ S.reads source.old + 1) }
+    ensures few_reads { S.reads source.new ≤ S.reads source.old + 1 }
 {
     let mut piece = [0; PIECE];
     match source.read(&mut piece) {

@@ -30,39 +30,41 @@ turns-requires-clause-start g c =
 
 pub returns-in-Some-clause-fault : goal.returns-in-Some-clause-fault
 returns-in-Some-clause-fault g c =
+    let allowed : IsAllowed c.args.settings.now × (c.len.result ≡ length c.args.settings.now.renditions) = search rules in
     let ok = c.in_ok-turns.ensures.ok in
     let some = c.in-Some.ensures.some in
     halted-says _ _ g.S.Source.failures g.S.Source.reads _ _ _ _ _ _ _ some.0 some.1.stop c.in-Some.fault some.3
-    (world-halted _ _ _ _ _ ok.0 _ _ _ _ _ _ some.0 some.1 (ap (λ lanes. slice_get lanes some.0) (sym c.deref.ensures.value) ∙ some.2) ok.2 ok.1)
-    (world-stop _ _ _ _ _ _ _ _ _ _ _ _ _ ok.1) c.in_ok-turns.ensures.failures
+    (world-halted _ _ _ _ _ ok.0 _ _ _ _ _ _ some.0 some.1 (ap (λ lanes. slice_get lanes some.0) (sym c.deref.ensures.value) ∙ some.2) ok.3 allowed.0 ok.2)
+    (world-stop _ _ _ _ _ _ _ _ _ _ _ _ _ allowed.0 ok.2) c.in_ok-turns.ensures.failures
 
 pub report_of-requires-clause-each : goal.report_of-requires-clause-each
 report_of-requires-clause-each g c =
-    let w = c.in_ok-turns.ensures.ok.1 in
+    let w = c.in_ok-turns.ensures.ok.2 in
     let each = shown-each c.args.settings.now (parts-of c.args.settings.now w.events) _ (parts-length c.args.settings.now w.events) w.shown_are in
     ap length c.deref-2.ensures.value ∙ (w.same_lanes ∙ (sym each ∙ ap length (sym c.deref-3.ensures.value)))
 
 pub report_of-requires-clause-going : goal.report_of-requires-clause-going
 report_of-requires-clause-going g c =
-    let w = c.in_ok-turns.ensures.ok.1 in
+    let w = c.in_ok-turns.ensures.ok.2 in
     shown-going c.args.settings.now (parts-of c.args.settings.now w.events) c.deref-3.result.now (parts-length c.args.settings.now w.events) (c.deref-3.ensures.value ∙ w.shown_are)
 
 pub report_of-requires-clause-few : goal.report_of-requires-clause-few
 report_of-requires-clause-few g c =
     let allowed : IsAllowed c.args.settings.now × (c.len.result ≡ length c.args.settings.now.renditions) = search rules in
-    let w = c.in_ok-turns.ensures.ok.1 in
+    let w = c.in_ok-turns.ensures.ok.2 in
     let each = shown-each c.args.settings.now (parts-of c.args.settings.now w.events) c.deref-3.result.now (parts-length c.args.settings.now w.events) (c.deref-3.ensures.value ∙ w.shown_are) in
     let few = allowed.0.renditions.1 in
     omega (arith, each, few)
 
 pub returns-in_err-report_of-clause-fault : goal.returns-in_err-report_of-clause-fault
 returns-in_err-report_of-clause-fault g c =
+    let allowed : IsAllowed c.args.settings.now × (c.len.result ≡ length c.args.settings.now.renditions) = search rules in
     let told = err_from_is_err_and c.from_residual-in_err-report_of.result c.from_residual-in_err-report_of.ensures.1 in
-    rw (told.1, told.2) (world-stop _ _ _ _ _ _ _ _ _ _ _ _ _ c.in_ok-turns.ensures.ok.1, c.in_ok-turns.ensures.failures)
+    rw (told.1, told.2) (world-stop _ _ _ _ _ _ _ _ _ _ _ _ _ allowed.0 c.in_ok-turns.ensures.ok.2, c.in_ok-turns.ensures.failures)
 
 pub returns-clause-ok : goal.returns-clause-ok
 returns-clause-ok g c =
     let ok = c.in_ok-turns.ensures.ok in
     world-packed _ _ g.S.Source.failures g.S.Source.reads _ ok.0 _ _ _ _ _ _ c.in_ok-report_of.field-0
     (λ k lane at. c.in_default.ensures.none refl k lane (ap (λ lanes. slice_get lanes k) c.deref.ensures.value ∙ at))
-    (rw (c.deref-3.ensures.value, c.deref-2.ensures.value) at c.in_ok-report_of.ensures) ok.1
+    (rw (c.deref-3.ensures.value, c.deref-2.ensures.value) at c.in_ok-report_of.ensures) ok.1 ok.2

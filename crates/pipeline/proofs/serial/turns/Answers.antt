@@ -7,7 +7,7 @@ use Rattle.pipeline.proofs.serial.turns.Goals as goal
 
 pub returns-then-have_stopped-clause-ok : goal.returns-then-have_stopped-clause-ok
 returns-then-have_stopped-clause-ok g c =
-    (c.loop.counter, c.loop.invariant.world, λ k lane at none. absurd (c.if-have_stopped.ensures refl k lane (ap (λ lanes. slice_get lanes k) c.deref.ensures.value ∙ at) none))
+    (c.loop.counter, omega (arith, c.loop-test.true), c.loop.invariant.world, λ k lane at none. absurd (c.if-have_stopped.ensures refl k lane (ap (λ lanes. slice_get lanes k) c.deref.ensures.value ∙ at) none))
 
 pub turn-requires-clause-reads : goal.turn-requires-clause-reads
 turn-requires-clause-reads g c =
@@ -55,7 +55,7 @@ returns-in_err-turn-clause-err g c =
     rw told.1 (world-cut _ _ _ _ _ _ _ c.loop-r.r _ _ _ _ _ _ _ c.index_mut.result.now c.turn.new.source c.index_mut-lane.result.now
     (slice_get_read c.loop-r.sources.items _ c.loop-r.r c.index_mut.result.now (sym w.same_now) below c.index_mut.ensures.value)
     (slice_get_read c.loop-r.lanes.items _ c.loop-r.r c.index_mut-lane.result.now (sym w.same_lanes) below c.index_mut-lane.ensures.value)
-    (none-there _ (sym c.if-is_some.ensures)) c.in_err-turn.ensures.err w)
+    (none-there _ (sym c.if-is_some.ensures)) c.in_err-turn.ensures.err c.requires.allowed w)
 
 pub loop-r-preserved-then-is_some : goal.loop-r-preserved-then-is_some
 loop-r-preserved-then-is_some g c =
@@ -76,7 +76,7 @@ loop-r-preserved g c =
       world = world-step _ _ _ _ _ _ c.loop-r.r _ _ _ _ _ _ _ _ c.index_mut.result.now c.turn.new.source c.index_mut-lane.result.now c.turn.new.lane
           (slice_get_read c.loop-r.sources.items _ c.loop-r.r c.index_mut.result.now (sym w.same_now) below c.index_mut.ensures.value)
           (slice_get_read c.loop-r.lanes.items _ c.loop-r.r c.index_mut-lane.result.now (sym w.same_lanes) below c.index_mut-lane.ensures.value)
-          (none-there _ (sym c.if-is_some.ensures)) c.in_ok-turn.ensures.ok c.in_ok-turn.ensures.reads w;
+          (none-there _ (sym c.if-is_some.ensures)) c.in_ok-turn.ensures.ok c.in_ok-turn.ensures.reads c.in_ok-turn.ensures.few_reads w;
     }
 
 pub loop-preserved : goal.loop-preserved
