@@ -1,0 +1,140 @@
+use cutter::CutSettings;
+use item_io::{FailingOutlet, FailingReader, Item, Outlet};
+use pipeline::{PackFault, Rendition, Report, Settings, pack_serial};
+use segment_job::Keys;
+use std::alloc::{AllocError, Global};
+use std::test::Fail;
+
+/// Segments of six seconds.
+pub const CUT: CutSettings = CutSettings {
+    program: None,
+    segment: 540_000,
+    target: 6,
+    gap: 900_000,
+    frame: 3600,
+    most: 1_000_000,
+};
+
+/// What a run answered, and the items that its outlet holds.
+#[derive(Drop)]
+pub struct Ran {
+    pub answer: Result<Report, PackFault>,
+    pub outlet: FailingOutlet,
+}
+
+/// How inputs are read and items are put: the most bytes of a read, and which read of each input and which put fails,
+/// counted from 1.
+#[derive(Clone, Copy, Debug)]
+pub struct Ways {
+    pub piece: usize,
+    pub failing_read: u64,
+    pub failing_put: u64,
+}
+
+/// All goes well, in reads of any length.
+pub const WELL: Ways = Ways {
+    piece: 18_800,
+    failing_read: 0,
+    failing_put: 0,
+};
+
+/// A rendition with keys of its own, which take turns after so many segments.
+pub fn rendition(alloc: Global, name: &str, keys: u8, period: u64) -> Result<Rendition, Fail> {
+    let mut all = Vec::new(alloc);
+    for key in 0..keys {
+        all.push([key; 16])?;
+    }
+    Ok(Rendition {
+        name: String::from_str(alloc, name)?,
+        codecs: String::from_str(alloc, "avc1.4d401e")?,
+        width: 640,
+        height: 360,
+        keys: Keys::new(all, period)?,
+    })
+}
+
+/// Settings of one rendition `v` with one key.
+pub fn settings(alloc: Global, cut: CutSettings, window: u64) -> Result<Settings, Fail> {
+    let mut renditions = Vec::new(alloc);
+    renditions.push(rendition(alloc, "v", 1, 1)?)?;
+    Ok(Settings {
+        renditions,
+        cut,
+        window,
+        queue: 16,
+    })
+}
+
+/// Packs these inputs.
+pub fn run(
+    alloc: Global,
+    inputs: &[&[u8]],
+    ways: Ways,
+    settings: &Settings,
+) -> Result<Ran, AllocError> {
+    let mut sources = Vec::new(alloc);
+    for input in inputs {
+        let mut bytes = Vec::new(alloc);
+        bytes.extend_from_slice(input)?;
+        sources.push(FailingReader::new(bytes, ways.piece.max(1), ways.failing_read))?;
+    }
+    let mut outlet = FailingOutlet::new(alloc, ways.failing_put);
+    let answer = pack_serial(alloc, &mut sources, settings, &mut outlet);
+    Ok(Ran { answer, outlet })
+}
+
+/// The sizes of the segments that were given.
+pub fn sizes(alloc: Global, items: &[Item]) -> Result<Vec<usize>, AllocError> {
+    let mut sizes = Vec::new(alloc);
+    for item in items {
+        if let Item::Segment { bytes, .. } = item {
+            sizes.push(bytes.len())?;
+        }
+    }
+    Ok(sizes)
+}
+
+/// The last media playlist. No text stands for none.
+pub fn last_media(items: &[Item]) -> &str {
+    let mut last = "";
+    for item in items {
+        if let Item::Media { text, .. } = item {
+            last = text;
+        }
+    }
+    last
+}
+
+/// The last I-frame playlist. No text stands for none.
+pub fn last_frames(items: &[Item]) -> &str {
+    let mut last = "";
+    for item in items {
+        if let Item::Frames { text, .. } = item {
+            last = text;
+        }
+    }
+    last
+}
+
+/// The last master playlist. No text stands for none.
+pub fn last_master(items: &[Item]) -> &str {
+    let mut last = "";
+    for item in items {
+        if let Item::Master { text } = item {
+            last = text;
+        }
+    }
+    last
+}
+
+/// What stands behind this tag, a space behind each.
+pub fn values(alloc: Global, text: &str, tag: &str) -> Result<String, AllocError> {
+    let mut values = String::new(alloc);
+    for line in text.lines() {
+        if let Some(value) = line.strip_prefix(tag) {
+            values.push_str(value)?;
+            values.push(' ')?;
+        }
+    }
+    Ok(values)
+}

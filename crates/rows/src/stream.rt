@@ -1,0 +1,108 @@
+use std::alloc::AllocError;
+
+/// Program 1 with its PMT on PID 0x1000, in a packet.
+const PAT: &[u8] =
+    b"\x47\x40\x00\x10\x00\x00\xb0\x0d\x00\x01\xc1\x00\x00\x00\x01\xf0\x00\x2a\xb1\x04\xb2";
+
+/// Program 1, H.264 on PID 0x100 with the PCR, in a packet.
+const PMT: &[u8] =
+    b"\x47\x50\x00\x10\x00\x02\xb0\x12\x00\x01\xc1\x00\x00\xe1\x00\xf0\x00\x1b\xe1\x00\xf0\x00\x15\xbd\x4d\x56";
+
+/// A frame of video by its time in ticks: a key frame, with the indicator of random access, or another.
+#[derive(Clone, Copy, Debug)]
+pub enum Video {
+    Key(u64),
+    Other(u64),
+}
+
+/// Appends tables, and a packet for each frame.
+pub fn push_stream(stream: &mut Vec<u8>, frames: &[Video]) -> Result<(), AllocError> {
+    push_packet(stream, PAT, &[])?;
+    push_packet(stream, PMT, &[])?;
+    for (n, frame) in frames.iter().enumerate() {
+        push_frame(stream, *frame, (n % 16) as u8)?;
+    }
+    Ok(())
+}
+
+/// Appends the packet of a frame, in which a PES packet with a PTS starts (ISO/IEC 13818-1, 2.4.3.6).
+pub fn push_frame(stream: &mut Vec<u8>, frame: Video, counter: u8) -> Result<(), AllocError> {
+    match frame {
+        Video::Key(ticks) => push_packet(
+            stream,
+            &[
+                0x47,
+                0x41,
+                0x00,
+                0x30 + counter % 16,
+                0x01,
+                0x40,
+                0,
+                0,
+                1,
+                0xE0,
+                0,
+                0,
+                0x80,
+                0x80,
+                5,
+            ],
+            &stamp(ticks),
+        ),
+        Video::Other(ticks) => push_packet(
+            stream,
+            &[
+                0x47,
+                0x41,
+                0x00,
+                0x10 + counter % 16,
+                0,
+                0,
+                1,
+                0xE0,
+                0,
+                0,
+                0x80,
+                0x80,
+                5,
+            ],
+            &stamp(ticks),
+        ),
+    }
+}
+
+/// A PTS with its marker bits (ISO/IEC 13818-1, 2.4.3.7).
+fn stamp(ticks: u64) -> [u8; 5] {
+    [
+        0x21 | ((ticks >> 29) & 0x0E) as u8,
+        ((ticks >> 22) & 0xFF) as u8,
+        1 | ((ticks >> 14) & 0xFE) as u8,
+        ((ticks >> 7) & 0xFF) as u8,
+        1 | (ticks % 128 * 2) as u8,
+    ]
+}
+
+/// Appends a packet that begins with these bytes and ends in bytes FF.
+fn push_packet(stream: &mut Vec<u8>, begin: &[u8], behind: &[u8]) -> Result<(), AllocError> {
+    stream.extend_from_slice(begin)?;
+    stream.extend_from_slice(behind)?;
+    for _ in begin.len() + behind.len()..188 {
+        stream.push(0xFF)?;
+    }
+    Ok(())
+}
+
+/// Two segments, of 6 s and of 3.04 s.
+pub fn two_segments(alloc: std::alloc::Global) -> Result<Vec<u8>, AllocError> {
+    let mut stream = Vec::new(alloc);
+    push_stream(
+        &mut stream,
+        &[
+            Video::Key(0),
+            Video::Other(270_000),
+            Video::Key(540_000),
+            Video::Other(810_000),
+        ],
+    )?;
+    Ok(stream)
+}
