@@ -12,7 +12,7 @@ use Rattle.cutter.specs.Settings.{Pushed}
 use Rattle.cutter.specs.Plans.{SegmentPlan}
 use Rattle.cutter.specs.Stream.{packet_list, packets_of, pts_from, pts_list, pts_at, with_pts, in_force, look_by, is_lost, facts_from, Fact, fact_behind}
 use Rattle.cutter.specs.Points.{mark, counted, top_after}
-use Rattle.cutter.specs.Cuts.{cut_from, closed, made, Ends}
+use Rattle.cutter.specs.Cuts.{cut_from, cuts, closed, made, Ends}
 use Rattle.cutter.specs.Held.{Gathered, taken, gives, faults}
 use Rattle.cutter.specs.Tied.{pushed, Keeps}
 use Rattle.cutter.proofs.Facts.{packets_of-more, pts_list-more, pts_list-length}
@@ -74,6 +74,12 @@ pub push-plan : (c : Inside) (v : Pushed) (p : List ℕ) (look : Look) (now afte
     → pushed c ≡ v → Keeps c → Read c p look now t c' → taken c.rendition c.settings now t c' (mark p look c') ≡ gives after plan
     → closed v.rendition v.settings (v.list ++ p ∷ []) ≡ closed v.rendition v.settings v.list ++ made plan
 push-plan c v p look now after t c' plan is k r gave = rw (← is) (placed-by c p look now after t c' plan k r gave).plans
+
+-- no fault stands behind a packet that is placed
+pub push-sound : (c : Inside) (v : Pushed) (p : List ℕ) (look : Look) (now after : Option Gathered) (t : Option InForce) (c' : Option Stamp) (plan : Option SegmentPlan)
+    → pushed c ≡ v → Keeps c → Read c p look now t c' → taken c.rendition c.settings now t c' (mark p look c') ≡ gives after plan
+    → (cuts v.rendition v.settings (v.list ++ p ∷ [])).fault ≡ None
+push-sound c v p look now after t c' plan is k r gave = rw (← is) (placed-by c p look now after t c' plan k r gave).at.sound
 
 -- the fault that a packet brings
 abbrev pub Told : Pushed → List ℕ → CutFault → Type 0

@@ -1,6 +1,6 @@
 ghost use Rattle.std.specs.Prelude.{◌≡◌, ◌<◌, ◌^◌, ◌⊎◌, [], ◌∷◌, ◌++◌, ℕ, List, Err, true, false, None, length, IfSome, IfOk, IfErr, OnOk, OnErr};
 ghost use Rattle.cutter.specs.declared.fault.CutFault.TheVariants.{NoMemory, Ended};
-ghost use Rattle.cutter.specs.Cuts.{closed, fault, plans, made, Ends};
+ghost use Rattle.cutter.specs.Cuts.{cuts, closed, fault, plans, made, Ends};
 ghost use Rattle.cutter.specs.Ordered.{IsPlan};
 ghost use Rattle.cutter.specs.Settings.{IsAllowed};
 
@@ -79,6 +79,7 @@ impl Cutter {
             ≡ closed self.old.rendition self.old.settings self.old.list ++ made plan) }
         ensures order { IfOk result (λ plan. IfSome plan (λ plan.
             IsPlan self.old.rendition self.old.settings (length (closed self.old.rendition self.old.settings self.old.list)) plan)) }
+        ensures sound { OnOk result ((cuts self.old.rendition self.old.settings (self.old.list ++ packet.now ∷ [])).fault ≡ None) }
         ensures ended { self.old.ended ≡ true → result ≡ Err Ended }
         ensures fault { self.old.ended ≡ false → IfErr result (λ e. (e ≡ NoMemory) ⊎ ((more : List (List ℕ)) →
             Ends self.old.rendition self.old.settings (self.old.list ++ packet.now ∷ more) e

@@ -19,7 +19,7 @@ fronts a b c d long same = (
 )
 
 -- a payload has 184 bytes
-length-stuffed : (bytes : List ℕ) → length (stuffed bytes) ≡ 184
+pub length-stuffed : (bytes : List ℕ) → length (stuffed bytes) ≡ 184
 length-stuffed bytes =
     length-append (take 184 bytes) (replicate (184 - length bytes) 255)
     ∙ rw (length-take 184 bytes, length-replicate {A = ℕ} (184 - length bytes) 255) (omega arith)
@@ -38,7 +38,7 @@ packets-first n starts pid counter bytes rest =
     append_assoc (header starts pid counter ++ stuffed bytes) _ rest ∙ append_assoc (header starts pid counter) (stuffed bytes) _
 
 -- each packet has 188 bytes
-length-packets : (n : ℕ) (starts : Bool) (pid counter : ℕ) (bytes : List ℕ) → length (packets n starts pid counter bytes) ≡ 188 * n
+pub length-packets : (n : ℕ) (starts : Bool) (pid counter : ℕ) (bytes : List ℕ) → length (packets n starts pid counter bytes) ≡ 188 * n
 unfolding packets
 length-packets zero starts pid counter bytes = refl
 length-packets (suc n) starts pid counter bytes =
@@ -98,7 +98,7 @@ length-told (p ∷ q ∷ []) fields = absurd (omega (arith, fields))
 length-told (p ∷ q ∷ r ∷ x) fields = refl
 
 -- the packets of a section, and what stands behind the first
-section-first : (pid counter : ℕ) (x rest : List ℕ)
+pub section-first : (pid counter : ℕ) (x rest : List ℕ)
     → section_packets pid counter x ++ rest
     ≡ header true pid counter ++ (stuffed (0 ∷ x) ++ (packets (length x / 184) false pid (counter + 1) (drop 184 (0 ∷ x)) ++ rest))
 section-first pid counter x rest =
@@ -127,7 +127,7 @@ same-tables t u a b c d = λ i. record { stream_id = a i; program = b i; pmt_pid
 abbrev pat-first : InForce → ℕ → List ℕ
 pat-first t a = header true 0 a ++ (stuffed (0 ∷ pat_section t.stream_id t.program t.pmt_pid))
 
-head-first : (t : InForce) (a b : ℕ) (rest : List ℕ)
+pub head-first : (t : InForce) (a b : ℕ) (rest : List ℕ)
     → head t a b ++ rest ≡ pat-first t a ++ (section_packets t.pmt_pid b t.section ++ rest)
 unfolding packets head
 head-first t a b rest = refl

@@ -4,7 +4,7 @@ use Rattle.std.proofs.lemmas.Bool.{cases_Bool}
 use Rattle.std.proofs.lemmas.List.{append-nil}
 use Rattle.ts_packet.specs.Fields.{continuity_counter}
 use Rattle.psi_tables.specs.Sections.{carrier, carriers, is_taken, unfinished, sections_in, sections}
-use Rattle.psi_tables.specs.Assembly.{Gathered, gathered_sections, with_packet, to_come, IsCounter, Keeps, completed, left_behind, continued}
+use Rattle.psi_tables.specs.Assembly.{Gathered, gathered_sections, with_packet, to_come, Keeps, completed, left_behind, continued}
 use Rattle.psi_tables.specs.Following.{IsLeftOut}
 use Rattle.psi_tables.proofs.Flow.{IsFront, front_from, front_only, front_few}
 use Rattle.psi_tables.proofs.Carrying.{taken_step, left_out_step, none_to_come, continued-is_front, left_behind-is_front}
@@ -12,7 +12,7 @@ use Rattle.psi_tables.proofs.Carrying.{taken_step, left_out_step, none_to_come, 
 -- nothing was pushed
 kept_none : (on : ℕ) → Keeps (record { pid = on; packets = [] }) None []
 unfolding sections to_come carriers sections_in unfinished
-kept_none on = record { goes_on = λ more. refl; only_a_front = refl; short = omega arith; four_bits = tt }
+kept_none on = record { goes_on = λ more. refl; only_a_front = refl; short = omega arith; four_bits = tt; none = λ _. refl }
 
 pub Keeps-none : (on : ℕ) (packets : List (List ℕ)) (begun : List ℕ) → packets ≡ [] → begun ≡ [] → Keeps (record { pid = on; packets = packets }) None begun
 Keeps-none on packets begun none empty = rw (none, empty) (kept_none on)
@@ -25,23 +25,24 @@ pub record Takes (g : Gathered) (p : List ℕ) (last : Option ℕ) (begun : List
   pub grown : gathered_sections (with_packet g p) ≡ gathered_sections g ++ found
   pub keeps : Keeps (with_packet g p) last begun
 
-Takes-step : (g : Gathered) (p : List ℕ) (last last_then : Option ℕ) (begun begun_then : List ℕ) (found : List (List ℕ)) → Keeps g last begun → IsFront begun_then → IsCounter last_then →
-    ((more : List (List ℕ)) → to_come g.pid last begun (p ∷ more) ≡ found ++ to_come g.pid last_then begun_then more) → Takes g p last_then begun_then found
-Takes-step g p last last_then begun begun_then found kept front counter step =
+Takes-step : (g : Gathered) (p : List ℕ) (last : Option ℕ) (counter : ℕ) (begun begun_then : List ℕ) (found : List (List ℕ)) → Keeps g last begun → IsFront begun_then → counter < 16 →
+    ((more : List (List ℕ)) → to_come g.pid last begun (p ∷ more) ≡ found ++ to_come g.pid (Some counter) begun_then more) → Takes g p (Some counter) begun_then found
+Takes-step g p last counter begun begun_then found kept front few step =
     let on = g.pid in
     let grown : sections on (g.packets ++ p ∷ []) ≡ sections on g.packets ++ found
     = kept.goes_on (p ∷ []) ∙ ap (λ (x : List (List ℕ)). sections on g.packets ++ x)
-    (step [] ∙ ap (λ (x : List (List ℕ)). found ++ x) (none_to_come on last_then begun_then front) ∙ append-nil found) in
+    (step [] ∙ ap (λ (x : List (List ℕ)). found ++ x) (none_to_come on (Some counter) begun_then front) ∙ append-nil found) in
     record {
       grown = grown;
       keeps = record {
         goes_on = λ more.
             ap (sections on) (append_assoc g.packets (p ∷ []) more) ∙ kept.goes_on (p ∷ more) ∙ ap (λ (x : List (List ℕ)). sections on g.packets ++ x) (step more)
-            ∙ sym (append_assoc (sections on g.packets) found (to_come on last_then begun_then more))
-            ∙ ap (λ (x : List (List ℕ)). x ++ to_come on last_then begun_then more) (sym grown);
+            ∙ sym (append_assoc (sections on g.packets) found (to_come on (Some counter) begun_then more))
+            ∙ ap (λ (x : List (List ℕ)). x ++ to_come on (Some counter) begun_then more) (sym grown);
         only_a_front = front_only begun_then front;
         short = front_few begun_then front;
-        four_bits = counter;
+        four_bits = few;
+        none = λ is_none. cc;
       };
     }
 
@@ -50,7 +51,7 @@ pub Keeps-taken : (g : Gathered) (p : List ℕ) (last : Option ℕ) (begun : Lis
 Keeps-taken g p last begun kept taken =
     let front = front_from begun kept.only_a_front in
     let going = continued-is_front last begun (carrier p) front in
-    Takes-step g p last (Some (continuity_counter p)) begun _ _ kept (left_behind-is_front _ (carrier p) going) (four_bits p) (λ more. taken_step g.pid last begun p more front taken)
+    Takes-step g p last (continuity_counter p) begun _ _ kept (left_behind-is_front _ (carrier p) going) (four_bits p) (λ more. taken_step g.pid last begun p more front taken)
 
 -- a packet that is left out
 pub record LeavesOut (g : Gathered) (p : List ℕ) : Type 0 where
@@ -76,6 +77,7 @@ Keeps-stays g p last begun kept left_out =
       only_a_front = kept.only_a_front;
       short = kept.short;
       four_bits = kept.four_bits;
+      none = kept.none;
     }
 
 -- what is kept depends on no more than what stands there

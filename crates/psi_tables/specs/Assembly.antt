@@ -33,6 +33,7 @@ pub record Keeps (g : Gathered) (last : Option ℕ) (begun : List ℕ) : Type 0 
   pub only_a_front : unfinished 0 begun ≡ begun
   pub short : length begun ≤ 1024
   pub four_bits : IsCounter last
+  pub none : last ≡ None → begun ≡ []
 
 -- so many bytes are kept: a front of the section that was begun
 pub record IsKept (g : Gathered) (count : ℕ) : Type 0 where

@@ -36,6 +36,6 @@ pub use laws::{
 };
 pub use pat::{Pat, ProgramEntry};
 pub use pmt::{Pmt, StreamEntry};
-pub use segment_head::{head, pmt_packets};
+pub use segment_head::{append_section, head, pat_section, pmt_packets};
 pub use tables::Tables;
 pub use watch::Watch;

@@ -43,8 +43,8 @@ fn packet_count(section: &[u8]) -> usize
     (section.len() + PAYLOAD) / PAYLOAD
 }
 
-/// A PAT section of one program.
-fn pat_section(stream_id: u16, program: u16, pmt_pid: u16) -> [u8; 16]
+/// A PAT section of one program: version 0, current (ISO/IEC 13818-1, 2.4.4.3).
+pub fn pat_section(stream_id: u16, program: u16, pmt_pid: u16) -> [u8; 16]
     ensures { result ≡ Rattle.psi_tables.specs.Head.pat_section stream_id program pmt_pid }
 {
     let [a, b] = stream_id.to_be_bytes();
@@ -55,8 +55,9 @@ fn pat_section(stream_id: u16, program: u16, pmt_pid: u16) -> [u8; 16]
     [0x00, 0xB0, 13, a, b, 0xC1, 0, 0, c, d, e, f, g, h, i, j]
 }
 
-/// Appends the packets of a PID that carry one section.
-fn append_section(
+/// Appends the packets of a PID that carry one section, without adaptation fields (ISO/IEC 13818-1, 2.4.4). The counter is
+/// the continuity_counter of the first, modulo 16.
+pub fn append_section(
     bytes: &mut Vec<u8>,
     pid: u16,
     counter: u8,

@@ -4,7 +4,7 @@ use Rattle.cutter.specs.Ordered.{IsPacketLong}
 use Rattle.cutter.proofs.Ordering.{push-order}
 use Rattle.std.specs.Prelude.{option_copied}
 use Rattle.std.proofs.lemmas.Result.{err_from_is_err_and}
-use Rattle.cutter.proofs.Keeping.{few, push-lost, push-fault, push-plan, push-keeps, Read}
+use Rattle.cutter.proofs.Keeping.{few, push-lost, push-fault, push-plan, push-sound, push-keeps, Read}
 use Rattle.cutter.proofs.cutter.Cutter.push.Goals as goal
 
 pub look_behind-requires : goal.look_behind-requires
@@ -42,3 +42,8 @@ returns-clause-order c =
     let read : Read c.self.inside c.args.packet.now c.in_ok-look.look c.take-going.result (option_copied c.tables.result) c.counted-counted.result = record { look_is = c.in_ok-look.ensures.look; kept = c.in_ok-look.ensures.kept; going = c.take-going.ensures.value; tables = c.tables.ensures; counted_is = c.counted-counted.ensures.is } in
     push-order c.self.inside c.args.self.now c.args.packet.now _ c.self.view_is c.self.invariant.packets (search rules)
     (push-plan c.self.inside c.args.self.now c.args.packet.now c.in_ok-look.look c.take-going.result _ _ c.counted-counted.result _ c.self.view_is (c.self.invariant.keeps c.if-self.false) read c.in_ok-going.ensures.ok)
+
+pub returns-clause-sound : goal.returns-clause-sound
+returns-clause-sound c =
+    let read : Read c.self.inside c.args.packet.now c.in_ok-look.look c.take-going.result (option_copied c.tables.result) c.counted-counted.result = record { look_is = c.in_ok-look.ensures.look; kept = c.in_ok-look.ensures.kept; going = c.take-going.ensures.value; tables = c.tables.ensures; counted_is = c.counted-counted.ensures.is } in
+    push-sound c.self.inside c.args.self.now c.args.packet.now c.in_ok-look.look c.take-going.result _ _ c.counted-counted.result _ c.self.view_is (c.self.invariant.keeps c.if-self.false) read c.in_ok-going.ensures.ok
