@@ -1,0 +1,25 @@
+use Rattle.std.proofs.Common.{◌≡◌, ◌+◌, ◌-◌, ◌/◌, length, take, drop, arith, ap, ◌∙◌}
+use Rattle.psi_tables.specs.Section.{number_at}
+use Rattle.hls_check.specs.Heads.{payloads}
+use Rattle.hls_check.proofs.Payloads.{number-told, length-section, section-carried}
+use Rattle.hls_check.proofs.head.carried_section.Goals as goal
+
+pub returns-then-packets-count : goal.returns-then-packets-count
+returns-then-packets-count c = λ pid counter section rest sized same.
+    let told = ap (λ x. number_at x 6) same ∙ number-told pid counter section rest sized.fields in
+    absurd (omega (arith, c.if-packets-count.true, c.number.ensures, c.from-len.ensures, told, sized.whole, length-section pid counter section rest, ap length same))
+
+pub slice_bounds-from_slice-end : goal.slice_bounds-from_slice-end
+slice_bounds-from_slice-end c = omega (arith, c.in_ok-carried.ensures.len, c.deref.ensures.len)
+
+pub returns : goal.returns
+returns c = λ pid counter section rest sized same.
+    let told = ap (λ x. number_at x 6) same ∙ number-told pid counter section rest sized.fields in
+    let is : 3 + c.from-len.result ≡ length section = omega (arith, c.number.ensures, c.from-len.ensures, told, sized.whole) in
+    let len = 3 + c.from-len.result in
+    let count : 1 + len - 1 ≡ len = omega arith in
+    let carried : c.deref.result.now ≡ payloads ((len + 184) / 184) c.args.packets.now = c.deref.ensures.value ∙ c.in_ok-carried.ensures.items in
+    c.in_ok-section.ensures.items
+    ∙ ap (λ k. take k (drop 1 c.deref.result.now)) count
+    ∙ ap (λ x. take len (drop 1 x)) (carried ∙ ap (payloads ((len + 184) / 184)) same)
+    ∙ section-carried pid counter len section rest is

@@ -1,0 +1,42 @@
+use Rattle.std.proofs.Common.{◌≡◌, ◌≢◌, ℕ, List, ◌++◌, Option, Some, None, subst, refl, arith, get_or, sym, ap, ◌∙◌, rules}
+use Rattle.hls_check.proofs.TheHead.{begins-long, begins-pmt, begins-sized, begins-told, the-head-made}
+use Rattle.std.specs.Option.{IsSomeAnd}
+use Rattle.psi_tables.specs.Head.{head}
+use Rattle.hls_check.specs.Unpacking.{BeginsWithHead}
+use Rattle.hls_check.specs.Heads.{told_tables}
+use Rattle.psi_tables.specs.ProgramMap.{pmt_fault}
+use Rattle.hls_check.proofs.head.told_head.Goals as goal
+
+-- what is there is what a clause says of it
+IsSomeAnd-at : {A : Type 0} (o : Option A) (x : A) (P : A → Type 0) → o ≡ Some x → IsSomeAnd o P → P x
+IsSomeAnd-at o x P is holds = subst (λ r. IsSomeAnd r P) is holds
+
+-- where nothing is, no clause says anything of it
+IsSomeAnd-none : {A : Type 0} (o : Option A) (P : A → Type 0) → ((x : A) → o ≢ Some x) → ¬ IsSomeAnd o P
+IsSomeAnd-none None P nothing holds = holds
+IsSomeAnd-none (Some x) P nothing holds = nothing x refl
+
+pub returns-then-text : goal.returns-then-text
+returns-then-text c = λ rest begins. omega (arith, c.if-text.true, begins-long c.args.text.now rest begins)
+
+pub returns-in_default : goal.returns-in_default
+returns-in_default c = λ rest begins.
+    let t = begins.tables in
+    let carried = c.in_ok-section.ensures t.pmt_pid begins.pmt_counter t.section rest (begins-sized c.args.text.now rest begins) (c.split_at.ensures.back ∙ begins-pmt c.args.text.now rest begins) in
+    IsSomeAnd-none _ _ c.in_default.not-Some carried
+
+pub returns-then-not-branch : goal.returns-then-not-branch
+returns-then-not-branch c = λ rest begins.
+    let t = begins.tables in
+    let carried = c.in_ok-section.ensures t.pmt_pid begins.pmt_counter t.section rest (begins-sized c.args.text.now rest begins) (c.split_at.ensures.back ∙ begins-pmt c.args.text.now rest begins) in
+    let same : c.in-Some.section.items ≡ t.section = IsSomeAnd-at _ _ (λ v. v.items ≡ begins.tables.section) c.in-Some.is carried in
+    absurd (search (rules, c.if-not-branch.true, c.in_ok-is_pmt.ensures, same, begins.sendable.section))
+
+pub returns : goal.returns
+returns c =
+    let told : (rest : List ℕ) → (begins : BeginsWithHead c.args.text.now rest) → c.args.text.now ≡ head (told_tables c.split_at.result.0.now c.in-Some.section.items) (get_or c.split_at.result.0.now 3 0) (get_or c.split_at.result.1.now 3 0) ++ rest = λ rest begins. begins-told c.args.text.now rest c.split_at.result.0.now c.split_at.result.1.now c.in-Some.section.items begins c.split_at.ensures.front c.split_at.ensures.back (IsSomeAnd-at _ _ (λ v. v.items ≡ begins.tables.section) c.in-Some.is (c.in_ok-section.ensures begins.tables.pmt_pid begins.pmt_counter begins.tables.section rest (begins-sized c.args.text.now rest begins) (c.split_at.ensures.back ∙ begins-pmt c.args.text.now rest begins))) in
+    let good : pmt_fault c.deref.result.now ≡ None = search (rules, c.if-not-branch.false, c.in_ok-is_pmt.ensures) in
+    let read : pmt_fault c.deref-2.result.now ≡ None = ap pmt_fault (c.deref-2.ensures.value ∙ sym c.deref.ensures.value) ∙ good in
+    the-head-made c.args.text.now c.split_at.result.0.now c.in-Some.section.items c.deref-2.result.now c.in_ok-made_head.field-0.items
+    (get_or c.split_at.result.0.now 3 0) (get_or c.split_at.result.1.now 3 0) c.deref-2.ensures.value
+    (c.made_head.ensures.sendable read) c.in_ok-made_head.ensures.is told

@@ -1,0 +1,22 @@
+use Rattle.std.proofs.Common.{map, rules}
+use Rattle.std.proofs.lemmas.Option.{MatchOption-at_some}
+use Rattle.hls_check.specs.Unpacking.{packed}
+use Rattle.hls_check.specs.Texts.{OpensAlone}
+use Rattle.hls_check.proofs.Growing.{each-pushed, MatchOption-none}
+use Rattle.hls_check.proofs.opening.open_segments.Goals as goal
+
+pub returns-in_default-clause-err : goal.returns-in_default-clause-err
+returns-in_default-clause-err c = record {
+  entry = c.loop-i-test.true;
+  without = MatchOption-none _ _ _ c.in_default.not-Some c.in_ok-text.ensures;
+  before = λ j lt. (_, (c.loop-i.invariant.opens j lt).seals);
+}
+
+pub loop-i-preserved : goal.loop-i-preserved
+loop-i-preserved c =
+    let p = packed c.args.entries.now (map (λ s. s.items) c.args.segments.now) c.args.keys.now in
+    record {
+      each_one = search (rules, c.in_ok-push.ensures.items, c.loop-i.invariant.each_one);
+      opens = each-pushed (OpensAlone p) c.loop-i.texts.items c.push.new.self.items c.in-Some.text c.loop-i.i c.in_ok-push.ensures.items c.loop-i.invariant.each_one
+          c.loop-i.invariant.opens (MatchOption-at_some _ _ _ c.in-Some.is c.in_ok-text.ensures);
+    }

@@ -1,0 +1,34 @@
+-- Where a segment head tells what it is made of.
+use Rattle.std.specs.Prelude.{◌≡◌, ℕ, zero, suc, ◌+◌, ◌%◌, ◌≤◌, List, [], ◌++◌, length, take, drop}
+use Rattle.psi_tables.specs.InForce.{InForce}
+use Rattle.psi_tables.specs.Section.{section_length, number_at}
+use Rattle.psi_tables.specs.Head.{head, IsSendable}
+use Rattle.hls_check.specs.Unpacking.{BeginsWithHead}
+
+-- a section with its fields, as long as it tells
+pub record IsSized (s : List ℕ) : Type 0 where
+  pub fields : 16 ≤ length s
+  pub whole : 3 + section_length s ≡ length s
+
+-- the tables that stand in the packet of a PAT, with the section of a PMT
+abbrev pub told_tables : List ℕ → List ℕ → InForce
+told_tables pat section = record {
+  stream_id = number_at pat 8;
+  program = number_at pat 13;
+  pmt_pid = number_at pat 15 % 0x2000;
+  section = section;
+}
+
+-- the payloads of so many packets of 188 bytes, behind headers of four bytes
+unfoldable pub payloads : ℕ → List ℕ → List ℕ
+payloads zero packets = []
+payloads (suc count) packets = take 184 (drop 4 packets) ++ payloads count (drop 188 packets)
+
+-- the bytes are a head, and the only one that the text may begin with
+pub record IsTheHead (text bytes : List ℕ) : Type 0 where
+  pub tables : InForce
+  pub pat_counter : ℕ
+  pub pmt_counter : ℕ
+  pub sendable : IsSendable tables
+  pub is : bytes ≡ head tables pat_counter pmt_counter
+  pub only : (rest : List ℕ) → BeginsWithHead text rest → text ≡ bytes ++ rest

@@ -1,0 +1,4 @@
+pub mod Unpacking
+pub mod Heads
+pub mod Texts
+pub mod Listed

@@ -1,0 +1,120 @@
+//! The head of a segment, taken off (RFC 8216, 3.2).
+
+ghost use Rattle.std.specs.Prelude.{◌≡◌, ◌*◌, ◌+◌, ◌<◌, ◌≤◌, ◌^◌, ℕ, List, ◌++◌, length, slice_index, IfOk, IsSomeAnd, MatchOption, Decides, None};
+ghost use Rattle.psi_tables.specs.Section.{number_at};
+ghost use Rattle.psi_tables.specs.ProgramMap.{pmt_fault};
+ghost use Rattle.psi_tables.specs.Head.{head, section_packets, IsSendable};
+ghost use Rattle.hls_check.specs.Unpacking.{BeginsWithHead};
+ghost use Rattle.hls_check.specs.Heads;
+ghost use Rattle.hls_check.specs.Heads.{IsSized, IsTheHead, told_tables};
+
+use psi_tables::{Pmt, TableFault, append_section, pat_section};
+use std::alloc::{AllocError, Global};
+
+/// The bytes of a packet.
+const PACKET: usize = 188;
+
+/// What stands behind the head that a text begins with, if it begins with one: the packet of a PAT and those of a good PMT
+/// section, with any counters.
+pub fn behind_head<'a>(alloc: Global, text: &'a [u8]) -> Result<Option<&'a [u8]>, AllocError>
+    ensures { IfOk result (λ found. MatchOption found
+        ((rest : List ℕ) → ¬ BeginsWithHead text.now rest)
+        (λ rest. BeginsWithHead text.now rest.now)) }
+{
+    let Some(head) = told_head(alloc, text)? else {
+        return Ok(None);
+    };
+    Ok(text.strip_prefix(head.as_slice()))
+}
+
+/// The only head that a text may begin with: that of the tables and counters which stand where a head has them. None where
+/// these can't be those of a head.
+fn told_head(alloc: Global, text: &[u8]) -> Result<Option<Vec<u8>>, AllocError>
+    ensures { IfOk result (λ found. MatchOption found
+        ((rest : List ℕ) → ¬ BeginsWithHead text.now rest)
+        (λ bytes. IsTheHead text.now bytes.items)) }
+{
+    if text.len() < 2 * PACKET {
+        return Ok(None);
+    }
+    let (pat, behind) = text.split_at(PACKET);
+    let Some(section) = carried_section(alloc, behind)? else {
+        return Ok(None);
+    };
+    if !is_pmt(alloc, &section)? {
+        return Ok(None);
+    }
+    Ok(Some(made_head(alloc, pat, behind[3], &section)?))
+}
+
+/// The head of the tables and the counter that stand in the packet of a PAT, with a section and a counter of a PMT.
+fn made_head(
+    alloc: Global,
+    pat: &[u8],
+    pmt_counter: u8,
+    section: &[u8],
+) -> Result<Vec<u8>, AllocError>
+    requires { 188 ≤ length pat.now }
+    ensures is { IfOk result (λ bytes. bytes.items ≡ head (told_tables pat.now section.now) (slice_index pat.now 3) pmt_counter) }
+    ensures sendable { pmt_fault section.now ≡ None → IsSendable (told_tables pat.now section.now) }
+{
+    let pmt_pid = number(pat, 15) % 0x2000;
+    let section_of_pat = pat_section(number(pat, 8), number(pat, 13), pmt_pid);
+    let mut bytes = Vec::new(alloc);
+    append_section(&mut bytes, 0, pat[3], &section_of_pat)?;
+    append_section(&mut bytes, pmt_pid, pmt_counter, section)?;
+    Ok(bytes)
+}
+
+/// The 16 bits of two bytes.
+fn number(bytes: &[u8], at: usize) -> u16
+    requires { at + 1 < length bytes.now }
+    ensures value { result ≡ number_at bytes.now at }
+    ensures below { result < 2 ^ 16 }
+{
+    u16::from_be_bytes([bytes[at], bytes[at + 1]])
+}
+
+/// Whether a section is that of a good PMT.
+fn is_pmt(alloc: Global, section: &[u8]) -> Result<bool, AllocError>
+    ensures { IfOk result (λ good. Decides good (pmt_fault section.now ≡ None)) }
+{
+    match Pmt::read(alloc, section) {
+        Ok(_) => Ok(true),
+        Err(TableFault::NoMemory) => Err(AllocError),
+        Err(_) => Ok(false),
+    }
+}
+
+/// The section that packets carry, by the length that it tells; None where there are too few packets.
+fn carried_section(alloc: Global, packets: &[u8]) -> Result<Option<Vec<u8>>, AllocError>
+    requires { 188 ≤ length packets.now }
+    ensures { IfOk result (λ found. (pid counter : ℕ) (section rest : List ℕ) → IsSized section →
+        packets.now ≡ section_packets pid counter section ++ rest → IsSomeAnd found (λ bytes. bytes.items ≡ section)) }
+{
+    let len = 3 + usize::from(number(packets, 6) % 0x1000);
+    let count = (len + 184) / 184;
+    if packets.len() < PACKET * count {
+        return Ok(None);
+    }
+    let carried = payloads(alloc, count, packets)?;
+    let section = Vec::from_slice(alloc, &carried[1..1 + len])?;
+    Ok(Some(section))
+}
+
+/// The payloads of so many packets with headers of four bytes.
+fn payloads(alloc: Global, count: usize, packets: &[u8]) -> Result<Vec<u8>, AllocError>
+    requires few { count < 2 ^ 32 }
+    requires there { 188 * count ≤ length packets.now }
+    ensures items { IfOk result (λ carried. carried.items ≡ Heads.payloads count packets.now) }
+    ensures len { IfOk result (λ carried. length carried.items ≡ 184 * count) }
+{
+    let mut carried = Vec::new(alloc);
+    let mut rest = packets;
+    'packet: for _ in 0..count {
+        let (packet, behind) = rest.split_at(PACKET);
+        carried.extend_from_slice(&packet[4..])?;
+        rest = behind;
+    }
+    Ok(carried)
+}

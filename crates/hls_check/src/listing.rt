@@ -1,0 +1,51 @@
+//! What a media playlist lists.
+
+use std::marker::Model;
+
+/// A segment of a playlist: its number, the index of its key, how long it lasts in microseconds, and whether it is a
+/// discontinuity.
+#[derive(Clone, Copy, Debug, PartialEq, Eq)]
+pub struct Entry {
+    pub number: u64,
+    pub key: u64,
+    pub micros: u64,
+    pub discontinuity: bool,
+}
+
+impl Model for Entry {
+    ghost use Rattle.playlist_text.specs.MediaLines;
+
+    ghost Value = { MediaLines.Entry };
+
+    ghost view = { λ e. record { number = e.number; key = e.key; micros = e.micros; discontinuity = e.discontinuity } };
+
+    ghost inverse = { λ e. record { number = e.number; key = e.key; micros = e.micros; discontinuity = e.discontinuity } };
+}
+
+/// A media playlist (RFC 8216, 4.3): the rendition's name, the target duration in seconds, the numbers of media and of
+/// discontinuities at its beginning, its segments, and whether it has ended.
+#[derive(Debug, Drop)]
+pub struct Listing {
+    pub name: String,
+    pub target: u64,
+    pub sequence: u64,
+    pub discontinuity_sequence: u64,
+    pub entries: Vec<Entry>,
+    pub ended: bool,
+}
+
+impl Model for Listing {
+    ghost use Rattle.std.specs.String.{string_bytes};
+    ghost use Rattle.playlist_text.specs.MediaLines;
+
+    ghost Value = { MediaLines.Listing };
+
+    ghost view = { λ l. record {
+      name = string_bytes l.name;
+      target = l.target;
+      sequence = l.sequence;
+      discontinuity_sequence = l.discontinuity_sequence;
+      entries = l.entries.items;
+      ended = l.ended;
+    } };
+}
