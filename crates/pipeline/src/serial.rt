@@ -38,6 +38,7 @@ pub fn pack_serial<S: Source, O: Outlet>(
     requires failures { O.failures outlet.old < 2 ^ 63 }
     ensures ok { IfOk result (IsPacked S.remaining S.failures S.reads settings.now sources.old.items sources.new.items (O.holds outlet.old) (O.holds outlet.new)) }
     ensures failures { OnOk result (O.failures outlet.new ≡ O.failures outlet.old) }
+    ensures count { length sources.new.items ≡ length sources.old.items }
     ensures fault { IfErr result (FaultSays S.remaining S.failures S.reads settings.now sources.old.items sources.new.items
         (O.holds outlet.old) (O.holds outlet.new) (O.failures outlet.old) (O.failures outlet.new)) }
     ensures allowed { OnOk result (IsAllowed settings.now × (length sources.old.items ≡ length settings.now.renditions)) }
