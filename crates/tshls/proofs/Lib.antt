@@ -1,2 +1,4 @@
+pub mod KeyLists
 pub mod Writing
 pub mod Opening
+pub mod Packed

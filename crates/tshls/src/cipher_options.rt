@@ -15,7 +15,7 @@ pub struct CipherOptions {
 }
 
 /// The 16 bytes of 32 hex digits of either case.
-fn block(text: &str) -> Option<[u8; 16]>
+pub(crate) fn block(text: &str) -> Option<[u8; 16]>
     ensures { result ≡ block_of text.now }
 {
     <[u8; 16]>::from_hex(text).ok()

@@ -4,8 +4,10 @@ ghost use Rattle.tshls.specs.Faults.{IsOfCommandLine};
 
 use crate::cipher_options::{CipherOptions, read_cipher_options};
 use crate::fault::Fault;
+use crate::packing_options::{one_settings, with_rendition, with_settings};
 use clap::error::ErrorKind;
 use clap::{Arg, ArgMatches, Command};
+use pipeline::Settings;
 use std::alloc::{AllocError, Global};
 use std::convert::AsStr;
 
@@ -16,6 +18,8 @@ pub enum Job {
     Seal(CipherOptions),
     /// Reads a line of hex digits and writes what was sealed, as one line of hex digits.
     Open(CipherOptions),
+    /// Reads a transport stream and writes its segments and playlists as lines.
+    One(Settings),
 }
 
 /// The job that the words of a command line ask for, the program's name first. No fault of the command line comes
@@ -28,6 +32,7 @@ pub fn line<'a, S: AsStr>(alloc: Global, words: &'a [S]) -> Result<Job, Fault>
     match matches.subcommand() {
         Some(("seal", options)) => return Ok(Job::Seal(cipher_options(options)?)),
         Some(("open", options)) => return Ok(Job::Open(cipher_options(options)?)),
+        Some(("one", options)) => return Ok(Job::One(one_settings(alloc, options)?)),
         _ => {}
     }
     Err(Fault::from(command.error(ErrorKind::MissingSubcommand, "a command is wanted")?))
@@ -47,12 +52,16 @@ fn program<'a>(alloc: Global) -> Result<Command<'a>, AllocError> {
     let open = Command::new(alloc, "open").about(
         "Read what seal prints, and print what was sealed, as one line of hex digits",
     );
+    let one = Command::new(alloc, "one").about(
+        "Read a transport stream, and print its segments, sealed, and its playlists as lines",
+    );
     Command::new(alloc, "tshls")
         .about("MPEG-2 transport streams to encrypted HLS")
         .subcommand_required(true)
         .arg_required_else_help(true)
         .subcommand(with_cipher_options(alloc, seal)?)?
-        .subcommand(with_cipher_options(alloc, open)?)
+        .subcommand(with_cipher_options(alloc, open)?)?
+        .subcommand(with_settings(alloc, with_rendition(alloc, one)?)?)
 }
 
 fn with_cipher_options<'a>(alloc: Global, command: Command<'a>) -> Result<Command<'a>, AllocError> {

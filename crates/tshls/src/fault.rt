@@ -1,7 +1,8 @@
 ghost use Rattle.std.specs.Prelude.{◌≡◌};
 
 use aes_cbc::OpenFault;
-use std::alloc::AllocError;
+use pipeline::PackFault;
+use std::alloc::{AllocError, AllocFailed};
 use std::fmt;
 
 /// Why a command ends without having done its work. It prints as the line that standard error gets.
@@ -15,6 +16,12 @@ pub enum Fault {
     BadKey,
     /// A vector isn't 32 hex digits, or not exactly one of the two ways to give it was used.
     BadVector,
+    /// A size isn't two numbers round an `x`.
+    BadSize,
+    /// A rendition has more than 4,096 keys.
+    TooMany,
+    /// The keys take turns after no segment at all.
+    ZeroPeriod,
     /// The input isn't one line of an even number of hex digits.
     BadHex,
     /// The sealed bytes aren't whole blocks, or there are none.
@@ -27,6 +34,8 @@ pub enum Fault {
     ReadLimit,
     /// A write failed; what was written is a beginning of the answer.
     Unwritten,
+    /// A stream wasn't packed to its end; where it is Settings, nothing was read.
+    Packing(PackFault),
     /// Memory was refused.
     NoMemory,
 }
@@ -39,7 +48,8 @@ impl Fault {
         ensures { result ≡ status_of self.now }
     {
         match self {
-            Fault::Usage(_) | Fault::NotUtf8 | Fault::BadKey | Fault::BadVector => 2,
+            Fault::Usage(_) | Fault::NotUtf8 => 2,
+            Fault::BadKey | Fault::BadVector | Fault::BadSize => 2,
             _ => 1,
         }
     }
@@ -49,9 +59,13 @@ impl fmt::Display for Fault {
     fn fmt<W: fmt::Write>(&self, f: &mut fmt::Formatter<W>) -> fmt::Result {
         let name = match self {
             Fault::Usage(error) => return write!(f, "{error}"),
+            Fault::Packing(fault) => return write_packing(f, *fault),
             Fault::NotUtf8 => "NotUtf8",
             Fault::BadKey => "BadKey",
             Fault::BadVector => "BadVector",
+            Fault::BadSize => "BadSize",
+            Fault::TooMany => "TooMany",
+            Fault::ZeroPeriod => "ZeroPeriod",
             Fault::BadHex => "BadHex",
             Fault::NotBlocks => "NotBlocks",
             Fault::BadPadding => "BadPadding",
@@ -64,12 +78,39 @@ impl fmt::Display for Fault {
     }
 }
 
+/// The line of a packager's fault: its name, and then the rendition's number and the segment's, where it has them.
+fn write_packing<W: fmt::Write>(f: &mut fmt::Formatter<W>, fault: PackFault) -> fmt::Result {
+    match fault {
+        PackFault::Settings => writeln!(f, "tshls: Settings"),
+        PackFault::Read(r) => writeln!(f, "tshls: Read {r}"),
+        PackFault::ReadLimit(r) => writeln!(f, "tshls: ReadLimit {r}"),
+        PackFault::NoProgram(r) => writeln!(f, "tshls: NoProgram {r}"),
+        PackFault::NoStart(r) => writeln!(f, "tshls: NoStart {r}"),
+        PackFault::LongSegment(r, n) => writeln!(f, "tshls: LongSegment {r} {n}"),
+        PackFault::BigSegment(r, n) => writeln!(f, "tshls: BigSegment {r} {n}"),
+        PackFault::Limit(r) => writeln!(f, "tshls: Limit {r}"),
+        PackFault::Outlet => writeln!(f, "tshls: Outlet"),
+        PackFault::NoMemory => writeln!(f, "tshls: NoMemory"),
+        PackFault::Held(r, n) => writeln!(f, "tshls: Held {r} {n}"),
+    }
+}
+
 impl From<AllocError> for Fault {
     ghost use Rattle.tshls.specs.declared.fault.Fault.TheVariants.{NoMemory};
 
     ghost from_gives = { λ _ fault. fault ≡ NoMemory };
 
     fn from(_: AllocError) -> Fault {
+        Fault::NoMemory
+    }
+}
+
+impl<T: Drop> From<AllocFailed<T>> for Fault {
+    ghost use Rattle.tshls.specs.declared.fault.Fault.TheVariants.{NoMemory};
+
+    ghost from_gives = { λ _ fault. fault ≡ NoMemory };
+
+    fn from(_: AllocFailed<T>) -> Fault {
         Fault::NoMemory
     }
 }
@@ -98,5 +139,15 @@ impl From<OpenFault> for Fault {
             OpenFault::BadPadding => Fault::BadPadding,
             OpenFault::NoMemory => Fault::NoMemory,
         }
+    }
+}
+
+impl From<PackFault> for Fault {
+    ghost use Rattle.tshls.specs.declared.fault.Fault.TheVariants.{Packing};
+
+    ghost from_gives = { λ error fault. fault ≡ Packing error };
+
+    fn from(error: PackFault) -> Fault {
+        Fault::Packing(error)
     }
 }

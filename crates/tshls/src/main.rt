@@ -4,16 +4,25 @@
 mod cipher_options;
 mod command_line;
 mod fault;
+mod frame_size;
 mod input;
+mod key_list;
+mod ladder;
+mod numbers;
+mod one;
+#[cfg(test)]
+mod one_tests;
 mod open;
 mod output;
 mod packets;
+mod packing_options;
 mod seal;
 #[cfg(test)]
 mod tests;
 
 use crate::command_line::{Job, line};
 use crate::fault::Fault;
+use crate::one::{Packed, one};
 use crate::open::open;
 use crate::seal::seal;
 use std::process::ExitCode;
@@ -44,6 +53,10 @@ fn run(rt: &HostRuntime) -> Result<(), Fault> {
             &mut rt.stdin(),
             &mut rt.stdout(),
         ),
+        Job::One(settings) => {
+            let Packed { answer, .. } = one(rt.alloc(), &settings, rt.stdin(), rt.stdout());
+            Ok(answer?)
+        }
     }
 }
 

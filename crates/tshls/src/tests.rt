@@ -19,6 +19,7 @@ const VECTOR: &str = "10013223544576679889baabdccdfeef";
 fn options(alloc: Global) -> Result<CipherOptions, Fault> {
     match line(alloc, &["tshls", "seal", "--key", KEY, "--iv", VECTOR])? {
         Job::Seal(options) | Job::Open(options) => Ok(options),
+        Job::One(_) => Err(Fault::NoMemory),
     }
 }
 

@@ -1,4 +1,4 @@
-use Rattle.std.proofs.Common.{◌≡◌, sym, ap, ◌∙◌, Err}
+use Rattle.std.proofs.Common.{◌≡◌, ap, Err}
 use Rattle.std.proofs.lemmas.Result.{err_from_is_err_and}
 use Rattle.tshls.specs.Faults.{fault_of_opening}
 use Rattle.tshls.specs.declared.fault.Fault.TheVariants.{NotBlocks}

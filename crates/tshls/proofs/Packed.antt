@@ -1,0 +1,125 @@
+-- A run of one rendition whose outlet writes lines.
+use Rattle.std.proofs.Common.{◌≡◌, refl, sym, ap, ◌∙◌, ℕ, zero, suc, List, [], ◌∷◌, ◌++◌, inr, length, replicate, get_or}
+use Rattle.std.specs.Prelude.{Option, Some, None, slice_get}
+use Rattle.std.specs.Io.KnownBytes.{Consumes, Appends}
+use Rattle.std.proofs.KnownBytes.{Appends-nil}
+use Rattle.item_io.specs.Items.{ItemValue, MasterItem}
+use Rattle.item_io.specs.Outlets.{Grows}
+use Rattle.item_io.specs.ItemLines.{HoldsLines, WritesLines, lines_of}
+use Rattle.pipeline.specs.declared.fault.PackFault.{PackFault}
+use Rattle.pipeline.specs.declared.fault.PackFault.TheVariants.{Settings, Read, ReadLimit, NoProgram, NoStart, LongSegment, BigSegment, Limit, Outlet, NoMemory, Held}
+use Rattle.pipeline.specs.declared.lane.Stop.{Stop}
+use Rattle.pipeline.specs.declared.lane.Stop.TheVariants.{Good, Cut, Read as ReadFailed}
+use Rattle.pipeline.specs.declared.report.Report.{Report}
+use Rattle.pipeline.specs.Ladder.{Ladder}
+use Rattle.pipeline.specs.Items.{Part, no_part, part_at}
+use Rattle.pipeline.specs.Weave.{none_of, AreLegal, after_all, blocks}
+use Rattle.pipeline.specs.Streams.{closed_of}
+use Rattle.pipeline.specs.Sources.{SourceSays}
+use Rattle.pipeline.specs.World.{stream_at}
+use Rattle.pipeline.specs.Packed.{IsPacked, IsCutShort, HasHalted, IsRefused, IsLeft, FaultSays}
+use Rattle.tshls.specs.Packing.{WritesPacked, FaultStands, StopsPacking, CutsPackingOff, RefusesSettings, PackingSays}
+
+-- the only element of a list is at its front
+only-at : {X : Type 0} (a x : X) (r : ℕ) → slice_get (a ∷ []) r ≡ Some x → r ≡ 0
+only-at a x zero is = refl
+only-at a x (suc r) is = cc
+
+none-at : (n : ℕ) → get_or (replicate n no_part) 0 no_part ≡ no_part
+none-at zero = refl
+none-at (suc n) = refl
+
+none-consumed : (left : Option (List ℕ)) → Consumes left left []
+none-consumed None = tt
+none-consumed (Some xs) = refl
+
+-- a run that didn't begin
+pub nothing-packed : (ladder : Ladder) (left held : Option (List ℕ)) → CutsPackingOff ladder left left held held
+unfolding AreLegal after_all blocks
+nothing-packed ladder left held = record {
+  stream = [];
+  parts = none_of ladder;
+  given = [];
+  rest = [];
+  consumed = none-consumed left;
+  begun = inr (record { plans = (_, ap (λ (part : Part). part.plans ++ closed_of 0 ladder.cut []) (sym (none-at (length ladder.renditions)))); ended = ap (λ (part : Part). part.ended) (none-at (length ladder.renditions)) });
+  weave = record { events = []; legal = tt; parts_are = refl; items_are = refl };
+  written = record { front = []; begins = record { item = MasterItem []; rest = _; whole = refl }; written = Appends-nil held };
+}
+
+module _ {X : Type 0} (left : X → Option (List ℕ)) (fails reads : X → ℕ) (ladder : Ladder) (a b : X) (held held_then : Option (List ℕ)) (failures : ℕ)
+    (whole : (given : List ItemValue) → Grows (HoldsLines held 0) (HoldsLines held_then failures) given → failures ≡ 0 → Appends held held_then (lines_of given))
+    (cut_short : (given : List ItemValue) → Grows (HoldsLines held 0) (HoldsLines held_then failures) given → WritesLines held held_then given) where
+  pub packed : (report : Report) → IsPacked left fails reads ladder (a ∷ []) (b ∷ []) (HoldsLines held 0) (HoldsLines held_then failures) report → failures ≡ 0
+      → WritesPacked ladder (left a) (left b) held held_then
+  packed report p none =
+      let here = p.each 0 a b refl refl in
+      record {
+        stream = stream_at p.streams 0;
+        parts = p.parts;
+        items = p.items;
+        read = record { consumed = here.2; at_end = here.3 };
+        whole = here.0;
+        weave = p.weave;
+        written = whole p.items p.grows none;
+      }
+
+  cut-off : IsCutShort left ladder (a ∷ []) (b ∷ []) (HoldsLines held 0) (HoldsLines held_then failures) → CutsPackingOff ladder (left a) (left b) held held_then
+  cut-off p =
+      let here = p.each 0 a b refl refl in
+      record {
+        stream = stream_at p.streams 0;
+        parts = p.parts;
+        given = p.some.given;
+        rest = p.some.rest;
+        consumed = here.2;
+        begun = here.0;
+        weave = rw (← p.some.all) p.weave;
+        written = cut_short p.some.given p.some.grows;
+      }
+
+  stands : (stop : Option Stop) (stream : List ℕ) → SourceSays left fails 0 ladder.cut stream stop a b → FaultStands stop ladder stream (left b)
+  stands None stream says = tt
+  stands (Some (Good gone)) stream says = says.1
+  stands (Some (Cut told)) stream says = says.1
+  stands (Some ReadFailed) stream says = tt
+
+  stopped : (r : ℕ) (stop : Option Stop) → HasHalted left fails reads ladder (a ∷ []) (b ∷ []) (HoldsLines held 0) (HoldsLines held_then failures) r stop → failures ≡ 0
+      → (r ≡ 0) × StopsPacking ladder (left a) (left b) held held_then stop
+  stopped r stop h none =
+      let first : r ≡ 0 = only-at a h.within.0 r h.within.1 in
+      let at : h.stops 0 ≡ stop = ap h.stops (sym first) ∙ h.at_r in
+      let here : IsLeft left fails reads ladder 0 a b stop (stream_at h.streams 0) (part_at h.parts 0) = rw at at (h.each 0 a b refl refl) in (
+        first,
+        record {
+          stream = stream_at h.streams 0;
+          parts = h.parts;
+          items = h.items;
+          consumed = here.read;
+          stands = stands stop (stream_at h.streams 0) here.says;
+          given = here.given;
+          weave = h.weave;
+          written = whole h.items h.grows none;
+        },
+      )
+
+  refused : IsRefused ladder (a ∷ []) (b ∷ []) (HoldsLines held 0) (HoldsLines held_then failures) → failures ≡ 0 → RefusesSettings ladder (left a) (left b) held held_then
+  refused p none = record {
+    refused = λ so. p.refused (so.0, sym so.1);
+    unread = ap (λ (xs : List X). left (get_or xs 0 a)) p.unread;
+    unwritten = whole [] p.unput none;
+  }
+
+  pub says : (fault : PackFault) → FaultSays left fails reads ladder (a ∷ []) (b ∷ []) (HoldsLines held 0) (HoldsLines held_then failures) 0 failures fault
+      → PackingSays ladder (left a) (left b) held held_then fault
+  says Settings s = refused s.0 s.1
+  says (Read r) s = stopped r _ s.0 s.1
+  says (ReadLimit r) s = stopped r _ s.0 s.1
+  says (NoProgram r) s = stopped r _ s.0 s.1
+  says (NoStart r) s = stopped r _ s.0 s.1
+  says (LongSegment r n) s = stopped r _ s.0 s.1
+  says (BigSegment r n) s = stopped r _ s.0 s.1
+  says (Limit r) s = stopped r _ s.0 s.1
+  says Outlet s = cut-off s.0
+  says NoMemory s = cut-off s.0
+  says (Held r n) s = absurd s
