@@ -1,10 +1,11 @@
-# A standard input that can't be read, and standard outputs that can't be written.
+# A standard input that can't be read, and standard outputs that can't be written. The variables unread and unwritten
+# name the faults of commands that tell others.
 # shellcheck shell=bash disable=SC2154
 
 # check_failing_ends COMMAND INPUT LARGE_INPUT
 check_failing_ends() {
     local command=$1 input=$2 large=$3
-    check "$command: a standard input that can't be read" from "$here" refuses 1 Unread "$command" "${options[@]}"
+    check "$command: a standard input that can't be read" from "$here" refuses 1 "${unread:-Unread}" "$command" "${options[@]}"
     check "$command: a full standard output" writes_to_full "$command" "$input"
     check "$command: a full standard output, much to write" writes_to_full "$command" "$large"
     check "$command: a closed pipe" writes_to_closed_pipe "$command" "$input"
@@ -16,7 +17,7 @@ writes_to_full() {
     timeout 120 "$program" "$1" "${options[@]}" <"$2" >/dev/full 2>"$work/err"
     status=$?
     [ $status -eq 1 ] || { echo "status $status"; return 1; }
-    is_line 'standard error' "$work/err" 'tshls: Unwritten'
+    is_line 'standard error' "$work/err" "tshls: ${unwritten:-Unwritten}"
 }
 
 writes_to_closed_pipe() {
@@ -32,7 +33,7 @@ writes_to_closing_pipe() {
 # is_unwritten_or_signalled STATUS: the program told it, or SIGPIPE ended it.
 is_unwritten_or_signalled() {
     case $1 in
-    1) is_line 'standard error' "$work/err" 'tshls: Unwritten' ;;
+    1) is_line 'standard error' "$work/err" "tshls: ${unwritten:-Unwritten}" ;;
     141) is_empty 'standard error' "$work/err" ;;
     *) echo "status $1, standard error '$(cat "$work/err")'"; return 1 ;;
     esac

@@ -1,4 +1,7 @@
-"""Writes a file to standard output in uneven pieces, apart in time, so that a reader gets them one by one."""
+"""Writes a file to standard output in pieces, apart in time, so that a reader gets them one by one: pieces.py FILE [SIZE..].
+
+The sizes take turns; where none are given the pieces are uneven.
+"""
 
 import itertools
 import os
@@ -6,7 +9,7 @@ import sys
 import time
 
 with open(sys.argv[1], "rb") as file:
-    for size in itertools.cycle((1, 187, 188, 189, 3, 376, 377, 2048)):
+    for size in itertools.cycle([int(word) for word in sys.argv[2:]] or (1, 187, 188, 189, 3, 376, 377, 2048)):
         piece = file.read(size)
         if not piece:
             break

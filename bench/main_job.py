@@ -1,0 +1,95 @@
+"""How fast `one` packs, beside ffmpeg's own packager with a key file, and beside cat.
+
+The stream is the sample, looped by ffmpeg so that its times go on. What a stage takes is a difference of runs that go
+less far: a stream whose tables are broken is only read, one without key frames is cut into nothing, and `seal` seals
+and writes digits without any of it.
+"""
+
+import os
+import pathlib
+import subprocess
+import time
+
+KEY = "000102030405060708090a0b0c0d0e0f"
+ROUNDS = 3
+SIZE = 188
+
+
+def timed(command, stream, statuses=(0,)):
+    """Wall and processor seconds of the command from the stream to nowhere."""
+    with open(stream, "rb") as source, open(os.devnull, "r+b") as nowhere:
+        begin = time.perf_counter()
+        process = subprocess.Popen(command, stdin=source, stdout=nowhere, stderr=nowhere)
+        _, status, usage = os.wait4(process.pid, 0)
+        wall = time.perf_counter() - begin
+    process.returncode = os.waitstatus_to_exitcode(status)
+    if process.returncode not in statuses:
+        raise SystemExit(f"{command[:2]} ended with status {process.returncode}")
+    return wall, usage.ru_utime + usage.ru_stime
+
+
+def best(command, stream, statuses=(0,)):
+    runs = [timed(command, stream, statuses) for _ in range(ROUNDS)]
+    return min(wall for wall, _ in runs), min(processor for _, processor in runs)
+
+
+def looped(sample, file, megabytes):
+    loops = max(1, round(megabytes * 1_000_000 / sample.stat().st_size)) - 1
+    command = ["ffmpeg", "-nostdin", "-v", "error", "-y", "-stream_loop", str(loops), "-i", str(sample)]
+    subprocess.run(command + ["-map", "0", "-c", "copy", "-f", "mpegts", str(file)], check=True)
+
+
+def changed(stream, file, change):
+    """The same packets, each changed in place."""
+    data = bytearray(stream.read_bytes())
+    for at in range(0, len(data), SIZE):
+        change(data, at)
+    file.write_bytes(data)
+
+
+def break_table(data, at):
+    if data[at + 1] & 0x1F == 0 and data[at + 2] == 0:
+        data[at + 5 + 15] ^= 1
+
+
+def clear_random_access(data, at):
+    if data[at + 3] & 0x20 and data[at + 4]:
+        data[at + 5] &= ~0x40
+
+
+def measure(program, sample, folder, megabytes):
+    """Prints the figures; answers whether 8 times the input takes at most 10 times the time."""
+    folder = pathlib.Path(folder)
+    small, large, unread, uncut = (folder / name for name in ("small.ts", "large.ts", "unread.ts", "uncut.ts"))
+    looped(sample, small, megabytes / 8)
+    looped(sample, large, megabytes)
+    changed(large, unread, break_table)
+    changed(large, uncut, clear_random_access)
+    (folder / "key").write_bytes(bytes.fromhex(KEY))
+    (folder / "key_info").write_text(f"key\n{folder / 'key'}\n{'0' * 32}\n")
+
+    one = [program, "one", "--codecs", "avc1.4d401e", "--size", "320x180", "--keys", KEY, "--target", "8", "--segment", "6"]
+    ffmpeg = ["ffmpeg", "-nostdin", "-v", "error", "-y", "-i", str(large), "-map", "0", "-c", "copy", "-f", "hls"]
+    ffmpeg += ["-hls_time", "6", "-hls_list_size", "5", "-hls_key_info_file", str(folder / "key_info")]
+    ffmpeg.append(str(folder / "ffmpeg.m3u8"))
+
+    packed, packed_small = best(one, large), best(one, small)
+    others = {"ffmpeg -c copy -f hls": best(ffmpeg, large), "cat": best(["cat"], large)}
+    read, cut = best(one, unread, (1,)), best(one, uncut, (1,))
+    sealed = best([program, "seal", "--key", KEY, "--seq", "0"], large)
+
+    size = large.stat().st_size
+    print(f"one {size / 1e6:.1f} MB: {packed[0]:.2f} s, {packed[1]:.2f} s of processor, {size / packed[0] / 1e6:.1f} MB/s")
+    for name, (wall, processor) in others.items():
+        print(f"    {name}: {packed[0] / wall:.1f} times as fast, with 1/{packed[1] / processor:.1f} of the processor time")
+    stages = {
+        "reading packets and tables": read[1],
+        "stamps and cuts": cut[1] - read[1],
+        "sealing and hex digits": sealed[1] - read[1],
+        "bodies, heads, texts and the rest": packed[1] - cut[1] - (sealed[1] - read[1]),
+    }
+    for name, seconds in stages.items():
+        print(f"    {name}: {seconds:.2f} s, {100 * seconds / packed[1]:.0f} %")
+    growth = packed[0] / packed_small[0]
+    print(f"8 times the input takes {growth:.1f} times the time; at most 10: {'yes' if growth <= 10 else 'no'}")
+    return growth <= 10
