@@ -4,3 +4,17 @@ pub mod TheHead
 pub mod Growing
 pub mod Unpacked
 pub mod Bodies
+pub mod Spellings
+pub mod Found
+pub mod KeyLines
+pub mod NamesIn
+pub mod Going
+pub mod Stepping
+pub mod Completing
+pub mod OneNumber
+pub mod EntrySteps
+pub mod Running
+pub mod EscapedBytes
+pub mod LineEnds
+pub mod Splitting
+pub mod Taking

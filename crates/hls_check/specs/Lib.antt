@@ -2,3 +2,6 @@ pub mod Unpacking
 pub mod Heads
 pub mod Texts
 pub mod Listed
+pub mod MediaTexts
+pub mod Progress
+pub mod Held

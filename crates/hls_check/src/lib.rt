@@ -4,13 +4,21 @@
 mod fault;
 mod head;
 mod laws;
+mod list_fault;
 mod listing;
+mod media_text;
+mod numbers;
 mod opening;
+mod reading;
+#[cfg(test)]
+mod reading_tests;
 #[cfg(test)]
 mod tests;
 mod unpacking;
 
 pub use fault::UnpackFault;
-pub use laws::segments_unpack_to_their_bodies;
+pub use laws::{a_text_lists_one_playlist, segments_unpack_to_their_bodies};
+pub use list_fault::ListFault;
 pub use listing::{Entry, Listing};
+pub use media_text::read_media;
 pub use unpacking::unpack;

@@ -2,14 +2,12 @@
 #![tactic(auto)]
 
 #[cfg(test)]
-mod faults;
+mod cases;
 #[cfg(test)]
 mod ladder;
 #[cfg(test)]
 mod run;
 #[cfg(test)]
+mod standard;
+#[cfg(test)]
 mod stream;
-#[cfg(test)]
-mod streams;
-#[cfg(test)]
-mod windows;

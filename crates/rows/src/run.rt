@@ -38,8 +38,8 @@ pub const WELL: Ways = Ways {
     failing_put: 0,
 };
 
-/// A rendition with keys of its own, which take turns after so many segments.
-pub fn rendition(alloc: Global, name: &str, keys: u8, period: u64) -> Result<Rendition, Fail> {
+/// A rendition with keys of its own.
+fn rendition(alloc: Global, name: &str, keys: u8, period: u64) -> Result<Rendition, Fail> {
     let mut all = Vec::new(alloc);
     for key in 0..keys {
         all.push([key; 16])?;
@@ -53,10 +53,19 @@ pub fn rendition(alloc: Global, name: &str, keys: u8, period: u64) -> Result<Ren
     })
 }
 
-/// Settings of one rendition `v` with one key.
-pub fn settings(alloc: Global, cut: CutSettings, window: u64) -> Result<Settings, Fail> {
+/// Settings of renditions of these names, with so many keys each, of which each seals so many segments in a row.
+pub fn settings(
+    alloc: Global,
+    names: &[&str],
+    keys: u8,
+    period: u64,
+    cut: CutSettings,
+    window: u64,
+) -> Result<Settings, Fail> {
     let mut renditions = Vec::new(alloc);
-    renditions.push(rendition(alloc, "v", 1, 1)?)?;
+    for name in names {
+        renditions.push(rendition(alloc, name, keys, period)?)?;
+    }
     Ok(Settings {
         renditions,
         cut,
@@ -83,15 +92,17 @@ pub fn run(
     Ok(Ran { answer, outlet })
 }
 
-/// The sizes of the segments that were given.
-pub fn sizes(alloc: Global, items: &[Item]) -> Result<Vec<usize>, AllocError> {
-    let mut sizes = Vec::new(alloc);
+/// Whether the segments that were given have these sizes.
+pub fn are_sizes(items: &[Item], sizes: &[usize]) -> bool {
+    let mut wanted = sizes.iter();
     for item in items {
         if let Item::Segment { bytes, .. } = item {
-            sizes.push(bytes.len())?;
+            if wanted.next() != Some(&bytes.len()) {
+                return false;
+            }
         }
     }
-    Ok(sizes)
+    wanted.next().is_none()
 }
 
 /// The last media playlist. No text stands for none.

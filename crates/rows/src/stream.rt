@@ -1,4 +1,4 @@
-use std::alloc::AllocError;
+use std::alloc::{AllocError, Global};
 
 /// Program 1 with its PMT on PID 0x1000, in a packet.
 const PAT: &[u8] =
@@ -16,7 +16,7 @@ pub enum Video {
 }
 
 /// Appends tables, and a packet for each frame.
-pub fn push_stream(stream: &mut Vec<u8>, frames: &[Video]) -> Result<(), AllocError> {
+fn push_stream(stream: &mut Vec<u8>, frames: &[Video]) -> Result<(), AllocError> {
     push_packet(stream, PAT, &[])?;
     push_packet(stream, PMT, &[])?;
     for (n, frame) in frames.iter().enumerate() {
@@ -26,7 +26,7 @@ pub fn push_stream(stream: &mut Vec<u8>, frames: &[Video]) -> Result<(), AllocEr
 }
 
 /// Appends the packet of a frame, in which a PES packet with a PTS starts (ISO/IEC 13818-1, 2.4.3.6).
-pub fn push_frame(stream: &mut Vec<u8>, frame: Video, counter: u8) -> Result<(), AllocError> {
+fn push_frame(stream: &mut Vec<u8>, frame: Video, counter: u8) -> Result<(), AllocError> {
     match frame {
         Video::Key(ticks) => push_packet(
             stream,
@@ -93,16 +93,42 @@ fn push_packet(stream: &mut Vec<u8>, begin: &[u8], behind: &[u8]) -> Result<(), 
 }
 
 /// Two segments, of 6 s and of 3.04 s.
-pub fn two_segments(alloc: std::alloc::Global) -> Result<Vec<u8>, AllocError> {
+pub const TWO_SEGMENTS: &[Video] = &[
+    Video::Key(0),
+    Video::Other(270_000),
+    Video::Key(540_000),
+    Video::Other(810_000),
+];
+
+/// What is done to a stream before it is packed.
+#[derive(Clone, Copy, Debug)]
+pub enum Change {
+    None,
+    /// Five bytes of no packet stand before it.
+    NoiseBefore,
+    /// The byte of this place is left out.
+    LeaveOut(usize),
+    /// The PAT's last byte, of its CRC, is another.
+    BadCrc,
+    /// Nothing is left of it.
+    Empty,
+}
+
+/// The stream of these frames, changed.
+pub fn stream_of(alloc: Global, frames: &[Video], change: Change) -> Result<Vec<u8>, AllocError> {
+    let mut whole = Vec::new(alloc);
+    push_stream(&mut whole, frames)?;
     let mut stream = Vec::new(alloc);
-    push_stream(
-        &mut stream,
-        &[
-            Video::Key(0),
-            Video::Other(270_000),
-            Video::Key(540_000),
-            Video::Other(810_000),
-        ],
-    )?;
+    if let Change::NoiseBefore = change {
+        stream.extend_from_slice(&[0x00, 0x47, 0x00, 0x01, 0x02])?;
+    }
+    for (at, byte) in whole.iter().enumerate() {
+        match change {
+            Change::LeaveOut(place) if at == place => {}
+            Change::BadCrc if at == 20 => stream.push(0xB3)?,
+            Change::Empty => {}
+            _ => stream.push(*byte)?,
+        }
+    }
     Ok(stream)
 }

@@ -1,0 +1,217 @@
+-- The lines of an entry are taken.
+use Rattle.std.proofs.Common.{◌≡◌, ◌≢◌, ℕ, ◌+◌, ◌-◌, ◌/◌, ◌<◌, ◌≤◌, ◌^◌, ◌==◌, not, inl, inr, Bool, true, false, Option, Some, None, List, [], ◌∷◌, ◌++◌, get_or, refl, sym, ap, ◌∙◌, arith, append_assoc}
+use Rattle.std.specs.Prelude.{codes, if◌then◌else◌, nat_lt, nat_le, is_some, option_map}
+use Rattle.std.specs.Option.{option_and_then, option_or}
+use Rattle.std.specs.Str.{IsUtf8, bytes_eq}
+use Rattle.std.proofs.lemmas.Bool.{lt-ltb, le-leb, and_from}
+use Rattle.std.proofs.lemmas.Bool.Decides.{eqb_tells}
+use Rattle.std.proofs.lemmas.Slice.Eq.{bytes_eq-Decides}
+use Rattle.playlist_text.specs.Names.{is_name}
+use Rattle.playlist_text.specs.Uris.{segment_uri}
+use Rattle.playlist_text.specs.MediaLines.{Entry, discontinuity_lines, key_line, key_lines, duration_line, entry_lines}
+use Rattle.hls_check.specs.declared.reading.Stage.{Stage}
+use Rattle.hls_check.specs.declared.reading.Stage.TheVariants.{Between, Broken, Timed}
+use Rattle.hls_check.specs.MediaTexts.{IsListed}
+use Rattle.hls_check.specs.Progress.{Progress, next_number, number_in, number_left, expect, where_so, is_duration, with_key, keyed_by, keyed, timed, keyed_or_timed, with_entry, listed, entered, begun, step, steps}
+use Rattle.hls_check.proofs.Found.{found-none, not-true}
+use Rattle.hls_check.proofs.Stepping.{not-eq}
+use Rattle.hls_check.proofs.OneNumber.{number-found, name-found, key-apart, duration-apart}
+
+-- lines that differ at a place
+differ : (a b : List ℕ) (k : ℕ) → get_or a k 0 ≢ get_or b k 0 → bytes_eq a b ≡ false
+differ a b k other = not-true (bytes_eq a b) (λ same. other (ap (λ l. get_or l k 0) ((bytes_eq-Decides a b).0 same)))
+
+-- what a test decides
+if-false : {A : Type 0} (b : Bool) (x y : A) → b ≡ false → (if b then x else y) ≡ y
+if-false b x y test = ap (λ t. if t then x else y) test
+
+pub if-true : {A : Type 0} (b : Bool) (x y : A) → b ≡ true → (if b then x else y) ≡ x
+if-true b x y test = ap (λ t. if t then x else y) test
+
+or-left : {A : Type 0} (a b : Option A) (x : A) → a ≡ Some x → option_or a b ≡ Some x
+or-left a b x is = ap (λ o. option_or o b) is
+
+or-right : {A : Type 0} (a b : Option A) → a ≡ None → option_or a b ≡ b
+or-right a b is = ap (λ o. option_or o b) is
+
+-- a line that is taken, with others behind it
+pub steps-line : (p q : Progress) (line : List ℕ) (lines : List (List ℕ)) → step p line ≡ Some q → steps p (line ∷ lines) ≡ steps q lines
+unfolding steps
+steps-line p q line lines taken = ap (λ o. option_and_then (λ r. steps r lines) o) taken
+
+pub expect-same : (line : List ℕ) (next : Progress) → expect line line next ≡ Some next
+expect-same line next = if-true (bytes_eq line line) (Some next) None ((bytes_eq-Decides line line).1 refl)
+
+-- a number that is left
+pub left-is : (p : Progress) (n : ℕ) → n ≡ next_number p → n < 2 ^ 32 - 1 → number_left p ≡ Some n
+left-is p n same below =
+    if-true (nat_lt (next_number p) (2 ^ 32 - 1)) (Some (next_number p)) None (lt-ltb (next_number p) (2 ^ 32 - 1) (omega (arith, same, below))) ∙ ap Some (sym same)
+
+-- what stands before an entry: no key yet, or this name with this key
+abbrev pub IsBehind : Progress → List ℕ → Option ℕ → Type 0
+IsBehind p name None = p.name ≡ None
+IsBehind p name (Some key) = (p.name ≡ Some name) × (key ≡ p.key)
+
+-- a name, in two senses
+abbrev pub IsGood : List ℕ → Type 0
+IsGood name = (is_name name ≡ true) × IsUtf8 name
+
+-- the line of a key
+keyed-first : (p : Progress) (name : List ℕ) (key : ℕ) → IsGood name → key < 4096 → p.name ≡ None → keyed p (key_line name key) ≡ Some (with_key p name key)
+unfolding keyed
+keyed-first p name key good small none =
+    ap (λ o. keyed_by o p (key_line name key)) none
+    ∙ ap (λ o. option_and_then (λ n. option_map (with_key p n) (number_in (key_line n) 4096 (key_line name key))) o) (name-found name key good.0 good.1)
+    ∙ ap (option_map (with_key p name)) (number-found (key_line name) 4096 key (key-apart name) small)
+
+keyed-other : (p : Progress) (name : List ℕ) (key : ℕ) → key < 4096 → p.name ≡ Some name → key ≢ p.key → keyed p (key_line name key) ≡ Some (with_key p name key)
+unfolding keyed
+keyed-other p name key small known other =
+    ap (λ o. keyed_by o p (key_line name key)) known
+    ∙ ap (λ o. option_and_then (λ k. where_so (not (k == p.key)) (with_key p name k)) o) (number-found (key_line name) 4096 key (key-apart name) small)
+    ∙ if-true (not (key == p.key)) (Some (with_key p name key)) None (ap not (not-eq key p.key other))
+
+-- the line of a duration is none of a key
+no-key : (p : Progress) (name : List ℕ) (micros : ℕ) → p.name ≡ Some name → keyed p (duration_line micros) ≡ None
+unfolding keyed duration_line key_line
+no-key p name micros known =
+    ap (λ o. keyed_by o p (duration_line micros)) known
+    ∙ ap (λ o. option_and_then (λ k. where_so (not (k == p.key)) (with_key p name k)) o)
+    (found-none (λ k. bytes_eq (duration_line micros) (key_line name k)) 4096
+    (λ k small same. absurd (omega (arith, ap (λ l. get_or l 4 0) ((bytes_eq-Decides (duration_line micros) (key_line name k)).0 same)))))
+
+timed-is : (p : Progress) (micros : ℕ) → is_some p.name ≡ true → p.target ≤ 3600 → 0 < micros → (micros + 500_000) / 1_000_000 ≤ p.target
+    → timed p (duration_line micros) ≡ Some (record p { stage = Timed; micros = micros })
+unfolding timed
+timed-is p micros named few lasts short =
+    let next = λ (m : ℕ). record p { stage = Timed; micros = m } in
+    if-true (is_some p.name) _ None named
+    ∙ ap (λ o. option_and_then (λ m. where_so (is_duration p.target m) (next m)) o) (number-found duration_line (2 ^ 64) micros duration-apart (omega (arith, few, short)))
+    ∙ if-true (is_duration p.target micros) (Some (next micros)) None
+    (and_from (nat_lt 0 micros) (nat_le ((micros + 500_000) / 1_000_000) p.target) (lt-ltb 0 micros lasts) (le-leb ((micros + 500_000) / 1_000_000) p.target short))
+
+-- the line of a segment
+listed-is : (p : Progress) (name : List ℕ) (n : ℕ) → p.name ≡ Some name → number_left p ≡ Some n → listed p (segment_uri name n) ≡ Some (with_entry p n)
+unfolding listed
+listed-is p name n known left =
+    let line = segment_uri name n in
+    ap (λ o. option_and_then (λ m. option_and_then (λ x. expect line (segment_uri x m) (with_entry p m)) p.name) o) left
+    ∙ ap (λ o. option_and_then (λ x. expect line (segment_uri x n) (with_entry p n)) o) known
+    ∙ expect-same line (with_entry p n)
+
+-- the stage behind the line before a discontinuity, or without one
+abbrev begun_at : Bool → Stage
+begun_at true = Broken
+begun_at false = Between
+
+abbrev behind_first : Progress → Bool → Progress
+behind_first p b = record p { stage = begun_at b; discontinuity = b }
+
+-- the first line of an entry that tells something
+first-line : (p : Progress) (b : Bool) (n : ℕ) (line : List ℕ) (lines : List (List ℕ)) (q : Progress) → number_left p ≡ Some n
+    → bytes_eq line (codes "#EXT-X-ENDLIST") ≡ false → bytes_eq line (codes "#EXT-X-DISCONTINUITY") ≡ false
+    → keyed_or_timed (behind_first p b) line ≡ Some q → steps (record p { stage = Between }) (discontinuity_lines b ++ line ∷ lines) ≡ steps q lines
+unfolding discontinuity_lines step begun
+first-line p true n line lines q left not_end not_broken taken =
+    steps-line (record p { stage = Between }) (behind_first p true) (codes "#EXT-X-DISCONTINUITY") (line ∷ lines)
+    (ap (λ o. option_and_then (λ m. entered (record p { stage = Between }) (codes "#EXT-X-DISCONTINUITY")) o) left)
+    ∙ steps-line (behind_first p true) q line lines taken
+first-line p false n line lines q left not_end not_broken taken =
+    steps-line (record p { stage = Between }) q line lines (
+    if-false (bytes_eq line (codes "#EXT-X-ENDLIST")) _ _ not_end
+    ∙ ap (λ o. option_and_then (λ m. entered (record p { stage = Between }) line) o) left
+    ∙ if-false (bytes_eq line (codes "#EXT-X-DISCONTINUITY")) _ _ not_broken
+    ∙ taken
+    )
+
+-- the lines of a key and of a duration are neither of those two
+not-end : (name : List ℕ) (key : ℕ) → bytes_eq (key_line name key) (codes "#EXT-X-ENDLIST") ≡ false
+unfolding key_line
+not-end name key = differ (key_line name key) (codes "#EXT-X-ENDLIST") 7 (λ same. omega (arith, same))
+
+not-broken : (name : List ℕ) (key : ℕ) → bytes_eq (key_line name key) (codes "#EXT-X-DISCONTINUITY") ≡ false
+unfolding key_line
+not-broken name key = differ (key_line name key) (codes "#EXT-X-DISCONTINUITY") 7 (λ same. omega (arith, same))
+
+not-end-timed : (micros : ℕ) → bytes_eq (duration_line micros) (codes "#EXT-X-ENDLIST") ≡ false
+unfolding duration_line
+not-end-timed micros = differ (duration_line micros) (codes "#EXT-X-ENDLIST") 4 (λ same. omega (arith, same))
+
+not-broken-timed : (micros : ℕ) → bytes_eq (duration_line micros) (codes "#EXT-X-DISCONTINUITY") ≡ false
+unfolding duration_line
+not-broken-timed micros = differ (duration_line micros) (codes "#EXT-X-DISCONTINUITY") 4 (λ same. omega (arith, same))
+
+-- what comes behind an entry
+four : (a b : List (List ℕ)) (x y : List ℕ) (lines : List (List ℕ)) → (a ++ b ++ x ∷ y ∷ []) ++ lines ≡ a ++ (b ++ x ∷ y ∷ lines)
+four a b x y lines = append_assoc (a ++ b) (x ∷ y ∷ []) lines ∙ append_assoc a b (x ∷ y ∷ lines)
+
+-- behind an entry
+abbrev pub after : Progress → List ℕ → Entry → Progress
+after p name entry = record p {
+  stage = Between;
+  name = Some name;
+  key = entry.key;
+  discontinuity = entry.discontinuity;
+  micros = entry.micros;
+  entries = p.entries ++ entry ∷ [];
+}
+
+-- its lines, where it has that of a key
+keyed-entry : (p : Progress) (name : List ℕ) (entry : Entry) (lines : List (List ℕ)) → p.target ≤ 3600 → IsListed p.target (next_number p) entry
+    → keyed (behind_first p entry.discontinuity) (key_line name entry.key) ≡ Some (with_key (behind_first p entry.discontinuity) name entry.key)
+    → steps (record p { stage = Between }) (discontinuity_lines entry.discontinuity ++ key_line name entry.key ∷ duration_line entry.micros ∷ segment_uri name entry.number ∷ lines)
+    ≡ steps (after p name entry) lines
+unfolding step
+keyed-entry p name entry lines few is by_key =
+    let one = behind_first p entry.discontinuity in
+    let two = with_key one name entry.key in
+    let three = record two { stage = Timed; micros = entry.micros } in
+    let left = left-is p entry.number is.number (omega (arith, is.number, is.below)) in
+    first-line p entry.discontinuity entry.number (key_line name entry.key) (duration_line entry.micros ∷ segment_uri name entry.number ∷ lines) two left
+    (not-end name entry.key) (not-broken name entry.key) (or-left (keyed one (key_line name entry.key)) (timed one (key_line name entry.key)) two by_key)
+    ∙ steps-line two three (duration_line entry.micros) (segment_uri name entry.number ∷ lines) (timed-is two entry.micros refl few is.lasts is.short)
+    ∙ steps-line three (after p name entry) (segment_uri name entry.number) lines (listed-is three name entry.number refl left)
+
+-- and where it has the key of the one before
+unkeyed-entry : (p : Progress) (name : List ℕ) (entry : Entry) (lines : List (List ℕ)) → p.target ≤ 3600 → IsListed p.target (next_number p) entry
+    → p.name ≡ Some name → p.key ≡ entry.key
+    → steps (record p { stage = Between }) (discontinuity_lines entry.discontinuity ++ duration_line entry.micros ∷ segment_uri name entry.number ∷ lines)
+    ≡ steps (after p name entry) lines
+unfolding step
+unkeyed-entry p name entry lines few is known same =
+    let one = behind_first p entry.discontinuity in
+    let two = record one { stage = Timed; micros = entry.micros } in
+    let left = left-is p entry.number is.number (omega (arith, is.number, is.below)) in
+    first-line p entry.discontinuity entry.number (duration_line entry.micros) (segment_uri name entry.number ∷ lines) two left
+    (not-end-timed entry.micros) (not-broken-timed entry.micros)
+    (or-right (keyed one (duration_line entry.micros)) (timed one (duration_line entry.micros)) (no-key one name entry.micros known)
+    ∙ timed-is one entry.micros (ap is_some known) few is.lasts is.short)
+    ∙ steps-line two (with_entry two entry.number) (segment_uri name entry.number) lines (listed-is two name entry.number known left)
+    ∙ ap (λ o. steps (record (with_entry two entry.number) { name = o }) lines) known
+    ∙ ap (λ k. steps (record (after p name entry) { key = k; entries = p.entries ++ record entry { key = k } ∷ [] }) lines) same
+
+-- the lines of an entry are taken
+pub entry-steps : (p : Progress) (name : List ℕ) (before : Option ℕ) (entry : Entry) (lines : List (List ℕ)) → IsGood name → p.target ≤ 3600
+    → IsListed p.target (next_number p) entry → IsBehind p name before
+    → steps (record p { stage = Between }) (entry_lines name before entry ++ lines) ≡ steps (after p name entry) lines
+unfolding entry_lines key_lines
+entry-steps p name None entry lines good few is none =
+    ap (steps (record p { stage = Between })) (four (discontinuity_lines entry.discontinuity) (key_line name entry.key ∷ []) (duration_line entry.micros) (segment_uri name entry.number) lines)
+    ∙ keyed-entry p name entry lines few is (keyed-first (behind_first p entry.discontinuity) name entry.key good is.key none)
+entry-steps p name (Some before) entry lines good few is known = elim (eqb_tells before entry.key) [
+  | inl same ↦
+      ap (steps (record p { stage = Between })) (
+      four (discontinuity_lines entry.discontinuity) (key_lines name (Some before) entry.key) (duration_line entry.micros) (segment_uri name entry.number) lines
+      ∙ ap (λ x. discontinuity_lines entry.discontinuity ++ (x ++ duration_line entry.micros ∷ segment_uri name entry.number ∷ lines))
+      (if-true (before == entry.key) [] (key_line name entry.key ∷ []) same.0)
+      )
+      ∙ unkeyed-entry p name entry lines few is known.0 (sym known.1 ∙ same.1)
+  | inr other ↦
+      ap (steps (record p { stage = Between })) (
+      four (discontinuity_lines entry.discontinuity) (key_lines name (Some before) entry.key) (duration_line entry.micros) (segment_uri name entry.number) lines
+      ∙ ap (λ x. discontinuity_lines entry.discontinuity ++ (x ++ duration_line entry.micros ∷ segment_uri name entry.number ∷ lines))
+      (if-false (before == entry.key) [] (key_line name entry.key ∷ []) other.0)
+      )
+      ∙ keyed-entry p name entry lines few is
+      (keyed-other (behind_first p entry.discontinuity) name entry.key is.key known.0 (λ same. other.1 (known.1 ∙ sym same)))
+]

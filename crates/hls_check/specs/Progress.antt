@@ -1,0 +1,178 @@
+-- How far the lines of a media playlist have been read.
+use Rattle.std.specs.Prelude.{ℕ, zero, suc, ◌+◌, ◌-◌, ◌/◌, ◌^◌, ◌==◌, ◌&&◌, Bool, true, false, nat_le, nat_lt, if◌then◌else◌, List, [], ◌∷◌, ◌++◌, length, drop, Option, is_some, Some, None, option_map, codes, not}
+use Rattle.std.specs.Fmt.{decimal}
+use Rattle.std.specs.List.{before_first}
+use Rattle.std.specs.Str.{bytes_eq, is_utf8}
+use Rattle.std.specs.Option.{option_and_then, option_or}
+use Rattle.percent_encoding.specs.Percent.{percent_decode}
+use Rattle.playlist_text.specs.Names.{is_name}
+use Rattle.playlist_text.specs.Uris.{segment_uri}
+use Rattle.playlist_text.specs.MediaLines.{Entry, Listing, key_line, duration_line}
+use Rattle.hls_check.specs.declared.reading.Stage.{Stage}
+use Rattle.hls_check.specs.declared.reading.Stage.TheVariants.{Fresh, Tagged, Versioned, Targeted, Sequenced, Between, Broken, Keyed, Timed, Ended}
+
+-- what the lines so far told: which line comes next, and the values of the playlist and of its next entry. A value that no
+-- line told yet is one that it may have.
+pub record Progress : Type 0 where
+  pub stage : Stage
+  pub target : ℕ
+  pub sequence : ℕ
+  pub discontinuity_sequence : ℕ
+  pub name : Option (List ℕ)
+  pub key : ℕ
+  pub discontinuity : Bool
+  pub micros : ℕ
+  pub entries : List Entry
+
+-- nothing was read
+abbrev pub fresh : Progress
+fresh = record {
+  stage = Fresh;
+  target = 1;
+  sequence = 0;
+  discontinuity_sequence = 0;
+  name = None;
+  key = 0;
+  discontinuity = false;
+  micros = 1;
+  entries = [];
+}
+
+-- the greatest number below n that passes a test
+unfoldable pub found_below : (ℕ → Bool) → ℕ → Option ℕ
+found_below test zero = None
+found_below test (suc n) = if test n then Some n else found_below test n
+
+-- the number with which a line is this one
+abbrev pub number_in : (ℕ → List ℕ) → ℕ → List ℕ → Option ℕ
+number_in line_of bound line = found_below (λ n. bytes_eq line (line_of n)) bound
+
+-- what a number makes, where it may stand there
+abbrev pub where_so : Bool → Progress → Option Progress
+where_so may next = if may then Some next else None
+
+-- the lines with one number
+abbrev pub target_line : ℕ → List ℕ
+target_line n = codes "#EXT-X-TARGETDURATION:" ++ decimal n
+
+abbrev pub sequence_line : ℕ → List ℕ
+sequence_line n = codes "#EXT-X-MEDIA-SEQUENCE:" ++ decimal n
+
+abbrev pub discontinuity_sequence_line : ℕ → List ℕ
+discontinuity_sequence_line n = codes "#EXT-X-DISCONTINUITY-SEQUENCE:" ++ decimal n
+
+-- what the line of a key begins with, before the name
+abbrev pub key_begin : List ℕ
+key_begin = codes "#EXT-X-KEY:METHOD=AES-128,URI=\""
+
+-- the name that the line of a key may have: that of the escaped text up to the first point
+unfoldable pub name_in : List ℕ → Option (List ℕ)
+name_in line =
+    let name = percent_decode (before_first (λ b. b == 46) (drop (length key_begin) line)) in
+    if is_name name && is_utf8 name then Some name else None
+
+-- the next number
+abbrev pub next_number : Progress → ℕ
+next_number p = p.sequence + length p.entries
+
+-- where it may stand
+abbrev pub number_left : Progress → Option ℕ
+number_left p = if nat_lt (next_number p) (2 ^ 32 - 1) then Some (next_number p) else None
+
+-- the next entry, with its number
+abbrev pub entry_of : Progress → ℕ → Entry
+entry_of p n = record { number = n; key = p.key; micros = p.micros; discontinuity = p.discontinuity }
+
+-- with this line there, it goes on so
+abbrev pub expect : List ℕ → List ℕ → Progress → Option Progress
+expect line wanted next = if bytes_eq line wanted then Some next else None
+
+-- a duration that an entry may have
+abbrev pub is_duration : ℕ → ℕ → Bool
+is_duration target micros = nat_lt 0 micros && nat_le ((micros + 500_000) / 1_000_000) target
+
+abbrev pub with_key : Progress → List ℕ → ℕ → Progress
+with_key p name key = record p { stage = Keyed; name = Some name; key = key }
+
+abbrev pub keyed_by : Option (List ℕ) → Progress → List ℕ → Option Progress
+keyed_by None p line = option_and_then (λ name. option_map (with_key p name) (number_in (key_line name) 4096 line)) (name_in line)
+keyed_by (Some name) p line = option_and_then (λ key. where_so (not (key == p.key)) (with_key p name key)) (number_in (key_line name) 4096 line)
+
+-- behind the line of a key, another one than the entry before has
+unfoldable pub keyed : Progress → List ℕ → Option Progress
+keyed p line = keyed_by p.name p line
+
+-- behind the line of a duration, where there is a key
+unfoldable pub timed : Progress → List ℕ → Option Progress
+timed p line =
+    if is_some p.name
+    then option_and_then (λ micros. where_so (is_duration p.target micros) (record p { stage = Timed; micros = micros })) (number_in duration_line (2 ^ 64) line)
+    else None
+
+-- behind one of both
+abbrev pub keyed_or_timed : Progress → List ℕ → Option Progress
+keyed_or_timed p line = option_or (keyed p line) (timed p line)
+
+-- behind the line of a segment
+abbrev pub with_entry : Progress → ℕ → Progress
+with_entry p n = record p { stage = Between; entries = p.entries ++ entry_of p n ∷ [] }
+
+unfoldable pub listed : Progress → List ℕ → Option Progress
+listed p line =
+    option_and_then (λ n. option_and_then (λ name. expect line (segment_uri name n) (with_entry p n)) p.name) (number_left p)
+
+-- behind the first line of an entry
+abbrev pub entered : Progress → List ℕ → Option Progress
+entered p line =
+    if bytes_eq line (codes "#EXT-X-DISCONTINUITY")
+    then Some (record p { stage = Broken; discontinuity = true })
+    else keyed_or_timed (record p { discontinuity = false }) line
+
+-- or behind the last line of all
+unfoldable pub begun : Progress → List ℕ → Option Progress
+begun p line =
+    if bytes_eq line (codes "#EXT-X-ENDLIST")
+    then where_so (nat_lt 0 (length p.entries)) (record p { stage = Ended })
+    else option_and_then (λ n. entered p line) (number_left p)
+
+-- what a line more makes of it, if it may come next
+abbrev pub step_at : Stage → Progress → List ℕ → Option Progress
+step_at Fresh p line = expect line (codes "#EXTM3U") (record p { stage = Tagged })
+step_at Tagged p line = expect line (codes "#EXT-X-VERSION:4") (record p { stage = Versioned })
+step_at Versioned p line = option_and_then (λ n. where_so (nat_lt 0 n) (record p { stage = Targeted; target = n })) (number_in target_line 3601 line)
+step_at Targeted p line = option_map (λ n. record p { stage = Sequenced; sequence = n }) (number_in sequence_line (2 ^ 32 - 1) line)
+step_at Sequenced p line = option_map (λ n. record p { stage = Between; discontinuity_sequence = n }) (number_in discontinuity_sequence_line (2 ^ 32) line)
+step_at Between p line = begun p line
+step_at Broken p line = keyed_or_timed p line
+step_at Keyed p line = timed p line
+step_at Timed p line = listed p line
+step_at Ended p line = None
+
+unfoldable pub step : Progress → List ℕ → Option Progress
+step p line = step_at p.stage p line
+
+-- what some lines make of it
+unfoldable pub steps : Progress → List (List ℕ) → Option Progress
+steps p [] = Some p
+steps p (line ∷ lines) = option_and_then (λ q. steps q lines) (step p line)
+
+-- the playlist that was read
+abbrev pub listing_of : Progress → Bool → List ℕ → Listing
+listing_of p ended name = record {
+  name = name;
+  target = p.target;
+  sequence = p.sequence;
+  discontinuity_sequence = p.discontinuity_sequence;
+  entries = p.entries;
+  ended = ended;
+}
+
+-- the playlist that ends here, where it has an entry
+abbrev pub ended_by : Progress → Bool → Option Listing
+ended_by p ended = if nat_lt 0 (length p.entries) then option_map (listing_of p ended) p.name else None
+
+-- the playlist that may end here
+abbrev pub listing_at : Stage → Progress → Option Listing
+listing_at Between p = ended_by p false
+listing_at Ended p = ended_by p true
+listing_at _ p = None

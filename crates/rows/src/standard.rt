@@ -1,0 +1,122 @@
+//! The standard stream of two segments, its texts byte for byte.
+use crate::run::{
+    CUT, Ran, WELL, Ways, are_sizes, last_frames, last_master, last_media, run, settings,
+};
+use crate::stream::{Change, TWO_SEGMENTS, stream_of};
+use item_io::Item;
+use std::test::Fail;
+
+const MEDIA: &str = "#EXTM3U
+#EXT-X-VERSION:4
+#EXT-X-TARGETDURATION:6
+#EXT-X-MEDIA-SEQUENCE:0
+#EXT-X-DISCONTINUITY-SEQUENCE:0
+#EXT-X-KEY:METHOD=AES-128,URI=\"v.0.key\"
+#EXTINF:6.000000,
+v.0.ts
+#EXTINF:3.040000,
+v.1.ts
+#EXT-X-ENDLIST
+";
+
+const FRAMES: &str = "#EXTM3U
+#EXT-X-VERSION:4
+#EXT-X-TARGETDURATION:6
+#EXT-X-MEDIA-SEQUENCE:0
+#EXT-X-DISCONTINUITY-SEQUENCE:0
+#EXT-X-I-FRAMES-ONLY
+#EXT-X-KEY:METHOD=AES-128,URI=\"v.0.key\",IV=0x00000000000000000000000000000000
+#EXTINF:6.000000,
+#EXT-X-BYTERANGE:188@376
+v.0.ts
+#EXT-X-KEY:METHOD=AES-128,URI=\"v.0.key\",IV=0x00000000000000000000000000000001
+#EXTINF:3.040000,
+#EXT-X-BYTERANGE:188@376
+v.1.ts
+#EXT-X-ENDLIST
+";
+
+const MASTER: &str = "#EXTM3U
+#EXT-X-VERSION:4
+#EXT-X-STREAM-INF:BANDWIDTH=2022,AVERAGE-BANDWIDTH=1360,CODECS=\"avc1.4d401e\",RESOLUTION=640x360
+v.m3u8
+#EXT-X-I-FRAME-STREAM-INF:BANDWIDTH=495,AVERAGE-BANDWIDTH=333,CODECS=\"avc1.4d401e\",RESOLUTION=640x360,URI=\"v.iframes.m3u8\"
+";
+
+const FIRST_MASTER: &str = "#EXTM3U
+#EXT-X-VERSION:4
+#EXT-X-STREAM-INF:BANDWIDTH=1024,AVERAGE-BANDWIDTH=1024,CODECS=\"avc1.4d401e\",RESOLUTION=640x360
+v.m3u8
+#EXT-X-I-FRAME-STREAM-INF:BANDWIDTH=251,AVERAGE-BANDWIDTH=251,CODECS=\"avc1.4d401e\",RESOLUTION=640x360,URI=\"v.iframes.m3u8\"
+";
+
+/// The first text that isn't as wanted, by its kind.
+fn wrong_text(items: &[Item]) -> Option<&'static str> {
+    let Some(Item::Master { text }) = items.get(3) else {
+        return Some("no master playlist behind the first segment");
+    };
+    if text.as_str() != FIRST_MASTER {
+        return Some("first master");
+    }
+    if last_media(items) != MEDIA {
+        return Some("media");
+    }
+    if last_frames(items) != FRAMES {
+        return Some("I-frames");
+    }
+    if last_master(items) != MASTER {
+        return Some("master");
+    }
+    None
+}
+
+#[test]
+fn two_segments_in_pieces(rt: HostRuntime) -> Result<(), Fail> {
+    let stream = stream_of(rt.alloc(), TWO_SEGMENTS, Change::None)?;
+    let settings = settings(rt.alloc(), &["v"], 1, 1, CUT, 5)?;
+    for piece in [1, 188, 1000, 18_800] {
+        let Ran { answer: _, outlet } = run(
+            rt.alloc(),
+            &[&stream],
+            Ways { piece, ..WELL },
+            &settings,
+        )?;
+        let items = outlet.items();
+        assert_eq!(rt; wrong_text(items), None, "pieces of {piece}");
+        assert!(rt;
+            items.len() == 10 && are_sizes(items, &[768, 768]),
+            "pieces of {piece}"
+        );
+    }
+    Ok(())
+}
+
+#[test]
+fn a_report(rt: HostRuntime) -> Result<(), Fail> {
+    let stream = stream_of(rt.alloc(), TWO_SEGMENTS, Change::NoiseBefore)?;
+    let settings = settings(rt.alloc(), &["v"], 1, 1, CUT, 5)?;
+    let Ran { answer, outlet: _ } = run(rt.alloc(), &[&stream], WELL, &settings)?;
+    let report = answer?;
+    let numbers = (
+        report.counts.get(0),
+        report.micros.get(0),
+        report.peaks.get(0),
+        report.averages.get(0),
+        report.skipped.get(0),
+    );
+    assert!(rt;
+        numbers
+            == (
+                Some(&2),
+                Some(&9_040_000),
+                Some(&2022),
+                Some(&1360),
+                Some(&5)
+            )
+    );
+    assert_eq!(rt;
+        (report.workers.len(), report.own, report.thrown),
+        (0, 2, 0)
+    );
+    Ok(())
+}
