@@ -11,9 +11,30 @@ check_one() {
     check_one_options
     check_worked_inputs
     check_real_streams
+    check 'one: each allocation refused in turn' gives_a_beginning_without_memory
     # shellcheck disable=SC2034
     local options=("${one[@]:1}") unread='Read 0' unwritten=Outlet
     check_failing_ends one "$work/worked/standard.ts" "$work/repeated.big"
+}
+
+# Whichever allocation is refused, what is written is a beginning, and the whole where none is missed.
+gives_a_beginning_without_memory() {
+    local input=$work/worked/standard.ts number written told=0
+    cc -shared -fPIC -o "$work/refuse_memory.so" "$here/refuse_memory.c" -ldl || return
+    from "$input" writes "${one[@]}" || return
+    mv "$work/out" "$work/whole"
+    for number in {1..400}; do
+        local status=0
+        LD_PRELOAD=$work/refuse_memory.so REFUSED=$number "$program" "${one[@]}" <"$input" >"$work/out" 2>"$work/err" || status=$?
+        written=$(wc -c <"$work/out")
+        cmp -s -n "$written" "$work/out" "$work/whole" || { echo "allocation $number: not a beginning"; return 1; }
+        case "$status $(cat "$work/err")" in
+        '0 ') [ "$written" -eq "$(wc -c <"$work/whole")" ] || { echo "allocation $number: not the whole"; return 1; } ;;
+        '1 tshls: NoMemory' | '1 tshls: Outlet') told=$((told + 1)) ;;
+        *) echo "allocation $number: status $status, $(cat "$work/err")"; return 1 ;;
+        esac
+    done
+    [ $told -gt 100 ] || { echo "only $told allocations were refused"; return 1; }
 }
 
 # wanted COMMAND FILE OPTIONS..: what the script of that name makes of the file, under the options of one.
