@@ -5,3 +5,4 @@ pub mod Listed
 pub mod MediaTexts
 pub mod Progress
 pub mod Held
+pub mod Checks

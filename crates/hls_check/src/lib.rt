@@ -1,6 +1,7 @@
 //! Reading back of what a packager writes: media playlists to what they list, and sealed segments to their packets.
 #![tactic(auto)]
 
+mod checking;
 mod fault;
 mod head;
 mod laws;
@@ -14,8 +15,11 @@ mod reading;
 mod reading_tests;
 #[cfg(test)]
 mod tests;
+#[cfg(test)]
+mod text_tests;
 mod unpacking;
 
+pub use checking::{CheckFault, Checked, check};
 pub use fault::UnpackFault;
 pub use laws::{a_text_lists_one_playlist, segments_unpack_to_their_bodies};
 pub use list_fault::ListFault;

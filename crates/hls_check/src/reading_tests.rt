@@ -2,7 +2,8 @@ use crate::{ListFault, Listing, read_media};
 use std::alloc::Global;
 use std::test::Fail;
 
-const MEDIA: &str = "#EXTM3U
+/// The text that lists the segments of the standard stream.
+pub const MEDIA: &str = "#EXTM3U
 #EXT-X-VERSION:4
 #EXT-X-TARGETDURATION:6
 #EXT-X-MEDIA-SEQUENCE:0

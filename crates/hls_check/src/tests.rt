@@ -1,4 +1,5 @@
-use crate::{Entry, Listing, UnpackFault, unpack};
+use crate::reading_tests::MEDIA;
+use crate::{CheckFault, Checked, Entry, ListFault, Listing, UnpackFault, check, unpack};
 use aes_cbc::{Key, seal};
 use segment_job::vector;
 use std::alloc::{AllocError, Global};
@@ -184,5 +185,33 @@ fn a_head_has_a_good_section(rt: HostRuntime) -> Result<(), Fail> {
     segments.push(segment(alloc, &KEYS[0], 1, [PAT, BAD_PMT], SECOND)?)?;
     let told = unpack(alloc, &listing(alloc, 0)?, &segments, &KEYS).err();
     assert_eq!(rt; told, Some(UnpackFault::NoHead(1)));
+    Ok(())
+}
+
+#[test]
+fn a_playlist_and_its_segments(rt: HostRuntime) -> Result<(), Fail> {
+    let alloc = rt.alloc();
+    let mut segments = two_segments(alloc, &KEYS[0])?;
+    assert_eq!(rt;
+        check(alloc, MEDIA, &segments, &KEYS),
+        Ok(Checked {
+            segments: 2,
+            bytes: 752
+        })
+    );
+    assert_eq!(rt;
+        check(alloc, "", &segments, &KEYS),
+        Err(CheckFault::Text(ListFault::NotProfile(1)))
+    );
+    cut(&mut segments, 0);
+    assert_eq!(rt;
+        check(alloc, MEDIA, &segments, &KEYS),
+        Err(CheckFault::Segments(UnpackFault::Closed(0)))
+    );
+    segments.pop();
+    assert_eq!(rt;
+        check(alloc, MEDIA, &segments, &KEYS),
+        Err(CheckFault::Segments(UnpackFault::Missing(1)))
+    );
     Ok(())
 }

@@ -1,0 +1,71 @@
+//! Whether a playlist and its segments are whole.
+
+ghost use Rattle.std.specs.Prelude.{◌≡◌, map, IfOk, IfErr, MatchResult};
+ghost use Rattle.hls_check.specs.declared.checking.Checked as TheChecked;
+ghost use Rattle.hls_check.specs.declared.checking.CheckFault.TheVariants.{Text, Segments};
+ghost use Rattle.hls_check.specs.Checks.{AreWhole, IsFaulty, IsMemory};
+
+use crate::fault::UnpackFault;
+use crate::list_fault::ListFault;
+use crate::media_text::read_media;
+use crate::unpacking::unpack;
+use std::alloc::Global;
+use thiserror::Error;
+
+/// How many segments a playlist lists, and to how many bytes they unpack.
+#[derive(Clone, Copy, Debug, PartialEq, Eq)]
+pub struct Checked {
+    pub segments: usize,
+    pub bytes: usize,
+}
+
+/// Why a playlist and its segments aren't whole.
+#[derive(Clone, Copy, Debug, PartialEq, Eq, Error)]
+pub enum CheckFault {
+    /// The text is that of no playlist, or there was no memory for it.
+    #[error("{0}")]
+    Text(ListFault),
+    /// The segments of the playlist don't unpack, or there was no memory for them.
+    #[error("{0}")]
+    Segments(UnpackFault),
+}
+
+impl From<ListFault> for CheckFault {
+    ghost from_gives = { λ why fault. fault ≡ Text why };
+
+    fn from(why: ListFault) -> CheckFault {
+        CheckFault::Text(why)
+    }
+}
+
+impl From<UnpackFault> for CheckFault {
+    ghost from_gives = { λ why fault. fault ≡ Segments why };
+
+    fn from(why: UnpackFault) -> CheckFault {
+        CheckFault::Segments(why)
+    }
+}
+
+/// How many segments the playlist of this text lists, and to how many bytes they unpack. `segments` are the sealed bytes in
+/// the order of the entries, `keys` the keys of the rendition by their indexes. A text that isn't read is told before any
+/// fault of a segment.
+pub fn check(
+    alloc: Global,
+    text: &str,
+    segments: &[Vec<u8>],
+    keys: &[[u8; 16]],
+) -> Result<Checked, CheckFault>
+    ensures ok { IfOk result (AreWhole text.now (map (λ s. s.items) segments.now) keys.now) }
+
+    // Where they are whole, that is the answer, or there was no memory for it.
+    ensures whole { (c : TheChecked.Checked) → AreWhole text.now (map (λ s. s.items) segments.now) keys.now c
+        → MatchResult result (λ found. found ≡ c) IsMemory }
+    ensures err { IfErr result (IsFaulty text.now (map (λ s. s.items) segments.now) keys.now) }
+{
+    let listing = read_media(alloc, text)?;
+    let bytes = unpack(alloc, &listing, segments, keys)?;
+    Ok(Checked {
+        segments: listing.entries.len(),
+        bytes: bytes.len(),
+    })
+}
