@@ -10,8 +10,6 @@ mod key_list;
 mod ladder;
 mod numbers;
 mod one;
-#[cfg(test)]
-mod one_tests;
 mod open;
 mod output;
 mod packets;

@@ -17,9 +17,14 @@ const VECTOR: &str = "10013223544576679889baabdccdfeef";
 
 /// The key and the vector of those digits.
 fn options(alloc: Global) -> Result<CipherOptions, Fault> {
-    match line(alloc, &["tshls", "seal", "--key", KEY, "--iv", VECTOR])? {
-        Job::Seal(options) | Job::Open(options) => Ok(options),
-        Job::One(_) => Err(Fault::NoMemory),
+    let job = line(alloc, &["tshls", "seal", "--key", KEY, "--iv", VECTOR])?;
+    match job {
+        Job::Seal(options) => Ok(options),
+        Job::Open(options) => Ok(options),
+        Job::One(settings) => {
+            drop(settings);
+            Err(Fault::NoMemory)
+        }
     }
 }
 
