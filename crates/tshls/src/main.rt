@@ -10,6 +10,8 @@ mod key_list;
 mod ladder;
 mod numbers;
 mod one;
+#[cfg(test)]
+mod one_tests;
 mod open;
 mod output;
 mod packets;

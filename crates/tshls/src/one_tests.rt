@@ -1,0 +1,283 @@
+use crate::command_line::{Job, line};
+use crate::fault::Fault;
+use crate::one::one;
+use pipeline::{PackFault, Settings};
+use std::alloc::Global;
+use std::test::Fail;
+
+const KEY: &str = "000102030405060708090a0b0c0d0e0f";
+
+/// The settings of a command line that ends with these words.
+fn settings<'a>(alloc: Global, more: &[&'a str]) -> Result<Settings, Fault> {
+    let mut words: Vec<&'a str> = Vec::new(alloc);
+    words.extend_from_slice(&["tshls", "one", "--codecs", "avc1.4d401e"])?;
+    words.extend_from_slice(more)?;
+    one_of(line(alloc, words.as_slice())?)
+}
+
+/// The settings of the command `one`.
+fn one_of(job: Job) -> Result<Settings, Fault> {
+    match job {
+        Job::One(settings) => Ok(settings),
+        Job::Seal(options) => {
+            drop(options);
+            Err(Fault::NoMemory)
+        }
+        Job::Open(options) => {
+            drop(options);
+            Err(Fault::NoMemory)
+        }
+    }
+}
+
+/// The line that a command line with these words prints, and the status that it ends with.
+fn told(alloc: Global, more: &[&str]) -> Result<(String, u8), Fail> {
+    match settings(alloc, more) {
+        Ok(_) => Ok((String::new(alloc), 0)),
+        Err(fault) => Ok((format!(in alloc; "{fault}")?, fault.status())),
+    }
+}
+
+#[test]
+fn defaults(rt: HostRuntime) -> Result<(), Fail> {
+    let settings = settings(rt.alloc(), &["--size", "640x360", "--keys", KEY]).map_err(|_| "line")?;
+    assert_eq!(rt; settings.renditions.len(), 1);
+    let rendition = &settings.renditions[0];
+    assert_eq!(rt; rendition.name.as_str(), "v");
+    assert_eq!(rt; rendition.codecs.as_str(), "avc1.4d401e");
+    assert_eq!(rt; (rendition.width, rendition.height), (640, 360));
+    assert_eq!(rt; rendition.keys.index(7), 0);
+    assert_eq!(rt; settings.window, 5);
+    let cut = settings.cut;
+    assert_eq!(rt; (cut.target, cut.segment), (6, 540_000));
+    assert_eq!(rt; (cut.frame, cut.gap, cut.most), (3600, 900_000, 1_000_000));
+    assert!(rt; cut.program.is_none());
+    Ok(())
+}
+
+#[test]
+fn settings_of_options(rt: HostRuntime) -> Result<(), Fail> {
+    let keys = "000102030405060708090a0b0c0d0e0f+100102030405060708090A0B0C0D0E0F";
+    let words = [
+        "--size",
+        "+1x0007",
+        "--keys",
+        keys,
+        "--name",
+        "hd",
+        "--target",
+        "8",
+        "--segment",
+        "2",
+        "--window",
+        "3",
+        "--frame",
+        "4",
+        "--gap",
+        "5",
+        "--most",
+        "6",
+        "--period",
+        "2",
+        "--program",
+        "65535",
+    ];
+    let settings = settings(rt.alloc(), &words).map_err(|_| "line")?;
+    assert_eq!(rt; settings.renditions.len(), 1);
+    let rendition = &settings.renditions[0];
+    assert_eq!(rt; rendition.name.as_str(), "hd");
+    assert_eq!(rt; (rendition.width, rendition.height), (1, 7));
+    assert_eq!(rt; rendition.keys.index(1), 0);
+    assert_eq!(rt; rendition.keys.key(2)[0], 0x10);
+    assert_eq!(rt; settings.window, 3);
+    let cut = settings.cut;
+    assert_eq!(rt; (cut.target, cut.segment), (8, 180_000));
+    assert_eq!(rt; (cut.frame, cut.gap, cut.most), (4, 5, 6));
+    assert_eq!(rt; cut.program, Some(65_535));
+    Ok(())
+}
+
+#[test]
+fn a_target_gives_the_segment(rt: HostRuntime) -> Result<(), Fail> {
+    let words = ["--size", "1x1", "--keys", KEY, "--target", "8"];
+    let settings = settings(rt.alloc(), &words).map_err(|_| "line")?;
+    assert_eq!(rt; settings.cut.segment, 720_000);
+    Ok(())
+}
+
+#[test]
+fn refusals(rt: HostRuntime) -> Result<(), Fail> {
+    let table: [(&[&str], &str, u8); 9] = [
+        (&["--size", "1x1", "--keys", "00"], "tshls: BadKey\n", 2),
+        (&["--size", "1X1", "--keys", "00"], "tshls: BadKey\n", 2),
+        (&["--size", "1X1", "--keys", KEY], "tshls: BadSize\n", 2),
+        (&["--size", "1x1x1", "--keys", KEY], "tshls: BadSize\n", 2),
+        (
+            &["--size", "1X1", "--keys", KEY, "--period", "0"],
+            "tshls: BadSize\n",
+            2,
+        ),
+        (
+            &["--size", "1x1", "--keys", KEY, "--period", "0"],
+            "tshls: ZeroPeriod\n",
+            1,
+        ),
+        (
+            &[
+                "--size",
+                "1x1",
+                "--keys",
+                KEY,
+                "--period",
+                "0",
+                "--program",
+                "65536",
+            ],
+            "tshls: ZeroPeriod\n",
+            1,
+        ),
+        (
+            &["--size", "1x1", "--keys", KEY, "--program", "65536"],
+            "tshls: Settings\n",
+            1,
+        ),
+        (
+            &[
+                "--size",
+                "1x1",
+                "--keys",
+                KEY,
+                "--segment",
+                "204963823041218",
+            ],
+            "tshls: Settings\n",
+            1,
+        ),
+    ];
+    for (words, text, status) in table {
+        let told = told(rt.alloc(), words)?;
+        assert_eq!(rt; told.0.as_str(), text, "at {words:?}");
+        assert_eq!(rt; told.1, status, "at {words:?}");
+    }
+    Ok(())
+}
+
+#[test]
+fn too_many_keys(rt: HostRuntime) -> Result<(), Fail> {
+    let alloc = rt.alloc();
+    let mut keys = String::from_str(alloc, KEY)?;
+    for _ in 1..4096 {
+        keys.push_str("+")?;
+        keys.push_str(KEY)?;
+    }
+    assert_eq!(rt;
+        told(alloc, &["--size", "1x1", "--keys", keys.as_str()])?.1,
+        0
+    );
+    keys.push_str("+")?;
+    keys.push_str(KEY)?;
+    let words = ["--size", "1x1", "--keys", keys.as_str(), "--period", "0"];
+    assert_eq!(rt; told(alloc, &words)?.0.as_str(), "tshls: TooMany\n");
+    Ok(())
+}
+
+/// A packet that begins with these bytes; FF stands behind them.
+fn packet(front: &[u8]) -> [u8; 188] {
+    let mut packet = [0xFF; 188];
+    for (to, from) in packet.iter_mut().zip(front) {
+        *to = *from;
+    }
+    packet
+}
+
+/// The first packet of a frame with this stamp; a key frame has random access.
+fn frame(key_frame: bool, counter: u8, stamp: [u8; 5]) -> [u8; 188] {
+    let mut at = 4;
+    let mut packet = packet(&[0x47, 0x41, 0x00, 0x10 | counter]);
+    if key_frame {
+        packet[3] = 0x30 | counter;
+        packet[4] = 1;
+        packet[5] = 0x40;
+        at = 6;
+    }
+    let begin = [
+        0, 0, 1, 0xE0, 0, 0, 0x80, 0x80, 5, stamp[0], stamp[1], stamp[2], stamp[3], stamp[4],
+    ];
+    for (i, byte) in begin.iter().enumerate() {
+        packet[at + i] = *byte;
+    }
+    packet
+}
+
+/// Tables, and key frames at 0 and 6 seconds, each with a frame 3 seconds behind.
+fn standard_stream(alloc: Global) -> Result<Vec<u8>, Fail> {
+    let pat = [
+        0x47, 0x40, 0x00, 0x10, 0x00, 0x00, 0xB0, 0x0D, 0x00, 0x01, 0xC1, 0x00, 0x00, 0x00, 0x01,
+        0xF0, 0x00, 0x2A, 0xB1, 0x04, 0xB2,
+    ];
+    let pmt = [
+        0x47, 0x50, 0x00, 0x10, 0x00, 0x02, 0xB0, 0x12, 0x00, 0x01, 0xC1, 0x00, 0x00, 0xE1, 0x00,
+        0xF0, 0x00, 0x1B, 0xE1, 0x00, 0xF0, 0x00, 0x15, 0xBD, 0x4D, 0x56,
+    ];
+    let mut stream = Vec::new(alloc);
+    stream.extend_from_slice(&packet(&pat))?;
+    stream.extend_from_slice(&packet(&pmt))?;
+    stream.extend_from_slice(&frame(true, 0, [0x21, 0x00, 0x01, 0x00, 0x01]))?;
+    stream.extend_from_slice(&frame(false, 1, [0x21, 0x00, 0x11, 0x3D, 0x61]))?;
+    stream.extend_from_slice(&frame(true, 2, [0x21, 0x00, 0x21, 0x7A, 0xC1]))?;
+    stream.extend_from_slice(&frame(false, 3, [0x21, 0x00, 0x31, 0xB8, 0x21]))?;
+    Ok(stream)
+}
+
+#[test]
+fn ten_items(rt: HostRuntime) -> Result<(), Fail> {
+    let alloc = rt.alloc();
+    let settings = settings(alloc, &["--size", "640x360", "--keys", KEY]).map_err(|_| "line")?;
+    let stream = standard_stream(alloc)?;
+    let packed = one(alloc, &settings, stream.as_slice(), Vec::new(alloc));
+    assert!(rt; packed.answer.is_ok());
+    assert!(rt; packed.input.is_empty());
+    let text = String::from_utf8(packed.output).map_err(|_| "not UTF-8")?;
+    let wanted = [
+        "segment v.0.ts 768",
+        "media v.m3u8 8",
+        "frames v.iframes.m3u8 10",
+        "master master.m3u8 5",
+        "segment v.1.ts 768",
+        "media v.m3u8 10",
+        "frames v.iframes.m3u8 14",
+        "master master.m3u8 5",
+        "media v.m3u8 11",
+        "frames v.iframes.m3u8 15",
+    ];
+    let mut found = 0;
+    for line in text.lines() {
+        if line.starts_with("segment ")
+            || line.starts_with("media ")
+            || line.starts_with("frames ")
+            || line.starts_with("master ")
+        {
+            assert!(rt; found < 10);
+            assert_eq!(rt; line, wanted[found]);
+            found += 1;
+        }
+    }
+    assert_eq!(rt; found, 10);
+    Ok(())
+}
+
+#[test]
+fn no_program(rt: HostRuntime) -> Result<(), Fail> {
+    let alloc = rt.alloc();
+    let settings = settings(alloc, &["--size", "640x360", "--keys", KEY]).map_err(|_| "line")?;
+    let empty: &[u8] = &[];
+    let packed = one(alloc, &settings, empty, Vec::new(alloc));
+    assert!(rt; packed.output.is_empty());
+    let Err(fault) = packed.answer else {
+        return Err(Fail::from("packed"));
+    };
+    assert_eq!(rt; fault, PackFault::NoProgram(0));
+    let told = format!(in alloc; "{}", Fault::from(fault))?;
+    assert_eq!(rt; told.as_str(), "tshls: NoProgram 0\n");
+    Ok(())
+}
