@@ -1,6 +1,6 @@
 //! The head of a segment (RFC 8216, 3.2).
 
-ghost use Rattle.std.specs.Prelude.{◌≡◌, ◌+◌, ◌<◌, ◌^◌, ◌++◌, ◌/◌, true, length, IfOk, OnOk};
+ghost use Rattle.std.specs.Prelude.{◌≡◌, ◌+◌, ◌<◌, ◌^◌, ◌++◌, ◌/◌, true, length, IfOk, OnOk, OnErr};
 ghost use Rattle.psi_tables.specs.Head.{head, packet_count, packets, stuffed, section_packets};
 
 use crate::crc::crc_32;
@@ -56,19 +56,23 @@ pub fn pat_section(stream_id: u16, program: u16, pmt_pid: u16) -> [u8; 16]
 }
 
 /// Appends the packets of a PID that carry one section, without adaptation fields (ISO/IEC 13818-1, 2.4.4). The counter is
-/// the continuity_counter of the first, modulo 16.
+/// the continuity_counter of the first, modulo 16. A refusal leaves the bytes as they were.
 pub fn append_section(
     bytes: &mut Vec<u8>,
     pid: u16,
     counter: u8,
     section: &[u8],
 ) -> Result<(), AllocError>
-    ensures { OnOk result (bytes.new.items ≡ bytes.old.items ++ section_packets pid counter section.now) }
+    ensures packets { OnOk result (bytes.new.items ≡ bytes.old.items ++ section_packets pid counter section.now) }
+    ensures err { OnErr result (bytes.new.items ≡ bytes.old.items) }
 {
-    let mut carried = Vec::new(*bytes.allocator());
+    let alloc = *bytes.allocator();
+    let mut carried = Vec::new(alloc);
     carried.push(0)?;
     carried.extend_from_slice(section)?;
-    append_packets(bytes, pid, counter, &carried)
+    let mut packets = Vec::new(alloc);
+    append_packets(&mut packets, pid, counter, &carried)?;
+    bytes.append(&mut packets)
 }
 
 /// Appends packets of a PID that carry these bytes, the first with payload_unit_start_indicator.
