@@ -32,12 +32,16 @@ impl Model for Keys {
 }
 
 impl Debug for Keys {
+    ghost use Rattle.std.specs.Prelude.{Some, length};
+    ghost use Rattle.segment_job.specs.Printed.{printed_keys};
+
+    ghost debug_output = { λ k. Some (printed_keys (length k.keys) k.period) };
+
     /// How many they are, and their period: a key is not to be printed.
     fn fmt<W: Write>(&self, f: &mut Formatter<W>) -> fmt::Result {
-        f.debug_struct("Keys")
-            .field("count", &self.keys.len())
-            .field("period", &self.period)
-            .finish_non_exhaustive()
+        let count = self.keys.len();
+        let period = self.period;
+        write!(f, "Keys {{ count: {count}, period: {period}, .. }}")
     }
 }
 

@@ -40,12 +40,20 @@ impl Model for Sealed {
 }
 
 impl Debug for Sealed {
+    ghost use Rattle.std.specs.Prelude.{Some};
+    ghost use Rattle.segment_job.specs.Printed.{printed_segment};
+
+    ghost debug_output = { λ s. Some (printed_segment s.plan.rendition s.plan.number) };
+
     /// Its rendition and its number: a key is not to be printed.
     fn fmt<W: Write>(&self, f: &mut Formatter<W>) -> fmt::Result {
-        f.debug_struct("Sealed")
-            .field("rendition", &self.plan.rendition)
-            .field("number", &self.plan.number)
-            .finish_non_exhaustive()
+        let plan = self.plan();
+        let rendition = plan.rendition;
+        let number = plan.number;
+        write!(
+            f,
+            "Sealed {{ rendition: {rendition}, number: {number}, .. }}"
+        )
     }
 }
 
