@@ -1,13 +1,14 @@
 -- The plans of a stream only grow.
-use Rattle.std.proofs.Common.{◌≡◌, ◌∙◌, ℕ, suc, ◌+◌, ◌≤◌, Bool, true, false, List, [], ◌∷◌, ◌++◌, length, Option, Some, None, is_none, if◌then◌else◌, refl, ap, sym, subst, arith}
-use Rattle.std.proofs.lemmas.List.{append-nil, append_assoc, length-append}
+use Rattle.std.proofs.Common.{◌≡◌, ◌∙◌, ℕ, suc, ◌+◌, ◌≤◌, Bool, true, false, List, [], ◌∷◌, ◌++◌, length, take, drop, Option, Some, None, is_none, if◌then◌else◌, refl, ap, sym, subst, arith}
+use Rattle.std.specs.Prelude.{Result, Ok, Err, OnErr}
+use Rattle.std.proofs.lemmas.List.{append-nil, append_assoc, length-append, take-append-drop}
 use Rattle.cutter.specs.declared.settings.CutSettings.{CutSettings}
 use Rattle.cutter.specs.declared.fault.CutFault.{CutFault}
 use Rattle.cutter.specs.declared.fault.CutFault.TheVariants.{Limit}
 use Rattle.cutter.specs.Plans.{SegmentPlan}
 use Rattle.cutter.specs.Stream.{Fact, facts, facts_from}
 use Rattle.cutter.specs.Points.{mark, counted, top_after}
-use Rattle.cutter.specs.Cuts.{Cuts, uncut, made, faulted, step, placed, cut_from, cuts, closed, plans, fault, last_plan, IsFront}
+use Rattle.cutter.specs.Cuts.{Cuts, uncut, made, faulted, step, placed, cut_from, cuts, closed, plans, fault, last_plan, IsFront, GivesFront}
 use Rattle.cutter.specs.Held.{taken}
 use Rattle.cutter.specs.Tied.{held}
 use Rattle.cutter.proofs.Facts.{facts_from-append}
@@ -73,3 +74,22 @@ closed-grow r s ps more =
 pub closed-begin : (r : ℕ) (s : CutSettings) (ps : List (List ℕ)) → IsFront (closed r s ps) (plans r s ps)
 unfolding plans
 closed-begin r s ps = ((if is_none (fault r s ps) then last_plan r s (cuts r s ps).going else []), refl)
+
+-- the plans that some of the packets close
+front-at : (r : ℕ) (s : CutSettings) (ps : List (List ℕ)) (i : ℕ) (old new : List SegmentPlan) →
+    new ≡ old ++ closed r s (take i ps) → GivesFront r s ps old new
+front-at r s ps i old new so_far =
+    let all : IsFront (closed r s (take i ps)) (closed r s ps)
+    = subst (λ (list : List (List ℕ)). IsFront (closed r s (take i ps)) (closed r s list)) (take-append-drop i ps) (closed-grow r s (take i ps) (drop i ps)) in
+    let begin = closed-begin r s ps in
+    record {
+      given = closed r s (take i ps);
+      grown = so_far;
+      front = (all.0 ++ begin.0, begin.1 ∙ ap (λ list. list ++ begin.0) all.1 ∙ append_assoc (closed r s (take i ps)) all.0 begin.0);
+    }
+
+-- they are given, whatever is answered
+pub front-given : {T E : Type 0} (result : Result T E) (r : ℕ) (s : CutSettings) (ps : List (List ℕ)) (i : ℕ) (old new : List SegmentPlan) →
+    new ≡ old ++ closed r s (take i ps) → OnErr result (GivesFront r s ps old new)
+front-given (Ok x) r s ps i old new so_far = tt
+front-given (Err e) r s ps i old new so_far = front-at r s ps i old new so_far

@@ -130,3 +130,9 @@ pub record Gives (r : ℕ) (s : CutSettings) (ps : List (List ℕ)) (told : CutF
 -- some plans are a beginning of others
 abbrev pub IsFront : List SegmentPlan → List SegmentPlan → Type 0
 IsFront front whole = (rest : List SegmentPlan) × (whole ≡ front ++ rest)
+
+-- some plans behind those that were there, which are a beginning of the stream's
+pub record GivesFront (r : ℕ) (s : CutSettings) (ps : List (List ℕ)) (old new : List SegmentPlan) : Type 0 where
+  pub given : List SegmentPlan
+  pub grown : new ≡ old ++ given
+  pub front : IsFront given (plans r s ps)
