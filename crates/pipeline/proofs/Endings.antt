@@ -72,9 +72,10 @@ module _ (X : Type 0) (left : X → Option (List ℕ)) (fails reads : X → ℕ)
   -- each rendition came to its end, or had all its reads
   pub world-halted : (rounds : ℕ) (before now : List X) (lanes : List Lane) (shown : List Shown) (x y : Held → Type 0) (r : ℕ) (lane : Lane)
       → slice_get lanes r ≡ Some lane
+      → ((k : ℕ) (earlier : Lane) → k < r → slice_get lanes k ≡ Some earlier → told_of k earlier.stop ≡ None)
       → ((k : ℕ) (lane : Lane) → slice_get lanes k ≡ Some lane → lane.stop ≡ None → rounds ≡ 2 ^ 40)
       → IsAllowed ladder → World left fails reads ladder rounds 0 before now lanes shown x y → HasHalted left fails reads ladder before now x y r lane.stop
-  world-halted rounds before now lanes shown x y r lane f limit allowed w = record {
+  world-halted rounds before now lanes shown x y r lane f good limit allowed w = record {
     streams = w.streams;
     parts = parts-of ladder w.events;
     items = blocks ladder (none_of ladder) w.events;
@@ -95,6 +96,9 @@ module _ (X : Type 0) (left : X → Option (List ℕ)) (fails reads : X → ℕ)
         omega (arith, taken, turns, all)) u);
     within = some-at before r (omega (arith, slice_get_within lanes r lane f, w.same_before, w.same_lanes));
     at_r = stop-of lanes r lane f;
+    first = λ k below.
+        let m = some-at lanes k (omega (arith, below, slice_get_within lanes r lane f)) in
+        ap (told_of k) (stop-of lanes k m.0 m.1) ∙ good k m.0 below m.1;
   }
 
   -- each rendition came to its good end

@@ -1,5 +1,5 @@
 -- How a run ends, and what it has given then.
-use Rattle.std.specs.Prelude.{◌≡◌, ℕ, ◌+◌, ◌^◌, ◌≤◌, ◌⊎◌, List, [], length, map, sum, Option, Some, None, slice_get}
+use Rattle.std.specs.Prelude.{◌≡◌, ℕ, ◌+◌, ◌^◌, ◌<◌, ◌≤◌, ◌⊎◌, List, [], length, map, sum, Option, Some, None, slice_get}
 use Rattle.std.specs.Io.KnownBytes.{Consumes, IsAtEnd}
 use Rattle.aes_cbc.specs.Block.{AreBytes}
 use Rattle.bandwidth.specs.Peaks.{peak_of, average_of}
@@ -73,27 +73,6 @@ pub record IsLeft {X : Type 0} (left : X → Option (List ℕ)) (fails reads : X
   pub says : SourceSays left fails k ladder.cut stream stop a b
   pub limit : stop ≡ None → reads b ≡ reads a + 2 ^ 40
 
--- Each rendition went to its end, rendition r to this one: the items put are a weave of what each gives by its end.
-pub record HasHalted {X : Type 0} (left : X → Option (List ℕ)) (fails reads : X → ℕ) (ladder : Ladder) (before now : List X) (old new : Held → Type 0) (r : ℕ) (stop : Option Stop) : Type 0 where
-  pub streams : List (List ℕ)
-  pub parts : List Part
-  pub items : List ItemValue
-  pub stops : ℕ → Option Stop
-  pub allowed : IsAllowed ladder
-  pub weave : Weaves ladder parts items
-  pub grows : Grows old new items
-  pub same_now : length now ≡ length before
-  pub each : (k : ℕ) (a b : X) → slice_get before k ≡ Some a → slice_get now k ≡ Some b →
-      IsLeft left fails reads ladder k a b (stops k) (stream_at streams k) (part_at parts k)
-  pub within : (a : X) × (slice_get before r ≡ Some a)
-  pub at_r : stops r ≡ stop
-
--- nothing was read or put, since the settings aren't allowed or the inputs aren't as many
-pub record IsRefused {X : Type 0} (ladder : Ladder) (before now : List X) (old new : Held → Type 0) : Type 0 where
-  pub refused : (IsAllowed ladder × (length before ≡ length ladder.renditions)) → ⊥
-  pub unread : now ≡ before
-  pub unput : Grows old new []
-
 -- the fault that a stream's fault is told by
 abbrev pub told_of_cut : ℕ → CutFault → PackFault
 told_of_cut r HasNoProgram = NoProgram r
@@ -110,6 +89,29 @@ told_of r None = Some (ReadLimit r)
 told_of r (Some (Good gone)) = None
 told_of r (Some (Cut told)) = Some (told_of_cut r told)
 told_of r (Some ReadFailed) = Some (Read r)
+
+-- Each rendition went to its end, rendition r to this one, and each before it to a good end: the items put are a weave of
+-- what each gives by its end.
+pub record HasHalted {X : Type 0} (left : X → Option (List ℕ)) (fails reads : X → ℕ) (ladder : Ladder) (before now : List X) (old new : Held → Type 0) (r : ℕ) (stop : Option Stop) : Type 0 where
+  pub streams : List (List ℕ)
+  pub parts : List Part
+  pub items : List ItemValue
+  pub stops : ℕ → Option Stop
+  pub allowed : IsAllowed ladder
+  pub weave : Weaves ladder parts items
+  pub grows : Grows old new items
+  pub same_now : length now ≡ length before
+  pub each : (k : ℕ) (a b : X) → slice_get before k ≡ Some a → slice_get now k ≡ Some b →
+      IsLeft left fails reads ladder k a b (stops k) (stream_at streams k) (part_at parts k)
+  pub within : (a : X) × (slice_get before r ≡ Some a)
+  pub at_r : stops r ≡ stop
+  pub first : (k : ℕ) → k < r → told_of k (stops k) ≡ None
+
+-- nothing was read or put, since the settings aren't allowed or the inputs aren't as many
+pub record IsRefused {X : Type 0} (ladder : Ladder) (before now : List X) (old new : Held → Type 0) : Type 0 where
+  pub refused : (IsAllowed ladder × (length before ≡ length ladder.renditions)) → ⊥
+  pub unread : now ≡ before
+  pub unput : Grows old new []
 
 -- how many bytes lay in no packet, where a rendition came to its good end
 abbrev pub gone_of : Option Stop → ℕ

@@ -1,4 +1,4 @@
-ghost use Rattle.std.specs.Prelude.{◌≡◌, ◌≢◌, ℕ, Option, Some, None, true, slice_get, IfSome};
+ghost use Rattle.std.specs.Prelude.{◌≡◌, ◌≢◌, ◌<◌, ℕ, Option, Some, None, true, false, slice_get, IfSome};
 ghost use Rattle.pipeline.specs.declared.turn.Lane.{Lane};
 ghost use Rattle.pipeline.specs.Packed.{told_of, told_of_cut};
 
@@ -9,7 +9,8 @@ use cutter::CutFault;
 
 /// Whether no rendition goes on.
 pub fn have_stopped(lanes: &[Lane]) -> bool
-    ensures { result ≡ true → (k : ℕ) (lane : Lane) → slice_get lanes.now k ≡ Some lane → lane.stop ≢ None }
+    ensures all { result ≡ true → (k : ℕ) (lane : Lane) → slice_get lanes.now k ≡ Some lane → lane.stop ≢ None }
+    ensures some { result ≡ false → (k : ℕ) × (lane : Lane) × (slice_get lanes.now k ≡ Some lane) × (lane.stop ≡ None) }
 {
     for lane in lanes {
         if lane.stop.is_none() {
@@ -22,7 +23,8 @@ pub fn have_stopped(lanes: &[Lane]) -> bool
 /// The first standing fault, if not each rendition came to its good end. One that goes on has had all its reads.
 pub fn standing(lanes: &[Lane]) -> Option<PackFault>
     ensures none { result ≡ None → (k : ℕ) (lane : Lane) → slice_get lanes.now k ≡ Some lane → told_of k lane.stop ≡ None }
-    ensures some { IfSome result (λ fault. (r : ℕ) × (lane : Lane) × (slice_get lanes.now r ≡ Some lane) × (told_of r lane.stop ≡ Some fault)) }
+    ensures some { IfSome result (λ fault. (r : ℕ) × (lane : Lane) × (slice_get lanes.now r ≡ Some lane) × (told_of r lane.stop ≡ Some fault)
+        × ((k : ℕ) (earlier : Lane) → k < r → slice_get lanes.now k ≡ Some earlier → told_of k earlier.stop ≡ None)) }
 {
     for r in 0..lanes.len() {
         if let Some(fault) = told(r, lanes[r].stop) {

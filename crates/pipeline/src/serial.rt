@@ -26,8 +26,8 @@ const READS: u64 = 1 << 40;
 /// Goes in turn over the renditions that aren't at their end, with one read of at most 18,800 bytes each. For each
 /// segment it puts the segment, the media playlist and the I-frame playlist of its rendition, and the master playlist;
 /// at a rendition's good end both playlists with an end. A fault of an input ends its rendition alone; the others go on
-/// to their ends, and then the fault is told, or one of several. After a failed put, and for want of memory, the run
-/// stops at once.
+/// to their ends, and then the fault is told, of several that of the first rendition. After a failed put, and for want
+/// of memory, the run stops at once.
 pub fn pack_serial<S: Source, O: Outlet>(
     alloc: Global,
     sources: &mut Vec<S>,

@@ -34,7 +34,8 @@ returns-in-Some-clause-fault g c =
     let ok = c.in_ok-turns.ensures.ok in
     let some = c.in-Some.ensures.some in
     halted-says _ _ g.S.Source.failures g.S.Source.reads _ _ _ _ _ _ _ some.0 some.1.stop c.in-Some.fault some.3
-    (world-halted _ _ _ _ _ ok.0 _ _ _ _ _ _ some.0 some.1 (ap (λ lanes. slice_get lanes some.0) (sym c.deref.ensures.value) ∙ some.2) ok.3 allowed.0 ok.2)
+    (world-halted _ _ _ _ _ ok.0 _ _ _ _ _ _ some.0 some.1 (ap (λ lanes. slice_get lanes some.0) (sym c.deref.ensures.value) ∙ some.2)
+    (λ k earlier below at. some.4 k earlier below (ap (λ lanes. slice_get lanes k) c.deref.ensures.value ∙ at)) ok.3 allowed.0 ok.2)
     (world-stop _ _ _ _ _ _ _ _ _ _ _ _ _ allowed.0 ok.2) c.in_ok-turns.ensures.failures
 
 pub report_of-requires-clause-each : goal.report_of-requires-clause-each

@@ -7,7 +7,7 @@ use Rattle.pipeline.proofs.serial.turns.Goals as goal
 
 pub returns-then-have_stopped-clause-ok : goal.returns-then-have_stopped-clause-ok
 returns-then-have_stopped-clause-ok g c =
-    (c.loop.counter, omega (arith, c.loop-test.true), c.loop.invariant.world, λ k lane at none. absurd (c.if-have_stopped.ensures refl k lane (ap (λ lanes. slice_get lanes k) c.deref.ensures.value ∙ at) none))
+    (c.loop.counter, omega (arith, c.loop-test.true), c.loop.invariant.world, λ k lane at none. absurd (c.if-have_stopped.ensures.all refl k lane (ap (λ lanes. slice_get lanes k) c.deref.ensures.value ∙ at) none))
 
 pub turn-requires-clause-reads : goal.turn-requires-clause-reads
 turn-requires-clause-reads g c =
