@@ -1,6 +1,6 @@
 //! The texts of sealed segments.
 
-ghost use Rattle.std.specs.Prelude.{◌≡◌, ◌<◌, ℕ, List, map, length, IfOk, IfErr, MatchOption};
+ghost use Rattle.std.specs.Prelude.{◌≡◌, ◌<◌, ℕ, List, map, length, IfOk, IfErr, OnErr, MatchOption};
 ghost use Rattle.aes_cbc.specs.Opening.{Seals};
 ghost use Rattle.hls_check.specs.Unpacking.{packed, IsThere, IsOpen, IsFirstWithout, OfAll};
 ghost use Rattle.hls_check.specs.Texts.{AreTexts, IsNoText, IsTheText, OpensAlone};
@@ -66,16 +66,17 @@ fn open_entry(
     open_segment(alloc, &key, &vector(entry.number), &segments[i])
 }
 
-/// The text of a sealed segment, if there is one.
+/// The text of a sealed segment, if there is one. Only such a text wants memory.
 fn open_segment(
     alloc: Global,
     key: &[u8; 16],
     vector: &[u8; 16],
     sealed: &[u8],
 ) -> Result<Option<Vec<u8>>, AllocError>
-    ensures { IfOk result (λ found. MatchOption found
+    ensures found { IfOk result (λ found. MatchOption found
         ((text : List ℕ) → ¬ Seals key.now vector.now text sealed.now)
         (λ text. IsTheText key.now vector.now sealed.now text.items)) }
+    ensures memory { OnErr result ((text : List ℕ) × Seals key.now vector.now text sealed.now) }
 {
     match open(alloc, &Key::new(*key), vector, sealed) {
         Ok(text) => Ok(Some(text)),

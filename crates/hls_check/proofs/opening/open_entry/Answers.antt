@@ -18,4 +18,4 @@ returns c =
     (ap (λ (e : Entry). get_or c.args.keys.now e.key []) entry)
     (c.vector.ensures ∙ ap (λ (e : Entry). vector e.number) entry)
     (c.deref.ensures.value ∙ items_at c.args.segments.now c.index-segments-i.result c.args.i lt c.index-segments-i.is) is)
-    c.open_segment.ensures
+    c.open_segment.ensures.found
