@@ -157,7 +157,7 @@ event-each : (parts : List Part) (e : Event) → length (after parts e) ≡ leng
 event-each parts (Row q p) = length-set parts q (grown (part_at parts q) p)
 event-each parts (End q) = length-set parts q (closed_part (part_at parts q))
 
-events-each : (parts : List Part) (events : List Event) → length (after_all parts events) ≡ length parts
+pub events-each : (parts : List Part) (events : List Event) → length (after_all parts events) ≡ length parts
 unfolding after_all
 events-each parts [] = refl
 events-each parts (e ∷ events) = events-each (after parts e) events ∙ event-each parts e

@@ -1,5 +1,5 @@
 //! What is seen in the items that a run gives, in the words of one rendition and of a master playlist.
-ghost use Rattle.std.specs.Prelude.{◌≡◌, ◌∷◌, ◌++◌, [], ℕ, List};
+ghost use Rattle.std.specs.Prelude.{◌≡◌, ◌∷◌, ◌++◌, [], ℕ, List, length};
 ghost use Rattle.item_io.specs.Items.{ItemValue, SegmentValue, SegmentItem, MasterItem};
 ghost use Rattle.pipeline.specs.Ladder.{Ladder};
 ghost use Rattle.pipeline.specs.Items.{Part, part_at, items_of};
@@ -11,6 +11,12 @@ ghost use Rattle.pipeline.specs.Seen.{of_rendition, BeginsRow, EndsRow};
 pub fn each_rendition_is_seen_alone()
     ensures { (ladder : Ladder) (parts : List Part) (items : List ItemValue) (r : ℕ) → Weaves ladder parts items →
         of_rendition r items ≡ items_of ladder r (part_at parts r) }
+{}
+
+/// A weave has one part for each rendition.
+pub fn each_rendition_has_a_part()
+    ensures { (ladder : Ladder) (parts : List Part) (items : List ItemValue) → Weaves ladder parts items →
+        length parts ≡ length ladder.renditions }
 {}
 
 /// In a weave each segment stands right before the playlists behind it and a master playlist of all that was given up to

@@ -1,9 +1,10 @@
 //! What the segments of a rendition carry, and how a player opens them.
-ghost use Rattle.std.specs.Prelude.{◌≡◌, ◌∷◌, ◌++◌, All, None, ℕ, List, map};
+ghost use Rattle.std.specs.Prelude.{◌≡◌, ◌∷◌, ◌++◌, All, None, Some, ℕ, List, map, slice_get};
 ghost use Rattle.aes_cbc.specs.Block.{AreBytes};
 ghost use Rattle.ts_packet.specs.Packets.{packets};
 ghost use Rattle.cutter.specs.declared.settings.CutSettings.{CutSettings};
 ghost use Rattle.cutter.specs.Plans.{SegmentPlan};
+ghost use Rattle.cutter.specs.Ordered.{IsPlan};
 ghost use Rattle.item_io.specs.Items.{ItemValue, SegmentValue, SegmentItem};
 ghost use Rattle.pipeline.specs.Ladder.{Ladder, IsAllowed};
 ghost use Rattle.pipeline.specs.Items.{Part, part_at, segment_item};
@@ -33,6 +34,16 @@ pub fn each_segment_opens_as_listed()
     media_playlist::listed_rows_suffice();
     ts_packet::packets_are_at_their_positions();
     plans_of_bytes_can_be_sealed();
+}
+
+/// Plan n of a stream of bytes is that of segment n: it has that number, and a body, a duration and I-frames within the
+/// limits of its rendition.
+pub fn plans_of_bytes_are_in_order()
+    ensures { (r : ℕ) (s : CutSettings) (stream : List ℕ) (n : ℕ) (plan : SegmentPlan) →
+        slice_get (plans_of r s stream) n ≡ Some plan → IsPlan r s n plan }
+{
+    cutter::plans_are_in_order();
+    ts_packet::packets_are_at_their_positions();
 }
 
 /// Each plan of a stream of bytes can be sealed: its tables can be sent in a head, and its segment is made of bytes.

@@ -1,4 +1,5 @@
 //! Streams of one rendition: what is given of each, and the fault that is told.
+use crate::back::first_lost;
 use crate::run::{CUT, Ran, WELL, Ways, are_sizes, last_frames, last_media, run, settings, values};
 use crate::stream::Video::{Key, Other};
 use crate::stream::{Change, TWO_SEGMENTS, Video, stream_of};
@@ -263,6 +264,9 @@ fn wrong(alloc: Global, case: &Case, items: &[Item]) -> Result<Option<&'static s
     }
     if values(alloc, last_frames(items), case.iframes.0)?.as_str() != case.iframes.1 {
         return Ok(Some("I-frames"));
+    }
+    if first_lost(alloc, items, 0, &[[0; 16]])?.is_some() {
+        return Ok(Some("segments"));
     }
     Ok(None)
 }

@@ -1,0 +1,132 @@
+-- The listing of the rows of some plans, and what its segments unpack to.
+use Rattle.std.proofs.Common.{◌≡◌, ◌∙◌, ℕ, zero, suc, ◌+◌, ◌-◌, ◌*◌, ◌/◌, ◌<◌, ◌≤◌, Bool, false, List, [], ◌∷◌, ◌++◌, map, length, drop, get_or, Some, slice_get, refl, ap, sym, subst, arith}
+use Rattle.std.proofs.lemmas.List.{length-map}
+use Rattle.std.proofs.lemmas.Option.{get_or_from_slice_get}
+use Rattle.aes_cbc.specs.Chain.{sealed_text}
+use Rattle.psi_tables.specs.Head.{head}
+use Rattle.cutter.specs.declared.settings.CutSettings.{CutSettings}
+use Rattle.cutter.specs.Plans.{SegmentPlan}
+use Rattle.cutter.specs.Ordered.{IsPlan}
+use Rattle.cutter.specs.Segments.{seconds}
+use Rattle.segment_job.specs.Vectors.{vector}
+use Rattle.segment_job.specs.Rotation.{KeyRotation, IsRotation, key_index, key_of}
+use Rattle.segment_job.specs.Segments.{plain, sealed_segment}
+use Rattle.playlist_text.specs.MediaLines.{Entry, Listing, listing_lines}
+use Rattle.media_playlist.specs.Rows.{SegmentRow}
+use Rattle.media_playlist.specs.Listed.{Pushed, first, first_listed, listed, removed, discontinuity_count}
+use Rattle.media_playlist.specs.Lines.{entry_of, unless_empty, media_lines}
+use Rattle.pipeline.specs.Rows.{row_of, rows_of}
+use Rattle.pipeline.specs.Openings.{IsOfBytes}
+use Rattle.hls_check.specs.Unpacking.{packed, entry_at, bytes_at, Unpacks, AllUnpack}
+use Rattle.hls_check.specs.MediaTexts.{AreListed}
+use Rattle.rows.proofs.Places.{item-at, mapped-at}
+
+-- what a window lists
+abbrev pub listing_of : Pushed → Bool → Listing
+listing_of pushed ended = record {
+  name = pushed.name;
+  target = pushed.target;
+  sequence = first pushed;
+  discontinuity_sequence = discontinuity_count (removed pushed);
+  entries = map entry_of (listed pushed);
+  ended = ended;
+}
+
+unless-some : (rows : List SegmentRow) (lines : List (List ℕ)) → 0 < length rows → unless_empty rows lines ≡ lines
+unless-some [] lines some = absurd (omega (arith, some))
+unless-some (row ∷ rows) lines some = refl
+
+pub lines-are : (pushed : Pushed) (ended : Bool) → 0 < length pushed.rows → media_lines pushed ended ≡ listing_lines (listing_of pushed ended)
+unfolding media_lines
+lines-are pushed ended some = unless-some pushed.rows (listing_lines (listing_of pushed ended)) some
+
+by-place : (j n window : ℕ) → 1 ≤ window → 0 < n → (0 < j → window ≤ n - j) → j < n
+by-place zero n window one some many = some
+by-place (suc j) n window one some many = let few : window ≤ n - suc j = many (omega arith) in omega (arith, few, one)
+
+-- some row is listed
+pub some-listed : (target window : ℕ) (rows : List SegmentRow) → (0 < first_listed target window rows → window ≤ length (drop (first_listed target window rows) rows))
+    → length (drop (first_listed target window rows) rows) ≡ length rows - first_listed target window rows → 1 ≤ window → 0 < length rows → first_listed target window rows < length rows
+some-listed target window rows many left one some =
+    by-place (first_listed target window rows) (length rows) window one some (λ below. omega (arith, many below, left))
+
+-- the index of a key is that of one
+turn-below : (keys : KeyRotation) (n : ℕ) → IsRotation keys → key_index keys n < length keys.keys
+turn-below keys n is = let some = is.some in omega (arith, some)
+
+-- the plans are those of segments from number n on
+abbrev pub AreFrom : ℕ → CutSettings → ℕ → List SegmentPlan → Type 0
+AreFrom r cut n plans = (i : ℕ) (plan : SegmentPlan) → slice_get plans i ≡ Some plan → IsPlan r cut (n + i) plan
+
+abbrev pub Rounds : Type 0
+Rounds = (ticks : ℕ) → seconds ticks ≡ ((200 * ticks + 9) / 18 + 500000) / 1000000
+
+pub listed-on : Rounds → (r : ℕ) (cut : CutSettings) (keys : KeyRotation) (n : ℕ) (plans : List SegmentPlan) → IsRotation keys → 0 < cut.frame
+    → AreFrom r cut n plans → AreListed cut.target n (map entry_of (rows_of keys plans))
+unfolding row_of
+listed-on rounds r cut keys n [] rotation frame are = tt
+listed-on rounds r cut keys n (plan ∷ plans) rotation frame are =
+    let is = are 0 plan refl in
+    let lasts = is.lasts frame in
+    let turn = turn-below keys plan.number rotation in
+    let few = rotation.few in (
+      record {
+        number = omega (arith, is.number);
+        below = omega (arith, is.below);
+        key = omega (arith, turn, few);
+        lasts = omega (arith, lasts);
+        short = omega (arith, is.short, rounds plan.ticks);
+      },
+      listed-on rounds r cut keys (n + 1) plans rotation frame (λ i p at. let next : n + suc i ≡ n + 1 + i = omega arith in subst (λ k. IsPlan r cut k p) next (are (suc i) p at)),
+    )
+
+-- the sealed bytes of a plan's segment
+abbrev pub bytes_of : KeyRotation → SegmentPlan → List ℕ
+bytes_of keys plan = sealed_text (key_of keys plan.number) (vector plan.number) (plain plan)
+
+abbrev no_entry : Entry
+no_entry = record { number = 0; key = 0; micros = 0; discontinuity = false }
+
+unpack-one : (keys : KeyRotation) (plans : List SegmentPlan) (i : ℕ) (plan : SegmentPlan) → IsRotation keys → slice_get plans i ≡ Some plan → i < length plans → IsOfBytes plan
+    → Unpacks (packed (map entry_of (rows_of keys plans)) (map (bytes_of keys) plans) keys.keys) i (get_or (map (λ p. p.body) plans) i [])
+unfolding row_of
+unpack-one keys plans i plan rotation at below of =
+    let rows = rows_of keys plans in
+    let row = row_of keys (sealed_segment keys plan) in
+    let p = packed (map entry_of rows) (map (bytes_of keys) plans) keys.keys in
+    let entry : entry_at p i ≡ entry_of row =
+    get_or_from_slice_get (map entry_of rows) i (entry_of row) no_entry (mapped-at entry_of rows i row (mapped-at (λ x. row_of keys (sealed_segment keys x)) plans i plan at)) in
+    let bytes : bytes_at p i ≡ bytes_of keys plan = get_or_from_slice_get (map (bytes_of keys) plans) i (bytes_of keys plan) [] (mapped-at (bytes_of keys) plans i plan at) in
+    let body : get_or (map (λ (x : SegmentPlan). x.body) plans) i [] ≡ plan.body = get_or_from_slice_get (map (λ (x : SegmentPlan). x.body) plans) i plan.body [] (mapped-at (λ (x : SegmentPlan). x.body) plans i plan at) in
+    record {
+      there = record {
+        segment = omega (arith, below, length-map plans (bytes_of keys));
+        key = subst (λ (e : Entry). e.key < length keys.keys) (sym entry) (turn-below keys plan.number rotation);
+      };
+      text = plain plan;
+      opens = record {
+        bytes = of.bytes;
+        sealed = bytes ∙ ap (λ (e : Entry). sealed_text (get_or keys.keys e.key []) (vector e.number) (plain plan)) (sym entry);
+      };
+      begins = record {
+        tables = plan.tables;
+        pat_counter = plan.pat_counter;
+        pmt_counter = plan.pmt_counter;
+        sendable = of.tables;
+        whole = ap (λ l. head plan.tables plan.pat_counter plan.pmt_counter ++ l) (sym body);
+      };
+    }
+
+pub unpack-all : (keys : KeyRotation) (plans : List SegmentPlan) → IsRotation keys → ((i : ℕ) (plan : SegmentPlan) → slice_get plans i ≡ Some plan → IsOfBytes plan)
+    → AllUnpack (packed (map entry_of (rows_of keys plans)) (map (bytes_of keys) plans) keys.keys) (map (λ p. p.body) plans)
+unpack-all keys plans rotation of =
+    let long = length-map plans (λ (p : SegmentPlan). p.body) in
+    let rows = length-map plans (λ p. row_of keys (sealed_segment keys p)) in
+    let entries = length-map (rows_of keys plans) entry_of in
+    record {
+      each_one = omega (arith, long, rows, entries);
+      unpacks = λ i lt.
+          let below : i < length plans = omega (arith, lt, long) in
+          let at = item-at plans i below in
+          unpack-one keys plans i at.0 rotation at.1 below (of i at.0 at.1);
+    }

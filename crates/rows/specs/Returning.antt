@@ -1,0 +1,46 @@
+-- What was packed comes back, by its media playlists.
+use Rattle.std.specs.Prelude.{◌≡◌, ℕ, ◌<◌, List, [], map, length, take, drop}
+use Rattle.std.specs.Str.{IsUtf8}
+use Rattle.cutter.specs.Plans.{SegmentPlan}
+use Rattle.segment_job.specs.Rotation.{IsRotation}
+use Rattle.playlist_text.specs.MediaLines.{Listing}
+use Rattle.item_io.specs.Items.{ItemValue, PlaylistValue, SegmentItem, MediaItem, FramesItem, MasterItem}
+use Rattle.pipeline.specs.Ladder.{RenditionValue, Ladder, rendition_at}
+use Rattle.pipeline.specs.Streams.{plans_of}
+use Rattle.pipeline.specs.Listings.{segments_of}
+use Rattle.hls_check.specs.Unpacking.{packed, AllUnpack}
+use Rattle.hls_check.specs.MediaTexts.{IsListing, listing_text}
+
+-- a rendition as its type makes it: its name is text, and its keys take turns
+pub record IsMade (rendition : RenditionValue) : Type 0 where
+  pub name : IsUtf8 rendition.name
+  pub keys : IsRotation rendition.keys
+
+-- so is each rendition of a ladder
+abbrev pub AreMade : Ladder → Type 0
+AreMade ladder = (r : ℕ) → r < length ladder.renditions → IsMade (rendition_at ladder r)
+
+-- the sealed bytes of a segment
+abbrev pub sealed_bytes : ItemValue → List ℕ
+sealed_bytes (SegmentItem s) = s.bytes
+sealed_bytes (MediaItem p) = []
+sealed_bytes (FramesItem p) = []
+sealed_bytes (MasterItem text) = []
+
+-- the sealed bytes of the segments of rendition r, in order
+abbrev pub sealed_of : ℕ → List ItemValue → List (List ℕ)
+sealed_of r items = map sealed_bytes (segments_of r items)
+
+-- The media playlist is the text of a listing of its rendition. The segments that it lists stand before it: of all those of
+-- the rendition the last ones, from the playlist's media sequence on. Under the rendition's keys they unpack to the bodies
+-- of the same plans of the stream.
+pub record ComesBack (ladder : Ladder) (streams : ℕ → List ℕ) (front : List ItemValue) (media : PlaylistValue) : Type 0 where
+  pub listing : Listing
+  pub sound : IsListing listing
+  pub text_is : media.text ≡ listing_text listing
+  pub name_is : listing.name ≡ media.name
+  pub ended_is : listing.ended ≡ media.ended
+  pub all_before : length (segments_of media.rendition front) ≡ media.count
+  pub plans : List SegmentPlan
+  pub plans_are : plans ≡ drop listing.sequence (take media.count (plans_of media.rendition ladder.cut (streams media.rendition)))
+  pub unpack : AllUnpack (packed listing.entries (drop listing.sequence (sealed_of media.rendition front)) (rendition_at ladder media.rendition).keys.keys) (map (λ plan. plan.body) plans)

@@ -1,0 +1,193 @@
+//! What is packed is read back.
+use crate::run::{CUT, Ran, WELL, last_media, run, settings};
+use crate::stream::Video::{Key, Other};
+use crate::stream::{Change, stream_of};
+use hls_check::{Entry, ListFault, Listing, check, read_media};
+use item_io::Item;
+use std::alloc::{AllocError, Global};
+use std::test::Fail;
+
+/// Whether the segments that a playlist lists, of all those so far, unpack.
+fn comes_back(
+    alloc: Global,
+    text: &str,
+    segments: &[Vec<u8>],
+    keys: &[[u8; 16]],
+) -> Result<bool, AllocError> {
+    let Ok(listing) = read_media(alloc, text) else {
+        return Ok(false);
+    };
+    let Some(listed) = segments.get(listing.sequence as usize..) else {
+        return Ok(false);
+    };
+    match check(alloc, text, listed, keys) {
+        Ok(checked) => Ok(checked.segments == listing.entries.len()),
+        Err(_) => Ok(false),
+    }
+}
+
+/// The place of the first media playlist of rendition r that isn't read back, or whose segments don't unpack.
+pub fn first_lost(
+    alloc: Global,
+    items: &[Item],
+    r: usize,
+    keys: &[[u8; 16]],
+) -> Result<Option<usize>, AllocError> {
+    let mut segments = Vec::new(alloc);
+    for (place, item) in items.iter().enumerate() {
+        match item {
+            Item::Segment {
+                rendition,
+                bytes,
+                ..
+            } if *rendition == r => {
+                let mut copy = Vec::new(alloc);
+                copy.extend_from_slice(bytes)?;
+                segments.push(copy)?;
+            }
+            Item::Media {
+                rendition,
+                text,
+                ..
+            } if *rendition == r => {
+                if !comes_back(alloc, text, &segments, keys)? {
+                    return Ok(Some(place));
+                }
+            }
+            _ => {}
+        }
+    }
+    Ok(None)
+}
+
+/// The lines of an entry behind one with this key.
+fn entry_lines(
+    alloc: Global,
+    name: &str,
+    before: Option<u64>,
+    entry: &Entry,
+) -> Result<String, AllocError> {
+    let mut lines = String::new(alloc);
+    if entry.discontinuity {
+        lines.push_str("#EXT-X-DISCONTINUITY\n")?;
+    }
+    if before != Some(entry.key) {
+        let key = entry.key;
+        lines.push_str(format!(in alloc;
+            "#EXT-X-KEY:METHOD=AES-128,URI=\"{name}.{key}.key\"\n"
+        )?.as_str())?;
+    }
+    let seconds = entry.micros / 1_000_000;
+    let rest = entry.micros % 1_000_000;
+    let number = entry.number;
+    lines.push_str(format!(in alloc;
+        "#EXTINF:{seconds}.{rest:06},\n{name}.{number}.ts\n"
+    )?.as_str())?;
+    Ok(lines)
+}
+
+/// The text of a playlist whose name needs no escapes.
+fn written(alloc: Global, listing: &Listing) -> Result<String, AllocError> {
+    let mut text = String::from_str(alloc, "#EXTM3U\n#EXT-X-VERSION:4\n")?;
+    let target = listing.target;
+    let sequence = listing.sequence;
+    let count = listing.discontinuity_sequence;
+    text.push_str(format!(in alloc; "#EXT-X-TARGETDURATION:{target}\n")?.as_str())?;
+    text.push_str(format!(in alloc; "#EXT-X-MEDIA-SEQUENCE:{sequence}\n")?.as_str())?;
+    text.push_str(format!(in alloc; "#EXT-X-DISCONTINUITY-SEQUENCE:{count}\n")?.as_str())?;
+    let mut before = None;
+    for entry in &listing.entries {
+        text.push_str(entry_lines(alloc, &listing.name, before, entry)?.as_str())?;
+        before = Some(entry.key);
+    }
+    if listing.ended {
+        text.push_str("#EXT-X-ENDLIST\n")?;
+    }
+    Ok(text)
+}
+
+/// Whether a text is refused, or read as what it says.
+fn has_one_meaning(alloc: Global, text: &[u8]) -> Result<bool, AllocError> {
+    let Ok(text) = str::from_utf8(text) else {
+        return Ok(true);
+    };
+    match read_media(alloc, text) {
+        Ok(listing) => Ok(written(alloc, &listing)?.as_str() == text),
+        Err(ListFault::NotProfile(_)) => Ok(true),
+        Err(ListFault::NoMemory) => Err(AllocError),
+    }
+}
+
+/// The first byte of a text that may be changed so that the text is read as another.
+fn first_changed(alloc: Global, text: &str) -> Result<Option<usize>, AllocError> {
+    let mut bytes = Vec::new(alloc);
+    bytes.extend_from_slice(text.as_bytes())?;
+    for i in 0..bytes.len() {
+        for change in [1, 2, 4, 8, 16, 32, 64] {
+            bytes[i] ^= change;
+            let one = has_one_meaning(alloc, &bytes)?;
+            bytes[i] ^= change;
+            if !one {
+                return Ok(Some(i));
+            }
+        }
+    }
+    Ok(None)
+}
+
+/// A text in which one line comes so many times.
+fn with_line(alloc: Global, text: &str, line: usize, times: usize) -> Result<String, AllocError> {
+    let mut changed = String::new(alloc);
+    for (n, part) in text.split_inclusive('\n').enumerate() {
+        let count = if n == line { times } else { 1 };
+        for _ in 0..count {
+            changed.push_str(part)?;
+        }
+    }
+    Ok(changed)
+}
+
+/// The first line of a text that may be left out or doubled so that the text is read as another.
+fn first_doubled(alloc: Global, text: &str) -> Result<Option<usize>, AllocError> {
+    for line in 0..text.lines().count() {
+        for times in [0, 2] {
+            let changed = with_line(alloc, text, line, times)?;
+            if !has_one_meaning(alloc, changed.as_bytes())? {
+                return Ok(Some(line));
+            }
+        }
+    }
+    Ok(None)
+}
+
+/// The last playlist of a stream with a jump of time, whose two keys take turns.
+fn playlist(alloc: Global) -> Result<String, Fail> {
+    let frames = [
+        Key(0),
+        Key(540_000),
+        Other(810_000),
+        Key(90_000_000),
+        Key(90_540_000),
+        Other(90_900_000),
+    ];
+    let stream = stream_of(alloc, &frames, Change::None)?;
+    let settings = settings(alloc, &["v"], 2, 2, CUT, 5)?;
+    let Ran { answer: _, outlet } = run(alloc, &[&stream], WELL, &settings)?;
+    let items = outlet.items();
+    if first_lost(alloc, items, 0, &[[0; 16], [1; 16]])?.is_some() {
+        return Err(Fail::from("lost"));
+    }
+    Ok(String::from_str(alloc, last_media(items))?)
+}
+
+#[test]
+fn a_changed_playlist_has_one_meaning(rt: HostRuntime) -> Result<(), Fail> {
+    let alloc = rt.alloc();
+    let text = playlist(alloc)?;
+    let listing = read_media(alloc, &text)?;
+    assert_eq!(rt; written(alloc, &listing)?.as_str(), text.as_str());
+    assert_eq!(rt; (listing.entries.len(), listing.ended), (4, true));
+    assert_eq!(rt; first_changed(alloc, &text)?, None);
+    assert_eq!(rt; first_doubled(alloc, &text)?, None);
+    Ok(())
+}
