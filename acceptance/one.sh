@@ -243,6 +243,7 @@ check_lines() {
     rm -rf "$work/served"
     check "one: $name: the files" from "$work/out" python3 "$here/unfold.py" "$work/served" v "$key+$second_key"
     check "one: $name: openssl opens the accepted packets" opens_accepted "$input" "${one_by_two_keys[@]}" "$@"
+    check_served "$name"
 }
 
 opens_accepted() {

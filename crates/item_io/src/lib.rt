@@ -22,6 +22,7 @@ mod writing;
 pub use failing_outlet::FailingOutlet;
 pub use failing_reader::FailingReader;
 pub use fault::{OutletFault, ReadFault};
+pub use file_name::push_segment_file_name;
 pub use folder_outlet::FolderOutlet;
 pub use item::Item;
 pub use laws::{lines_of_given_items_are_written, parts_are_never_served};

@@ -1,10 +1,10 @@
 -- What faults stand for.
-use Rattle.std.specs.Prelude.{◌≡◌, ℕ}
+use Rattle.std.specs.Prelude.{◌≡◌, ◌⊎◌, ℕ}
 use Rattle.aes_cbc.specs.declared.fault.OpenFault.{OpenFault}
 use Rattle.aes_cbc.specs.declared.fault.OpenFault.TheVariants as opening
 use Rattle.pipeline.specs.declared.fault.PackFault.TheVariants.{Settings}
 use Rattle.tshls.specs.declared.fault.Fault.{Fault}
-use Rattle.tshls.specs.declared.fault.Fault.TheVariants.{Usage, NotUtf8, BadKey, BadVector, BadSize, TooMany, ZeroPeriod, BadHex, NotBlocks, BadPadding, Unread, ReadLimit, Unwritten, Packing, NoMemory}
+use Rattle.tshls.specs.declared.fault.Fault.TheVariants.{Usage, NotUtf8, BadKey, BadVector, BadSize, TooMany, ZeroPeriod, BadHex, NotBlocks, BadPadding, Unread, ReadLimit, Unwritten, Packing, Checking, NoMemory}
 
 -- the status that the process ends with
 abbrev pub status_of : Fault → ℕ
@@ -22,6 +22,7 @@ status_of Unread = 1
 status_of ReadLimit = 1
 status_of Unwritten = 1
 status_of (Packing fault) = 1
+status_of (Checking fault) = 1
 status_of NoMemory = 1
 
 -- a refused command line, or want of memory: nothing was read or written
@@ -40,6 +41,7 @@ IsOfCommandLine Unread = ⊥
 IsOfCommandLine ReadLimit = ⊥
 IsOfCommandLine Unwritten = ⊥
 IsOfCommandLine (Packing fault) = fault ≡ Settings
+IsOfCommandLine (Checking fault) = ⊥
 IsOfCommandLine NoMemory = Unit {0}
 
 -- what may end the reading of an input
@@ -58,6 +60,7 @@ IsOfReading Unread = Unit {0}
 IsOfReading ReadLimit = Unit {0}
 IsOfReading Unwritten = ⊥
 IsOfReading (Packing fault) = ⊥
+IsOfReading (Checking fault) = ⊥
 IsOfReading NoMemory = Unit {0}
 
 -- what the program tells of a sealed text that doesn't open
@@ -82,4 +85,9 @@ IsOfRendition Unread = ⊥
 IsOfRendition ReadLimit = ⊥
 IsOfRendition Unwritten = ⊥
 IsOfRendition (Packing fault) = ⊥
+IsOfRendition (Checking fault) = ⊥
 IsOfRendition NoMemory = Unit {0}
+
+-- a file couldn't be read, for this reason, or there was no memory for it
+abbrev pub IsRefusal : Type 0 → Fault → Type 0
+IsRefusal Reason fault = ((fault ≡ Unread) × Reason) ⊎ (fault ≡ NoMemory)

@@ -1,5 +1,5 @@
 -- A packager's settings on the command line.
-use Rattle.std.specs.Prelude.{◌≡◌, ℕ, ◌*◌, ◌<◌, ◌≤◌, ◌^◌, List, [], ◌∷◌, map, Some}
+use Rattle.std.specs.Prelude.{◌≡◌, ℕ, ◌*◌, ◌<◌, ◌≤◌, ◌^◌, List, [], ◌∷◌, map, length, Some}
 use Rattle.std.specs.Option.{unwrap_or}
 use Rattle.cutter.specs.declared.settings.CutSettings.{CutSettings}
 use Rattle.pipeline.specs.Ladder.{Ladder, RenditionValue}
@@ -27,6 +27,10 @@ cut_of numbers = record {
   frame = numbers.frame;
   most = numbers.most;
 }
+
+-- keys that may take turns by this period
+abbrev pub TakeTurns : List (List ℕ) → ℕ → Type 0
+TakeTurns keys period = (length keys ≤ 4096) × (0 < period)
 
 -- a rendition of these words, whose keys take turns by this period
 pub record IsRenditionOf (name codecs size keys : List ℕ) (turns : ℕ) (made : RenditionValue) : Type 0 where

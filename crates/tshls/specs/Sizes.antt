@@ -19,3 +19,7 @@ behind_x text = after_first (λ b. b == 120) text
 pub record IsSize (text : List ℕ) (width height : ℕ) : Type 0 where
   pub width_is : IsNumber (before_x text) width
   pub height_is : IsNumber (behind_x text) height
+
+-- the text is a size
+abbrev pub HasSize : List ℕ → Type 0
+HasSize text = (width : ℕ) × (height : ℕ) × IsSize text width height

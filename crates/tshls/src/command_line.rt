@@ -2,6 +2,7 @@
 ghost use Rattle.std.specs.Prelude.{IfErr};
 ghost use Rattle.tshls.specs.Faults.{IsOfCommandLine};
 
+use crate::check_options::{CheckOptions, check_options, with_check_options};
 use crate::cipher_options::{CipherOptions, read_cipher_options};
 use crate::fault::Fault;
 use crate::packing_options::{one_settings, with_rendition, with_settings};
@@ -20,6 +21,8 @@ pub enum Job {
     Open(CipherOptions),
     /// Reads a transport stream and writes its segments and playlists as lines.
     One(Settings),
+    /// Reads a playlist and its segments and tells whether they unpack.
+    Check(CheckOptions),
 }
 
 /// The job that the words of a command line ask for, the program's name first. No fault of the command line comes
@@ -33,6 +36,7 @@ pub fn line<'a, S: AsStr>(alloc: Global, words: &'a [S]) -> Result<Job, Fault>
         Some(("seal", options)) => return Ok(Job::Seal(cipher_options(options)?)),
         Some(("open", options)) => return Ok(Job::Open(cipher_options(options)?)),
         Some(("one", options)) => return Ok(Job::One(one_settings(alloc, options)?)),
+        Some(("check", options)) => return Ok(Job::Check(check_options(alloc, options)?)),
         _ => {}
     }
     Err(Fault::from(command.error(ErrorKind::MissingSubcommand, "a command is wanted")?))
@@ -55,13 +59,17 @@ fn program<'a>(alloc: Global) -> Result<Command<'a>, AllocError> {
     let one = Command::new(alloc, "one").about(
         "Read a transport stream, and print its segments, sealed, and its playlists as lines",
     );
+    let check = Command::new(alloc, "check").about(
+        "Read a media playlist and the segments beside it, and print how many bytes they unpack to",
+    );
     Command::new(alloc, "tshls")
         .about("MPEG-2 transport streams to encrypted HLS")
         .subcommand_required(true)
         .arg_required_else_help(true)
         .subcommand(with_cipher_options(alloc, seal)?)?
         .subcommand(with_cipher_options(alloc, open)?)?
-        .subcommand(with_settings(alloc, with_rendition(alloc, one)?)?)
+        .subcommand(with_settings(alloc, with_rendition(alloc, one)?)?)?
+        .subcommand(with_check_options(alloc, check)?)
 }
 
 fn with_cipher_options<'a>(alloc: Global, command: Command<'a>) -> Result<Command<'a>, AllocError> {

@@ -1,6 +1,7 @@
 ghost use Rattle.std.specs.Prelude.{◌≡◌};
 
 use aes_cbc::OpenFault;
+use hls_check::{CheckFault, ListFault, UnpackFault};
 use pipeline::PackFault;
 use std::alloc::{AllocError, AllocFailed};
 use std::fmt;
@@ -36,6 +37,8 @@ pub enum Fault {
     Unwritten,
     /// A stream wasn't packed to its end; where it is Settings, nothing was read.
     Packing(PackFault),
+    /// A playlist isn't one, or its segments don't unpack.
+    Checking(CheckFault),
     /// Memory was refused.
     NoMemory,
 }
@@ -60,6 +63,8 @@ impl fmt::Display for Fault {
         let name = match self {
             Fault::Usage(error) => return write!(f, "{error}"),
             Fault::Packing(fault) => return write_packing(f, *fault),
+            Fault::Checking(CheckFault::Text(fault)) => return write_unlisted(f, *fault),
+            Fault::Checking(CheckFault::Segments(fault)) => return write_unpacked(f, *fault),
             Fault::NotUtf8 => "NotUtf8",
             Fault::BadKey => "BadKey",
             Fault::BadVector => "BadVector",
@@ -92,6 +97,24 @@ fn write_packing<W: fmt::Write>(f: &mut fmt::Formatter<W>, fault: PackFault) -> 
         PackFault::Outlet => writeln!(f, "tshls: Outlet"),
         PackFault::NoMemory => writeln!(f, "tshls: NoMemory"),
         PackFault::Held(r, n) => writeln!(f, "tshls: Held {r} {n}"),
+    }
+}
+
+/// The line of what isn't a playlist: the number of its first wrong line.
+fn write_unlisted<W: fmt::Write>(f: &mut fmt::Formatter<W>, fault: ListFault) -> fmt::Result {
+    match fault {
+        ListFault::NotProfile(line) => writeln!(f, "tshls: NotProfile {line}"),
+        ListFault::NoMemory => writeln!(f, "tshls: NoMemory"),
+    }
+}
+
+/// The line of segments that don't unpack: the place of the first such entry, counted from 0.
+fn write_unpacked<W: fmt::Write>(f: &mut fmt::Formatter<W>, fault: UnpackFault) -> fmt::Result {
+    match fault {
+        UnpackFault::Missing(i) => writeln!(f, "tshls: Missing {i}"),
+        UnpackFault::Closed(i) => writeln!(f, "tshls: Closed {i}"),
+        UnpackFault::NoHead(i) => writeln!(f, "tshls: NoHead {i}"),
+        UnpackFault::NoMemory => writeln!(f, "tshls: NoMemory"),
     }
 }
 
@@ -149,5 +172,26 @@ impl From<PackFault> for Fault {
 
     fn from(error: PackFault) -> Fault {
         Fault::Packing(error)
+    }
+}
+
+impl From<ListFault> for Fault {
+    ghost use Rattle.tshls.specs.declared.fault.Fault.TheVariants.{Checking};
+    ghost use Rattle.hls_check.specs.declared.checking.CheckFault.TheVariants.{Text};
+
+    ghost from_gives = { λ error fault. fault ≡ Checking (Text error) };
+
+    fn from(error: ListFault) -> Fault {
+        Fault::Checking(CheckFault::Text(error))
+    }
+}
+
+impl From<CheckFault> for Fault {
+    ghost use Rattle.tshls.specs.declared.fault.Fault.TheVariants.{Checking};
+
+    ghost from_gives = { λ error fault. fault ≡ Checking error };
+
+    fn from(error: CheckFault) -> Fault {
+        Fault::Checking(error)
     }
 }

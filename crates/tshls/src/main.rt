@@ -1,9 +1,14 @@
 //! tshls: MPEG-2 transport streams to encrypted HLS.
 #![tactic(auto)]
 
+mod check;
+mod check_options;
+#[cfg(test)]
+mod check_tests;
 mod cipher_options;
 mod command_line;
 mod fault;
+mod files;
 mod frame_size;
 mod input;
 mod key_list;
@@ -20,6 +25,7 @@ mod seal;
 #[cfg(test)]
 mod tests;
 
+use crate::check::check;
 use crate::command_line::{Job, line};
 use crate::fault::Fault;
 use crate::one::{Packed, one};
@@ -57,6 +63,13 @@ fn run(rt: &HostRuntime) -> Result<(), Fault> {
             let Packed { answer, .. } = one(rt.alloc(), &settings, rt.stdin(), rt.stdout());
             Ok(answer?)
         }
+        Job::Check(options) => check(
+            rt.alloc(),
+            rt,
+            &options.keys,
+            &options.playlist,
+            &mut rt.stdout(),
+        ),
     }
 }
 

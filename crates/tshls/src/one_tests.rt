@@ -8,7 +8,7 @@ use std::test::Fail;
 const KEY: &str = "000102030405060708090a0b0c0d0e0f";
 
 /// The settings of a command line that ends with these words.
-fn settings<'a>(alloc: Global, more: &[&'a str]) -> Result<Settings, Fault> {
+pub fn settings<'a>(alloc: Global, more: &[&'a str]) -> Result<Settings, Fault> {
     let mut words: Vec<&'a str> = Vec::new(alloc);
     words.extend_from_slice(&["tshls", "one", "--codecs", "avc1.4d401e"])?;
     words.extend_from_slice(more)?;
@@ -24,6 +24,10 @@ fn one_of(job: Job) -> Result<Settings, Fault> {
             Err(Fault::NoMemory)
         }
         Job::Open(options) => {
+            drop(options);
+            Err(Fault::NoMemory)
+        }
+        Job::Check(options) => {
             drop(options);
             Err(Fault::NoMemory)
         }
@@ -210,7 +214,7 @@ fn frame(key_frame: bool, counter: u8, stamp: [u8; 5]) -> [u8; 188] {
 }
 
 /// Tables, and key frames at 0 and 6 seconds, each with a frame 3 seconds behind.
-fn standard_stream(alloc: Global) -> Result<Vec<u8>, Fail> {
+pub fn standard_stream(alloc: Global) -> Result<Vec<u8>, Fail> {
     let pat = [
         0x47, 0x40, 0x00, 0x10, 0x00, 0x00, 0xB0, 0x0D, 0x00, 0x01, 0xC1, 0x00, 0x00, 0x00, 0x01,
         0xF0, 0x00, 0x2A, 0xB1, 0x04, 0xB2,

@@ -52,6 +52,7 @@ pub fn open<R: Read, W: Write>(
     ensures bad_hex { IsErrOf result Fault.BadHex → ReadsOther (R.remaining input.old) (R.remaining input.new) }
     ensures not_blocks { IsErrOf result Fault.NotBlocks → ReadsNoBlocks (R.remaining input.old) (R.remaining input.new) }
     ensures bad_padding { IsErrOf result Fault.BadPadding → ReadsNoSealed key.now vector.now (R.remaining input.old) (R.remaining input.new) }
+    ensures other { IfErr result (λ fault. fault ≢ Fault.Unwritten → fault ≢ Fault.BadHex → fault ≢ Fault.NotBlocks → fault ≢ Fault.BadPadding → IsOfReading fault) }
     ensures untouched { IfErr result (λ fault. fault ≢ Fault.Unwritten → output.new ≡ output.old) }
 {
     let line = read_all(alloc, input)?;

@@ -64,6 +64,16 @@ fn put_digits<W: Write>(output: &mut W, bytes: &[u8]) -> Result<(), Fault>
     put(output, digits)
 }
 
+/// Writes a whole text and flushes it. Where a write fails, a beginning of it was written.
+pub fn write_all<W: Write>(output: &mut W, text: &[u8]) -> Result<(), Fault>
+    ensures ok { OnOk result (Appends (W.contents output.old) (W.contents output.new) text.now) }
+    ensures fault { IfErr result (λ fault. fault ≡ Fault.Unwritten) }
+    ensures err { OnErr result (WritesBeginning (W.contents output.old) (W.contents output.new) text.now) }
+{
+    put(output, text)?;
+    output.flush().map_err(|_| Fault::Unwritten)
+}
+
 /// Writes bytes as one line of lower-case hex digits. Where a write fails, a beginning of that line was written.
 pub fn write_hex_line<W: Write>(output: &mut W, bytes: &[u8]) -> Result<(), Fault>
     ensures ok { OnOk result (Appends (W.contents output.old) (W.contents output.new) (hex_line bytes.now)) }

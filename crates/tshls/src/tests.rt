@@ -25,6 +25,10 @@ fn options(alloc: Global) -> Result<CipherOptions, Fault> {
             drop(settings);
             Err(Fault::NoMemory)
         }
+        Job::Check(options) => {
+            drop(options);
+            Err(Fault::NoMemory)
+        }
     }
 }
 
@@ -241,6 +245,74 @@ fn a_failed_write_leaves_a_beginning(rt: HostRuntime) -> Result<(), Fail> {
         );
         assert_eq!(rt; output.taken.len(), room);
         assert!(rt; whole.starts_with(&output.taken), "with room for {room}");
+    }
+    Ok(())
+}
+
+/// A reader and a writer whose first calls are interrupted, so many times.
+#[derive(Drop)]
+struct Interrupted<'a> {
+    bytes: &'a [u8],
+    reads: u32,
+    writes: u32,
+    flushes: bool,
+}
+
+impl Read for Interrupted<'_> {
+    fn read(&mut self, buf: &mut [u8]) -> io::Result<usize> {
+        if self.reads > 0 {
+            self.reads -= 1;
+            return Err(io::Error::from(ErrorKind::Interrupted));
+        }
+        self.bytes.read(buf)
+    }
+}
+
+impl Write for Interrupted<'_> {
+    fn write(&mut self, buf: &[u8]) -> io::Result<usize> {
+        if self.writes > 0 {
+            self.writes -= 1;
+            return Err(io::Error::from(ErrorKind::Interrupted));
+        }
+        Ok(buf.len())
+    }
+
+    fn flush(&mut self) -> io::Result<()> {
+        if self.flushes {
+            return Ok(());
+        }
+        Err(io::Error::from(ErrorKind::StorageFull))
+    }
+}
+
+#[test]
+fn interrupted_calls_are_made_again(rt: HostRuntime) -> Result<(), Fail> {
+    let table = [
+        (65_535, 65_535, true, ""),
+        (65_536, 0, true, "tshls: Unread\n"),
+        (0, 65_536, true, "tshls: Unwritten\n"),
+        (0, 0, false, "tshls: Unwritten\n"),
+    ];
+    let packet = key_frame();
+    for (reads, writes, flushes, wanted) in table {
+        let mut input = Interrupted {
+            bytes: &packet,
+            reads,
+            writes: 0,
+            flushes,
+        };
+        let mut output = Interrupted {
+            bytes: &[],
+            reads: 0,
+            writes,
+            flushes,
+        };
+        let key = Key::new([0; 16]);
+        let text = match seal(rt.alloc(), &key, &[0; 16], &mut input, &mut output) {
+            Ok(()) => String::new(rt.alloc()),
+            Err(fault) => format!(in rt.alloc(); "{fault}")?,
+        };
+        assert_eq!(rt; text.as_str(), wanted);
     }
     Ok(())
 }
