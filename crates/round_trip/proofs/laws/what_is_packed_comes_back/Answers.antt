@@ -1,5 +1,5 @@
-use Rattle.rows.proofs.Returning.{comes-back}
-use Rattle.rows.proofs.laws.what_is_packed_comes_back.Goals as goal
+use Rattle.round_trip.proofs.Returning.{comes-back}
+use Rattle.round_trip.proofs.laws.what_is_packed_comes_back.Goals as goal
 
 pub returns : goal.returns
 returns c =

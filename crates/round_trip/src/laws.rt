@@ -5,7 +5,7 @@ ghost use Rattle.pipeline.specs.Ladder.{Ladder, IsAllowed};
 ghost use Rattle.pipeline.specs.Items.{Part};
 ghost use Rattle.pipeline.specs.Weave.{Weaves};
 ghost use Rattle.pipeline.specs.Openings.{AreOfStreams};
-ghost use Rattle.rows.specs.Returning.{AreMade, ComesBack};
+ghost use Rattle.round_trip.specs.Returning.{AreMade, ComesBack};
 
 /// What is packed comes back: in the items of a ladder each media playlist that lists a segment is read back as a listing,
 /// and the segments that it lists, which stand before it, unpack to the bodies of their plans.

@@ -15,6 +15,7 @@ use Rattle.cutter.specs.Plans.{SegmentPlan}
 use Rattle.cutter.specs.Ordered.{IsPlan}
 use Rattle.playlist_text.specs.Names.{is_name}
 use Rattle.playlist_text.specs.Lines.{text_of}
+use Rattle.playlist_text.specs.MediaLines.{Entry}
 use Rattle.media_playlist.specs.Rows.{SegmentRow}
 use Rattle.media_playlist.specs.Listed.{first_listed, discontinuity_count}
 use Rattle.media_playlist.specs.Lines.{entry_of}
@@ -24,7 +25,8 @@ use Rattle.master_playlist.specs.declared.fault.MasterFault.TheVariants.{BadName
 use Rattle.master_playlist.specs.Faults.{fault_of, Stands}
 use Rattle.item_io.specs.Items.{ItemValue, PlaylistValue, MediaItem}
 use Rattle.pipeline.specs.Ladder.{Ladder, no_rendition, rendition_at, unmeasured, IsAllowed}
-use Rattle.pipeline.specs.Rows.{rows_of}
+use Rattle.item_io.specs.FileNames.{segment_file_name, file_name}
+use Rattle.pipeline.specs.Rows.{row_of, rows_of}
 use Rattle.pipeline.specs.Shown.{in_window, media_text}
 use Rattle.pipeline.specs.Streams.{plans_of}
 use Rattle.pipeline.specs.Items.{Part, no_part, part_at, shown_of, playlist_of, segment_item, items_of}
@@ -33,10 +35,10 @@ use Rattle.pipeline.specs.Seen.{is_of, of_rendition}
 use Rattle.pipeline.specs.Openings.{AreOfStreams, IsOfBytes}
 use Rattle.hls_check.specs.Unpacking.{packed, AllUnpack}
 use Rattle.hls_check.specs.MediaTexts.{AreListed}
-use Rattle.rows.specs.Returning.{AreMade, IsMade, sealed_bytes, sealed_of, ComesBack}
-use Rattle.rows.proofs.Places.{item-at, at-drop, at-front}
-use Rattle.rows.proofs.Splitting.{split}
-use Rattle.rows.proofs.Listing.{listing_of, lines-are, some-listed, AreFrom, Rounds, listed-on, bytes_of, unpack-all}
+use Rattle.round_trip.specs.Returning.{AreMade, IsMade, sealed_bytes, sealed_of, ComesBack}
+use Rattle.round_trip.proofs.Places.{item-at, at-drop, at-front}
+use Rattle.round_trip.proofs.Splitting.{split}
+use Rattle.round_trip.proofs.Listing.{listing_of, lines-are, some-listed, AreFrom, Rounds, listed-on, bytes_of, unpack-all}
 
 -- what the laws say of which this is made
 abbrev pub Suffice : Type 0
@@ -94,6 +96,13 @@ part-within parts r given rest e some = elim (cases_lt r (length parts)) as (λ 
 sealed-are : (ladder : Ladder) (r : ℕ) (plans : List SegmentPlan) → map sealed_bytes (map (segment_item ladder r) plans) ≡ map (bytes_of (rendition_at ladder r).keys) plans
 sealed-are ladder r [] = refl
 sealed-are ladder r (plan ∷ plans) = ap (λ l. bytes_of (rendition_at ladder r).keys plan ∷ l) (sealed-are ladder r plans)
+
+-- the names of the files of some plans' segments, by the entries of their rows
+names-of : (ladder : Ladder) (r : ℕ) (plans : List SegmentPlan)
+    → map (λ (e : Entry). segment_file_name (rendition_at ladder r).name e.number) (map entry_of (rows_of (rendition_at ladder r).keys plans)) ≡ map file_name (map (segment_item ladder r) plans)
+unfolding row_of
+names-of ladder r [] = refl
+names-of ladder r (plan ∷ plans) = ap (λ l. segment_file_name (rendition_at ladder r).name plan.number ∷ l) (names-of ladder r plans)
 
 -- what holds at a place of all
 all-at : (plans : List SegmentPlan) (i : ℕ) (plan : SegmentPlan) → All IsOfBytes plans → slice_get plans i ≡ Some plan → IsOfBytes plan
@@ -165,6 +174,9 @@ comes-back rounds unfaulted suffice has_parts seen order sealed ladder parts str
       name_is = sym (ap (λ (p : PlaylistValue). p.name) same);
       ended_is = sym (ap (λ (p : PlaylistValue). p.ended) same);
       all_before = ap length at.segments_are ∙ (length-map given (segment_item ladder r) ∙ sym count);
+      names_are = ap (map (λ (e : Entry). segment_file_name rendition.name e.number)) entries
+          ∙ (names-of ladder r (drop j given)
+          ∙ (ap (map file_name) (sym (drop-map (segment_item ladder r) j given)) ∙ ap (λ l. map file_name (drop j l)) (sym at.segments_are)));
       plans = drop j given;
       plans_are = ap (drop j) (sym (ap (λ n. take n (plans_of r cut stream)) count ∙ (ap (take (length given)) all ∙ take-append_seam given (at.rest ++ more.0))));
       unpack = subst (λ l. AllUnpack (packed (map entry_of (drop j rows)) l keys.keys) (map (λ p. p.body) (drop j given))) (sym segments)

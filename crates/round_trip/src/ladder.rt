@@ -1,4 +1,5 @@
 //! Several renditions, keys that take turns, and a window that slides.
+use crate::back::first_lost;
 use crate::run::{CUT, Ran, WELL, last_master, last_media, run, settings, values};
 use crate::stream::Video::{Key, Other};
 use crate::stream::{Change, TWO_SEGMENTS, stream_of};
@@ -30,6 +31,9 @@ fn two_renditions_in_one_master(rt: HostRuntime) -> Result<(), Fail> {
         values(rt.alloc(), last_media(items), "hd%201.")?.as_str(),
         "0.ts 1.ts "
     );
+    for r in [0, 1] {
+        assert_eq!(rt; first_lost(rt.alloc(), items, r, &[[0; 16]])?, None);
+    }
     Ok(())
 }
 
@@ -54,6 +58,9 @@ fn a_fault_ends_one_rendition_alone(rt: HostRuntime) -> Result<(), Fail> {
         values(rt.alloc(), last_media(items), "#EXT-X-ENDLIST")?.as_str(),
         " "
     );
+    for r in [0, 1] {
+        assert_eq!(rt; first_lost(rt.alloc(), items, r, &[[0; 16]])?, None);
+    }
     Ok(())
 }
 
@@ -94,6 +101,8 @@ fn keys_take_turns(rt: HostRuntime) -> Result<(), Fail> {
         values(rt.alloc(), media, "#EXT-X-KEY:METHOD=AES-128,URI=")?.as_str(),
         "\"v.0.key\" \"v.1.key\" \"v.0.key\" "
     );
+    let keys = [[0; 16], [1; 16]];
+    assert_eq!(rt; first_lost(rt.alloc(), outlet.items(), 0, &keys)?, None);
     Ok(())
 }
 
@@ -151,5 +160,9 @@ fn a_window_slides_past_a_discontinuity(rt: HostRuntime) -> Result<(), Fail> {
     let settings = settings(rt.alloc(), &["v"], 1, 1, CUT, 3)?;
     let Ran { answer: _, outlet } = run(rt.alloc(), &[&stream], WELL, &settings)?;
     assert_eq!(rt; slides_of(rt.alloc(), outlet.items())?.as_str(), SLIDES);
+    assert_eq!(rt;
+        first_lost(rt.alloc(), outlet.items(), 0, &[[0; 16]])?,
+        None
+    );
     Ok(())
 }

@@ -25,49 +25,25 @@ fn push_stream(stream: &mut Vec<u8>, frames: &[Video]) -> Result<(), AllocError>
     Ok(())
 }
 
+/// What the packet of a key frame begins with, up to its PTS: random access, and the head of a PES packet.
+const KEY_BEGIN: [u8; 15] = *b"\x47\x41\x00\x30\x01\x40\x00\x00\x01\xE0\x00\x00\x80\x80\x05";
+
+/// The same of another frame.
+const OTHER_BEGIN: [u8; 13] = *b"\x47\x41\x00\x10\x00\x00\x01\xE0\x00\x00\x80\x80\x05";
+
 /// Appends the packet of a frame, in which a PES packet with a PTS starts (ISO/IEC 13818-1, 2.4.3.6).
 fn push_frame(stream: &mut Vec<u8>, frame: Video, counter: u8) -> Result<(), AllocError> {
     match frame {
-        Video::Key(ticks) => push_packet(
-            stream,
-            &[
-                0x47,
-                0x41,
-                0x00,
-                0x30 + counter % 16,
-                0x01,
-                0x40,
-                0,
-                0,
-                1,
-                0xE0,
-                0,
-                0,
-                0x80,
-                0x80,
-                5,
-            ],
-            &stamp(ticks),
-        ),
-        Video::Other(ticks) => push_packet(
-            stream,
-            &[
-                0x47,
-                0x41,
-                0x00,
-                0x10 + counter % 16,
-                0,
-                0,
-                1,
-                0xE0,
-                0,
-                0,
-                0x80,
-                0x80,
-                5,
-            ],
-            &stamp(ticks),
-        ),
+        Video::Key(ticks) => {
+            let mut begin = KEY_BEGIN;
+            begin[3] = 0x30 + counter % 16;
+            push_packet(stream, &begin, &stamp(ticks))
+        }
+        Video::Other(ticks) => {
+            let mut begin = OTHER_BEGIN;
+            begin[3] = 0x10 + counter % 16;
+            push_packet(stream, &begin, &stamp(ticks))
+        }
     }
 }
 

@@ -5,6 +5,7 @@ use Rattle.cutter.specs.Plans.{SegmentPlan}
 use Rattle.segment_job.specs.Rotation.{IsRotation}
 use Rattle.playlist_text.specs.MediaLines.{Listing}
 use Rattle.item_io.specs.Items.{ItemValue, PlaylistValue, SegmentItem, MediaItem, FramesItem, MasterItem}
+use Rattle.item_io.specs.FileNames.{segment_file_name, file_name}
 use Rattle.pipeline.specs.Ladder.{RenditionValue, Ladder, rendition_at}
 use Rattle.pipeline.specs.Streams.{plans_of}
 use Rattle.pipeline.specs.Listings.{segments_of}
@@ -16,7 +17,7 @@ pub record IsMade (rendition : RenditionValue) : Type 0 where
   pub name : IsUtf8 rendition.name
   pub keys : IsRotation rendition.keys
 
--- so is each rendition of a ladder
+-- each rendition of a ladder is made so
 abbrev pub AreMade : Ladder → Type 0
 AreMade ladder = (r : ℕ) → r < length ladder.renditions → IsMade (rendition_at ladder r)
 
@@ -32,8 +33,8 @@ abbrev pub sealed_of : ℕ → List ItemValue → List (List ℕ)
 sealed_of r items = map sealed_bytes (segments_of r items)
 
 -- The media playlist is the text of a listing of its rendition. The segments that it lists stand before it: of all those of
--- the rendition the last ones, from the playlist's media sequence on. Under the rendition's keys they unpack to the bodies
--- of the same plans of the stream.
+-- the rendition the last ones, from the playlist's media sequence on. Their files have the names that the playlist's entries
+-- ask for, and under the rendition's keys they unpack to the bodies of the same plans of the stream.
 pub record ComesBack (ladder : Ladder) (streams : ℕ → List ℕ) (front : List ItemValue) (media : PlaylistValue) : Type 0 where
   pub listing : Listing
   pub sound : IsListing listing
@@ -41,6 +42,7 @@ pub record ComesBack (ladder : Ladder) (streams : ℕ → List ℕ) (front : Lis
   pub name_is : listing.name ≡ media.name
   pub ended_is : listing.ended ≡ media.ended
   pub all_before : length (segments_of media.rendition front) ≡ media.count
+  pub names_are : map (λ entry. segment_file_name listing.name entry.number) listing.entries ≡ map file_name (drop listing.sequence (segments_of media.rendition front))
   pub plans : List SegmentPlan
   pub plans_are : plans ≡ drop listing.sequence (take media.count (plans_of media.rendition ladder.cut (streams media.rendition)))
   pub unpack : AllUnpack (packed listing.entries (drop listing.sequence (sealed_of media.rendition front)) (rendition_at ladder media.rendition).keys.keys) (map (λ plan. plan.body) plans)

@@ -19,7 +19,7 @@ use Rattle.pipeline.specs.Rows.{row_of, rows_of}
 use Rattle.pipeline.specs.Openings.{IsOfBytes}
 use Rattle.hls_check.specs.Unpacking.{packed, entry_at, bytes_at, Unpacks, AllUnpack}
 use Rattle.hls_check.specs.MediaTexts.{AreListed}
-use Rattle.rows.proofs.Places.{item-at, mapped-at}
+use Rattle.round_trip.proofs.Places.{item-at, mapped-at}
 
 -- what a window lists
 abbrev pub listing_of : Pushed → Bool → Listing
