@@ -75,7 +75,7 @@ faults() {
     agrees "$input" "$@" && from "$input" refuses 1 "$fault" "$@"
 }
 
-# last_texts COUNT: the lines of the last texts on standard output.
+# has_last_lines: what the program wrote ends with the lines of standard input.
 has_last_lines() {
     cat >"$work/last_lines"
     tail -n "$(wc -l <"$work/last_lines")" "$work/out" >"$work/tail"

@@ -76,7 +76,7 @@ placed r s top closed going None c m = carried_on s top closed going m
 placed r s top closed going (Some t) None m = carried_on s top closed going m
 placed r s top closed going (Some t) (Some c) m = pointed r s top closed going (record { stamp = c; tables = t }) m
 
--- one packet more: Range is looked at first
+-- one packet more: a time out of range is looked at first
 abbrev pub step : ℕ → CutSettings → Option CutFault → Cuts → Fact → Cuts
 step r s (Some fault) a f = a
 step r s None a f =

@@ -12,7 +12,9 @@ pub struct Frame {
     pub start: u64,
 }
 
-/// All that makes one segment of a rendition, before it is sealed.
+/// All that makes one segment of a rendition, before it is sealed: its number, from 0 on; the tables in force where it
+/// begins, and the continuity_counters of the first packets of its head; its accepted packets, of 188 bytes each; its
+/// I-frames; how long it lasts in ticks of 1/90000 s; and whether times or tables don't go on from the segment before.
 #[derive(Debug, Drop)]
 pub struct Plan {
     pub rendition: usize,

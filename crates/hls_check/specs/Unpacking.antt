@@ -39,7 +39,7 @@ pub record BeginsWithHead (text rest : List ℕ) : Type 0 where
   pub sendable : IsSendable tables
   pub whole : text ≡ head tables pat_counter pmt_counter ++ rest
 
--- entry i has no bytes, or its key isn't there
+-- entry i has bytes, and its key is there
 pub record IsThere (p : Packed) (i : ℕ) : Type 0 where
   pub segment : i < length p.segments
   pub key : (entry_at p i).key < length p.keys
@@ -59,7 +59,7 @@ pub record Unpacks (p : Packed) (i : ℕ) (rest : List ℕ) : Type 0 where
   pub opens : Opens p i text
   pub begins : BeginsWithHead text rest
 
--- they open to a head with something behind it
+-- they open to a head with any rest, or none, behind it
 abbrev pub HasHead : Packed → ℕ → Type 0
 HasHead p i = (rest : List ℕ) × Unpacks p i rest
 

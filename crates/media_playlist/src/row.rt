@@ -3,7 +3,7 @@ ghost use Rattle.media_playlist.specs.Rows;
 
 use std::marker::Model;
 
-/// An I-frame of a segment: where it begins in the segment and how long it is, in bytes, and how long it lasts.
+/// An I-frame of a segment: where it begins in the segment and how long it is, in bytes, and its microseconds.
 #[derive(Clone, Copy, Debug, PartialEq, Eq)]
 pub struct FrameRow {
     pub offset: u64,
@@ -11,8 +11,8 @@ pub struct FrameRow {
     pub micros: u64,
 }
 
-/// What a playlist tells of a segment: its number, its size in bytes, how long it lasts, the index of its key, whether
-/// it is a discontinuity, and its I-frames.
+/// What a playlist tells of a segment: its number, its size in bytes, its microseconds, the index of its key, whether it is
+/// a discontinuity, and its I-frames.
 #[derive(Debug, Drop)]
 pub struct Row {
     pub number: u64,

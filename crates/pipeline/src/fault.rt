@@ -37,7 +37,7 @@ pub enum PackFault {
     Outlet,
     #[error("out of memory")]
     NoMemory,
-    /// The gate held this segment of a rendition.
+    /// This segment of a rendition was held back. Never told on one thread.
     #[error("segment {1} of input {0} was held")]
     Held(usize, u64),
 }
