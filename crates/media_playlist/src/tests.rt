@@ -165,6 +165,23 @@ hd%201.4.ts
     Ok(())
 }
 
+/// An I-frame playlist of one row with two I-frames.
+const TWO_FRAMES: &str = "#EXTM3U
+#EXT-X-VERSION:4
+#EXT-X-TARGETDURATION:6
+#EXT-X-MEDIA-SEQUENCE:0
+#EXT-X-DISCONTINUITY-SEQUENCE:0
+#EXT-X-I-FRAMES-ONLY
+#EXT-X-DISCONTINUITY
+#EXT-X-KEY:METHOD=AES-128,URI=\"v.7.key\",IV=0x00000000000000000000000000000000
+#EXTINF:2.000000,
+#EXT-X-BYTERANGE:188@376
+v.0.ts
+#EXTINF:4.000000,
+#EXT-X-BYTERANGE:376@564
+v.0.ts
+";
+
 #[test]
 fn two_frames_of_a_row(rt: HostRuntime) -> Result<(), Fail> {
     let alloc = rt.alloc();
@@ -193,22 +210,7 @@ fn two_frames_of_a_row(rt: HostRuntime) -> Result<(), Fail> {
             frames,
         },
     )?;
-    let wanted = "#EXTM3U
-#EXT-X-VERSION:4
-#EXT-X-TARGETDURATION:6
-#EXT-X-MEDIA-SEQUENCE:0
-#EXT-X-DISCONTINUITY-SEQUENCE:0
-#EXT-X-I-FRAMES-ONLY
-#EXT-X-DISCONTINUITY
-#EXT-X-KEY:METHOD=AES-128,URI=\"v.7.key\",IV=0x00000000000000000000000000000000
-#EXTINF:2.000000,
-#EXT-X-BYTERANGE:188@376
-v.0.ts
-#EXTINF:4.000000,
-#EXT-X-BYTERANGE:376@564
-v.0.ts
-";
-    assert_eq!(rt; window.iframe_text(false)?.as_str(), wanted);
+    assert_eq!(rt; window.iframe_text(false)?.as_str(), TWO_FRAMES);
     Ok(())
 }
 

@@ -109,57 +109,48 @@ fn a_target_gives_the_segment(rt: HostRuntime) -> Result<(), Fail> {
     Ok(())
 }
 
+/// A size, keys, more options, and what they print, with the status.
+type Refusal = (
+    &'static str,
+    &'static str,
+    &'static [&'static str],
+    &'static str,
+    u8,
+);
+
+const REFUSALS: [Refusal; 9] = [
+    ("1x1", "00", &[], "tshls: BadKey\n", 2),
+    ("1X1", "00", &[], "tshls: BadKey\n", 2),
+    ("1X1", KEY, &[], "tshls: BadSize\n", 2),
+    ("1x1x1", KEY, &[], "tshls: BadSize\n", 2),
+    ("1X1", KEY, &["--period", "0"], "tshls: BadSize\n", 2),
+    ("1x1", KEY, &["--period", "0"], "tshls: ZeroPeriod\n", 1),
+    (
+        "1x1",
+        KEY,
+        &["--period", "0", "--program", "65536"],
+        "tshls: ZeroPeriod\n",
+        1,
+    ),
+    ("1x1", KEY, &["--program", "65536"], "tshls: Settings\n", 1),
+    (
+        "1x1",
+        KEY,
+        &["--segment", "204963823041218"],
+        "tshls: Settings\n",
+        1,
+    ),
+];
+
 #[test]
 fn refusals(rt: HostRuntime) -> Result<(), Fail> {
-    let table: [(&[&str], &str, u8); 9] = [
-        (&["--size", "1x1", "--keys", "00"], "tshls: BadKey\n", 2),
-        (&["--size", "1X1", "--keys", "00"], "tshls: BadKey\n", 2),
-        (&["--size", "1X1", "--keys", KEY], "tshls: BadSize\n", 2),
-        (&["--size", "1x1x1", "--keys", KEY], "tshls: BadSize\n", 2),
-        (
-            &["--size", "1X1", "--keys", KEY, "--period", "0"],
-            "tshls: BadSize\n",
-            2,
-        ),
-        (
-            &["--size", "1x1", "--keys", KEY, "--period", "0"],
-            "tshls: ZeroPeriod\n",
-            1,
-        ),
-        (
-            &[
-                "--size",
-                "1x1",
-                "--keys",
-                KEY,
-                "--period",
-                "0",
-                "--program",
-                "65536",
-            ],
-            "tshls: ZeroPeriod\n",
-            1,
-        ),
-        (
-            &["--size", "1x1", "--keys", KEY, "--program", "65536"],
-            "tshls: Settings\n",
-            1,
-        ),
-        (
-            &[
-                "--size",
-                "1x1",
-                "--keys",
-                KEY,
-                "--segment",
-                "204963823041218",
-            ],
-            "tshls: Settings\n",
-            1,
-        ),
-    ];
-    for (words, text, status) in table {
-        let told = told(rt.alloc(), words)?;
+    for (size, keys, more, text, status) in REFUSALS {
+        let mut words: Vec<&'static str> = Vec::new(rt.alloc());
+        for word in ["--size", size, "--keys", keys] {
+            words.push(word)?;
+        }
+        words.extend_from_slice(more)?;
+        let told = told(rt.alloc(), words.as_slice())?;
         assert_eq!(rt; told.0.as_str(), text, "at {words:?}");
         assert_eq!(rt; told.1, status, "at {words:?}");
     }
