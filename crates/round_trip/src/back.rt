@@ -160,6 +160,11 @@ fn first_doubled(alloc: Global, text: &str) -> Result<Option<usize>, AllocError>
     Ok(None)
 }
 
+/// Whether a text is refused, or read as what it says, with any one byte changed and any one line left out or doubled.
+pub fn has_one_meaning_changed(alloc: Global, text: &str) -> Result<bool, AllocError> {
+    Ok(first_changed(alloc, text)?.is_none() && first_doubled(alloc, text)?.is_none())
+}
+
 /// The last playlist of a stream with a jump of time, whose two keys take turns.
 fn playlist(alloc: Global) -> Result<String, Fail> {
     let frames = [

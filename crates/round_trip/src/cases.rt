@@ -1,5 +1,5 @@
 //! Streams of one rendition: what is given of each, and the fault that is told.
-use crate::back::first_lost;
+use crate::back::{first_lost, has_one_meaning_changed};
 use crate::run::{CUT, Ran, WELL, Ways, are_sizes, last_frames, last_media, run, settings, values};
 use crate::stream::Video::{Key, Other};
 use crate::stream::{Change, TWO_SEGMENTS, Video, stream_of};
@@ -267,6 +267,9 @@ fn wrong(alloc: Global, case: &Case, items: &[Item]) -> Result<Option<&'static s
     }
     if first_lost(alloc, items, 0, &[[0; 16]])?.is_some() {
         return Ok(Some("segments"));
+    }
+    if !has_one_meaning_changed(alloc, last_media(items))? {
+        return Ok(Some("a changed text"));
     }
     Ok(None)
 }
