@@ -4,9 +4,9 @@ ghost use Rattle.std.specs.Prelude.{◌≡◌, ◌+◌, ◌*◌, ◌/◌, ◌≤
 ghost use Rattle.std.specs.List.{concat};
 ghost use Rattle.aes_cbc.specs.Chain.{cbc, chain_end, sealed_text};
 
+use crate::blocks::xor_blocks;
 use crate::key::Key;
 use crate::padding::padded_block;
-use crate::round::xor_blocks;
 use std::alloc::{AllocError, Global};
 
 /// Appends the chain of `blocks` from `vector` on, and gives the vector that goes on with it: the last cipher block.

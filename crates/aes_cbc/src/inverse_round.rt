@@ -5,7 +5,8 @@ ghost use Rattle.aes_cbc.specs.Field.{times};
 ghost use Rattle.aes_cbc.specs.Round.{add_round_key};
 ghost use Rattle.aes_cbc.specs.InverseCipher.{inv_sub_bytes, inv_shift_rows, inv_mix_columns};
 
-use crate::round::{double, xor_blocks};
+use crate::blocks::xor_blocks;
+use crate::round::double;
 use crate::sbox::inv_sub_byte;
 
 /// InvSubBytes: the inverse S-box at each byte.

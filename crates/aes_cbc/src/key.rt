@@ -5,8 +5,9 @@ ghost use Rattle.aes_cbc.specs.Block.{IsBlock};
 ghost use Rattle.aes_cbc.specs.Cipher.{aes};
 ghost use Rattle.aes_cbc.specs.InverseCipher.{inv_aes};
 
+use crate::blocks::xor_blocks;
 use crate::inverse_round::{inv_round, last_inv_round};
-use crate::round::{last_round, round, xor_blocks};
+use crate::round::{last_round, round};
 use crate::schedule::round_keys;
 use std::marker::Model;
 

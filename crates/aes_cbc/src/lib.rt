@@ -5,6 +5,7 @@
 //! of [`laws`] do nothing: their contracts are theorems about the definitions in `specs/`.
 #![tactic(auto)]
 
+mod blocks;
 mod cbc;
 mod fault;
 mod inverse_round;
@@ -18,6 +19,7 @@ mod schedule;
 #[cfg(test)]
 mod tests;
 
+pub use blocks::{block_before, xor_blocks};
 pub use cbc::seal;
 pub use fault::OpenFault;
 pub use key::Key;

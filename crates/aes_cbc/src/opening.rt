@@ -3,12 +3,12 @@
 ghost use Rattle.std.specs.Prelude.{◌≡◌, ℕ, ◌+◌, ◌*◌, ◌≤◌, ◌++◌, ◌↔◌, List, length, vec_len, vec_capacity, IfOk, IsErrOf, MatchResult};
 ghost use Rattle.std.specs.List.{concat};
 ghost use Rattle.aes_cbc.specs.declared.fault.OpenFault.TheVariants.{NoMemory};
-ghost use Rattle.aes_cbc.specs.Opening.{inv_cbc, last_block, Seals, IsInBlocks, IsNotBlocks};
+ghost use Rattle.aes_cbc.specs.Opening.{inv_cbc, Seals, IsInBlocks, IsNotBlocks};
 
+use crate::blocks::{block_before, xor_blocks};
 use crate::fault::OpenFault;
 use crate::key::Key;
 use crate::padding::unpadded_len;
-use crate::round::xor_blocks;
 use std::alloc::Global;
 
 /// Appends the blocks of a chain of cipher blocks from `vector` on.
@@ -24,13 +24,6 @@ fn append_plain(text: &mut Vec<u8>, key: &Key, vector: &[u8; 16], blocks: &[[u8;
         text.extend_from_slice(&next).unwrap();
         before = *block;
     }
-}
-
-/// The last of the blocks, or the vector where there is none: what the block behind them was xored with.
-fn block_before<'a>(vector: &'a [u8; 16], blocks: &'a [[u8; 16]]) -> &'a [u8; 16]
-    ensures { result.now ≡ last_block vector.now blocks.now }
-{
-    blocks.last().unwrap_or(vector)
 }
 
 /// The text that [`seal`](crate::seal) made these bytes of, under the same key and vector. The whole padding is

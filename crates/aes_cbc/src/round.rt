@@ -2,34 +2,10 @@
 
 ghost use Rattle.std.specs.Prelude.{◌≡◌, bit_xor};
 ghost use Rattle.aes_cbc.specs.Field.{times};
-ghost use Rattle.aes_cbc.specs.Block.{xor_bytes};
 ghost use Rattle.aes_cbc.specs.Round.{sub_bytes, shift_rows, mix_columns, add_round_key};
 
+use crate::blocks::xor_blocks;
 use crate::sbox::sub_byte;
-
-/// The exclusive or of two blocks.
-pub(crate) fn xor_blocks(a: &[u8; 16], b: &[u8; 16]) -> [u8; 16]
-    ensures { result ≡ xor_bytes a.now b.now }
-{
-    [
-        a[0] ^ b[0],
-        a[1] ^ b[1],
-        a[2] ^ b[2],
-        a[3] ^ b[3],
-        a[4] ^ b[4],
-        a[5] ^ b[5],
-        a[6] ^ b[6],
-        a[7] ^ b[7],
-        a[8] ^ b[8],
-        a[9] ^ b[9],
-        a[10] ^ b[10],
-        a[11] ^ b[11],
-        a[12] ^ b[12],
-        a[13] ^ b[13],
-        a[14] ^ b[14],
-        a[15] ^ b[15],
-    ]
-}
 
 /// SubBytes: the S-box at each byte.
 pub(crate) fn sub_bytes(s: &[u8; 16]) -> [u8; 16]

@@ -2,13 +2,13 @@
 
 ghost use Rattle.std.specs.Prelude.{◌≡◌, ℕ, ◌+◌, ◌%◌, ◌≤◌, ◌<◌, ◌↔◌, List, length, take, drop, slice_range, IfOk, IsErrOf};
 ghost use Rattle.std.specs.List.{concat};
-ghost use Rattle.aes_cbc.specs.Block.{IsBlock, xor_bytes};
+ghost use Rattle.aes_cbc.specs.Block.{IsBlock};
 ghost use Rattle.aes_cbc.specs.Padding.{padded_text};
-ghost use Rattle.aes_cbc.specs.Opening.{inv_cbc, last_block, Seals, IsNotBlocks};
+ghost use Rattle.aes_cbc.specs.Opening.{inv_cbc, Seals, IsNotBlocks};
 ghost use Rattle.segment_job.specs.Ranges.{widened, range_text};
 
 use crate::fault::RangeFault;
-use aes_cbc::Key;
+use aes_cbc::{Key, block_before, xor_blocks};
 use std::alloc::{AllocError, Global};
 
 /// Opens a range of a sealed segment: so many bytes of its padded text, from an offset on.
@@ -74,13 +74,6 @@ fn open_inside(
     Ok(text)
 }
 
-/// The last of the blocks, or the vector where there is none: what the block behind them was xored with.
-fn block_before<'a>(vector: &'a [u8; 16], blocks: &'a [[u8; 16]]) -> &'a [u8; 16]
-    ensures { result.now ≡ last_block vector.now blocks.now }
-{
-    blocks.last().unwrap_or(vector)
-}
-
 /// So many bytes, behind some that are passed over, of what these blocks are behind the block before.
 fn open_part(
     alloc: Global,
@@ -115,28 +108,4 @@ fn part_of(block: &[u8; 16], skip: usize, most: usize) -> &[u8]
     let (_, behind) = block.split_at(skip);
     let (part, _) = behind.split_at(usize::min(most, behind.len()));
     part
-}
-
-/// The exclusive or of two blocks.
-fn xor_blocks(a: &[u8; 16], b: &[u8; 16]) -> [u8; 16]
-    ensures { result ≡ xor_bytes a.now b.now }
-{
-    [
-        a[0] ^ b[0],
-        a[1] ^ b[1],
-        a[2] ^ b[2],
-        a[3] ^ b[3],
-        a[4] ^ b[4],
-        a[5] ^ b[5],
-        a[6] ^ b[6],
-        a[7] ^ b[7],
-        a[8] ^ b[8],
-        a[9] ^ b[9],
-        a[10] ^ b[10],
-        a[11] ^ b[11],
-        a[12] ^ b[12],
-        a[13] ^ b[13],
-        a[14] ^ b[14],
-        a[15] ^ b[15],
-    ]
 }
