@@ -14,6 +14,7 @@ mod line_outlet;
 mod memory;
 mod outlet;
 mod reader_source;
+mod reading;
 mod source;
 #[cfg(test)]
 mod tests;
@@ -30,5 +31,6 @@ pub use line_outlet::LineOutlet;
 pub use memory::MemoryOutlet;
 pub use outlet::Outlet;
 pub use reader_source::ReaderSource;
+pub use reading::read_some;
 pub use source::Source;
 pub use writing::{write_bytes, write_hex_line};

@@ -13,7 +13,7 @@ use Rattle.hls_check.specs.MediaTexts.{IsListing, listing_text, IsUnread}
 use Rattle.hls_check.specs.Checks.{AreWhole, IsFaulty}
 use Rattle.tshls.specs.declared.fault.Fault.{Fault}
 use Rattle.tshls.specs.declared.fault.Fault.TheVariants.{Usage, NotUtf8, BadKey, BadVector, BadSize, TooMany, ZeroPeriod, BadHex, NotBlocks, BadPadding, Unread, ReadLimit, Unwritten, Packing, Checking, NoMemory}
-use Rattle.tshls.specs.Streams.{WritesBeginning}
+use Rattle.item_io.specs.Writing.{WritesBeginning}
 
 -- the folder in which a file lies
 abbrev pub folder_of : List ℕ → List ℕ

@@ -1,7 +1,7 @@
 -- Texts of hex digits, as keys, vectors and lines have them.
-use Rattle.std.specs.Prelude.{ℕ, ◌-◌, ◌==◌, if◌then◌else◌, List, [], ◌∷◌, ◌++◌, length, take, slice_index, Option, Some, None}
+use Rattle.std.specs.Prelude.{ℕ, ◌-◌, ◌==◌, if◌then◌else◌, List, length, take, slice_index, Option, Some, None}
 use Rattle.std.specs.Result.{result_ok}
-use Rattle.hex.specs.Hex.{decode_sized, encode_lower}
+use Rattle.hex.specs.Hex.{decode_sized}
 use Rattle.segment_job.specs.Vectors.{vector}
 
 -- the 16 bytes that 32 hex digits of either case stand for; None for any other text
@@ -14,10 +14,6 @@ vector_of (Some number) None = Some (vector number)
 vector_of None (Some text) = block_of text
 vector_of None None = None
 vector_of (Some number) (Some text) = None
-
--- bytes as a line of lower-case hex digits
-abbrev pub hex_line : List ℕ → List ℕ
-hex_line bytes = encode_lower bytes ++ 10 ∷ []
 
 -- without one last LF, where there is one
 abbrev pub without_end : List ℕ → List ℕ

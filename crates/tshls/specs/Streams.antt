@@ -5,7 +5,8 @@ use Rattle.ts_packet.specs.Packets.{packets, joined}
 use Rattle.hex.specs.Hex.{decode_of}
 use Rattle.aes_cbc.specs.Chain.{sealed_text}
 use Rattle.aes_cbc.specs.Opening.{Seals, IsInBlocks, IsNotBlocks}
-use Rattle.tshls.specs.Hex.{hex_line, without_end}
+use Rattle.item_io.specs.Writing.{WritesBeginning, hex_line}
+use Rattle.tshls.specs.Hex.{without_end}
 
 -- A reader that had these bytes left gave `bytes` and came to its end.
 pub record ReadsAll (left left_then : Option (List ℕ)) (bytes : List ℕ) : Type 0 where
@@ -21,13 +22,6 @@ pub record WritesSealed (key vector : List ℕ) (left left_then held held_then :
   pub bytes : List ℕ
   pub read : ReadsAll left left_then bytes
   pub written : Appends held held_then (sealed_line key vector bytes)
-
--- The writer got a beginning of a line.
-pub record WritesBeginning (held held_then : Option (List ℕ)) (line : List ℕ) : Type 0 where
-  pub front : List ℕ
-  pub rest : List ℕ
-  pub whole : line ≡ front ++ rest
-  pub written : Appends held held_then front
 
 -- All that the reader gave was sealed, and the writer got a beginning of that line.
 pub record BeginsSealed (key vector : List ℕ) (left left_then held held_then : Option (List ℕ)) : Type 0 where

@@ -2,6 +2,7 @@ ghost use Rattle.std.specs.Prelude.{◌≡◌};
 
 use aes_cbc::OpenFault;
 use hls_check::{CheckFault, ListFault, UnpackFault};
+use item_io::{OutletFault, ReadFault};
 use pipeline::PackFault;
 use std::alloc::{AllocError, AllocFailed};
 use std::fmt;
@@ -135,6 +136,26 @@ impl<T: Drop> From<AllocFailed<T>> for Fault {
 
     fn from(_: AllocFailed<T>) -> Fault {
         Fault::NoMemory
+    }
+}
+
+impl From<ReadFault> for Fault {
+    ghost use Rattle.tshls.specs.declared.fault.Fault.TheVariants.{Unread};
+
+    ghost from_gives = { λ _ fault. fault ≡ Unread };
+
+    fn from(_: ReadFault) -> Fault {
+        Fault::Unread
+    }
+}
+
+impl From<OutletFault> for Fault {
+    ghost use Rattle.tshls.specs.declared.fault.Fault.TheVariants.{Unwritten};
+
+    ghost from_gives = { λ _ fault. fault ≡ Unwritten };
+
+    fn from(_: OutletFault) -> Fault {
+        Fault::Unwritten
     }
 }
 

@@ -4,7 +4,8 @@ ghost use Rattle.tshls.specs.Faults.{IsOfReading};
 ghost use Rattle.tshls.specs.Streams.{ReadsAll};
 
 use crate::fault::Fault;
-use crate::input::{PIECE, READS, read_some};
+use crate::input::{PIECE, READS};
+use item_io::read_some;
 use std::alloc::Global;
 use std::io::Read;
 use ts_packet::Reader;
