@@ -13,7 +13,7 @@ check_check() {
     check_bad_playlists
     check_bad_segments
     check 'check: a full standard output' checks_into_full
-    check 'check: each allocation refused in turn' tells_nothing_without_memory
+    check 'check: each allocation refused in turn' tells_no_memory writes_nothing /dev/null check --keys "$key" "$work/hls/v.m3u8"
 }
 
 make_standard_folder() {
@@ -127,22 +127,6 @@ checks_into_full() {
     status=$?
     [ $status -eq 1 ] || { echo "status $status"; return 1; }
     is_line 'standard error' "$work/err" 'tshls: Unwritten'
-}
-
-# Whichever allocation is refused, the answer is the whole line or none.
-tells_nothing_without_memory() {
-    local number told=0
-    cc -shared -fPIC -o "$work/refuse_memory.so" "$here/refuse_memory.c" -ldl || return
-    for number in {1..300}; do
-        local status=0
-        LD_PRELOAD=$work/refuse_memory.so REFUSED=$number "$program" check --keys "$key" "$work/hls/v.m3u8" >"$work/out" 2>"$work/err" || status=$?
-        case "$status $(cat "$work/out" "$work/err")" in
-        '0 ok 2 752') ;;
-        '1 tshls: NoMemory') told=$((told + 1)) ;;
-        *) echo "allocation $number: status $status, $(cat "$work/out" "$work/err")"; return 1 ;;
-        esac
-    done
-    [ $told -gt 50 ] || { echo "only $told allocations were refused"; return 1; }
 }
 
 # check_served NAME: the folder that was just served is whole, and isn't where a byte of a segment is another.

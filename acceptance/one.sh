@@ -11,30 +11,21 @@ check_one() {
     check_one_options
     check_worked_inputs
     check_real_streams
-    check 'one: each allocation refused in turn' gives_a_beginning_without_memory
+    check 'one: each item at once' gives_a_segment_at_once
+    check 'one: each allocation refused in turn' tells_no_memory writes_a_beginning "$work/worked/standard.ts" "${one[@]}"
     # shellcheck disable=SC2034
     local options=("${one[@]:1}") unread='Read 0' unwritten=Outlet
     check_failing_ends one "$work/worked/standard.ts" "$work/repeated.big"
 }
 
-# Whichever allocation is refused, what is written is a beginning, and the whole where none is missed.
-gives_a_beginning_without_memory() {
-    local input=$work/worked/standard.ts number written told=0
-    cc -shared -fPIC -o "$work/refuse_memory.so" "$here/refuse_memory.c" -ldl || return
-    from "$input" writes "${one[@]}" || return
-    mv "$work/out" "$work/whole"
-    for number in {1..400}; do
-        local status=0
-        LD_PRELOAD=$work/refuse_memory.so REFUSED=$number "$program" "${one[@]}" <"$input" >"$work/out" 2>"$work/err" || status=$?
-        written=$(wc -c <"$work/out")
-        cmp -s -n "$written" "$work/out" "$work/whole" || { echo "allocation $number: not a beginning"; return 1; }
-        case "$status $(cat "$work/err")" in
-        '0 ') [ "$written" -eq "$(wc -c <"$work/whole")" ] || { echo "allocation $number: not the whole"; return 1; } ;;
-        '1 tshls: NoMemory' | '1 tshls: Outlet') told=$((told + 1)) ;;
-        *) echo "allocation $number: status $status, $(cat "$work/err")"; return 1 ;;
-        esac
-    done
-    [ $told -gt 100 ] || { echo "only $told allocations were refused"; return 1; }
+# A segment is there as soon as the packet behind it has come, while the input is still open.
+gives_a_segment_at_once() {
+    local first
+    coproc ONE { timeout 120 "$program" "${one[@]}" 2>"$work/err"; }
+    head -c 940 "$work/worked/standard.ts" >&"${ONE[1]}"
+    read -r -t 60 first <&"${ONE[0]}"
+    kill "$ONE_PID"
+    [ "$first" = 'segment v.0.ts 768' ] || { echo "the first line is '${first:0:80}'"; return 1; }
 }
 
 # wanted COMMAND FILE OPTIONS..: what the script of that name makes of the file, under the options of one.

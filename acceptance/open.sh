@@ -54,6 +54,7 @@ check_open() {
     sealed_line <"$sample" >"$work/sample.line"
     sealed_line <"$work/repeated.big" >"$work/large.line"
     check_failing_ends open "$work/sample.line" "$work/large.line"
+    check 'open: each allocation refused in turn' tells_no_memory writes_nothing "$work/sample.line" open "${options[@]}"
 }
 
 # opens_text TEXT PLAIN, refuses_text NAME TEXT

@@ -25,6 +25,7 @@ check_seal() {
     check 'seal: ffmpeg reads the opened sample as the sample' ffmpeg_agrees "$work/sample.in"
     check 'seal: ffmpeg reads the opened sample behind noise as the sample' ffmpeg_agrees "$work/noise_before.in"
     check_failing_ends seal "$work/sample.in" "$work/repeated.big"
+    check 'seal: each allocation refused in turn' tells_no_memory writes_nothing "$work/sample.in" seal "${options[@]}"
 }
 
 # seals_one KEY VECTOR OPTIONS..: one packet under the options is what openssl makes of it.

@@ -5,7 +5,7 @@ A file that comes again is replaced, so the folder has the last playlists. The k
 
 import pathlib
 import sys
-from urllib.parse import quote, unquote
+from urllib.parse import unquote
 
 
 def unfold(lines, folder):
