@@ -1,6 +1,7 @@
 -- The segments of a stream divide its packets.
 use Rattle.std.proofs.Common.{◌≡◌, ◌∙◌, ℕ, ◌+◌, inl, inr, Bool, true, false, List, [], ◌∷◌, ◌++◌, nat_le, Option, Some, None, if◌then◌else◌, refl, ap, sym, subst}
 use Rattle.std.proofs.lemmas.List.{append-nil, append_assoc}
+use Rattle.std.proofs.lemmas.List.Elements.{All-nil, All-push}
 use Rattle.psi_tables.specs.InForce.{InForce}
 use Rattle.psi_tables.specs.Head.{packet_count}
 use Rattle.pes_time.specs.declared.clock.Stamp.{Stamp}
@@ -11,7 +12,7 @@ use Rattle.cutter.specs.Stream.{Fact, facts}
 use Rattle.cutter.specs.Points.{Mark, mark, counted, top_after}
 use Rattle.cutter.specs.Segments.{Point, Segment, is_cut, is_long, is_big, plan_of}
 use Rattle.cutter.specs.Cuts.{Cuts, uncut, made, going_on, with_mark, first_segment, next_segment, carried_on, pointed, placed, step, cut_from, cuts, closed}
-use Rattle.cutter.specs.Dividing.{Sight, point_at, sight, sights_from, sights, marks_of, Each, IsPlain, StaysWithin, Part, IsPart, first_of, Chain, plans_to, joined, Division, NoCut, IsDivided}
+use Rattle.cutter.specs.Dividing.{Sight, point_at, sight, sights_from, sights, marks_of, IsPlain, StaysWithin, Part, IsPart, first_of, Chain, plans_to, joined, Division, NoCut, IsDivided}
 
 -- one packet more of a segment
 abbrev with_sight : Part → Sight → Part
@@ -20,10 +21,6 @@ with_sight part x = record { segment = with_mark part.segment x.mark; own = part
 marks-more : (own : List Sight) (x : Sight) → marks_of (own ++ x ∷ []) ≡ marks_of own ++ x.mark ∷ []
 marks-more [] x = refl
 marks-more (y ∷ own) x = ap (λ (list : List Mark). y.mark ∷ list) (marks-more own x)
-
-all-more : (P : Sight → Type 0) (xs : List Sight) (x : Sight) → Each P xs → P x → Each P (xs ++ x ∷ [])
-all-more P [] x all here = (here, tt)
-all-more P (y ∷ xs) x all here = (all.0, all-more P xs x all.1 here)
 
 part-more : (s : CutSettings) (n : ℕ) (q : Option Point) (m : ℕ) (part : Part) (x : Sight) → IsPart s n q m part → StaysWithin s part.segment.head x.point → IsPart s n q m (with_sight part x)
 part-more s n q m part x is stays = record {
@@ -35,7 +32,7 @@ part-more s n q m part x is stays = record {
   rest = is.rest ++ x ∷ [];
   whole = ap (λ (list : List Sight). list ++ x ∷ []) is.whole;
   begins = is.begins;
-  within = all-more (λ y. StaysWithin s part.segment.head y.point) is.rest x is.within stays;
+  within = All-push (λ y. StaysWithin s part.segment.head y.point) is.rest x is.within stays;
 }
 
 first-more : (xs : List Part) (part : Part) (x : Sight) → (first_of xs (with_sight part x)).segment.head ≡ (first_of xs part).segment.head
@@ -124,7 +121,7 @@ division-next r s all plans g x p shaped at cut =
             ∙ ap (λ (list : List Sight). d.before ++ (list ++ x ∷ [])) (sym (joined-next d.parts part));
         plain = d.plain;
         chain = chain-next s 0 None 0 d.parts part next d.chain cut
-            (record { numbered = refl; behind = refl; pmt = refl; marks = refl; first = x; rest = []; whole = refl; begins = at; within = tt });
+            (record { numbered = refl; behind = refl; pmt = refl; marks = refl; first = x; rest = []; whole = refl; begins = at; within = All-nil _ });
         given = ap (λ (list : List SegmentPlan). list ++ plan_of r s g (Some p.stamp) ∷ []) d.given ∙ sym (plans-next r s d.parts part next);
       },
     )
@@ -138,7 +135,7 @@ division-first r s all plans x p none at = (
     parts = [];
     together = refl;
     plain = none.plain;
-    chain = record { numbered = refl; behind = refl; pmt = refl; marks = refl; first = x; rest = []; whole = refl; begins = at; within = tt };
+    chain = record { numbered = refl; behind = refl; pmt = refl; marks = refl; first = x; rest = []; whole = refl; begins = at; within = All-nil _ };
     given = none.none;
   },
 )
@@ -165,7 +162,7 @@ same-good r s all top plans g shaped = on-good r s all top plans None g (subst (
 
 carried-good : (r : ℕ) (s : CutSettings) (all : List Sight) (top : Option Stamp) (plans : List SegmentPlan) (going : Option Segment) (x : Sight) → Shaped r s all plans going → x.point ≡ None
     → Good r s (all ++ x ∷ []) top (carried_on s top plans going x.mark)
-carried-good r s all top plans None x shaped none = λ sound. record { last = refl; shaped = record { plain = all-more IsPlain all x shaped.plain none; none = shaped.none } }
+carried-good r s all top plans None x shaped none = λ sound. record { last = refl; shaped = record { plain = All-push IsPlain all x shaped.plain none; none = shaped.none } }
 carried-good r s all top plans (Some g) x shaped none =
     same-good r s (all ++ x ∷ []) top plans (with_mark g x.mark) (division-more r s all plans g x shaped (subst (λ (point : Option Point). StaysWithin s g.head point) (sym none) tt))
 
@@ -215,4 +212,4 @@ pub divided : (r : ℕ) (s : CutSettings) (ps : List (List ℕ)) → (cuts r s p
 unfolding closed
 divided r s ps sound =
     shaped-divided r s (sights s ps) (cuts r s ps).closed (cuts r s ps).going
-    (run-good r s [] None uncut (facts s ps) (λ none. record { last = refl; shaped = record { plain = tt; none = refl } }) sound)
+    (run-good r s [] None uncut (facts s ps) (λ none. record { last = refl; shaped = record { plain = All-nil IsPlain; none = refl } }) sound)

@@ -9,7 +9,7 @@ use crate::following::{look_behind, watch_packet};
 use crate::going::Going;
 use crate::place::{Placed, finish, place};
 use crate::plan::Plan;
-use crate::point::{counted, top_after};
+use crate::point::counted;
 use crate::settings::CutSettings;
 use ghost_list::GhostList;
 use pes_time::{Clock, Stamp};
@@ -18,6 +18,10 @@ use std::alloc::Global;
 use std::marker::Model;
 
 /// Cuts the packets of a rendition into segments, and gives the plan of each as soon as the next one begins.
+///
+/// A segment begins at a key frame, an access unit of video with a PTS and random_access_indicator, that is later than all
+/// key frames before it in its epoch: the first segment at the first of these, and each next one at the first that lies at
+/// least `segment` behind the last cut, or in another epoch, or under other tables.
 ///
 /// Clauses see a cutter as its rendition, its settings, the list of the packets that it was pushed, and whether it has
 /// ended. It ends at a fault and at the end of the stream; from then on every call answers Ended.
@@ -105,7 +109,7 @@ impl Cutter {
             counted,
         )?;
         watch_packet(&mut self.watch, packet)?;
-        self.top = top_after(self.top, counted);
+        self.top = counted.or(self.top);
         self.going = going;
         self.fed.push(packet);
         self.ended = false;

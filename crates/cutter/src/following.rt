@@ -24,7 +24,11 @@ fn parse(bytes: &[u8; 188]) -> Option<Packet>
 }
 
 /// What 188 bytes are, by the tables and the times before them.
-pub fn look_behind(watch: &Watch, clock: &mut Clock, bytes: &[u8; 188]) -> Result<Look, CutFault>
+pub(crate) fn look_behind(
+    watch: &Watch,
+    clock: &mut Clock,
+    bytes: &[u8; 188],
+) -> Result<Look, CutFault>
     requires { length clock.old.list < 2 ^ 63 }
     ensures look { IfOk result (λ look. look ≡ look_by clock.old.gap clock.old.list (tables_behind watch.now.program watch.now.packets) bytes.now) }
     ensures kept { OnOk result (is_lost clock.old.gap clock.old.list (pts_at (tables_behind watch.now.program watch.now.packets) bytes.now) ≡ false) }
@@ -42,7 +46,7 @@ pub fn look_behind(watch: &Watch, clock: &mut Clock, bytes: &[u8; 188]) -> Resul
 }
 
 /// Shows a packet to the watch, unless it is dropped.
-pub fn watch_packet(watch: &mut Watch, bytes: &[u8; 188]) -> Result<(), AllocError>
+pub(crate) fn watch_packet(watch: &mut Watch, bytes: &[u8; 188]) -> Result<(), AllocError>
     ensures { OnOk result (watch.new ≡ record watch.old { packets = watch.old.packets ++ packet_list bytes.now }) }
 {
     let Some(packet) = parse(bytes) else {

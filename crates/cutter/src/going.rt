@@ -17,14 +17,14 @@ use std::marker::Model;
 
 /// An I-frame whose end hasn't come.
 #[derive(Clone, Copy)]
-pub struct Pending {
+pub(crate) struct Pending {
     pub offset: u64,
     pub start: u64,
 }
 
 /// A segment whose end hasn't come.
 #[derive(Drop)]
-pub struct Going {
+pub(crate) struct Going {
     number: u64,
     discontinuity: bool,
     start: Stamp,
@@ -50,7 +50,7 @@ impl Model for Going {
 
 impl Going {
     /// The first segment of a stream, with no packet yet.
-    pub fn first(alloc: Global, start: Stamp, tables: Tables) -> Going
+    pub(crate) fn first(alloc: Global, start: Stamp, tables: Tables) -> Going
         requires { IsInRange start.time }
         ensures { result ≡ empty 0 false 0 (record { stamp = start; tables = tables }) }
     {
@@ -68,7 +68,7 @@ impl Going {
     }
 
     /// The segment behind this one, with no packet yet.
-    pub fn next(&self, alloc: Global, start: Stamp, tables: Tables) -> Going
+    pub(crate) fn next(&self, alloc: Global, start: Stamp, tables: Tables) -> Going
         requires start { IsInRange start.time }
         requires number { self.now.number < 2 ^ 32 }
         ensures { result ≡ next_of self.now (record { stamp = start; tables = tables }) }
@@ -89,7 +89,7 @@ impl Going {
     }
 
     /// Takes one packet more.
-    pub fn add(
+    pub(crate) fn add(
         &mut self,
         packet: &[u8; 188],
         look: Look,
@@ -113,7 +113,7 @@ impl Going {
     }
 
     /// How long the segment lasts, up to a cut with this stamp or the end of the stream.
-    pub fn ticks(&self, settings: CutSettings, next: Option<Stamp>) -> u64
+    pub(crate) fn ticks(&self, settings: CutSettings, next: Option<Stamp>) -> u64
         requires frame { settings.frame ≤ 900000 }
         requires next { HasRange next }
         ensures is { result ≡ Segments.ticks_to settings self.now.head.stamp self.now.greatest next }
@@ -123,7 +123,7 @@ impl Going {
     }
 
     /// Ends the segment, at a cut with this stamp or at the end of the stream.
-    pub fn close(
+    pub(crate) fn close(
         self,
         rendition: usize,
         settings: CutSettings,
@@ -158,14 +158,14 @@ impl Going {
         })
     }
 
-    pub fn number(&self) -> u64
+    pub(crate) fn number(&self) -> u64
         ensures { result ≡ self.now.number }
     {
         self.number
     }
 
     /// Whether a counted point is the next cut.
-    pub fn is_cut(&self, settings: CutSettings, stamp: Stamp, tables: &Tables) -> bool
+    pub(crate) fn is_cut(&self, settings: CutSettings, stamp: Stamp, tables: &Tables) -> bool
         requires { settings.segment < 2 ^ 62 }
         ensures { result ≡ Segments.is_cut settings self.now.head (record { stamp = stamp; tables = tables.now }) }
     {
@@ -174,7 +174,7 @@ impl Going {
     }
 
     /// How many bytes the body has.
-    pub fn size(&self) -> u64
+    pub(crate) fn size(&self) -> u64
         ensures { result ≡ length self.now.body }
     {
         self.body.len() as u64

@@ -18,13 +18,13 @@ use std::alloc::Global;
 
 /// The segment that goes on behind a packet, and the plan that the packet closed.
 #[derive(Drop)]
-pub struct Placed {
+pub(crate) struct Placed {
     pub going: Option<Going>,
     pub plan: Option<Plan>,
 }
 
 /// Places a packet, by the tables before it.
-pub fn place(
+pub(crate) fn place(
     alloc: Global,
     rendition: usize,
     settings: CutSettings,
@@ -193,7 +193,7 @@ fn check_size(settings: CutSettings, going: Going, plan: Option<Plan>) -> Result
 }
 
 /// The plan of the last segment, at the end of the stream.
-pub fn finish(
+pub(crate) fn finish(
     rendition: usize,
     settings: CutSettings,
     tables: Option<&Tables>,

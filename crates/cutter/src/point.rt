@@ -11,7 +11,7 @@ use pes_time::Stamp;
 use psi_tables::Tables;
 
 /// The stamp of a packet that is a counted point; `top` is the last one that counted.
-pub fn counted(top: Option<Stamp>, look: Look) -> Option<Stamp>
+pub(crate) fn counted(top: Option<Stamp>, look: Look) -> Option<Stamp>
     requires { HasRange look.stamp }
     ensures is { result ≡ Points.counted top look }
     ensures range { HasRange result }
@@ -31,25 +31,15 @@ pub fn counted(top: Option<Stamp>, look: Look) -> Option<Stamp>
     Some(stamp)
 }
 
-/// The last stamp that counted.
-pub fn top_after(top: Option<Stamp>, counted: Option<Stamp>) -> Option<Stamp>
-    ensures { result ≡ Points.top_after top counted }
-{
-    let Some(stamp) = counted else {
-        return top;
-    };
-    Some(stamp)
-}
-
 /// Whether times and tables don't go on from one counted point to another.
-pub fn breaks(from: Stamp, from_tables: &Tables, to: Stamp, to_tables: &Tables) -> bool
+pub(crate) fn breaks(from: Stamp, from_tables: &Tables, to: Stamp, to_tables: &Tables) -> bool
     ensures { result ≡ Segments.breaks (record { stamp = from; tables = from_tables.now }) (record { stamp = to; tables = to_tables.now }) }
 {
     from.epoch != to.epoch || !from_tables.same(to_tables)
 }
 
 /// Whether a counted point lies at least `segment` behind the last cut.
-pub fn is_due(settings: CutSettings, from: Stamp, to: Stamp) -> bool
+pub(crate) fn is_due(settings: CutSettings, from: Stamp, to: Stamp) -> bool
     requires segment { settings.segment < 2 ^ 62 }
     requires from { IsInRange from.time }
     ensures { result ≡ Segments.is_due settings from to }

@@ -119,7 +119,7 @@ fn packets_that_make_no_cut(rt: HostRuntime) -> Result<(), Fail> {
     Ok(())
 }
 
-/// Two key frames, with a gap of ten seconds at most.
+/// A target of ten seconds, which are the gap.
 const TEN: CutSettings = CutSettings {
     target: 10,
     ..SETTINGS
@@ -249,7 +249,7 @@ fn streams_without_a_segment(rt: HostRuntime) -> Result<(), Fail> {
 /// Two key frames eight seconds apart.
 const EIGHT: &[crate::fixtures::Step] = &[Pat, Pmt, Key(0), Key(720_000)];
 
-const LONG: [Case; 5] = [
+const LONG: [Case; 7] = [
     Case {
         name: "eight seconds",
         settings: SETTINGS,
@@ -291,6 +291,20 @@ const LONG: [Case; 5] = [
         rows: &[GoesOn(585_000, &[2], FIRST), GoesOn(3600, &[3], FIRST)],
         fault: None,
     },
+    Case {
+        name: "eight seconds behind a plan",
+        settings: SETTINGS,
+        steps: &[Pat, Pmt, Key(0), Key(540_000), Key(1_260_000)],
+        rows: &[GoesOn(540_000, &[2], FIRST)],
+        fault: Some(CutFault::LongSegment(1)),
+    },
+    Case {
+        name: "eight seconds at the end",
+        settings: SETTINGS,
+        steps: &[Pat, Pmt, Key(0), Frame(720_000)],
+        rows: &[],
+        fault: Some(CutFault::LongSegment(0)),
+    },
 ];
 
 #[test]
@@ -309,7 +323,7 @@ const FOUR: &[crate::fixtures::Step] = &[
     Frame(810_000),
 ];
 
-const BIG: [Case; 2] = [
+const BIG: [Case; 3] = [
     Case {
         name: "one packet",
         settings: CutSettings {
@@ -319,6 +333,16 @@ const BIG: [Case; 2] = [
         steps: FOUR,
         rows: &[],
         fault: Some(CutFault::BigSegment(0)),
+    },
+    Case {
+        name: "one packet, behind a plan",
+        settings: CutSettings {
+            most: 1,
+            ..SETTINGS
+        },
+        steps: &[Pat, Pmt, Key(0), Key(540_000), Frame(810_000)],
+        rows: &[GoesOn(540_000, &[2], FIRST)],
+        fault: Some(CutFault::BigSegment(1)),
     },
     Case {
         name: "two packets",
@@ -369,6 +393,7 @@ fn counter_of_new_tables(plans: &[Plan]) -> Option<u8> {
 fn tables_of_plans(rt: HostRuntime) -> Result<(), Fail> {
     let packets = stream(rt.alloc(), FOUR)?;
     let same = cut(rt.alloc(), SETTINGS, &packets)?;
+    assert_eq!(rt; same.plans.len(), 2);
     assert!(rt; have_tables(&same.plans, section(false), 1));
     let packets = stream(rt.alloc(), &[Pat, Pmt, Key(0), PmtWithSound, Key(300_000)])?;
     let changed = cut(rt.alloc(), SETTINGS, &packets)?;

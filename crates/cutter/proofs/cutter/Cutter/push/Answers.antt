@@ -29,7 +29,7 @@ invariant_of-self-2 c =
       settings = c.self.invariant.settings;
       packets = subst (All IsPacketLong) (sym c.push.ensures) (All-push IsPacketLong c.self.inside.fed.items c.args.packet.now c.self.invariant.packets (search rules));
       keeps = λ _. push-keeps c.self.inside _ c.args.packet.now c.in_ok-look.look c.take-going.result _ c.counted-counted.result _
-          (c.self.invariant.keeps c.if-self.false) read c.in_ok-going.ensures.ok refl refl c.in_ok-watch_packet.ensures c.in_ok-look.ensures.pushed c.top_after-self-inside.ensures c.push.ensures;
+          (c.self.invariant.keeps c.if-self.false) read c.in_ok-going.ensures.ok refl refl c.in_ok-watch_packet.ensures c.in_ok-look.ensures.pushed c.or-self-inside.ensures c.push.ensures;
     }
 
 pub returns-clause-plan : goal.returns-clause-plan
