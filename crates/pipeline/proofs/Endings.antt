@@ -74,8 +74,8 @@ module _ (X : Type 0) (left : X → Option (List ℕ)) (fails reads : X → ℕ)
       → slice_get lanes r ≡ Some lane
       → ((k : ℕ) (earlier : Lane) → k < r → slice_get lanes k ≡ Some earlier → told_of k earlier.stop ≡ None)
       → ((k : ℕ) (lane : Lane) → slice_get lanes k ≡ Some lane → lane.stop ≡ None → rounds ≡ 2 ^ 40)
-      → IsAllowed ladder → World left fails reads ladder rounds 0 before now lanes shown x y → HasHalted left fails reads ladder before now x y r lane.stop
-  world-halted rounds before now lanes shown x y r lane f good limit allowed w = record {
+      → rounds ≤ 2 ^ 40 → IsAllowed ladder → World left fails reads ladder rounds 0 before now lanes shown x y → HasHalted left fails reads ladder before now x y r lane.stop
+  world-halted rounds before now lanes shown x y r lane f good limit few allowed w = record {
     streams = w.streams;
     parts = parts-of ladder w.events;
     items = blocks ladder (none_of ladder) w.events;
@@ -93,7 +93,7 @@ module _ (X : Type 0) (left : X → Option (List ℕ)) (fails reads : X → ℕ)
         let taken = u.reads_are none in
         let turns = turns-none rounds k in
         let all = limit k m.0 m.1 none in
-        omega (arith, taken, turns, all)) u);
+        omega (arith, taken, turns, all)) (omega (arith, turns-none rounds k, few)) u);
     within = some-at before r (omega (arith, slice_get_within lanes r lane f, w.same_before, w.same_lanes));
     at_r = stop-of lanes r lane f;
     first = λ k below.
@@ -141,7 +141,7 @@ module _ (X : Type 0) (left : X → Option (List ℕ)) (fails reads : X → ℕ)
 
   -- a fault that a rendition's end is told by
   pub halted-says : (before now : List X) (x y : Held → Type 0) (f g r : ℕ) (stop : Option Stop) (e : PackFault) → told_of r stop ≡ Some e
-      → HasHalted left fails reads ladder before now x y r stop → IsCutShort left ladder before now x y → g ≡ f
+      → HasHalted left fails reads ladder before now x y r stop → IsCutShort left fails reads ladder before now x y → g ≡ f
       → FaultSays left fails reads ladder before now x y f g e
   halted-says before now x y f g r None e t h cut same = subst (FaultSays left fails reads ladder before now x y f g) (same_Some _ _ t) (h, same)
   halted-says before now x y f g r (Some (Good n)) e t h cut same = cc
@@ -155,7 +155,7 @@ module _ (X : Type 0) (left : X → Option (List ℕ)) (fails reads : X → ℕ)
   halted-says before now x y f g r (Some (Cut Ended)) e t h cut same = subst (FaultSays left fails reads ladder before now x y f g) (same_Some _ _ t) (cut, same)
 
   -- a fault that stopped the run at once
-  pub at-once : (before now : List X) (x y : Held → Type 0) (f g : ℕ) (e : PackFault) → SaysFailures e f g → IsCutShort left ladder before now x y
+  pub at-once : (before now : List X) (x y : Held → Type 0) (f g : ℕ) (e : PackFault) → SaysFailures e f g → IsCutShort left fails reads ladder before now x y
       → FaultSays left fails reads ladder before now x y f g e
   at-once before now x y f g Settings says cut = absurd says
   at-once before now x y f g (Read r) says cut = absurd says

@@ -17,7 +17,7 @@ use Rattle.pipeline.specs.Items.{Part, no_part}
 use Rattle.pipeline.specs.Lanes.{IsOpen, IsWhole, Begins, BeginsClosed, InStage}
 use Rattle.pipeline.specs.Sources.{SourceSays, HasBegun}
 use Rattle.pipeline.specs.World.{IsFirst, Stage, turns_of}
-use Rattle.pipeline.specs.Packed.{HasEnded, IsLeft}
+use Rattle.pipeline.specs.Packed.{HasGiven, IsLeft}
 
 -- turns
 pub turns-now : (rounds r : ℕ) → turns_of rounds r r ≡ rounds
@@ -37,6 +37,17 @@ turns-none rounds k = grind (arith, nat_tests)
 
 pub turns-more : (rounds r : ℕ) → turns_of rounds r r ≤ turns_of rounds (r + 1) r
 turns-more rounds r = omega (arith, turns-now rounds r, turns-then rounds r)
+
+pub turns-most : (rounds n k : ℕ) → turns_of rounds n k ≤ rounds + 1
+turns-most rounds n k = grind (arith, nat_tests)
+
+-- an input fails once at the most
+pub says-one : {X : Type 0} (left : X → Option (List ℕ)) (fails : X → ℕ) (r : ℕ) (s : CutSettings) (stream : List ℕ) (stop : Option Stop) (a b : X)
+    → SourceSays left fails r s stream stop a b → fails b ≤ fails a + 1
+says-one left fails r s stream None a b says = omega (arith, says)
+says-one left fails r s stream (Some (Good gone)) a b says = omega (arith, says.0)
+says-one left fails r s stream (Some (Cut told)) a b says = omega (arith, says.0)
+says-one left fails r s stream (Some Read) a b says = omega (arith, says)
 
 -- a part of which no end was told
 whole-front : (ladder : Ladder) (r : ℕ) (stream : List ℕ) (part : Part) → IsWhole ladder r stream part → Begins ladder r stream part
@@ -66,7 +77,7 @@ stage-begins left fails ladder r (Some (Cut told)) intake stream part a b stage 
 stage-begins left fails ladder r (Some Read) intake stream part a b stage says = inr (closed-front ladder r stream part stage.plans stage.ended)
 
 -- it has ended, by its stop or by having had all its reads
-pub stage-ended : (ladder : Ladder) (r : ℕ) (stop : Option Stop) (intake : Taken) (stream : List ℕ) (part : Part) → InStage stop ladder r stream intake part → HasEnded stop ladder r stream part
+pub stage-ended : (ladder : Ladder) (r : ℕ) (stop : Option Stop) (intake : Taken) (stream : List ℕ) (part : Part) → InStage stop ladder r stream intake part → HasGiven stop ladder r stream part
 stage-ended ladder r None intake stream part stage = record { plans = stage.0.plans ∙ ap (closed_of r ladder.cut) stage.1; ended = stage.0.ended }
 stage-ended ladder r (Some stop) intake stream part stage = stage
 
@@ -154,11 +165,12 @@ module _ (X : Type 0) (left : X → Option (List ℕ)) (fails reads : X → ℕ)
 
   -- as the run leaves it
   pub stage-left : (k turns : ℕ) (a b : X) (lane : Lane) (s : List ℕ) (p : Part) → (lane.stop ≡ None → reads b ≡ reads a + 2 ^ 40)
-      → Stage left fails reads ladder k turns a b lane s p → IsLeft left fails reads ladder k a b lane.stop s p
-  stage-left k turns a b lane s p limit stage = record {
+      → turns ≤ 2 ^ 40 → Stage left fails reads ladder k turns a b lane s p → IsLeft left fails reads ladder k a b lane.stop s p
+  stage-left k turns a b lane s p limit few stage = record {
     given = stage-ended ladder k lane.stop lane.intake s p stage.stage;
     read = stage.read;
     bytes = stage.bytes;
     says = stage.says;
     limit = limit;
+    few_reads = omega (arith, few, stage.few_reads);
   }

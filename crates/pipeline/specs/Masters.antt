@@ -1,5 +1,6 @@
 -- The master playlist of a ladder (RFC 8216, 4.3.4).
 use Rattle.std.specs.Prelude.{ℕ, List, [], ◌∷◌, Option, Some, None}
+use Rattle.std.specs.Option.{unwrap_or}
 use Rattle.std.specs.List.{flat_map, zip}
 use Rattle.media_playlist.specs.Rows.{SegmentRow}
 use Rattle.bandwidth.specs.declared.meter.Peak.{Peak}
@@ -14,15 +15,11 @@ abbrev pub peak_rate : Option Peak → ℕ
 peak_rate None = 0
 peak_rate (Some peak) = peak.rate
 
-abbrev pub rate_or_none : Option ℕ → ℕ
-rate_or_none None = 0
-rate_or_none (Some rate) = rate
-
 -- a rendition with the rates of its segments and of its I-frames
 unfoldable pub measured : RenditionValue → Shown → Listed
 measured rendition shown = listed rendition
-    (peak_rate (peak_of shown.target (segment_rates shown.rows))) (rate_or_none (average_of (segment_rates shown.rows)))
-    (peak_rate (peak_of shown.target (frame_rates shown.rows))) (rate_or_none (average_of (frame_rates shown.rows)))
+    (peak_rate (peak_of shown.target (segment_rates shown.rows))) (unwrap_or (average_of (segment_rates shown.rows)) 0)
+    (peak_rate (peak_of shown.target (frame_rates shown.rows))) (unwrap_or (average_of (frame_rates shown.rows)) 0)
 
 -- one that has segments is listed
 abbrev pub variant_of : RenditionValue → Shown → List SegmentRow → List Listed

@@ -1,5 +1,6 @@
 -- How a run ends, and what it has given then.
-use Rattle.std.specs.Prelude.{◌≡◌, ℕ, ◌+◌, ◌^◌, ◌<◌, ◌≤◌, ◌⊎◌, List, [], length, map, sum, Option, Some, None, slice_get}
+use Rattle.std.specs.Prelude.{◌≡◌, ℕ, ◌+◌, ◌^◌, ◌<◌, ◌≤◌, ◌⊎◌, List, [], ◌++◌, length, map, sum, Option, Some, None, slice_get}
+use Rattle.std.specs.Option.{unwrap_or}
 use Rattle.std.specs.Io.KnownBytes.{Consumes, IsAtEnd}
 use Rattle.aes_cbc.specs.Block.{AreBytes}
 use Rattle.bandwidth.specs.Peaks.{peak_of, average_of}
@@ -15,9 +16,9 @@ use Rattle.pipeline.specs.declared.lane.Stop.TheVariants.{Good, Cut, Read as Rea
 use Rattle.pipeline.specs.declared.report.Report.{Report}
 use Rattle.pipeline.specs.Ladder.{Ladder, IsAllowed}
 use Rattle.pipeline.specs.Shown.{Shown, segment_rates, lasting}
-use Rattle.pipeline.specs.Masters.{peak_rate, rate_or_none}
+use Rattle.pipeline.specs.Masters.{peak_rate}
 use Rattle.pipeline.specs.Items.{Part, part_at, shown_all}
-use Rattle.pipeline.specs.Weave.{Weaves}
+use Rattle.pipeline.specs.Weave.{Event, AreLegal, after_all, blocks, none_of, Weaves}
 use Rattle.pipeline.specs.Putting.{PutSome}
 use Rattle.pipeline.specs.Lanes.{IsWhole, IsClosed, HasStopped}
 use Rattle.pipeline.specs.Sources.{SourceSays, HasBegun}
@@ -28,7 +29,7 @@ pub record IsReport (shown : List Shown) (gone : List ℕ) (report : Report) : T
   pub counts : report.counts.items ≡ map (λ (s : Shown). length s.rows) shown
   pub micros : report.micros.items ≡ map (λ (s : Shown). lasting s.rows) shown
   pub peaks : report.peaks.items ≡ map (λ (s : Shown). peak_rate (peak_of s.target (segment_rates s.rows))) shown
-  pub averages : report.averages.items ≡ map (λ (s : Shown). rate_or_none (average_of (segment_rates s.rows))) shown
+  pub averages : report.averages.items ≡ map (λ (s : Shown). unwrap_or (average_of (segment_rates s.rows)) 0) shown
   pub skipped : report.skipped.items ≡ gone
   pub workers : report.workers.items ≡ []
   pub own : report.own ≡ sum report.counts.items
@@ -48,8 +49,24 @@ pub record IsPacked {X : Type 0} (left : X → Option (List ℕ)) (fails reads :
       IsWhole ladder k (stream_at streams k) (part_at parts k) × AreBytes (stream_at streams k) × Consumes (left a) (left b) (stream_at streams k) × IsAtEnd (left b) × (fails b ≡ fails a) × (reads b ≤ reads a + 2 ^ 40)
   pub report_is : IsReport (shown_all ladder parts) (map skipped streams) report
 
+-- what a rendition has given that stopped, or that goes on
+abbrev pub HasGiven : Option Stop → Ladder → ℕ → List ℕ → Part → Type 0
+HasGiven None ladder r stream part = IsClosed ladder r stream part
+HasGiven (Some stop) ladder r stream part = HasStopped stop ladder r stream part
+
+-- A run that was stopped in a turn of rendition r: before that turn each rendition had given all that its bytes close, or
+-- had stopped, and in the turn one read was made, of r alone.
+pub record StopsAtOnce (ladder : Ladder) (r : ℕ) (streams : List (List ℕ)) (given : List ItemValue) : Type 0 where
+  pub earlier : List (List ℕ)
+  pub events : List Event
+  pub legal : AreLegal (none_of ladder) events
+  pub given_before : (rest : List ItemValue) × (given ≡ blocks ladder (none_of ladder) events ++ rest)
+  pub each : (k : ℕ) → k < length ladder.renditions → (stop : Option Stop) × HasGiven stop ladder k (stream_at earlier k) (part_at (after_all (none_of ladder) events) k)
+  pub piece : (more : List ℕ) × (length more ≤ 18800) × (stream_at streams r ≡ stream_at earlier r ++ more)
+  pub others : (k : ℕ) → (k ≡ r → ⊥) → stream_at streams k ≡ stream_at earlier k
+
 -- The run was stopped: the items put are a beginning of a weave of beginnings.
-pub record IsCutShort {X : Type 0} (left : X → Option (List ℕ)) (ladder : Ladder) (before now : List X) (old new : Held → Type 0) : Type 0 where
+pub record IsCutShort {X : Type 0} (left : X → Option (List ℕ)) (fails reads : X → ℕ) (ladder : Ladder) (before now : List X) (old new : Held → Type 0) : Type 0 where
   pub streams : List (List ℕ)
   pub parts : List Part
   pub items : List ItemValue
@@ -59,19 +76,18 @@ pub record IsCutShort {X : Type 0} (left : X → Option (List ℕ)) (ladder : La
   pub same_now : length now ≡ length before
   pub each : (k : ℕ) (a b : X) → slice_get before k ≡ Some a → slice_get now k ≡ Some b →
       HasBegun ladder k (left b) (stream_at streams k) (part_at parts k) × AreBytes (stream_at streams k) × Consumes (left a) (left b) (stream_at streams k)
-
--- what a rendition has given that stopped, or that has had all its reads
-abbrev pub HasEnded : Option Stop → Ladder → ℕ → List ℕ → Part → Type 0
-HasEnded None ladder r stream part = IsClosed ladder r stream part
-HasEnded (Some stop) ladder r stream part = HasStopped stop ladder r stream part
+  pub counts : (k : ℕ) (a b : X) → slice_get before k ≡ Some a → slice_get now k ≡ Some b → (fails b ≤ fails a + 1) × (reads b ≤ reads a + 2 ^ 40)
+  pub in_turn : ℕ
+  pub at_once : StopsAtOnce ladder in_turn streams some.given
 
 -- one rendition as the run left it
 pub record IsLeft {X : Type 0} (left : X → Option (List ℕ)) (fails reads : X → ℕ) (ladder : Ladder) (k : ℕ) (a b : X) (stop : Option Stop) (stream : List ℕ) (part : Part) : Type 0 where
-  pub given : HasEnded stop ladder k stream part
+  pub given : HasGiven stop ladder k stream part
   pub read : Consumes (left a) (left b) stream
   pub bytes : AreBytes stream
   pub says : SourceSays left fails k ladder.cut stream stop a b
   pub limit : stop ≡ None → reads b ≡ reads a + 2 ^ 40
+  pub few_reads : reads b ≤ reads a + 2 ^ 40
 
 -- the fault that a stream's fault is told by
 abbrev pub told_of_cut : ℕ → CutFault → PackFault
@@ -130,6 +146,6 @@ FaultSays left fails reads ladder before now old new put_fails put_fails_now (No
 FaultSays left fails reads ladder before now old new put_fails put_fails_now (LongSegment r n) = HasHalted left fails reads ladder before now old new r (Some (Cut (IsLong n))) × (put_fails_now ≡ put_fails)
 FaultSays left fails reads ladder before now old new put_fails put_fails_now (BigSegment r n) = HasHalted left fails reads ladder before now old new r (Some (Cut (IsBig n))) × (put_fails_now ≡ put_fails)
 FaultSays left fails reads ladder before now old new put_fails put_fails_now (Limit r) = HasHalted left fails reads ladder before now old new r (Some (Cut PassesLimit)) × (put_fails_now ≡ put_fails)
-FaultSays left fails reads ladder before now old new put_fails put_fails_now Outlet = IsCutShort left ladder before now old new × (put_fails_now ≡ put_fails + 1)
-FaultSays left fails reads ladder before now old new put_fails put_fails_now NoMemory = IsCutShort left ladder before now old new × (put_fails_now ≡ put_fails)
+FaultSays left fails reads ladder before now old new put_fails put_fails_now Outlet = IsCutShort left fails reads ladder before now old new × (put_fails_now ≡ put_fails + 1)
+FaultSays left fails reads ladder before now old new put_fails put_fails_now NoMemory = IsCutShort left fails reads ladder before now old new × (put_fails_now ≡ put_fails)
 FaultSays left fails reads ladder before now old new put_fails put_fails_now (HeldBack r n) = ⊥

@@ -26,8 +26,8 @@ pub fn standing(lanes: &[Lane]) -> Option<PackFault>
     ensures some { IfSome result (λ fault. (r : ℕ) × (lane : Lane) × (slice_get lanes.now r ≡ Some lane) × (told_of r lane.stop ≡ Some fault)
         × ((k : ℕ) (earlier : Lane) → k < r → slice_get lanes.now k ≡ Some earlier → told_of k earlier.stop ≡ None)) }
 {
-    for r in 0..lanes.len() {
-        if let Some(fault) = told(r, lanes[r].stop) {
+    for (r, lane) in lanes.iter().enumerate() {
+        if let Some(fault) = told(r, lane.stop) {
             return Some(fault);
         }
     }

@@ -2,8 +2,6 @@
 #![tactic(auto)]
 
 mod allowed;
-#[cfg(test)]
-mod allowed_tests;
 mod ends;
 mod fault;
 mod give;
@@ -19,8 +17,6 @@ mod segment_laws;
 mod serial;
 mod settings;
 mod start;
-#[cfg(test)]
-mod tests;
 mod turn;
 
 pub use fault::PackFault;

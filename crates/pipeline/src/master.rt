@@ -79,26 +79,18 @@ fn measured<'a>(rendition: &'a Rendition, playlists: &Playlists) -> Variant<'a>
         width: rendition.width,
         height: rendition.height,
         peak: rate(playlists.peak()),
-        average: rate_or_none(playlists.average()),
+        average: playlists.average().unwrap_or(0),
         frame_peak: rate(playlists.frame_peak()),
-        frame_average: rate_or_none(playlists.frame_average()),
+        frame_average: playlists.frame_average().unwrap_or(0),
     }
 }
 
+/// The bit rate of a peak, in bits per second; 0 of none.
 pub fn rate(peak: Option<Peak>) -> u64
     ensures { result ≡ peak_rate peak }
 {
     match peak {
         Some(peak) => peak.rate,
-        None => 0,
-    }
-}
-
-pub fn rate_or_none(rate: Option<u64>) -> u64
-    ensures { result ≡ Masters.rate_or_none rate }
-{
-    match rate {
-        Some(rate) => rate,
         None => 0,
     }
 }

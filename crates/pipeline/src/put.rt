@@ -45,9 +45,11 @@ pub fn put_segment<O: Outlet>(
 {
     let name = rendition.name.clone()?;
     let (plan, bytes) = sealed.into_parts();
+    let number = plan.number;
+    drop(plan);
     let item = Item::Segment {
         rendition: r,
-        number: plan.number,
+        number,
         name,
         bytes,
     };

@@ -3,7 +3,7 @@ ghost use Rattle.pipeline.specs.Packed.{IsReport, gone_of};
 ghost use Rattle.pipeline.specs.Shown.{Shown};
 
 use crate::lane::Stop;
-use crate::master::{rate, rate_or_none};
+use crate::master::rate;
 use crate::playlists::Playlists;
 use crate::turn::Lane;
 use std::alloc::{AllocError, Global};
@@ -67,7 +67,7 @@ fn add(report: &mut Report, playlists: &Playlists, skipped: u64) -> Result<(), A
     report.counts.push(playlists.count())?;
     report.micros.push(playlists.micros())?;
     report.peaks.push(rate(playlists.peak()))?;
-    report.averages.push(rate_or_none(playlists.average()))?;
+    report.averages.push(playlists.average().unwrap_or(0))?;
     report.skipped.push(skipped)?;
     report.own += u128::from(playlists.count());
     Ok(())

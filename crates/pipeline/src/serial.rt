@@ -73,7 +73,7 @@ fn turns<S: Source, O: Outlet>(
     requires start { World S.remaining S.failures S.reads settings.now 0 0 sources.old.items sources.old.items lanes.old.items playlists.old.items (O.holds outlet.old) (O.holds outlet.old) }
     ensures ok { OnOk result ((rounds : ℕ) × (rounds ≤ 2 ^ 40) × World S.remaining S.failures S.reads settings.now rounds 0 sources.old.items sources.new.items lanes.new.items playlists.new.items (O.holds outlet.old) (O.holds outlet.new)
         × ((k : ℕ) (lane : Lane) → slice_get lanes.new.items k ≡ Some lane → lane.stop ≡ None → rounds ≡ 2 ^ 40)) }
-    ensures err { OnErr result (IsCutShort S.remaining settings.now sources.old.items sources.new.items (O.holds outlet.old) (O.holds outlet.new)) }
+    ensures err { OnErr result (IsCutShort S.remaining S.failures S.reads settings.now sources.old.items sources.new.items (O.holds outlet.old) (O.holds outlet.new)) }
     ensures failures { OnOk result (O.failures outlet.new ≡ O.failures outlet.old) }
     ensures fault { IfErr result (λ fault. SaysFailures fault (O.failures outlet.old) (O.failures outlet.new)) }
 {

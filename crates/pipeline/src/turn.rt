@@ -47,11 +47,12 @@ pub fn turn<S: Source, O: Outlet>(
         × Reaches settings.now r parts (O.holds outlet.old) (O.holds outlet.new) playlists.new.items lane.new.stop (lane.old.intake.stream ++ more) lane.new.intake
         × SourceSays S.remaining S.failures r settings.now.cut (lane.old.intake.stream ++ more) lane.new.stop source.old source.new) }
     ensures err { OnErr result ((parts : List Part) → Before settings.now r parts playlists.old.items lane.old.intake →
-        (more : List ℕ) × Consumes (S.remaining source.old) (S.remaining source.new) more × AreBytes more
+        (more : List ℕ) × Consumes (S.remaining source.old) (S.remaining source.new) more × (length more ≤ 18800) × AreBytes more
         × IsCutOff settings.now r parts (O.holds outlet.old) (O.holds outlet.new) (HasBegun settings.now r (S.remaining source.new) (lane.old.intake.stream ++ more))) }
     ensures failures { OnOk result (O.failures outlet.new ≡ O.failures outlet.old) }
     ensures fault { IfErr result (λ fault. SaysFailures fault (O.failures outlet.old) (O.failures outlet.new)) }
     ensures reads { OnOk result (lane.new.stop ≡ None → S.reads source.new ≡ S.reads source.old + 1) }
+    ensures no_read_failed { OnErr result (S.failures source.new ≡ S.failures source.old) }
     ensures few_reads { S.reads source.new ≤ S.reads source.old + 1 }
 {
     let mut piece = [0; PIECE];

@@ -177,7 +177,8 @@ fn playlist(alloc: Global) -> Result<String, Fail> {
     ];
     let stream = stream_of(alloc, &frames, Change::None)?;
     let settings = settings(alloc, &["v"], 2, 2, CUT, 5)?;
-    let Ran { answer: _, outlet } = run(alloc, &[&stream], WELL, &settings)?;
+    let Ran { answer, outlet } = run(alloc, &[&stream], WELL, &settings)?;
+    answer?;
     let items = outlet.items();
     if first_lost(alloc, items, 0, &[[0; 16], [1; 16]])?.is_some() {
         return Err(Fail::from("lost"));

@@ -37,33 +37,6 @@ fn two_renditions_in_one_master(rt: HostRuntime) -> Result<(), Fail> {
     Ok(())
 }
 
-#[test]
-fn a_fault_ends_one_rendition_alone(rt: HostRuntime) -> Result<(), Fail> {
-    let long = stream_of(
-        rt.alloc(),
-        &[Key(0), Key(540_000), Key(1_260_000)],
-        Change::None,
-    )?;
-    let whole = stream_of(rt.alloc(), TWO_SEGMENTS, Change::None)?;
-    let settings = settings(rt.alloc(), &["a", "b"], 1, 1, CUT, 5)?;
-    let Ran { answer, outlet } = run(rt.alloc(), &[&long, &whole], WELL, &settings)?;
-    let items = outlet.items();
-    assert_eq!(rt; answer.err(), Some(PackFault::LongSegment(0, 1)));
-    assert_eq!(rt; items.len(), 4 + 10);
-    assert_eq!(rt;
-        values(rt.alloc(), last_media(items), "b.")?.as_str(),
-        "0.ts 1.ts "
-    );
-    assert_eq!(rt;
-        values(rt.alloc(), last_media(items), "#EXT-X-ENDLIST")?.as_str(),
-        " "
-    );
-    for r in [0, 1] {
-        assert_eq!(rt; first_lost(rt.alloc(), items, r, &[[0; 16]])?, None);
-    }
-    Ok(())
-}
-
 /// Names that no rendition may have, and two inputs for one rendition.
 const REFUSED: [(&str, usize); 4] = [("a.b", 1), ("master", 1), ("", 1), ("v", 2)];
 
@@ -95,7 +68,8 @@ fn keys_take_turns(rt: HostRuntime) -> Result<(), Fail> {
     ];
     let stream = stream_of(rt.alloc(), &frames, Change::None)?;
     let settings = settings(rt.alloc(), &["v"], 2, 2, CUT, 5)?;
-    let Ran { answer: _, outlet } = run(rt.alloc(), &[&stream], WELL, &settings)?;
+    let Ran { answer, outlet } = run(rt.alloc(), &[&stream], WELL, &settings)?;
+    assert_eq!(rt; answer.err(), None);
     let media = last_media(outlet.items());
     assert_eq!(rt;
         values(rt.alloc(), media, "#EXT-X-KEY:METHOD=AES-128,URI=")?.as_str(),
@@ -158,7 +132,8 @@ fn a_window_slides_past_a_discontinuity(rt: HostRuntime) -> Result<(), Fail> {
     ];
     let stream = stream_of(rt.alloc(), &frames, Change::None)?;
     let settings = settings(rt.alloc(), &["v"], 1, 1, CUT, 3)?;
-    let Ran { answer: _, outlet } = run(rt.alloc(), &[&stream], WELL, &settings)?;
+    let Ran { answer, outlet } = run(rt.alloc(), &[&stream], WELL, &settings)?;
+    assert_eq!(rt; answer.err(), None);
     assert_eq!(rt; slides_of(rt.alloc(), outlet.items())?.as_str(), SLIDES);
     assert_eq!(rt;
         first_lost(rt.alloc(), outlet.items(), 0, &[[0; 16]])?,

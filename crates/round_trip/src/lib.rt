@@ -3,6 +3,8 @@
 #![tactic(auto)]
 
 #[cfg(test)]
+mod allowed;
+#[cfg(test)]
 mod back;
 #[cfg(test)]
 mod cases;
@@ -16,6 +18,8 @@ mod run;
 mod standard;
 #[cfg(test)]
 mod stream;
+#[cfg(test)]
+mod turns;
 
 pub use laws::what_is_packed_comes_back;
 pub use made::settings_are_made;

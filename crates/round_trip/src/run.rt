@@ -22,8 +22,8 @@ pub struct Ran {
     pub outlet: FailingOutlet,
 }
 
-/// How inputs are read and items are put: the most bytes of a read, and which read of each input and which put fails,
-/// counted from 1.
+/// How inputs are read and items are put: the most bytes of a read, and which read of the first input and which put
+/// fails, counted from 1.
 #[derive(Clone, Copy, Debug)]
 pub struct Ways {
     pub piece: usize,
@@ -82,10 +82,11 @@ pub fn run(
     settings: &Settings,
 ) -> Result<Ran, AllocError> {
     let mut sources = Vec::new(alloc);
-    for input in inputs {
+    for (r, input) in inputs.iter().enumerate() {
         let mut bytes = Vec::new(alloc);
         bytes.extend_from_slice(input)?;
-        sources.push(FailingReader::new(bytes, ways.piece.max(1), ways.failing_read))?;
+        let failing_read = if r == 0 { ways.failing_read } else { 0 };
+        sources.push(FailingReader::new(bytes, ways.piece.max(1), failing_read))?;
     }
     let mut outlet = FailingOutlet::new(alloc, ways.failing_put);
     let answer = pack_serial(alloc, &mut sources, settings, &mut outlet);

@@ -75,13 +75,14 @@ fn two_segments_in_pieces(rt: HostRuntime) -> Result<(), Fail> {
     let stream = stream_of(rt.alloc(), TWO_SEGMENTS, Change::None)?;
     let settings = settings(rt.alloc(), &["v"], 1, 1, CUT, 5)?;
     for piece in [1, 188, 1000, 18_800] {
-        let Ran { answer: _, outlet } = run(
+        let Ran { answer, outlet } = run(
             rt.alloc(),
             &[&stream],
             Ways { piece, ..WELL },
             &settings,
         )?;
         let items = outlet.items();
+        assert_eq!(rt; answer.err(), None, "pieces of {piece}");
         assert_eq!(rt; wrong_text(items), None, "pieces of {piece}");
         assert!(rt;
             items.len() == 10 && are_sizes(items, &[768, 768]),

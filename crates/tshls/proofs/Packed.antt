@@ -1,10 +1,11 @@
 -- A run of one rendition whose outlet writes lines.
-use Rattle.std.proofs.Common.{◌≡◌, refl, sym, ap, ◌∙◌, ℕ, zero, suc, List, [], ◌∷◌, ◌++◌, inr, length, replicate, get_or}
+use Rattle.std.proofs.Common.{◌≡◌, refl, sym, ap, ◌∙◌, ℕ, ◌+◌, ◌^◌, zero, suc, List, [], ◌∷◌, ◌++◌, inr, length, replicate, get_or}
 use Rattle.std.specs.Prelude.{Option, Some, None, slice_get}
 use Rattle.std.specs.Io.KnownBytes.{Consumes, Appends}
 use Rattle.std.proofs.KnownBytes.{Appends-nil}
+use Rattle.cutter.specs.declared.fault.CutFault.{CutFault}
 use Rattle.item_io.specs.Items.{ItemValue, MasterItem}
-use Rattle.item_io.specs.Outlets.{Grows}
+use Rattle.item_io.specs.Outlets.{Held as HeldItems, Grows}
 use Rattle.item_io.specs.ItemLines.{HoldsLines, WritesLines, lines_of}
 use Rattle.pipeline.specs.declared.fault.PackFault.{PackFault}
 use Rattle.pipeline.specs.declared.fault.PackFault.TheVariants.{Settings, Read, ReadLimit, NoProgram, NoStart, LongSegment, BigSegment, Limit, Outlet, NoMemory, Held}
@@ -18,7 +19,7 @@ use Rattle.pipeline.specs.Streams.{closed_of}
 use Rattle.pipeline.specs.Sources.{SourceSays}
 use Rattle.pipeline.specs.World.{stream_at}
 use Rattle.pipeline.specs.Packed.{IsPacked, IsCutShort, HasHalted, IsRefused, IsLeft, FaultSays}
-use Rattle.tshls.specs.Packing.{WritesPacked, FaultStands, StopsPacking, CutsPackingOff, RefusesSettings, PackingSays}
+use Rattle.tshls.specs.Packing.{WritesPacked, FaultStands, StopsPacking, CutsPackingOff, RefusesSettings, PackingSays, NoneFailed, CountsSay}
 
 -- the only element of a list is at its front
 only-at : {X : Type 0} (a x : X) (r : ℕ) → slice_get (a ∷ []) r ≡ Some x → r ≡ 0
@@ -47,6 +48,15 @@ nothing-packed ladder left held = record {
   written = record { front = []; begins = record { item = MasterItem []; rest = _; whole = refl }; written = Appends-nil held };
 }
 
+-- the one rendition of a run that halted
+left-alone : {X : Type 0} (left : X → Option (List ℕ)) (fails reads : X → ℕ) (ladder : Ladder) (a b : X) (old new : HeldItems → Type 0) (r : ℕ) (stop : Option Stop)
+    → (h : HasHalted left fails reads ladder (a ∷ []) (b ∷ []) old new r stop)
+    → (r ≡ 0) × IsLeft left fails reads ladder 0 a b stop (stream_at h.streams 0) (part_at h.parts 0)
+left-alone left fails reads ladder a b old new r stop h =
+    let first : r ≡ 0 = only-at a h.within.0 r h.within.1 in
+    let at : h.stops 0 ≡ stop = ap h.stops (sym first) ∙ h.at_r in
+    (first, rw at at (h.each 0 a b refl refl))
+
 module _ {X : Type 0} (left : X → Option (List ℕ)) (fails reads : X → ℕ) (ladder : Ladder) (a b : X) (held held_then : Option (List ℕ)) (failures : ℕ)
     (whole : (given : List ItemValue) → Grows (HoldsLines held 0) (HoldsLines held_then failures) given → failures ≡ 0 → Appends held held_then (lines_of given))
     (cut_short : (given : List ItemValue) → Grows (HoldsLines held 0) (HoldsLines held_then failures) given → WritesLines held held_then given) where
@@ -64,7 +74,7 @@ module _ {X : Type 0} (left : X → Option (List ℕ)) (fails reads : X → ℕ)
         written = whole p.items p.grows none;
       }
 
-  cut-off : IsCutShort left ladder (a ∷ []) (b ∷ []) (HoldsLines held 0) (HoldsLines held_then failures) → CutsPackingOff ladder (left a) (left b) held held_then
+  cut-off : IsCutShort left fails reads ladder (a ∷ []) (b ∷ []) (HoldsLines held 0) (HoldsLines held_then failures) → CutsPackingOff ladder (left a) (left b) held held_then
   cut-off p =
       let here = p.each 0 a b refl refl in
       record {
@@ -87,10 +97,9 @@ module _ {X : Type 0} (left : X → Option (List ℕ)) (fails reads : X → ℕ)
   stopped : (r : ℕ) (stop : Option Stop) → HasHalted left fails reads ladder (a ∷ []) (b ∷ []) (HoldsLines held 0) (HoldsLines held_then failures) r stop → failures ≡ 0
       → (r ≡ 0) × StopsPacking ladder (left a) (left b) held held_then stop
   stopped r stop h none =
-      let first : r ≡ 0 = only-at a h.within.0 r h.within.1 in
-      let at : h.stops 0 ≡ stop = ap h.stops (sym first) ∙ h.at_r in
-      let here : IsLeft left fails reads ladder 0 a b stop (stream_at h.streams 0) (part_at h.parts 0) = rw at at (h.each 0 a b refl refl) in (
-        first,
+      let alone = left-alone left fails reads ladder a b _ _ r stop h in
+      let here = alone.1 in (
+        alone.0,
         record {
           stream = stream_at h.streams 0;
           parts = h.parts;
@@ -123,3 +132,38 @@ module _ {X : Type 0} (left : X → Option (List ℕ)) (fails reads : X → ℕ)
   says Outlet s = cut-off s.0
   says NoMemory s = cut-off s.0
   says (Held r n) s = absurd s
+
+module _ {X : Type 0} (left : X → Option (List ℕ)) (fails reads : X → ℕ) (ladder : Ladder) (a b : X) (old new : HeldItems → Type 0) (failures : ℕ)
+    (unread : reads a ≡ 0) (unfailed : fails a ≡ 0) where
+  pub packed-counts : (report : Report) → IsPacked left fails reads ladder (a ∷ []) (b ∷ []) old new report → failures ≡ 0 → NoneFailed (fails b) failures
+  packed-counts report p none = record { reads = (p.each 0 a b refl refl).4 ∙ unfailed; puts = none }
+
+  failed-read : (r : ℕ) → HasHalted left fails reads ladder (a ∷ []) (b ∷ []) old new r (Some ReadFailed) → fails b ≡ 1
+  failed-read r h = (left-alone left fails reads ladder a b old new r _ h).1.says ∙ ap (λ n. n + 1) unfailed
+
+  all-reads : (r : ℕ) → HasHalted left fails reads ladder (a ∷ []) (b ∷ []) old new r None → failures ≡ 0 → (reads b ≡ 2 ^ 40) × NoneFailed (fails b) failures
+  all-reads r h none =
+      let here = (left-alone left fails reads ladder a b old new r _ h).1 in
+      (here.limit refl ∙ ap (λ n. n + 2 ^ 40) unread, record { reads = here.says ∙ unfailed; puts = none })
+
+  faulty : (r : ℕ) (told : CutFault) → HasHalted left fails reads ladder (a ∷ []) (b ∷ []) old new r (Some (Cut told)) → failures ≡ 0 → NoneFailed (fails b) failures
+  faulty r told h none =
+      record { reads = (left-alone left fails reads ladder a b old new r _ h).1.says.0 ∙ unfailed; puts = none }
+
+  untouched : IsRefused ladder (a ∷ []) (b ∷ []) old new → failures ≡ 0 → (reads b ≡ 0) × NoneFailed (fails b) failures
+  untouched p none =
+      let same : b ≡ a = ap (λ (xs : List X). get_or xs 0 a) p.unread in
+      (ap reads same ∙ unread, record { reads = ap fails same ∙ unfailed; puts = none })
+
+  pub counts : (fault : PackFault) → FaultSays left fails reads ladder (a ∷ []) (b ∷ []) old new 0 failures fault → CountsSay (reads b) (fails b) failures fault
+  counts Settings s = untouched s.0 s.1
+  counts (Read r) s = (failed-read r s.0, s.1)
+  counts (ReadLimit r) s = all-reads r s.0 s.1
+  counts (NoProgram r) s = faulty r _ s.0 s.1
+  counts (NoStart r) s = faulty r _ s.0 s.1
+  counts (LongSegment r n) s = faulty r _ s.0 s.1
+  counts (BigSegment r n) s = faulty r _ s.0 s.1
+  counts (Limit r) s = faulty r _ s.0 s.1
+  counts Outlet s = s.1
+  counts NoMemory s = s.1
+  counts (Held r n) s = absurd s

@@ -88,6 +88,10 @@ IsOfRendition (Packing fault) = ⊥
 IsOfRendition (Checking fault) = ⊥
 IsOfRendition NoMemory = Unit {0}
 
+-- what may be told of the words and numbers of a packager's settings
+abbrev pub IsOfSettings : Fault → Type 0
+IsOfSettings fault = IsOfRendition fault ⊎ (fault ≡ Packing Settings)
+
 -- a file couldn't be read, for this reason, or there was no memory for it
 abbrev pub IsRefusal : Type 0 → Fault → Type 0
 IsRefusal Reason fault = ((fault ≡ Unread) × Reason) ⊎ (fault ≡ NoMemory)

@@ -1,5 +1,5 @@
 -- What `one` read and wrote.
-use Rattle.std.specs.Prelude.{◌≡◌, ℕ, List, [], ◌++◌, ◌⊎◌, length, Option, Some, None}
+use Rattle.std.specs.Prelude.{◌≡◌, ℕ, ◌^◌, List, [], ◌++◌, ◌⊎◌, length, Option, Some, None}
 use Rattle.std.specs.Io.KnownBytes.{Consumes, IsAtEnd, Appends}
 use Rattle.cutter.specs.declared.fault.CutFault.TheVariants.{NoProgram as HasNoProgram, NoStart as HasNoStart, LongSegment as IsLong, BigSegment as IsBig, Limit as PassesLimit}
 use Rattle.item_io.specs.Items.{ItemValue}
@@ -14,7 +14,7 @@ use Rattle.pipeline.specs.Weave.{Weaves}
 use Rattle.pipeline.specs.Lanes.{IsWhole}
 use Rattle.pipeline.specs.Sources.{HasBegun}
 use Rattle.pipeline.specs.Streams.{Stays}
-use Rattle.pipeline.specs.Packed.{HasEnded}
+use Rattle.pipeline.specs.Packed.{HasGiven}
 use Rattle.tshls.specs.Streams.{ReadsAll}
 
 -- All that the reader gave was packed, and the writer got the lines of all segments and playlists.
@@ -41,7 +41,7 @@ pub record StopsPacking (ladder : Ladder) (left left_then held held_then : Optio
   pub items : List ItemValue
   pub consumed : Consumes left left_then stream
   pub stands : FaultStands stop ladder stream left_then
-  pub given : HasEnded stop ladder 0 stream (part_at parts 0)
+  pub given : HasGiven stop ladder 0 stream (part_at parts 0)
   pub weave : Weaves ladder parts items
   pub written : Appends held held_then (lines_of items)
 
@@ -76,3 +76,22 @@ PackingSays ladder left left_then held held_then (Limit r) = (r ≡ 0) × StopsP
 PackingSays ladder left left_then held held_then Outlet = CutsPackingOff ladder left left_then held held_then
 PackingSays ladder left left_then held held_then NoMemory = CutsPackingOff ladder left left_then held held_then
 PackingSays ladder left left_then held held_then (Held r n) = ⊥
+
+-- no read failed, and no put
+pub record NoneFailed (failed_reads failed_puts : ℕ) : Type 0 where
+  pub reads : failed_reads ≡ 0
+  pub puts : failed_puts ≡ 0
+
+-- what each fault says of how many reads gave bytes, and how many reads and puts failed
+abbrev pub CountsSay : ℕ → ℕ → ℕ → PackFault → Type 0
+CountsSay reads failed_reads failed_puts Settings = (reads ≡ 0) × NoneFailed failed_reads failed_puts
+CountsSay reads failed_reads failed_puts (Read r) = (failed_reads ≡ 1) × (failed_puts ≡ 0)
+CountsSay reads failed_reads failed_puts (ReadLimit r) = (reads ≡ 2 ^ 40) × NoneFailed failed_reads failed_puts
+CountsSay reads failed_reads failed_puts (NoProgram r) = NoneFailed failed_reads failed_puts
+CountsSay reads failed_reads failed_puts (NoStart r) = NoneFailed failed_reads failed_puts
+CountsSay reads failed_reads failed_puts (LongSegment r n) = NoneFailed failed_reads failed_puts
+CountsSay reads failed_reads failed_puts (BigSegment r n) = NoneFailed failed_reads failed_puts
+CountsSay reads failed_reads failed_puts (Limit r) = NoneFailed failed_reads failed_puts
+CountsSay reads failed_reads failed_puts Outlet = failed_puts ≡ 1
+CountsSay reads failed_reads failed_puts NoMemory = failed_puts ≡ 0
+CountsSay reads failed_reads failed_puts (Held r n) = ⊥

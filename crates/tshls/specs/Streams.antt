@@ -1,5 +1,5 @@
 -- What a command read and wrote.
-use Rattle.std.specs.Prelude.{◌≡◌, ℕ, List, ◌++◌, Option, Ok, is_err, true}
+use Rattle.std.specs.Prelude.{◌≡◌, ℕ, List, Option, Ok, is_err, true}
 use Rattle.std.specs.Io.KnownBytes.{Consumes, IsAtEnd, Appends}
 use Rattle.ts_packet.specs.Packets.{packets, joined}
 use Rattle.hex.specs.Hex.{decode_of}

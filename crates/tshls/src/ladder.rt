@@ -1,6 +1,6 @@
 //! A packager's settings, as the command line has them.
 ghost use Rattle.std.specs.Prelude.{◌≡◌, ◌⊎◌, ◌↔◌, ◌<◌, ◌≤◌, ℕ, length, false, OnOk, IfOk, IfErr, IsErrOf};
-ghost use Rattle.tshls.specs.Faults.{IsOfRendition, IsOfCommandLine};
+ghost use Rattle.tshls.specs.Faults.{IsOfRendition, IsOfSettings};
 ghost use Rattle.tshls.specs.KeyLists.{are_keys, key_texts};
 ghost use Rattle.tshls.specs.Sizes.{IsSize, HasSize};
 ghost use Rattle.tshls.specs.Settings.{IsRenditionOf, IsLadderOf, FitsCut, TakeTurns};
@@ -78,7 +78,7 @@ pub fn read_settings(
     ensures too_many { IsErrOf result Fault.TooMany → HasSize words.entry.size.now × (4096 < length (key_texts words.entry.keys.now)) }
     ensures zero_period { IsErrOf result Fault.ZeroPeriod → HasSize words.entry.size.now × (length (key_texts words.entry.keys.now) ≤ 4096) × (numbers.now.period ≡ 0) }
     ensures settings { IsErrOf result (Fault.Packing PackFault.Settings) → HasSize words.entry.size.now × TakeTurns (key_texts words.entry.keys.now) numbers.now.period × ¬ FitsCut numbers.now }
-    ensures only { IfErr result IsOfCommandLine }
+    ensures only { IfErr result IsOfSettings }
 {
     let rendition = read_rendition(alloc, words, numbers.period)?;
     let cut = numbers.cut_settings()?;

@@ -1,17 +1,17 @@
 ghost use Rattle.std.specs.Prelude.{◌≡◌, ◌∷◌, [], length, IfOk, IfErr, OnOk};
 ghost use Rattle.pipeline.specs.Ladder.{IsAllowed};
-ghost use Rattle.tshls.specs.Packing.{WritesPacked, PackingSays};
+ghost use Rattle.tshls.specs.Packing.{WritesPacked, PackingSays, NoneFailed, CountsSay};
 
 use item_io::{LineOutlet, ReaderSource, lines_of_given_items_are_written};
 use pipeline::{PackFault, Settings, pack_serial};
 use std::alloc::Global;
 use std::io::{Read, Write};
 
-/// A reader and a writer behind a run, and how the run ended.
-#[derive(Debug, Drop)]
+/// A reader and a writer behind a run, with how often they were used, and how the run ended.
+#[derive(Drop)]
 pub struct Packed<R, W> {
-    pub input: R,
-    pub output: W,
+    pub source: ReaderSource<R>,
+    pub outlet: LineOutlet<W>,
     pub answer: Result<(), PackFault>,
 }
 
@@ -39,9 +39,11 @@ fn pack<R: Read, W: Write>(
     ensures count { length sources.new.items ≡ 1 }
     ensures ok { OnOk result ((a b : _) → sources.old.items ≡ a ∷ [] → sources.new.items ≡ b ∷ [] →
         WritesPacked settings.now (R.remaining a.reader) (R.remaining b.reader) (W.contents outlet.old.writer) (W.contents outlet.new.writer)) }
+    ensures ok_counts { OnOk result ((b : _) → sources.new.items ≡ b ∷ [] → NoneFailed b.failures outlet.new.failures) }
     ensures allowed { OnOk result (IsAllowed settings.now × (length settings.now.renditions ≡ 1)) }
     ensures fault { IfErr result (λ fault. (a b : _) → sources.old.items ≡ a ∷ [] → sources.new.items ≡ b ∷ [] →
         PackingSays settings.now (R.remaining a.reader) (R.remaining b.reader) (W.contents outlet.old.writer) (W.contents outlet.new.writer) fault) }
+    ensures fault_counts { IfErr result (λ fault. (b : _) → sources.new.items ≡ b ∷ [] → CountsSay b.reads b.failures outlet.new.failures fault) }
 {
     lines_of_given_items_are_written();
     match pack_serial(alloc, sources, settings, outlet) {
@@ -62,17 +64,19 @@ pub fn one<R: Read + Drop, W: Write>(
     input: R,
     output: W,
 ) -> Packed<R, W>
-    ensures ok { OnOk result.answer (WritesPacked settings.now (R.remaining input) (R.remaining result.input) (W.contents output) (W.contents result.output)) }
+    ensures ok { OnOk result.answer (WritesPacked settings.now (R.remaining input) (R.remaining result.source.reader) (W.contents output) (W.contents result.outlet.writer)) }
+    ensures ok_counts { OnOk result.answer (NoneFailed result.source.failures result.outlet.failures) }
     ensures allowed { OnOk result.answer (IsAllowed settings.now × (length settings.now.renditions ≡ 1)) }
-    ensures fault { IfErr result.answer (PackingSays settings.now (R.remaining input) (R.remaining result.input) (W.contents output) (W.contents result.output)) }
+    ensures fault { IfErr result.answer (PackingSays settings.now (R.remaining input) (R.remaining result.source.reader) (W.contents output) (W.contents result.outlet.writer)) }
+    ensures fault_counts { IfErr result.answer (CountsSay result.source.reads result.source.failures result.outlet.failures) }
 {
     let mut outlet = LineOutlet::new(alloc, output);
     let mut sources = match alone(alloc, ReaderSource::new(input)) {
         Ok(sources) => sources,
         Err(source) => {
             return Packed {
-                input: source.into_reader(),
-                output: outlet.into_writer(),
+                source,
+                outlet,
                 answer: Err(PackFault::NoMemory),
             };
         }
@@ -82,8 +86,8 @@ pub fn one<R: Read + Drop, W: Write>(
         unreachable!()
     };
     Packed {
-        input: source.into_reader(),
-        output: outlet.into_writer(),
+        source,
+        outlet,
         answer,
     }
 }

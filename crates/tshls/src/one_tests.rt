@@ -231,8 +231,8 @@ fn ten_items(rt: HostRuntime) -> Result<(), Fail> {
     let stream = standard_stream(alloc)?;
     let packed = one(alloc, &settings, stream.as_slice(), Vec::new(alloc));
     assert!(rt; packed.answer.is_ok());
-    assert!(rt; packed.input.is_empty());
-    let text = String::from_utf8(packed.output).map_err(|_| "not UTF-8")?;
+    assert!(rt; packed.source.into_reader().is_empty());
+    let text = String::from_utf8(packed.outlet.into_writer()).map_err(|_| "not UTF-8")?;
     let wanted = [
         "segment v.0.ts 768",
         "media v.m3u8 8",
@@ -267,7 +267,7 @@ fn no_program(rt: HostRuntime) -> Result<(), Fail> {
     let settings = settings(alloc, &["--size", "640x360", "--keys", KEY]).map_err(|_| "line")?;
     let empty: &[u8] = &[];
     let packed = one(alloc, &settings, empty, Vec::new(alloc));
-    assert!(rt; packed.output.is_empty());
+    assert!(rt; packed.outlet.into_writer().is_empty());
     let Err(fault) = packed.answer else {
         return Err(Fail::from("packed"));
     };

@@ -1,6 +1,6 @@
 //! The options of a packager: a rendition, and the numbers that it works by.
 ghost use Rattle.std.specs.Prelude.{IfErr};
-ghost use Rattle.tshls.specs.Faults.{IsOfCommandLine};
+ghost use Rattle.tshls.specs.Faults.{IsOfSettings};
 
 use crate::fault::Fault;
 use crate::ladder::{RenditionWords, read_settings};
@@ -11,7 +11,7 @@ use std::alloc::{AllocError, Global};
 
 /// The settings that the options of `one` ask for.
 pub fn one_settings(alloc: Global, options: &ArgMatches<'_>) -> Result<Settings, Fault>
-    ensures { IfErr result IsOfCommandLine }
+    ensures { IfErr result IsOfSettings }
 {
     let words = RenditionWords {
         name: options.get_str("name").unwrap_or("v"),

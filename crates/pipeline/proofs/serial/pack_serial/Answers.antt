@@ -9,17 +9,17 @@ use Rattle.pipeline.proofs.serial.pack_serial.Goals as goal
 pub returns-in_err-is_allowed-clause-fault : goal.returns-in_err-is_allowed-clause-fault
 returns-in_err-is_allowed-clause-fault g c =
     let told = err_from_is_err_and c.from_residual.result c.from_residual.ensures.1 in
-    rw (told.1, told.2) (nothing-given _ _ g.S.Source.failures g.S.Source.reads _ _ _, refl)
+    rw (told.1, told.2) (nothing-given _ _ g.S.Source.failures g.S.Source.reads _ _ _ (λ k. c.closed_plans_begin_all.ensures.none k c.args.settings.now.cut), refl)
 
 pub returns-in_err-lanes-clause-fault : goal.returns-in_err-lanes-clause-fault
 returns-in_err-lanes-clause-fault g c =
     let told = err_from_is_err_and c.from_residual-in_err-lanes.result c.from_residual-in_err-lanes.ensures.1 in
-    rw (told.1, told.2) (nothing-given _ _ g.S.Source.failures g.S.Source.reads _ _ _, refl)
+    rw (told.1, told.2) (nothing-given _ _ g.S.Source.failures g.S.Source.reads _ _ _ (λ k. c.closed_plans_begin_all.ensures.none k c.args.settings.now.cut), refl)
 
 pub returns-in_err-playlists-clause-fault : goal.returns-in_err-playlists-clause-fault
 returns-in_err-playlists-clause-fault g c =
     let told = err_from_is_err_and c.from_residual-in_err-playlists.result c.from_residual-in_err-playlists.ensures.1 in
-    rw (told.1, told.2) (nothing-given _ _ g.S.Source.failures g.S.Source.reads _ _ _, refl)
+    rw (told.1, told.2) (nothing-given _ _ g.S.Source.failures g.S.Source.reads _ _ _ (λ k. c.closed_plans_begin_all.ensures.none k c.args.settings.now.cut), refl)
 
 pub turns-requires-clause-start : goal.turns-requires-clause-start
 turns-requires-clause-start g c =
@@ -35,8 +35,8 @@ returns-in-Some-clause-fault g c =
     let some = c.in-Some.ensures.some in
     halted-says _ _ g.S.Source.failures g.S.Source.reads _ _ _ _ _ _ _ some.0 some.1.stop c.in-Some.fault some.3
     (world-halted _ _ _ _ _ ok.0 _ _ _ _ _ _ some.0 some.1 (ap (λ lanes. slice_get lanes some.0) (sym c.deref.ensures.value) ∙ some.2)
-    (λ k earlier below at. some.4 k earlier below (ap (λ lanes. slice_get lanes k) c.deref.ensures.value ∙ at)) ok.3 allowed.0 ok.2)
-    (world-stop _ _ _ _ _ _ _ _ _ _ _ _ _ allowed.0 ok.2) c.in_ok-turns.ensures.failures
+    (λ k earlier below at. some.4 k earlier below (ap (λ lanes. slice_get lanes k) c.deref.ensures.value ∙ at)) ok.3 ok.1 allowed.0 ok.2)
+    (world-stop _ _ _ _ _ _ _ _ _ _ _ _ ok.1 allowed.0 ok.2) c.in_ok-turns.ensures.failures
 
 pub report_of-requires-clause-each : goal.report_of-requires-clause-each
 report_of-requires-clause-each g c =
@@ -61,7 +61,7 @@ pub returns-in_err-report_of-clause-fault : goal.returns-in_err-report_of-clause
 returns-in_err-report_of-clause-fault g c =
     let allowed : IsAllowed c.args.settings.now × (c.len.result ≡ length c.args.settings.now.renditions) = search rules in
     let told = err_from_is_err_and c.from_residual-in_err-report_of.result c.from_residual-in_err-report_of.ensures.1 in
-    rw (told.1, told.2) (world-stop _ _ _ _ _ _ _ _ _ _ _ _ _ allowed.0 c.in_ok-turns.ensures.ok.2, c.in_ok-turns.ensures.failures)
+    rw (told.1, told.2) (world-stop _ _ _ _ _ _ _ _ _ _ _ _ c.in_ok-turns.ensures.ok.1 allowed.0 c.in_ok-turns.ensures.ok.2, c.in_ok-turns.ensures.failures)
 
 pub returns-clause-ok : goal.returns-clause-ok
 returns-clause-ok g c =

@@ -55,7 +55,7 @@ returns-in_err-turn-clause-err g c =
     rw told.1 (world-cut _ _ _ _ _ _ _ c.loop-r.r _ _ _ _ _ _ _ c.index_mut.result.now c.turn.new.source c.index_mut-lane.result.now
     (slice_get_read c.loop-r.sources.items _ c.loop-r.r c.index_mut.result.now (sym w.same_now) below c.index_mut.ensures.value)
     (slice_get_read c.loop-r.lanes.items _ c.loop-r.r c.index_mut-lane.result.now (sym w.same_lanes) below c.index_mut-lane.ensures.value)
-    (none-there _ (sym c.if-is_some.ensures)) c.in_err-turn.ensures.err c.requires.allowed w)
+    (none-there _ (sym c.if-is_some.ensures)) c.in_err-turn.ensures.err c.in_err-turn.ensures.no_read_failed c.in_err-turn.ensures.few_reads refl c.loop-test.true c.requires.allowed w)
 
 pub loop-r-preserved-then-is_some : goal.loop-r-preserved-then-is_some
 loop-r-preserved-then-is_some g c =

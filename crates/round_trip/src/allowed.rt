@@ -1,18 +1,23 @@
-use crate::allowed::is_allowed;
-use crate::settings::{Rendition, Settings};
+//! Which settings are allowed.
+use crate::run::{CUT, Ran, WELL, run};
 use cutter::CutSettings;
+use pipeline::{PackFault, Rendition, Settings};
 use segment_job::Keys;
 use std::alloc::Global;
 use std::test::Fail;
 
-const CUT: CutSettings = CutSettings {
-    program: None,
-    segment: 540_000,
-    target: 6,
-    gap: 900_000,
-    frame: 3600,
-    most: 1_000_000,
-};
+/// The bytes of nine empty inputs.
+const NO_BYTES: [&[u8]; 9] = [&[]; 9];
+
+/// Whether these settings are allowed with so many inputs, which are empty: then the first is told to have no program.
+fn is_allowed(alloc: Global, settings: &Settings, inputs: usize) -> Result<bool, Fail> {
+    let Ran { answer, .. } = run(alloc, &NO_BYTES[..inputs.min(9)], WELL, settings)?;
+    match answer.err() {
+        Some(PackFault::Settings) => Ok(false),
+        Some(PackFault::NoProgram(0)) => Ok(true),
+        _ => Err(Fail::from("another answer")),
+    }
+}
 
 /// A rendition of one key.
 fn rendition(alloc: Global, name: &str, width: u64) -> Result<Rendition, Fail> {
@@ -37,7 +42,7 @@ fn names(alloc: Global, names: &[&str], inputs: usize) -> Result<bool, Fail> {
         window: 5,
         queue: 4,
     };
-    Ok(is_allowed(alloc, &settings, inputs)?)
+    is_allowed(alloc, &settings, inputs)
 }
 
 /// Whether one rendition is allowed, of this width, cut like this, with this window and this queue.
@@ -50,7 +55,7 @@ fn one(alloc: Global, width: u64, cut: CutSettings, window: u64, queue: u64) -> 
         window,
         queue,
     };
-    Ok(is_allowed(alloc, &settings, 1)?)
+    is_allowed(alloc, &settings, 1)
 }
 
 #[test]

@@ -1,0 +1,160 @@
+//! In which order renditions have their turns, and what a fault of one leaves of the others.
+use crate::back::first_lost;
+use crate::run::{CUT, Ran, WELL, Ways, last_media, run, settings, values};
+use crate::stream::Video::Key;
+use crate::stream::{Change, TWO_SEGMENTS, stream_of};
+use item_io::{FailingOutlet, Item, ReaderSource};
+use pipeline::{PackFault, pack_serial};
+use std::alloc::{AllocError, Global};
+use std::io;
+use std::io::Read;
+use std::test::Fail;
+
+/// An item's kind and rendition. A playlist that has an end is in capitals.
+fn kind(item: &Item) -> (&'static str, usize) {
+    match item {
+        Item::Segment { rendition, .. } => ("segment", *rendition),
+        Item::Media {
+            rendition,
+            ended,
+            ..
+        } => (if *ended { "MEDIA" } else { "media" }, *rendition),
+        Item::Frames {
+            rendition,
+            ended,
+            ..
+        } => (if *ended { "FRAMES" } else { "frames" }, *rendition),
+        Item::Master { .. } => ("master", 0),
+    }
+}
+
+/// The kinds of some items, in their order.
+fn kinds(alloc: Global, items: &[Item]) -> Result<Vec<(&'static str, usize)>, AllocError> {
+    let mut kinds = Vec::new(alloc);
+    for item in items {
+        kinds.push(kind(item))?;
+    }
+    Ok(kinds)
+}
+
+/// What two renditions give whose streams of two segments are read at once: the first segment closes within the stream,
+/// the second at its end.
+const IN_TURN: [(&str, usize); 20] = [
+    ("segment", 0),
+    ("media", 0),
+    ("frames", 0),
+    ("master", 0),
+    ("segment", 1),
+    ("media", 1),
+    ("frames", 1),
+    ("master", 0),
+    ("segment", 0),
+    ("media", 0),
+    ("frames", 0),
+    ("master", 0),
+    ("MEDIA", 0),
+    ("FRAMES", 0),
+    ("segment", 1),
+    ("media", 1),
+    ("frames", 1),
+    ("master", 0),
+    ("MEDIA", 1),
+    ("FRAMES", 1),
+];
+
+#[test]
+fn renditions_take_turns(rt: HostRuntime) -> Result<(), Fail> {
+    let stream = stream_of(rt.alloc(), TWO_SEGMENTS, Change::None)?;
+    let settings = settings(rt.alloc(), &["a", "b"], 1, 1, CUT, 5)?;
+    let Ran { answer, outlet } = run(rt.alloc(), &[&stream, &stream], WELL, &settings)?;
+    assert_eq!(rt; answer.err(), None);
+    assert_eq!(rt;
+        kinds(rt.alloc(), outlet.items())?.as_slice(),
+        IN_TURN.as_slice()
+    );
+    Ok(())
+}
+
+/// A reader that gives at most a packet a read.
+#[derive(Drop)]
+struct PacketReader<'a> {
+    left: &'a [u8],
+}
+
+impl Read for PacketReader<'_> {
+    fn read(&mut self, buf: &mut [u8]) -> io::Result<usize> {
+        let most = buf.len().min(188);
+        let (buf, _) = buf.split_at_mut(most);
+        self.left.read(buf)
+    }
+}
+
+/// How many bytes of a stream aren't read, packet by packet, where put `n` fails.
+fn unread_at_put(alloc: Global, stream: &[u8], n: u64) -> Result<usize, Fail> {
+    let settings = settings(alloc, &["v"], 1, 1, CUT, 5)?;
+    let mut sources = Vec::new(alloc);
+    sources.push(ReaderSource::new(PacketReader { left: stream }))?;
+    let mut outlet = FailingOutlet::new(alloc, n);
+    match pack_serial(alloc, &mut sources, &settings, &mut outlet) {
+        Err(PackFault::Outlet) => {}
+        _ => return Err(Fail::from("another answer")),
+    }
+    match sources.pop() {
+        Some(source) => Ok(source.into_reader().left.len()),
+        None => Err(Fail::from("no input")),
+    }
+}
+
+/// The packet behind the cut is the fifth of six: a segment is put as soon as it is there, and a put that fails ends the
+/// run before another read.
+#[test]
+fn items_are_put_at_once(rt: HostRuntime) -> Result<(), Fail> {
+    let stream = stream_of(rt.alloc(), TWO_SEGMENTS, Change::None)?;
+    for n in 1..5 {
+        assert_eq!(rt; unread_at_put(rt.alloc(), &stream, n)?, 188, "put {n}");
+    }
+    for n in 5..11 {
+        assert_eq!(rt; unread_at_put(rt.alloc(), &stream, n)?, 0, "put {n}");
+    }
+    Ok(())
+}
+
+/// Whether rendition `b` alone came to its end, with two segments.
+fn b_is_whole(alloc: Global, items: &[Item]) -> Result<bool, AllocError> {
+    let media = last_media(items);
+    Ok(
+        items.len() == 4 + 10
+            && values(alloc, media, "b.")?.as_str() == "0.ts 1.ts "
+            && values(alloc, media, "#EXT-X-ENDLIST")?.as_str() == " ",
+    )
+}
+
+#[test]
+fn a_fault_ends_one_rendition_alone(rt: HostRuntime) -> Result<(), Fail> {
+    let whole = stream_of(rt.alloc(), TWO_SEGMENTS, Change::None)?;
+    let long = stream_of(
+        rt.alloc(),
+        &[Key(0), Key(540_000), Key(1_260_000)],
+        Change::None,
+    )?;
+    let broken = Ways {
+        piece: 940,
+        failing_read: 2,
+        ..WELL
+    };
+    let table = [
+        (long.as_slice(), WELL, PackFault::LongSegment(0, 1)),
+        (whole.as_slice(), broken, PackFault::Read(0)),
+    ];
+    let settings = settings(rt.alloc(), &["a", "b"], 1, 1, CUT, 5)?;
+    for (first, ways, fault) in table {
+        let Ran { answer, outlet } = run(rt.alloc(), &[first, &whole], ways, &settings)?;
+        let items = outlet.items();
+        assert_eq!(rt; answer.err(), Some(fault));
+        assert!(rt; b_is_whole(rt.alloc(), items)?);
+        for r in [0, 1] {
+            assert_eq!(rt; first_lost(rt.alloc(), items, r, &[[0; 16]])?, None);
+        }
+    }
+    Ok(())
+}
