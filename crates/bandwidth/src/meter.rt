@@ -24,7 +24,8 @@ pub struct Peak {
 /// its I-frames (RFC 8216, 4.1 and 4.3.4.2).
 ///
 /// Clauses see a meter as its target and the list of all rows that it was pushed. It keeps all of them, but a push
-/// looks only at the last ones: those within one and a half of the target, and one more.
+/// looks only at the last ones, at each of those within one and a half of the target and at one more: a few of the
+/// segments or I-frames of a usual stream, as many as there are of one with an I-frame in every packet.
 #[derive(Drop)]
 pub struct Meter {
     target: u64,
