@@ -7,12 +7,12 @@ use Rattle.pes_time.specs.declared.clock.Stamp.{Stamp}
 use Rattle.pes_time.specs.declared.clock.Last.{Last}
 use Rattle.pes_time.specs.declared.clock.Clock.TheInside.{Inside}
 use Rattle.pes_time.specs.Times.{Pushed, step, stamp_of, is_in_range, is_taken}
-use Rattle.pes_time.specs.State.{pushed, stamp_behind, IsInRange, IsTied}
+use Rattle.pes_time.specs.State.{clock_value, stamp_behind, IsInRange, IsTied}
 use Rattle.pes_time.proofs.Behind.{stamp_of-first, stamp_of-append}
 
 -- a clock that was pushed nothing
-pub IsTied-none : (gap : ℕ) (fed : GhostList ℕ) → fed.items ≡ [] → IsTied (record { gap = gap; last = None; fed = fed })
-IsTied-none gap fed none = record { goes_on = λ p. rw none (stamp_of-first gap p); in_range = tt }
+pub IsTied-none : (gap : ℕ) (list : GhostList ℕ) → list.items ≡ [] → IsTied (record { gap = gap; last = None; pushed = list })
+IsTied-none gap list none = record { goes_on = λ p. rw none (stamp_of-first gap p); in_range = tt }
 
 -- an epoch more, at most
 one_more : (b : Bool) (n most : ℕ) → n ≤ most → (if b then n + 1 else n) ≤ most + 1
@@ -30,15 +30,15 @@ within : (time : ℤ) → is_in_range time ≡ true → unsigned_abs time ≤ 2 
 within time in_range = grind (arith, nat_tests)
 
 -- a clock that took one more
-pub IsTied-one : (c : Inside) (fed : GhostList ℕ) (p : ℕ) (s : Stamp) → IsTied c → fed.items ≡ c.fed.items ++ p ∷ [] →
+pub IsTied-one : (c : Inside) (list : GhostList ℕ) (p : ℕ) (s : Stamp) → IsTied c → list.items ≡ c.pushed.items ++ p ∷ [] →
     s ≡ stamp_behind c.gap c.last p → p < 2 ^ 33 → is_in_range s.time ≡ true →
-    IsTied (record { gap = c.gap; last = Some (record { pts = p; stamp = s }); fed = fed })
-IsTied-one c fed p s tied grown is small in_range =
-    let last : s ≡ stamp_of c.gap c.fed.items p = is ∙ sym (tied.goes_on p) in
-    let few : s.epoch ≤ length c.fed.items + 1 = rw is (stamp_behind-epoch c.gap (length c.fed.items) c.last p tied.in_range) in
+    IsTied (record { gap = c.gap; last = Some (record { pts = p; stamp = s }); pushed = list })
+IsTied-one c list p s tied grown is small in_range =
+    let last : s ≡ stamp_of c.gap c.pushed.items p = is ∙ sym (tied.goes_on p) in
+    let few : s.epoch ≤ length c.pushed.items + 1 = rw is (stamp_behind-epoch c.gap (length c.pushed.items) c.last p tied.in_range) in
     record {
-      goes_on = λ q. rw grown (rw last (stamp_of-append c.gap c.fed.items p q));
-      in_range = (small, within s.time in_range, omega (arith, ap length grown, length-append c.fed.items (p ∷ []), few));
+      goes_on = λ q. rw grown (rw last (stamp_of-append c.gap c.pushed.items p q));
+      in_range = (small, within s.time in_range, omega (arith, ap length grown, length-append c.pushed.items (p ∷ []), few));
     }
 
 -- the test of a PTS of 33 bits is that of its time
@@ -55,7 +55,7 @@ unfolding is_taken
 is_taken-large gap list p large = large_test _ p large
 
 -- another is taken where the time that the clock finds for it is in range
-pub is_taken-small : (c : Inside) (v : Pushed) (p : ℕ) (s : Stamp) → IsTied c → pushed c ≡ v →
+pub is_taken-small : (c : Inside) (v : Pushed) (p : ℕ) (s : Stamp) → IsTied c → clock_value c ≡ v →
     s ≡ stamp_behind c.gap c.last p → p < 2 ^ 33 → is_in_range s.time ≡ is_taken v.gap v.list p
 unfolding is_taken
 is_taken-small c v p s tied is behind small =

@@ -5,8 +5,8 @@ use Rattle.pes_time.specs.declared.clock.Last.{Last}
 use Rattle.pes_time.specs.declared.clock.Clock.TheInside.{Inside}
 use Rattle.pes_time.specs.Times.{Pushed, step, stamp_of}
 
-abbrev pub pushed : Inside → Pushed
-pushed c = record { gap = c.gap; list = c.fed.items }
+abbrev pub clock_value : Inside → Pushed
+clock_value c = record { gap = c.gap; list = c.pushed.items }
 
 -- the stamp of a PTS behind the last PTS and its stamp, or behind none
 abbrev pub stamp_behind : ℕ → Option Last → ℕ → Stamp
@@ -21,5 +21,5 @@ IsInRange most (Some l) = (l.pts < 2 ^ 33) × (unsigned_abs l.stamp.time ≤ 2 ^
 
 -- the last PTS and its stamp tell all that counts of the list
 pub record IsTied (c : Inside) : Type 0 where
-  pub goes_on : (p : ℕ) → stamp_of c.gap c.fed.items p ≡ stamp_behind c.gap c.last p
-  pub in_range : IsInRange (length c.fed.items) c.last
+  pub goes_on : (p : ℕ) → stamp_of c.gap c.pushed.items p ≡ stamp_behind c.gap c.last p
+  pub in_range : IsInRange (length c.pushed.items) c.last

@@ -36,7 +36,7 @@ struct Last {
 pub struct Clock {
     gap: u64,
     last: Option<Last>,
-    fed: GhostList<u64>,
+    pushed: GhostList<u64>,
 }
 
 impl Model for Clock {
@@ -44,9 +44,9 @@ impl Model for Clock {
 
     ghost Value = { Pushed };
 
-    ghost use Rattle.pes_time.specs.State.{pushed, IsTied};
+    ghost use Rattle.pes_time.specs.State.{clock_value, IsTied};
 
-    ghost view = { pushed };
+    ghost view = { clock_value };
 
     ghost invariant = { IsTied };
 }
@@ -59,7 +59,7 @@ impl Clock {
         Clock {
             gap,
             last: None,
-            fed: GhostList::new(),
+            pushed: GhostList::new(),
         }
     }
 
@@ -82,7 +82,7 @@ impl Clock {
             return Err(ClockFault::Range);
         }
         self.last = Some(Last { pts, stamp });
-        self.fed.push(&pts);
+        self.pushed.push(&pts);
         Ok(stamp)
     }
 }

@@ -1,6 +1,7 @@
 -- The entries of a PAT and of a PMT, one behind another.
-use Rattle.std.proofs.Common.{◌≡◌, ℕ, zero, suc, ◌+◌, ◌-◌, ◌%◌, ◌<◌, ◌≤◌, ◌≢◌, Bool, true, ◌==◌, List, [], ◌∷◌, ◌++◌, length, drop, get_or, refl, sym, ◌∙◌, ap, arith, append_assoc, Option, Some, None, is_some, IsSome, inl, inr}
+use Rattle.std.proofs.Common.{◌≡◌, ℕ, zero, suc, ◌+◌, ◌-◌, ◌*◌, ◌/◌, ◌%◌, ◌<◌, ◌≤◌, ◌≢◌, Bool, true, ◌==◌, List, [], ◌∷◌, ◌++◌, length, take, drop, get_or, refl, sym, ◌∙◌, ap, arith, append_assoc, Option, Some, None, is_some, IsSome, inl, inr}
 use Rattle.std.specs.Option.{option_map}
+use Rattle.std.specs.Simd.{first_chunks}
 use Rattle.std.proofs.lemmas.Bool.{eqb-true, cases_lt}
 use Rattle.std.proofs.lemmas.Bool.Decides.{eqb_tells}
 use Rattle.std.proofs.lemmas.List.{append-nil, drop-drop, length-drop, get_or-drop, drop_all}
@@ -74,19 +75,38 @@ few_programs (a ∷ b ∷ []) few whole = cc
 few_programs (a ∷ b ∷ c ∷ []) few whole = cc
 few_programs (a ∷ b ∷ c ∷ d ∷ s) few whole = absurd (omega arith)
 
--- a step over one entry of a PAT
-pub next_program : (bytes : List ℕ) (at : ℕ) (entries : List ProgramEntry) (entry : ProgramEntry) → programs bytes ≡ behind entries (programs (drop at bytes)) →
-    at + 4 ≤ length bytes → entry ≡ record { program = number_at bytes at; pid = pid_at bytes (at + 2) } → programs bytes ≡ behind (entries ++ entry ∷ []) (programs (drop (at + 4) bytes))
-next_program bytes at entries entry so_far within is =
-    let s = drop at bytes in
-    let long : length s ≡ length bytes - at = length-drop at bytes in
-    let here : number_at s 0 ≡ number_at bytes at = number_there bytes at 0 ∙ ap (number_at bytes) (let e : at + 0 ≡ at = omega arith in e) in
-    let behind_it : number_at s 2 ≡ number_at bytes (at + 2) = number_there bytes at 2 in
-    let first : first_program s ≡ entry = cc in
+-- four bytes tell their entry
+first_of_four : (s : List ℕ) → 4 ≤ length s → first_program (take 4 s) ≡ first_program s
+first_of_four [] long = absurd (omega arith)
+first_of_four (a ∷ []) long = absurd (omega arith)
+first_of_four (a ∷ b ∷ []) long = absurd (omega arith)
+first_of_four (a ∷ b ∷ c ∷ []) long = absurd (omega arith)
+first_of_four (a ∷ b ∷ c ∷ d ∷ s) long = refl
+
+-- the four bytes at a place among fours
+four_at : (i n : ℕ) (s : List ℕ) → i < n → get_or (first_chunks 4 n s) i [] ≡ take 4 (drop (4 * i) s)
+four_at zero zero s lt = absurd (omega arith)
+four_at (suc i) zero s lt = absurd (omega arith)
+four_at zero (suc n) s lt = refl
+four_at (suc i) (suc n) s lt =
+    let skip : 4 + 4 * i ≡ 4 * suc i = omega arith in
+    four_at i n (drop 4 s) (omega arith) ∙ ap (take 4) (drop-drop (4 * i) 4 s ∙ ap (λ m. drop m s) skip)
+
+-- a step over one entry of a PAT, its four bytes
+pub next_program : (bytes four : List ℕ) (i : ℕ) (entries : List ProgramEntry) (entry : ProgramEntry) →
+    programs bytes ≡ behind entries (programs (drop (4 * i) bytes)) → i < length bytes / 4 →
+    four ≡ get_or (first_chunks 4 (length bytes / 4) bytes) i [] → entry ≡ record { program = number_at four 0; pid = pid_at four 2 } →
+    programs bytes ≡ behind (entries ++ entry ∷ []) (programs (drop (4 * (i + 1)) bytes))
+next_program bytes four i entries entry so_far within is told =
+    let s = drop (4 * i) bytes in
+    let long : length s ≡ length bytes - 4 * i = length-drop (4 * i) bytes in
+    let there : four ≡ take 4 s = is ∙ four_at i (length bytes / 4) bytes within in
+    let first : first_program s ≡ entry = sym (first_of_four s (omega arith)) ∙ ap first_program (sym there) ∙ sym told in
+    let skip : 4 * i + 4 ≡ 4 * (i + 1) = omega arith in
     so_far ∙ ap (behind entries) (one_program s (omega arith))
     ∙ behind-push entries (first_program s) (programs (drop 4 s))
     ∙ ap (λ (e : ProgramEntry). behind (entries ++ e ∷ []) (programs (drop 4 s))) first
-    ∙ ap (λ (t : List ℕ). behind (entries ++ entry ∷ []) (programs t)) (drop-drop 4 at bytes)
+    ∙ ap (λ (t : List ℕ). behind (entries ++ entry ∷ []) (programs t)) (drop-drop 4 (4 * i) bytes ∙ ap (λ (m : ℕ). drop m bytes) skip)
 
 -- where fewer bytes are left than an entry takes, all entries of a PAT are known
 pub last_program : (bytes : List ℕ) (at : ℕ) (entries : List ProgramEntry) → programs bytes ≡ behind entries (programs (drop at bytes)) → length bytes < at + 4 →

@@ -1,7 +1,6 @@
 -- What a head tells of its tables.
-use Rattle.std.proofs.Common.{◌≡◌, ℕ, zero, suc, ◌+◌, ◌-◌, ◌*◌, ◌/◌, ◌%◌, ◌<◌, ◌≤◌, ◌^◌, ◌++◌, ◌∷◌, [], ◌∙◌, ◌==◌, ◌&&◌, not, nat_lt, nat_le, Bool, true, false, List, Option, Some, None, length, take, drop, slice_index, ap, sym, refl, arith, rules}
+use Rattle.std.proofs.Common.{◌≡◌, ℕ, zero, suc, ◌+◌, ◌-◌, ◌*◌, ◌/◌, ◌%◌, ◌≤◌, ◌++◌, ◌∷◌, [], ◌∙◌, ◌==◌, ◌&&◌, not, nat_lt, nat_le, Bool, true, false, List, None, length, take, drop, slice_index, ap, sym, refl, arith, rules}
 use Rattle.std.specs.Prelude.{replicate, is_none, get_or}
-use Rattle.std.specs.Int.{to_be_bytes, w16}
 use Rattle.std.proofs.lemmas.List.{length-drop, length-take, length-append, length-replicate, take-append-drop, append_assoc}
 use Rattle.std.proofs.Math.Seq.{take-append_seam, drop-append_seam}
 use Rattle.psi_tables.specs.Section.{first_standing, frame_faults, length_at}

@@ -9,7 +9,7 @@ use std::alloc::{AllocError, Global};
 
 /// What a PAT chooses: its transport_stream_id, a program, and the PID of the program's PMT.
 #[derive(Clone, Copy)]
-pub struct Choice {
+pub(crate) struct Choice {
     pub stream_id: u16,
     pub program: u16,
     pub pmt_pid: u16,
@@ -41,7 +41,7 @@ fn read_choice(
 }
 
 /// The last choice of these sections, or the one before.
-pub fn choose(
+pub(crate) fn choose(
     alloc: Global,
     program: Option<u16>,
     before: Option<Choice>,
@@ -57,7 +57,7 @@ pub fn choose(
 }
 
 /// Whether two choices are of the same PID, or both of none.
-pub fn is_same_pid(one: Option<Choice>, other: Option<Choice>) -> bool
+pub(crate) fn is_same_pid(one: Option<Choice>, other: Option<Choice>) -> bool
     ensures { result ≡ same_pid one other }
 {
     match (one, other) {
@@ -68,7 +68,7 @@ pub fn is_same_pid(one: Option<Choice>, other: Option<Choice>) -> bool
 }
 
 /// The PID on which the sections of PMTs are gathered; 0 while nothing is chosen.
-pub fn gathered_pid(choice: Option<Choice>) -> u16
+pub(crate) fn gathered_pid(choice: Option<Choice>) -> u16
     ensures { result ≡ pid_of choice }
 {
     match choice {

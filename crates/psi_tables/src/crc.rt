@@ -1,5 +1,5 @@
-ghost use Rattle.std.specs.Prelude.{◌≡◌, ℕ, ◌<◌, ◌^◌, ◌↔◌, ◌++◌, ◌∷◌, [], List, length, slice_index, All};
-ghost use Rattle.psi_tables.specs.Crc.{IsRemainder, crc, dividend, polynomial_of};
+ghost use Rattle.std.specs.Prelude.{◌≡◌, slice_index};
+ghost use Rattle.psi_tables.specs.Crc.{crc};
 
 /// The remainders of i times x^32 modulo the generator polynomial of CRC_32, for each byte i.
 static REMAINDERS: [u32; 256] = [
@@ -56,16 +56,3 @@ pub fn crc_32(bytes: &[u8]) -> u32
     }
     register
 }
-
-/// A law: the CRC_32 of a message is the remainder of its polynomial, and the only one.
-pub fn crc_is_the_remainder()
-    ensures is { (m : List ℕ) → All (λ b. b < 2 ^ 8) m → IsRemainder (dividend m) (crc m) }
-    ensures only { (m : List ℕ) (r : ℕ) → All (λ b. b < 2 ^ 8) m → IsRemainder (dividend m) r → r ≡ crc m }
-{}
-
-/// A law: the CRC_32 of a message with four bytes behind it is 0 exactly where these four bytes are the CRC_32 of the
-/// message, the high byte first.
-pub fn crc_of_a_closed_message()
-    ensures { (m w : List ℕ) → All (λ b. b < 2 ^ 8) m → All (λ b. b < 2 ^ 8) w → length w ≡ 4 →
-        (crc (m ++ w) ≡ 0) ↔ (polynomial_of w ≡ crc m) }
-{}

@@ -6,7 +6,7 @@ use ts_packet::Packet;
 
 /// A packet that a test sends.
 #[derive(Clone, Copy)]
-pub enum Sent {
+pub(crate) enum Sent {
     /// With this header of four bytes and these bytes behind it, filled up with FF.
     Filled([u8; 4], &'static [u8]),
     /// With this header, which tells an adaptation field and a payload, and with this payload: the adaptation field takes
@@ -17,7 +17,7 @@ pub enum Sent {
 }
 
 /// Writes bytes into others, from a place on.
-pub fn write(out: &mut [u8], from: usize, bytes: &[u8]) {
+pub(crate) fn write(out: &mut [u8], from: usize, bytes: &[u8]) {
     for (at, byte) in bytes.iter().enumerate() {
         if let Some(there) = out.get_mut(from.wrapping_add(at)) {
             *there = *byte;
@@ -26,7 +26,7 @@ pub fn write(out: &mut [u8], from: usize, bytes: &[u8]) {
 }
 
 /// A packet of a header, what is behind it, and bytes FF.
-pub fn filled(header: &[u8], behind: &[u8]) -> [u8; 188] {
+pub(crate) fn filled(header: &[u8], behind: &[u8]) -> [u8; 188] {
     let mut bytes = [0xFF; 188];
     write(&mut bytes, 0, header);
     write(&mut bytes, header.len(), behind);
@@ -42,7 +42,7 @@ fn exactly(header: &[u8], payload: &[u8]) -> [u8; 188] {
 }
 
 /// The 188 bytes of a packet.
-pub fn bytes_of(sent: Sent) -> [u8; 188] {
+pub(crate) fn bytes_of(sent: Sent) -> [u8; 188] {
     match sent {
         Sent::Filled(header, behind) => filled(&header, behind),
         Sent::Exactly(header, payload) => exactly(&header, payload),
@@ -65,7 +65,7 @@ fn sections(alloc: Global, pid: u16, packets: &[Sent]) -> Result<Vec<Vec<u8>>, F
 }
 
 /// Whether sections are these.
-pub fn are(found: &[Vec<u8>], sections: &[&[u8]]) -> bool {
+pub(crate) fn are(found: &[Vec<u8>], sections: &[&[u8]]) -> bool {
     if found.len() != sections.len() {
         return false;
     }
@@ -78,7 +78,7 @@ pub fn are(found: &[Vec<u8>], sections: &[&[u8]]) -> bool {
 }
 
 /// Packets, and the sections of a PID that they carry.
-pub struct Carried {
+pub(crate) struct Carried {
     pub name: &'static str,
     pub pid: u16,
     pub packets: &'static [Sent],
@@ -86,7 +86,7 @@ pub struct Carried {
 }
 
 /// The name of the first packets whose sections are others.
-pub fn first_wrong(alloc: Global, cases: &[Carried]) -> Result<Option<&'static str>, Fail> {
+pub(crate) fn first_wrong(alloc: Global, cases: &[Carried]) -> Result<Option<&'static str>, Fail> {
     for case in cases {
         let found = sections(alloc, case.pid, case.packets)?;
         if !are(&found, case.sections) {
@@ -97,7 +97,7 @@ pub fn first_wrong(alloc: Global, cases: &[Carried]) -> Result<Option<&'static s
 }
 
 /// The stream, the program, the PMT's PID and the video's of some tables.
-pub type Told = Option<(u16, u16, u16, Option<u16>)>;
+pub(crate) type Told = Option<(u16, u16, u16, Option<u16>)>;
 
 /// What tables tell.
 fn told(tables: Option<&Tables>) -> Told {
@@ -113,7 +113,11 @@ fn told(tables: Option<&Tables>) -> Told {
 }
 
 /// A watch that was pushed these packets.
-pub fn watched(alloc: Global, program: Option<u16>, packets: &[Sent]) -> Result<Watch, Fail> {
+pub(crate) fn watched(
+    alloc: Global,
+    program: Option<u16>,
+    packets: &[Sent],
+) -> Result<Watch, Fail> {
     let mut watch = Watch::new(alloc, program);
     for sent in packets {
         let packet = Packet::parse(&bytes_of(*sent))?;
@@ -123,7 +127,7 @@ pub fn watched(alloc: Global, program: Option<u16>, packets: &[Sent]) -> Result<
 }
 
 /// Packets, the program that is asked for, and the tables in force behind them.
-pub struct Behind {
+pub(crate) struct Behind {
     pub name: &'static str,
     pub program: Option<u16>,
     pub packets: &'static [Sent],
@@ -131,7 +135,7 @@ pub struct Behind {
 }
 
 /// The name of the first packets behind which other tables are in force.
-pub fn first_other(alloc: Global, cases: &[Behind]) -> Result<Option<&'static str>, Fail> {
+pub(crate) fn first_other(alloc: Global, cases: &[Behind]) -> Result<Option<&'static str>, Fail> {
     for case in cases {
         let watch = watched(alloc, case.program, case.packets)?;
         if told(watch.tables()) != case.tables {

@@ -8,7 +8,7 @@ use ts_packet::Packet;
 
 /// The sections that some bytes complete, and the front of the section that they leave begun.
 #[derive(Drop)]
-pub struct Brought {
+pub(crate) struct Brought {
     pub found: Vec<Vec<u8>>,
     pub begun: Vec<u8>,
 }
@@ -158,7 +158,7 @@ fn opening_behind<'a>(begun: &[u8], packet: &'a Packet) -> &'a [u8]
 }
 
 /// What a packet makes of a section that was begun.
-pub fn gather(alloc: Global, begun: &[u8], packet: &Packet) -> Result<Brought, AllocError>
+pub(crate) fn gather(alloc: Global, begun: &[u8], packet: &Packet) -> Result<Brought, AllocError>
     requires { unfinished 0 begun.now ≡ begun.now }
     ensures found { IfOk result (λ brought. map (λ section. section.items) brought.found.items ≡ completed begun.now (carrier packet.now)) }
     ensures begun { IfOk result (λ brought. brought.begun.items ≡ left_behind begun.now (carrier packet.now)) }

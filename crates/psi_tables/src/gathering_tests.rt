@@ -6,47 +6,50 @@ use std::alloc::Global;
 use std::test::Fail;
 use ts_packet::Packet;
 
-/// The first half of the PAT behind its pointer_field, and the other half.
+/// The first half of the PAT behind its pointer_field.
 const FRONT: &[u8] = b"\x00\x00\xb0\x0d\x00\x01\xc1\x00\x00";
 
+/// The other half.
 const BACK: &[u8] = b"\x00\x01\xf0\x00\x2a\xb1\x04\xb2";
 
-/// The packets of the halves, and one of the second half with the counter behind its own.
-const A: Sent = Exactly([0x47, 0x40, 0x00, 0x30], FRONT);
+/// The first half, at the end of a packet.
+const FRONT_HALF: Sent = Exactly([0x47, 0x40, 0x00, 0x30], FRONT);
 
-const B: Sent = Filled([0x47, 0x00, 0x00, 0x11], BACK);
+/// The other half, in the next packet.
+const BACK_HALF: Sent = Filled([0x47, 0x00, 0x00, 0x11], BACK);
 
-const C: Sent = Filled([0x47, 0x00, 0x00, 0x12], BACK);
+/// The other half, in the packet behind that.
+const LATE_BACK_HALF: Sent = Filled([0x47, 0x00, 0x00, 0x12], BACK);
 
 const HALVES: [Carried; 6] = [
     Carried {
         name: "both",
         pid: 0,
-        packets: &[A, B],
+        packets: &[FRONT_HALF, BACK_HALF],
         sections: &[PAT],
     },
     Carried {
         name: "the first repeated",
         pid: 0,
-        packets: &[A, A, B],
+        packets: &[FRONT_HALF, FRONT_HALF, BACK_HALF],
         sections: &[PAT],
     },
     Carried {
         name: "the second repeated",
         pid: 0,
-        packets: &[A, B, B],
+        packets: &[FRONT_HALF, BACK_HALF, BACK_HALF],
         sections: &[PAT],
     },
     Carried {
         name: "another PID",
         pid: 0x1FFF,
-        packets: &[A, B],
+        packets: &[FRONT_HALF, BACK_HALF],
         sections: &[],
     },
     Carried {
         name: "a gap",
         pid: 0,
-        packets: &[A, C],
+        packets: &[FRONT_HALF, LATE_BACK_HALF],
         sections: &[],
     },
     Carried {
@@ -79,49 +82,49 @@ const WITH_OTHERS: [Carried; 8] = [
     Carried {
         name: "scrambled",
         pid: 0,
-        packets: &[A, SCRAMBLED, B],
+        packets: &[FRONT_HALF, SCRAMBLED, BACK_HALF],
         sections: &[PAT],
     },
     Carried {
         name: "scrambled, gap",
         pid: 0,
-        packets: &[A, SCRAMBLED, C],
+        packets: &[FRONT_HALF, SCRAMBLED, LATE_BACK_HALF],
         sections: &[],
     },
     Carried {
         name: "no payload",
         pid: 0,
-        packets: &[A, WITHOUT_PAYLOAD, B],
+        packets: &[FRONT_HALF, WITHOUT_PAYLOAD, BACK_HALF],
         sections: &[PAT],
     },
     Carried {
         name: "no payload, gap",
         pid: 0,
-        packets: &[A, WITHOUT_PAYLOAD, C],
+        packets: &[FRONT_HALF, WITHOUT_PAYLOAD, LATE_BACK_HALF],
         sections: &[],
     },
     Carried {
         name: "other PID",
         pid: 0,
-        packets: &[A, OTHER_PID, B],
+        packets: &[FRONT_HALF, OTHER_PID, BACK_HALF],
         sections: &[PAT],
     },
     Carried {
         name: "other PID, gap",
         pid: 0,
-        packets: &[A, OTHER_PID, C],
+        packets: &[FRONT_HALF, OTHER_PID, LATE_BACK_HALF],
         sections: &[],
     },
     Carried {
         name: "repeat",
         pid: 0,
-        packets: &[A, REPEAT, B],
+        packets: &[FRONT_HALF, REPEAT, BACK_HALF],
         sections: &[PAT],
     },
     Carried {
         name: "repeat, gap",
         pid: 0,
-        packets: &[A, REPEAT, C],
+        packets: &[FRONT_HALF, REPEAT, LATE_BACK_HALF],
         sections: &[],
     },
 ];
@@ -132,12 +135,14 @@ fn packets_that_do_not_count(rt: HostRuntime) -> Result<(), Fail> {
     Ok(())
 }
 
-/// A PMT in three packets, and a packet of video.
-const ONE: Sent = Exactly([0x47, 0x50, 0x00, 0x37], b"\x00\x02\xb0\x12\x00\x01\xc1");
+/// The first third of the PMT, at the end of a packet.
+const FIRST_THIRD: Sent = Exactly([0x47, 0x50, 0x00, 0x37], b"\x00\x02\xb0\x12\x00\x01\xc1");
 
-const TWO: Sent = Exactly([0x47, 0x10, 0x00, 0x38], b"\x00\x00\xe1\x00\xf0\x00\x1b");
+/// The second third, in the next packet.
+const SECOND_THIRD: Sent = Exactly([0x47, 0x10, 0x00, 0x38], b"\x00\x00\xe1\x00\xf0\x00\x1b");
 
-const THREE: Sent = Filled(
+/// The last third, in the packet behind that.
+const LAST_THIRD: Sent = Filled(
     [0x47, 0x10, 0x00, 0x19],
     b"\xe1\x00\xf0\x00\x15\xbd\x4d\x56",
 );
@@ -148,25 +153,32 @@ const THIRDS: [Carried; 4] = [
     Carried {
         name: "all",
         pid: 0x1000,
-        packets: &[ONE, TWO, THREE],
+        packets: &[FIRST_THIRD, SECOND_THIRD, LAST_THIRD],
         sections: &[PMT],
     },
     Carried {
         name: "with video and a repeat",
         pid: 0x1000,
-        packets: &[ONE, VIDEO, TWO, TWO, VIDEO, THREE],
+        packets: &[
+            FIRST_THIRD,
+            VIDEO,
+            SECOND_THIRD,
+            SECOND_THIRD,
+            VIDEO,
+            LAST_THIRD,
+        ],
         sections: &[PMT],
     },
     Carried {
         name: "without the second",
         pid: 0x1000,
-        packets: &[ONE, THREE],
+        packets: &[FIRST_THIRD, LAST_THIRD],
         sections: &[],
     },
     Carried {
         name: "without the first",
         pid: 0x1000,
-        packets: &[TWO, THREE],
+        packets: &[SECOND_THIRD, LAST_THIRD],
         sections: &[],
     },
 ];
@@ -203,20 +215,20 @@ const POINTERS: [Carried; 6] = [
     Carried {
         name: "to the payload's end",
         pid: 0,
-        packets: &[A, TO_THE_END],
+        packets: &[FRONT_HALF, TO_THE_END],
         sections: &[PAT],
     },
     Carried {
         name: "past it",
         pid: 0,
-        packets: &[A, PAST_THE_END],
+        packets: &[FRONT_HALF, PAST_THE_END],
         sections: &[],
     },
     Carried {
         name: "past it, and the counter counts all the same",
         pid: 0,
         packets: &[
-            A,
+            FRONT_HALF,
             PAST_THE_END,
             Exactly([0x47, 0x40, 0x00, 0x32], FRONT),
             Filled([0x47, 0x00, 0x00, 0x13], BACK),
@@ -226,7 +238,7 @@ const POINTERS: [Carried; 6] = [
     Carried {
         name: "another section begins behind them",
         pid: 0,
-        packets: &[A, BOTH],
+        packets: &[FRONT_HALF, BOTH],
         sections: &[PAT, PMT],
     },
     Carried {
@@ -238,7 +250,7 @@ const POINTERS: [Carried; 6] = [
     Carried {
         name: "they don't complete the section that was begun",
         pid: 0,
-        packets: &[A, FEW],
+        packets: &[FRONT_HALF, FEW],
         sections: &[b"\xb2\xb0\x00"],
     },
 ];
@@ -383,8 +395,8 @@ fn chosen(alloc: Global, found: &[Vec<u8>]) -> Option<(u16, u16)> {
 
 /// The PAT, and a section of 1,024 bytes, the most.
 const LONGEST: [Sent; 8] = [
-    A,
-    B,
+    FRONT_HALF,
+    BACK_HALF,
     Filled([0x47, 0x40, 0x00, 0x12], b"\x00\x42\xb3\xfd"),
     Filled([0x47, 0x00, 0x00, 0x13], b""),
     Filled([0x47, 0x00, 0x00, 0x14], b""),

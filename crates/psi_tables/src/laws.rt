@@ -1,9 +1,23 @@
 //! What the words of the contracts mean.
-ghost use Rattle.std.specs.Prelude.{◌≡◌, ◌+◌, ◌*◌, ◌≤◌, ℕ, List, ◌++◌, length, take, All, Option, Some};
+ghost use Rattle.std.specs.Prelude.{◌≡◌, ◌+◌, ◌*◌, ◌<◌, ◌≤◌, ◌^◌, ◌↔◌, ℕ, List, ◌++◌, length, take, All, Option, Some};
 ghost use Rattle.ts_packet.specs.Packets.{IsBeginning};
+ghost use Rattle.psi_tables.specs.Crc.{IsRemainder, crc, dividend, polynomial_of};
 ghost use Rattle.psi_tables.specs.Sections.{sections, IsSection};
 ghost use Rattle.psi_tables.specs.Head.{head, packet_count, IsSendable, IsSameHead};
 ghost use Rattle.psi_tables.specs.InForce.{InForce, IsGood, IsSinceChange, since_change, tables_before, tables_behind};
+
+/// The CRC_32 of a message is the remainder of its polynomial, and the only one.
+pub fn crc_is_the_remainder()
+    ensures is { (m : List ℕ) → All (λ b. b < 2 ^ 8) m → IsRemainder (dividend m) (crc m) }
+    ensures only { (m : List ℕ) (r : ℕ) → All (λ b. b < 2 ^ 8) m → IsRemainder (dividend m) r → r ≡ crc m }
+{}
+
+/// The CRC_32 of a message with four bytes behind it is 0 exactly where these four bytes are the CRC_32 of the
+/// message, the high byte first.
+pub fn crc_of_a_closed_message()
+    ensures { (m w : List ℕ) → All (λ b. b < 2 ^ 8) m → All (λ b. b < 2 ^ 8) w → length w ≡ 4 →
+        (crc (m ++ w) ≡ 0) ↔ (polynomial_of w ≡ crc m) }
+{}
 
 /// The sections of a beginning of the packets are a beginning of the sections: what a packet completes depends on it
 /// and on the packets before it alone.

@@ -28,11 +28,12 @@ mod watch;
 mod watch_tests;
 
 pub use assembler::Assembler;
-pub use crc::{crc_32, crc_is_the_remainder, crc_of_a_closed_message};
+pub use crc::crc_32;
 pub use fault::TableFault;
 pub use laws::{
-    gathered_since_the_last_change, length_of_a_head, one_head_begins_bytes, sections_are_whole,
-    sections_only_grow, tables_hang_on_earlier_packets, tables_in_force_are_good,
+    crc_is_the_remainder, crc_of_a_closed_message, gathered_since_the_last_change,
+    length_of_a_head, one_head_begins_bytes, sections_are_whole, sections_only_grow,
+    tables_hang_on_earlier_packets, tables_in_force_are_good,
 };
 pub use pat::{Pat, ProgramEntry};
 pub use pmt::{Pmt, StreamEntry};

@@ -6,7 +6,7 @@ use ts_packet::Packet;
 
 /// The continuity_counter of the last packet that was taken, and the front of the section that was begun.
 #[derive(Drop)]
-pub struct Begun {
+pub(crate) struct Begun {
     pub counter: Option<u8>,
     pub bytes: Vec<u8>,
 }
@@ -14,13 +14,13 @@ pub struct Begun {
 /// What a packet makes of an assembler: the sections that it completes, and what is kept behind it. None stands for a
 /// packet that is left out.
 #[derive(Drop)]
-pub struct Next {
+pub(crate) struct Next {
     pub found: Vec<Vec<u8>>,
     pub begun: Option<Begun>,
 }
 
 /// Whether a packet is of this PID, has payload, isn't scrambled, and is no repeat of the last one that was taken.
-pub fn is_taken(pid: u16, last: Option<u8>, packet: &Packet) -> bool
+pub(crate) fn is_taken(pid: u16, last: Option<u8>, packet: &Packet) -> bool
     ensures { result ≡ Rattle.psi_tables.specs.Sections.is_taken pid last packet.now }
 {
     packet.pid() == pid
@@ -40,7 +40,7 @@ fn is_repeat(last: Option<u8>, packet: &Packet) -> bool
 }
 
 /// The front of the section that was begun, where no packet is missing before this one.
-pub fn continued<'a>(begun: &'a Begun, packet: &Packet) -> &'a [u8]
+pub(crate) fn continued<'a>(begun: &'a Begun, packet: &Packet) -> &'a [u8]
     requires { IsCounter begun.now.counter }
     ensures { result.now ≡ Rattle.psi_tables.specs.Assembly.continued begun.now.counter begun.now.bytes.items (carrier packet.now) }
 {

@@ -85,14 +85,13 @@ fn read_programs(alloc: Global, bytes: &[u8]) -> Result<Vec<ProgramEntry>, Alloc
     requires whole { IsSome (programs bytes.now) }
     ensures { IfOk result (λ entries. programs bytes.now ≡ Some entries.items) }
 {
+    let (parts, _) = bytes.as_chunks::<4>();
     let mut entries = Vec::new(alloc);
-    let mut at = 0;
-    while at + 4 <= bytes.len() {
+    'entry: for part in parts {
         entries.push(ProgramEntry {
-            program: read_number(bytes, at),
-            pid: read_pid(bytes, at + 2),
+            program: read_number(part, 0),
+            pid: read_pid(part, 2),
         })?;
-        at += 4;
     }
     Ok(entries)
 }

@@ -5,7 +5,7 @@ use crate::crc::crc_32;
 use crate::fault::TableFault;
 
 /// The 16 bits of two bytes.
-pub fn read_number(bytes: &[u8], at: usize) -> u16
+pub(crate) fn read_number(bytes: &[u8], at: usize) -> u16
     requires { at + 1 < length bytes.now }
     ensures { result ≡ number_at bytes.now at }
 {
@@ -13,7 +13,7 @@ pub fn read_number(bytes: &[u8], at: usize) -> u16
 }
 
 /// The low 13 bits of two bytes: a PID.
-pub fn read_pid(bytes: &[u8], at: usize) -> u16
+pub(crate) fn read_pid(bytes: &[u8], at: usize) -> u16
     requires { at + 1 < length bytes.now }
     ensures { result ≡ pid_at bytes.now at }
 {
@@ -21,7 +21,7 @@ pub fn read_pid(bytes: &[u8], at: usize) -> u16
 }
 
 /// The low 12 bits of two bytes: a length in bytes.
-pub fn read_length(bytes: &[u8], at: usize) -> usize
+pub(crate) fn read_length(bytes: &[u8], at: usize) -> usize
     requires { at + 1 < length bytes.now }
     ensures value { result ≡ length_at bytes.now at }
     ensures below { result < 4096 }
@@ -31,7 +31,7 @@ pub fn read_length(bytes: &[u8], at: usize) -> usize
 
 /// Looks for the faults of a section that don't lie in its entries: one of the table with this table_id, whose fields and
 /// CRC_32 take this many bytes at the fewest.
-pub fn check_frame(section: &[u8], fewest: usize, id: u8) -> Result<(), TableFault>
+pub(crate) fn check_frame(section: &[u8], fewest: usize, id: u8) -> Result<(), TableFault>
     requires { 8 ≤ fewest }
     ensures ok { OnOk result (first_standing (frame_faults fewest id section.now) ≡ None) }
     ensures err { IfErr result (λ fault. first_standing (frame_faults fewest id section.now) ≡ Some fault) }

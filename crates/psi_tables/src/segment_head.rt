@@ -1,7 +1,7 @@
 //! The head of a segment (RFC 8216, 3.2).
 
-ghost use Rattle.std.specs.Prelude.{◌≡◌, ◌+◌, ◌<◌, ◌^◌, ◌++◌, ◌/◌, true, length, IfOk, OnOk, OnErr};
-ghost use Rattle.psi_tables.specs.Head.{head, packet_count, packets, stuffed, section_packets};
+ghost use Rattle.std.specs.Prelude.{◌≡◌, ◌+◌, ◌-◌, ◌*◌, ◌<◌, ◌≤◌, ◌^◌, ◌++◌, ◌/◌, false, length, replicate, vec_len, vec_capacity, IfOk, OnOk, OnErr};
+ghost use Rattle.psi_tables.specs.Head.{head, packet_count, packets, section_packets};
 
 use crate::crc::crc_32;
 use crate::tables::Tables;
@@ -43,7 +43,7 @@ fn packet_count(section: &[u8]) -> usize
     (section.len() + PAYLOAD) / PAYLOAD
 }
 
-/// A PAT section of one program: version 0, current (ISO/IEC 13818-1, 2.4.4.3).
+/// A PAT section of one program: version 0, current (ISO/IEC 13818-1, 2.4.4.3). Of the PMT's PID the low 13 bits count.
 pub fn pat_section(stream_id: u16, program: u16, pmt_pid: u16) -> [u8; 16]
     ensures { result ≡ Rattle.psi_tables.specs.Head.pat_section stream_id program pmt_pid }
 {
@@ -51,12 +51,15 @@ pub fn pat_section(stream_id: u16, program: u16, pmt_pid: u16) -> [u8; 16]
     let [c, d] = program.to_be_bytes();
     let [e, f] = (0xE000 + pmt_pid % 0x2000).to_be_bytes();
     let fields = [0x00, 0xB0, 13, a, b, 0xC1, 0, 0, c, d, e, f];
-    let [g, h, i, j] = crc_32(&fields).to_be_bytes();
-    [0x00, 0xB0, 13, a, b, 0xC1, 0, 0, c, d, e, f, g, h, i, j]
+    let mut section = [0; 16];
+    section[..12].copy_from_slice(&fields);
+    section[12..].copy_from_slice(&crc_32(&fields).to_be_bytes());
+    section
 }
 
-/// Appends the packets of a PID that carry one section, without adaptation fields (ISO/IEC 13818-1, 2.4.4). The counter is
-/// the continuity_counter of the first, modulo 16. A refusal leaves the bytes as they were.
+/// Appends the packets of a PID that carry one section, without adaptation fields (ISO/IEC 13818-1, 2.4.4). Of the PID the
+/// low 13 bits count. The counter is the continuity_counter of the first, modulo 16. A refusal leaves the bytes as they
+/// were.
 pub fn append_section(
     bytes: &mut Vec<u8>,
     pid: u16,
@@ -66,47 +69,42 @@ pub fn append_section(
     ensures packets { OnOk result (bytes.new.items ≡ bytes.old.items ++ section_packets pid counter section.now) }
     ensures err { OnErr result (bytes.new.items ≡ bytes.old.items) }
 {
-    let alloc = *bytes.allocator();
-    let mut carried = Vec::new(alloc);
-    carried.push(0)?;
-    carried.extend_from_slice(section)?;
-    let mut packets = Vec::new(alloc);
-    append_packets(&mut packets, pid, counter, &carried)?;
-    bytes.append(&mut packets)
+    bytes.reserve(188 * packet_count(section))?;
+    let (front, rest) = section.split_at(usize::min(PAYLOAD - 1, section.len()));
+    let [a, b, c, d] = header(true, pid, usize::from(counter));
+    append_packet(bytes, &[a, b, c, d, 0], front);
+    append_packets(bytes, pid, usize::from(counter) + 1, rest);
+    Ok(())
 }
 
-/// Appends packets of a PID that carry these bytes, the first with payload_unit_start_indicator.
-fn append_packets(
-    bytes: &mut Vec<u8>,
-    pid: u16,
-    counter: u8,
-    carried: &[u8],
-) -> Result<(), AllocError>
-    ensures { OnOk result (bytes.new.items ≡ bytes.old.items ++ packets ((length carried.now + 183) / 184) true pid counter carried.now) }
+/// Appends the packets of a PID that carry these bytes, behind the packet in which their section starts.
+fn append_packets(bytes: &mut Vec<u8>, pid: u16, counter: usize, carried: &[u8])
+    requires room { vec_len bytes.old + 188 * ((length carried.now + 183) / 184) ≤ vec_capacity bytes.old }
+    requires small { counter ≤ 256 }
+    ensures { bytes.new.items ≡ bytes.old.items ++ packets ((length carried.now + 183) / 184) false pid counter carried.now }
 {
-    let mut starts = true;
-    let mut counter = usize::from(counter);
+    let mut counter = counter;
     let mut rest = carried;
     'packet: while !rest.is_empty() {
-        append_packet(bytes, header(starts, pid, counter), rest)?;
-        starts = false;
+        let (payload, later) = rest.split_at(usize::min(PAYLOAD, rest.len()));
+        append_packet(bytes, &header(false, pid, counter), payload);
         counter += 1;
-        let (_, later) = rest.split_at(usize::min(PAYLOAD, rest.len()));
         rest = later;
     }
-    Ok(())
 }
 
-/// Appends one packet with this header, as many of the bytes as it has room for, and stuffing to its end.
-fn append_packet(bytes: &mut Vec<u8>, header: [u8; 4], carried: &[u8]) -> Result<(), AllocError>
-    ensures { OnOk result (bytes.new.items ≡ bytes.old.items ++ header ++ stuffed carried.now) }
+/// Appends one packet: what it begins with, these bytes of its payload, and stuffing to its end.
+fn append_packet(bytes: &mut Vec<u8>, begin: &[u8], payload: &[u8])
+    requires fits { length begin.now + length payload.now ≤ 188 }
+    requires room { vec_len bytes.old + 188 ≤ vec_capacity bytes.old }
+    ensures items { bytes.new.items ≡ bytes.old.items ++ begin.now ++ payload.now ++ replicate (188 - (length begin.now + length payload.now)) 0xFF }
+    ensures len { vec_len bytes.new ≡ vec_len bytes.old + 188 }
+    ensures kept { vec_capacity bytes.old ≤ vec_capacity bytes.new }
 {
-    let (payload, _) = carried.split_at(usize::min(PAYLOAD, carried.len()));
-    bytes.extend_from_slice(&header)?;
-    bytes.extend_from_slice(payload)?;
-    let (_, stuffing) = [0xFF; PAYLOAD].split_at(payload.len());
-    bytes.extend_from_slice(stuffing)?;
-    Ok(())
+    let (_, stuffing) = [0xFF; 188].split_at(begin.len() + payload.len());
+    bytes.extend_from_slice(begin).unwrap();
+    bytes.extend_from_slice(payload).unwrap();
+    bytes.extend_from_slice(stuffing).unwrap();
 }
 
 /// The header of a packet that has a payload alone.

@@ -128,7 +128,7 @@ fn read_tables(alloc: Global, choice: Choice, section: &[u8]) -> Result<Option<T
 }
 
 /// The last tables that these sections on the chosen PID put in force, if any do.
-pub fn last_tables(
+pub(crate) fn last_tables(
     alloc: Global,
     choice: Option<Choice>,
     found: &[Vec<u8>],

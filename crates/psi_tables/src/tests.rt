@@ -4,23 +4,33 @@ use std::alloc::Global;
 use std::test::Fail;
 
 /// Program 1 with its PMT on PID 0x1000.
-pub const PAT: &[u8] = b"\x00\xb0\x0d\x00\x01\xc1\x00\x00\x00\x01\xf0\x00\x2a\xb1\x04\xb2";
+pub(crate) const PAT: &[u8] = b"\x00\xb0\x0d\x00\x01\xc1\x00\x00\x00\x01\xf0\x00\x2a\xb1\x04\xb2";
 
 /// Program 1, H.264 on PID 0x100 with the PCR.
-pub const PMT: &[u8] =
+pub(crate) const PMT: &[u8] =
     b"\x02\xb0\x12\x00\x01\xc1\x00\x00\xe1\x00\xf0\x00\x1b\xe1\x00\xf0\x00\x15\xbd\x4d\x56";
 
 /// The same with AAC on PID 0x101.
-pub const PMT_WITH_SOUND: &[u8] =
+pub(crate) const PMT_WITH_SOUND: &[u8] =
     b"\x02\xb0\x17\x00\x01\xc1\x00\x00\xe1\x00\xf0\x00\x1b\xe1\x00\xf0\x00\x0f\xe1\x01\xf0\x00\x2f\x44\xb9\x9b";
 
-/// Sections of 12 bytes at least and what is wrong with each as a PAT; the CRCs come from another program.
-const FAULTY_PATS: [(&[u8], TableFault); 10] = [
+/// Sections and what is wrong with each as a PAT. The CRCs here come from a bitwise CRC-32/MPEG-2 in Python.
+const FAULTY_PATS: [(&[u8], TableFault); 12] = [
     (
         b"\x00\xb0\x0d\x00\x01\xc1\x00\x00\x00\x01\xf0",
         TableFault::Short,
     ),
+    // also of another table
+    (
+        b"\x02\xb0\x0d\x00\x01\xc1\x00\x00\x00\x01\xf0",
+        TableFault::Short,
+    ),
     (PMT, TableFault::WrongTable),
+    // also with a wrong CRC
+    (
+        b"\x02\xb0\x0d\x00\x01\xc1\x00\x00\x00\x01\xf0\x00\x2a\xb1\x04\xb2",
+        TableFault::WrongTable,
+    ),
     (
         b"\x00\x30\x0d\x00\x01\xc1\x00\x00\x00\x01\xf0\x00\x29\x4a\x75\x31",
         TableFault::WrongTable,
@@ -133,6 +143,7 @@ fn computes_crcs(rt: HostRuntime) {
         crc_32(b"\x00\xb0\x0d\x00\x01\xc1\x00\x00\x00\x01\xf0\x00"),
         0x2AB1_04B2
     );
+    // The check value of CRC-32/MPEG-2 in catalogues of CRCs.
     assert_eq!(rt; crc_32(b"123456789"), 0x0376_E6E7);
     assert_eq!(rt; crc_32(b""), 0xFFFF_FFFF);
 }

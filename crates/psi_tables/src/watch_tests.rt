@@ -6,7 +6,8 @@ use std::alloc::Global;
 use std::test::Fail;
 use ts_packet::Packet;
 
-/// Stream 2, and program 1 with its PMT on PID 0x1000; the CRCs come from another program.
+/// Stream 2, and program 1 with its PMT on PID 0x1000. The CRCs of these sections come from a bitwise CRC-32/MPEG-2 in
+/// Python.
 const OTHER_STREAM: &[u8] = b"\x00\xb0\x0d\x00\x02\xc1\x00\x00\x00\x01\xf0\x00\xc6\x53\x61\xec";
 
 /// Stream 1, and program 1 with its PMT on PID 0x200.
@@ -19,21 +20,23 @@ const OTHER_PROGRAM: &[u8] = b"\x00\xb0\x0d\x00\x01\xc1\x00\x00\x00\x02\xf0\x00\
 const PMT_OF_PROGRAM_2: &[u8] =
     b"\x02\xb0\x12\x00\x02\xc1\x00\x00\xe3\x00\xf0\x00\x1b\xe3\x00\xf0\x00\x74\x4a\xcb\x4c";
 
-/// The PAT and the PMT in a packet each.
-const P: Sent = Carrying(0, 0, PAT);
+/// The PAT in a packet.
+const PAT_PACKET: Sent = Carrying(0, 0, PAT);
 
-const M: Sent = Carrying(0x1000, 0, PMT);
+/// The PMT in a packet.
+const PMT_PACKET: Sent = Carrying(0x1000, 0, PMT);
 
 /// The PMT with the next counter.
-const AGAIN: Sent = Carrying(0x1000, 1, PMT);
+const NEXT_PMT_PACKET: Sent = Carrying(0x1000, 1, PMT);
 
-/// The halves of the packets of a PMT on PID 0x1000 that begins with this counter.
-const A: Sent = Exactly(
+/// The front of the PMT, at the end of a packet.
+const FRONT_HALF: Sent = Exactly(
     [0x47, 0x50, 0x00, 0x30],
     b"\x00\x02\xb0\x12\x00\x01\xc1\x00\x00\xe1\x00",
 );
 
-const B: Sent = Filled(
+/// The rest of it, in the next packet.
+const BACK_HALF: Sent = Filled(
     [0x47, 0x10, 0x00, 0x11],
     b"\xf0\x00\x1b\xe1\x00\xf0\x00\x15\xbd\x4d\x56",
 );
@@ -46,31 +49,31 @@ const ORDERS: [Behind; 5] = [
     Behind {
         name: "PAT and PMT",
         program: None,
-        packets: &[P, M],
+        packets: &[PAT_PACKET, PMT_PACKET],
         tables: STANDARD,
     },
     Behind {
         name: "a PMT before its PAT isn't used",
         program: None,
-        packets: &[M, P],
+        packets: &[PMT_PACKET, PAT_PACKET],
         tables: None,
     },
     Behind {
         name: "a PMT behind",
         program: None,
-        packets: &[M, P, AGAIN],
+        packets: &[PMT_PACKET, PAT_PACKET, NEXT_PMT_PACKET],
         tables: STANDARD,
     },
     Behind {
         name: "a packet with the counter of one before the PAT is no repeat",
         program: None,
-        packets: &[M, P, M],
+        packets: &[PMT_PACKET, PAT_PACKET, PMT_PACKET],
         tables: STANDARD,
     },
     Behind {
         name: "other packets don't matter",
         program: None,
-        packets: &[VIDEO, P, VIDEO, M, VIDEO],
+        packets: &[VIDEO, PAT_PACKET, VIDEO, PMT_PACKET, VIDEO],
         tables: STANDARD,
     },
 ];
@@ -131,42 +134,48 @@ fn the_program_that_was_asked_for(rt: HostRuntime) -> Result<(), Fail> {
     Ok(())
 }
 
-/// The PAT chooses otherwise; and the PMT of that choice.
+/// A PAT that chooses otherwise.
 const OTHER: Sent = Carrying(0, 1, OTHER_PROGRAM);
 
+/// The PMT of that choice.
 const CHOSEN: Sent = Carrying(0x1000, 1, PMT_OF_PROGRAM_2);
 
 const STAYS: [Behind; 5] = [
     Behind {
         name: "a PAT that chooses otherwise",
         program: None,
-        packets: &[P, M, OTHER],
+        packets: &[PAT_PACKET, PMT_PACKET, OTHER],
         tables: STANDARD,
     },
     Behind {
         name: "a PMT of a program that isn't chosen",
         program: None,
-        packets: &[P, M, OTHER, Carrying(0x1000, 1, PMT_WITH_SOUND)],
+        packets: &[
+            PAT_PACKET,
+            PMT_PACKET,
+            OTHER,
+            Carrying(0x1000, 1, PMT_WITH_SOUND),
+        ],
         tables: STANDARD,
     },
     Behind {
         name: "the PMT of the chosen one",
         program: None,
-        packets: &[P, M, OTHER, CHOSEN],
+        packets: &[PAT_PACKET, PMT_PACKET, OTHER, CHOSEN],
         tables: Some((1, 2, 0x1000, Some(0x300))),
     },
     Behind {
         name: "where the other one was asked for",
         program: Some(1),
-        packets: &[P, M, OTHER, CHOSEN],
+        packets: &[PAT_PACKET, PMT_PACKET, OTHER, CHOSEN],
         tables: STANDARD,
     },
     Behind {
         name: "a PAT and a PMT whose CRC is wrong",
         program: None,
         packets: &[
-            P,
-            M,
+            PAT_PACKET,
+            PMT_PACKET,
             Carrying(
                 0,
                 1,
@@ -268,37 +277,37 @@ const GATHERED: [Behind; 6] = [
     Behind {
         name: "in two packets",
         program: None,
-        packets: &[P, A, B],
+        packets: &[PAT_PACKET, FRONT_HALF, BACK_HALF],
         tables: STANDARD,
     },
     Behind {
         name: "the same PID once more, with another stream id",
         program: None,
-        packets: &[P, A, STREAM, B],
+        packets: &[PAT_PACKET, FRONT_HALF, STREAM, BACK_HALF],
         tables: Some((2, 1, 0x1000, Some(0x100))),
     },
     Behind {
         name: "the last of two PATs brings no change",
         program: None,
-        packets: &[P, A, TWO_PATS, B],
+        packets: &[PAT_PACKET, FRONT_HALF, TWO_PATS, BACK_HALF],
         tables: STANDARD,
     },
     Behind {
         name: "away, and back",
         program: None,
-        packets: &[P, A, AWAY, BACK, B],
+        packets: &[PAT_PACKET, FRONT_HALF, AWAY, BACK, BACK_HALF],
         tables: None,
     },
     Behind {
         name: "begun anew",
         program: None,
-        packets: &[P, A, AWAY, BACK, A, B],
+        packets: &[PAT_PACKET, FRONT_HALF, AWAY, BACK, FRONT_HALF, BACK_HALF],
         tables: STANDARD,
     },
     Behind {
         name: "on the other PID a counter that came before is no repeat",
         program: None,
-        packets: &[P, THERE, AWAY, THERE],
+        packets: &[PAT_PACKET, THERE, AWAY, THERE],
         tables: Some((1, 1, 0x200, Some(0x100))),
     },
 ];
@@ -318,7 +327,7 @@ const TWO_PMTS: Sent = Carrying(
 
 #[test]
 fn the_last_of_several(rt: HostRuntime) -> Result<(), Fail> {
-    let watch = watched(rt.alloc(), None, &[P, TWO_PMTS])?;
+    let watch = watched(rt.alloc(), None, &[PAT_PACKET, TWO_PMTS])?;
     assert_eq!(rt; watch.tables().map(Tables::section), Some(PMT));
     Ok(())
 }
@@ -326,7 +335,7 @@ fn the_last_of_several(rt: HostRuntime) -> Result<(), Fail> {
 #[test]
 fn tables_from_the_next_packet_on(rt: HostRuntime) -> Result<(), Fail> {
     assert!(rt; Watch::new(rt.alloc(), None).tables().is_none());
-    assert!(rt; watched(rt.alloc(), None, &[P])?.tables().is_none());
+    assert!(rt; watched(rt.alloc(), None, &[PAT_PACKET])?.tables().is_none());
     Ok(())
 }
 
@@ -340,7 +349,7 @@ fn copied(watch: &Watch) -> Result<Tables, Fail> {
 
 /// The tables of the PMT without sound, and those that a PMT with sound makes of them.
 fn changed(alloc: Global) -> Result<(Tables, Tables), Fail> {
-    let mut watch = watched(alloc, None, &[P, M])?;
+    let mut watch = watched(alloc, None, &[PAT_PACKET, PMT_PACKET])?;
     let first = copied(&watch)?;
     let packet = Packet::parse(&crate::fixtures::bytes_of(Carrying(0x1000, 1, PMT_WITH_SOUND)))?;
     watch.push(&packet)?;

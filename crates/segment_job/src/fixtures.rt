@@ -19,7 +19,7 @@ const PMT_WITH_SOUND: &[u8] =
     b"\x47\x50\x00\x11\x00\x02\xb0\x17\x00\x01\xc1\x00\x00\xe1\x00\xf0\x00\x1b\xe1\x00\xf0\x00\x0f\xe1\x01\xf0\x00\x2f\x44\xb9\x9b";
 
 /// A key frame at 0 ticks.
-pub const KEY_FRAME: &[u8] =
+pub(crate) const KEY_FRAME: &[u8] =
     b"\x47\x41\x00\x30\x01\x40\x00\x00\x01\xe0\x00\x00\x80\x80\x05\x21\x00\x01\x00\x01";
 
 /// Another frame, at 270,000 ticks.
@@ -38,10 +38,24 @@ const EARLY_KEY_FRAME: &[u8] =
     b"\x47\x41\x00\x32\x01\x40\x00\x00\x01\xe0\x00\x00\x80\x80\x05\x21\x00\x13\x27\xc1";
 
 /// A stream of two segments, six seconds apart.
-pub const TWO_KEY_FRAMES: [&[u8]; 6] = [PAT, PMT, KEY_FRAME, FRAME, SECOND_KEY_FRAME, LAST_FRAME];
+pub(crate) const TWO_KEY_FRAMES: [&[u8]; 6] = [
+    PAT,
+    PMT,
+    KEY_FRAME,
+    FRAME,
+    SECOND_KEY_FRAME,
+    LAST_FRAME,
+];
 
 /// A stream of two segments, the second of which has sound.
-pub const NEW_TABLES: [&[u8]; 6] = [PAT, PMT, KEY_FRAME, FRAME, PMT_WITH_SOUND, EARLY_KEY_FRAME];
+pub(crate) const NEW_TABLES: [&[u8]; 6] = [
+    PAT,
+    PMT,
+    KEY_FRAME,
+    FRAME,
+    PMT_WITH_SOUND,
+    EARLY_KEY_FRAME,
+];
 
 /// Segments of six seconds.
 const SETTINGS: CutSettings = CutSettings {
@@ -54,7 +68,7 @@ const SETTINGS: CutSettings = CutSettings {
 };
 
 /// A packet that begins with these bytes and ends in bytes FF.
-pub fn filled(begin: &[u8]) -> [u8; 188] {
+pub(crate) fn filled(begin: &[u8]) -> [u8; 188] {
     let mut packet = [0xFF; 188];
     for (at, byte) in begin.iter().enumerate() {
         if let Some(there) = packet.get_mut(at) {
@@ -65,7 +79,7 @@ pub fn filled(begin: &[u8]) -> [u8; 188] {
 }
 
 /// Two keys that take turns of one segment each: the bytes 0 to 15, and the bytes 16 to 31.
-pub fn two_keys(alloc: Global) -> Result<Keys, Fail> {
+pub(crate) fn two_keys(alloc: Global) -> Result<Keys, Fail> {
     let mut keys = Vec::new(alloc);
     keys.push([0, 1, 2, 3, 4, 5, 6, 7, 8, 9, 10, 11, 12, 13, 14, 15])?;
     keys.push([
@@ -75,7 +89,11 @@ pub fn two_keys(alloc: Global) -> Result<Keys, Fail> {
 }
 
 /// The segments of a stream, sealed.
-pub fn seal_stream(alloc: Global, stream: &[&[u8]], keys: &Keys) -> Result<Vec<Sealed>, Fail> {
+pub(crate) fn seal_stream(
+    alloc: Global,
+    stream: &[&[u8]],
+    keys: &Keys,
+) -> Result<Vec<Sealed>, Fail> {
     let mut packets = Vec::new(alloc);
     for begin in stream {
         packets.push(filled(begin))?;
@@ -90,7 +108,7 @@ pub fn seal_stream(alloc: Global, stream: &[&[u8]], keys: &Keys) -> Result<Vec<S
 }
 
 /// The segment at a place.
-pub fn segment(all: &[Sealed], at: usize) -> Result<&Sealed, Fail> {
+pub(crate) fn segment(all: &[Sealed], at: usize) -> Result<&Sealed, Fail> {
     match all.get(at) {
         Some(sealed) => Ok(sealed),
         None => Err(Fail::from("no such segment")),
@@ -98,7 +116,7 @@ pub fn segment(all: &[Sealed], at: usize) -> Result<&Sealed, Fail> {
 }
 
 /// How many bytes each of some segments has.
-pub fn sizes(alloc: Global, all: &[Sealed]) -> Result<Vec<usize>, AllocError> {
+pub(crate) fn sizes(alloc: Global, all: &[Sealed]) -> Result<Vec<usize>, AllocError> {
     let mut sizes = Vec::new(alloc);
     for sealed in all {
         sizes.push(sealed.bytes().len())?;

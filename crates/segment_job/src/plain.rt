@@ -9,7 +9,7 @@ use psi_tables::{Tables, head};
 use std::alloc::{AllocError, Global};
 
 /// The segment of a plan: its head, and then its body, in memory that is taken for just that.
-pub fn plain_text(alloc: Global, plan: &Plan) -> Result<Vec<u8>, AllocError>
+pub(crate) fn plain_text(alloc: Global, plan: &Plan) -> Result<Vec<u8>, AllocError>
     ensures text { IfOk result (λ text. text.items ≡ plain plan.now) }
     ensures tables { IsSendable plan.now.tables }
 {

@@ -70,8 +70,7 @@ fn open_inside(
     let (before, behind) = blocks.split_at(offset / 16);
     let (around, _) = behind.split_at((offset + len).div_ceil(16) - before.len());
     let before = block_before(vector, before);
-    let text = open_part(alloc, key, before, around, offset % 16, len)?;
-    Ok(text)
+    open_part(alloc, key, before, around, offset % 16, len)
 }
 
 /// So many bytes, behind some that are passed over, of what these blocks are behind the block before.

@@ -118,7 +118,8 @@ impl Sealed {
 
 /// Seals the segment of a plan, under the key and the vector of its number.
 ///
-/// The segment is made once, and let go when it is sealed.
+/// The plain segment is made once, and let go. A refusal lets go of the plan too: a caller that wants to try again keeps
+/// another `Arc` of it.
 pub fn seal_plan(alloc: Global, plan: Arc<Plan, Global>, keys: &Keys) -> Result<Sealed, AllocError>
     ensures { IfOk result (λ sealed. sealed ≡ sealed_segment keys.now (arc_value plan)) }
 {

@@ -87,6 +87,8 @@ fn sizes_of_segments(rt: HostRuntime) -> Result<(), Fail> {
 fn segments_are_sealed_as_others_seal_them(rt: HostRuntime) -> Result<(), Fail> {
     let keys = two_keys(rt.alloc())?;
     let all = seal_stream(rt.alloc(), &TWO_KEY_FRAMES, &keys)?;
+    assert_eq!(rt; all.len(), 2);
+    // The first and the last block of each segment, from OpenSSL 3, `enc -aes-128-cbc`.
     let firsts = [
         *b"\x06\xdf\x0c\x5f\xc1\xfd\xfb\xbf\xa9\xb0\xee\x3c\x7c\x13\x38\x1b",
         *b"\x7e\xe6\x3c\x38\x32\x9a\x55\x00\x96\x88\xc5\x44\x4f\xe1\x29\x3a",
@@ -111,7 +113,9 @@ fn segments_are_sealed_as_others_seal_them(rt: HostRuntime) -> Result<(), Fail> 
 fn a_segment_tells_what_it_is(rt: HostRuntime) -> Result<(), Fail> {
     let keys = two_keys(rt.alloc())?;
     let others = Keys::new(Vec::from_array(rt.alloc(), [[7; 16]])?, 1)?;
-    for sealed in seal_stream(rt.alloc(), &TWO_KEY_FRAMES, &keys)? {
+    let all = seal_stream(rt.alloc(), &TWO_KEY_FRAMES, &keys)?;
+    assert_eq!(rt; all.len(), 2);
+    for sealed in all {
         assert!(rt; sealed.is_by(&keys));
         assert!(rt; !sealed.is_by(&others));
         let number = sealed.plan().number;

@@ -77,8 +77,8 @@ impl<'a> Joined<'a> {
     {
         let (front, back) = self.parts_from(at);
         let mut rest = ArrayVec::new();
-        let _ = rest.try_extend_from_slice(front);
-        let _ = rest.try_extend_from_slice(back);
+        rest.try_extend_from_slice(front).unwrap();
+        rest.try_extend_from_slice(back).unwrap();
         rest
     }
 }

@@ -7,13 +7,17 @@ use thiserror::Error;
 /// Why 188 bytes are dropped. The first that stands is told, in this order.
 #[derive(Clone, Copy, Debug, PartialEq, Eq, Error)]
 pub enum PacketFault {
+    /// sync_byte isn't 47 hexadecimal.
     #[error("the first byte isn't 0x47")]
     NoSync,
+    /// transport_error_indicator is set: a bit of the packet is wrong that can't be mended.
     #[error("transport_error_indicator is set")]
     Errored,
+    /// adaptation_field_control is 00.
     #[error("adaptation_field_control is 00, which is reserved")]
     Reserved,
-    #[error("the adaptation field is longer than the packet")]
+    /// adaptation_field_length is above 182 where a payload follows, or above 183 where none does.
+    #[error("the adaptation field leaves too little room in the packet")]
     LongAdaptation,
 }
 

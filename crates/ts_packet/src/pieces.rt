@@ -11,7 +11,8 @@ pub struct Stream {
     pub skipped: Skipped,
 }
 
-/// Reads a whole stream that comes in pieces. The answer doesn't depend on how it was cut.
+/// Reads a whole stream that comes in pieces. The answer doesn't depend on how it was cut. The caller feeds fewer than
+/// 2^63 bytes.
 pub fn read_pieces(alloc: Global, pieces: &[Vec<u8>]) -> Result<Stream, AllocError>
     requires { length (flat_map (λ piece. piece.items) pieces.now) < 2 ^ 63 }
     ensures packets { IfOk result (λ all. all.packets.items ≡ packets (flat_map (λ piece. piece.items) pieces.now)) }

@@ -52,7 +52,9 @@ impl Reader {
     }
 
     /// Takes the next piece of the stream, and appends the packets that are decided now: those that come first
-    /// however the stream goes on. A refusal leaves the reader and the packets as they were.
+    /// however the stream goes on. The caller feeds fewer than 2^63 bytes.
+    ///
+    /// A refusal leaves the reader and the packets as they were.
     pub fn feed(&mut self, piece: &[u8], out: &mut Vec<[u8; 188]>) -> Result<(), AllocError>
         requires { length self.old + length piece.now < 2 ^ 63 }
         ensures fed { OnOk result (self.new ≡ self.old ++ piece.now) }

@@ -13,12 +13,13 @@ fn packet(front: &[u8]) -> [u8; 188]
     packet
 }
 
-/// The first packet of a key frame at time 0, and one of a frame at 270000 ticks.
+/// The first packet of a key frame at 0 ticks.
 const KEY_FRAME: [u8; 20] = [
     0x47, 0x41, 0x00, 0x30, 0x01, 0x40, 0x00, 0x00, 0x01, 0xE0, 0x00, 0x00, 0x80, 0x80, 0x05, 0x21,
     0x00, 0x01, 0x00, 0x01,
 ];
 
+/// The first packet of another frame, at 270,000 ticks.
 const FRAME: [u8; 18] = [
     0x47, 0x41, 0x00, 0x11, 0x00, 0x00, 0x01, 0xE0, 0x00, 0x00, 0x80, 0x80, 0x05, 0x21, 0x00, 0x11,
     0x3D, 0x61,
@@ -152,6 +153,23 @@ fn a_packet_that_is_cut_off_is_skipped(rt: HostRuntime) -> Result<(), Fail> {
     let none = cut(alloc, &bytes, 100)?;
     assert!(rt; none.packets.is_empty());
     assert_eq!(rt; none.skipped, Skipped { bytes: 187 });
+    Ok(())
+}
+
+#[test]
+fn a_finished_reader_stands_as_a_new_one(rt: HostRuntime) -> Result<(), Fail> {
+    let alloc = rt.alloc();
+    let bytes = six_packets(alloc)?;
+    assert_eq!(rt; bytes.len(), 1128);
+    let mut reader = Reader::new();
+    let mut first = Vec::new(alloc);
+    reader.feed(&bytes, &mut first)?;
+    assert_eq!(rt; reader.finish(&mut first)?, Skipped { bytes: 0 });
+    let mut second = Vec::new(alloc);
+    reader.feed(&bytes, &mut second)?;
+    assert_eq!(rt; reader.finish(&mut second)?, Skipped { bytes: 0 });
+    assert_eq!(rt; first.as_flattened(), bytes.as_slice());
+    assert_eq!(rt; second.as_flattened(), bytes.as_slice());
     Ok(())
 }
 

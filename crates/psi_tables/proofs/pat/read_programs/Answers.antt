@@ -1,14 +1,18 @@
-use Rattle.std.proofs.Common.{◌+◌, drop, sym, ◌∙◌, ap, arith, rules}
+use Rattle.std.proofs.Common.{◌≡◌, ◌+◌, ◌*◌, ◌/◌, [], length, drop, get_or, sym, ◌∙◌, ap, arith, rules}
+use Rattle.std.specs.Simd.{first_chunks}
 use Rattle.psi_tables.specs.Association.{programs}
 use Rattle.psi_tables.proofs.Entries.{behind, next_program, last_program}
 use Rattle.psi_tables.proofs.pat.read_programs.Goals as goal
 
-pub loop-at-preserved : goal.loop-at-preserved
-loop-at-preserved c = record {
-  within = omega arith;
-  so_far = next_program c.args.bytes.now c.loop-at.at c.loop-at.entries.items _ c.loop-at.invariant.so_far c.loop-at-test.true (search rules)
-      ∙ ap (λ entries. behind entries (programs (drop (c.loop-at.at + 4) c.args.bytes.now))) (sym c.in_ok-push.ensures.items);
-}
+pub entry-preserved : goal.entry-preserved
+entry-preserved c =
+    let bytes = c.args.bytes.now in
+    let i = c.entry.part-index in
+    let part = get_or c.as_chunks.result.0.now i [] in
+    let there : part ≡ get_or (first_chunks 4 (length bytes / 4) bytes) i [] = ap (λ parts. get_or parts i []) c.as_chunks.ensures.front in
+    next_program bytes part i c.entry.entries.items _ c.entry.invariant (omega (arith, c.as_chunks.ensures.front_len)) there (search rules)
+    ∙ ap (λ entries. behind entries (programs (drop (4 * (i + 1)) bytes))) (sym c.in_ok-push.ensures.items)
 
 pub returns : goal.returns
-returns c = last_program c.args.bytes.now c.loop-at.at c.loop-at.entries.items c.loop-at.invariant.so_far c.loop-at-test.false c.requires.whole
+returns c =
+    last_program c.args.bytes.now (4 * c.entry.part-index) c.entry.entries.items c.entry.invariant (omega (arith, c.as_chunks.ensures.front_len)) c.requires.whole

@@ -1,4 +1,4 @@
-use Rattle.std.proofs.Common.{◌≡◌, ◌∙◌, Bool, true, false, List, ℕ, refl, ap, sym}
+use Rattle.std.proofs.Common.{◌∙◌, true, false, refl, ap, sym}
 use Rattle.psi_tables.specs.Head.{header}
 use Rattle.psi_tables.proofs.segment_head.header.Goals as goal
 use Rattle.psi_tables.proofs.segment_head.header.Goals.{then-starts, else-starts}

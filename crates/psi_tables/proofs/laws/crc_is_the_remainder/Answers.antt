@@ -1,7 +1,7 @@
 use Rattle.psi_tables.specs.Crc.{crc, dividend}
 use Rattle.psi_tables.proofs.Division.{one_remainder}
 use Rattle.psi_tables.proofs.Messages.{crc_divides}
-use Rattle.psi_tables.proofs.crc.crc_is_the_remainder.Goals as goal
+use Rattle.psi_tables.proofs.laws.crc_is_the_remainder.Goals as goal
 
 pub returns-clause-is : goal.returns-clause-is
 returns-clause-is c = λ m bytes. crc_divides m bytes
