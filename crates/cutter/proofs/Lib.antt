@@ -8,7 +8,12 @@ pub mod Ending
 pub mod Streams
 pub mod Fronts
 pub mod Parts
+pub mod Walking
+pub mod Faulting
+pub mod Brought
+pub mod Least
 pub mod Rising
 pub mod Ordering
 pub mod Sharing
 pub mod Counting
+pub mod Maximum

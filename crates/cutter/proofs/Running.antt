@@ -42,7 +42,7 @@ step-stops : (r : ℕ) (s : CutSettings) (e : Option CutFault) (a : Cuts) (f : F
 step-stops r s None a f told given is stops = cc
 step-stops r s (Some e) a f told given is stops = stops
 
-stays : (r : ℕ) (s : CutSettings) (a : Cuts) (told : CutFault) (given : List SegmentPlan) (fs : List Fact) → Stops a told given → Stops (cut_from r s a fs) told given
+pub stays : (r : ℕ) (s : CutSettings) (a : Cuts) (told : CutFault) (given : List SegmentPlan) (fs : List Fact) → Stops a told given → Stops (cut_from r s a fs) told given
 unfolding cut_from
 stays r s a told given [] stops = stops
 stays r s a told given (f ∷ fs) stops = stays r s (step r s a.fault a f) told given fs (step-stops r s a.fault a f told given stops.fault stops)
@@ -54,12 +54,12 @@ ends r s ps told given stops =
     record { fault = rw f refl; plans = rw f (append-nil _ ∙ stops.closed) }
 
 -- a packet whose PTS has no time
-step-lost : (r : ℕ) (s : CutSettings) (e : Option CutFault) (a : Cuts) (f : Fact) → e ≡ None → f.is_lost ≡ true → Stops (step r s e a f) Limit a.closed
+pub step-lost : (r : ℕ) (s : CutSettings) (e : Option CutFault) (a : Cuts) (f : Fact) → e ≡ None → f.is_lost ≡ true → Stops (step r s e a f) Limit a.closed
 step-lost r s None a f is lost = rw lost (record { fault = refl; closed = refl })
 step-lost r s (Some e) a f is lost = cc
 
 -- what the code holds, and a packet that isn't lost
-step-sound : (r : ℕ) (s : CutSettings) (e : Option CutFault) (a : Cuts) (f : Fact) → e ≡ None → f.is_lost ≡ false
+pub step-sound : (r : ℕ) (s : CutSettings) (e : Option CutFault) (a : Cuts) (f : Fact) → e ≡ None → f.is_lost ≡ false
     → step r s e a f ≡ placed r s (top_after a.top (counted a.top f.look)) a.closed a.going f.tables (counted a.top f.look) (mark f.packet f.look (counted a.top f.look))
 step-sound r s None a f is kept = rw kept refl
 step-sound r s (Some e) a f is kept = cc

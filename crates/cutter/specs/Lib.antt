@@ -9,4 +9,5 @@ pub mod Inside
 pub mod Tied
 pub mod Counted
 pub mod Dividing
+pub mod Faults
 pub mod Ordered

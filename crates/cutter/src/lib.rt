@@ -21,7 +21,8 @@ mod tests;
 pub use crate::cutter::Cutter;
 pub use fault::CutFault;
 pub use laws::{
-    frames_share_the_time, plans_are_in_order, plans_only_grow, points_count_above_all_earlier,
+    faults_stand_at_the_least_packet, frames_share_the_time, greatest_is_the_greatest,
+    plans_are_in_order, plans_only_grow, points_count_above_all_earlier,
     seconds_of_ticks_are_those_of_microseconds, segments_divide_a_stream,
 };
 pub use plan::{Frame, Plan};
