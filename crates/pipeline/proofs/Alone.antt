@@ -11,7 +11,7 @@ use Rattle.pipeline.specs.Items.{Part, no_part, part_at, segment_item, media_ite
 use Rattle.pipeline.specs.Weave.{Event, Row, End, rendition_of, grown, closed_part, after, after_all, AreLegal, block, blocks, none_of, Weaves}
 use Rattle.pipeline.specs.Seen.{is_of, of_rendition}
 
-same_test : (n : ℕ) → (n == n) ≡ true
+pub same_test : (n : ℕ) → (n == n) ≡ true
 same_test n = grind (arith, nat_tests)
 
 other_test : (q r : ℕ) → (r ≡ q → ⊥) → (q == r) ≡ false

@@ -13,8 +13,7 @@ use Rattle.cutter.specs.Stream.{Fact, facts, in_force}
 use Rattle.cutter.specs.Points.{Mark, mark, counted, top_after}
 use Rattle.cutter.specs.Segments.{Point, Segment, is_cut, plan_of, is_long, is_big, bytes_of, body_of}
 use Rattle.cutter.specs.Dividing.{Sight, point_at, sights_from, marks_of}
-use Rattle.cutter.specs.Cuts.{Cuts, faulted, made, going_on, with_mark, first_segment, next_segment, closing, carried_on, pointed, placed, cut_from, cuts, closed, end_fault, first_fault, fault, last_plan, plans}
-use Rattle.pipeline.specs.Streams.{IsFrontOf}
+use Rattle.cutter.specs.Cuts.{Cuts, faulted, made, going_on, with_mark, first_segment, next_segment, closing, carried_on, pointed, placed, cut_from, cuts, closed, end_fault, first_fault, fault, last_plan, plans, IsFront}
 use Rattle.pipeline.specs.Output.{from_first, output, bodies, BeginWith}
 
 -- the packets so far of a segment that goes on
@@ -180,7 +179,7 @@ by-fault r s ps (Some told) e =
     }
 
 -- the bodies of plans that begin those of a stream
-pub front : (r : ℕ) (s : CutSettings) (ps : List (List ℕ)) (given : List SegmentPlan) → IsFrontOf given (plans r s ps) → BeginWith (output s ps) given
+pub front : (r : ℕ) (s : CutSettings) (ps : List (List ℕ)) (given : List SegmentPlan) → IsFront given (plans r s ps) → BeginWith (output s ps) given
 front r s ps given (more, e) =
     let all = by-fault r s ps (fault r s ps) refl in
     record {

@@ -1,5 +1,6 @@
 -- A rendition on its way: what it has given, by the bytes that its input gave.
 use Rattle.std.specs.Prelude.{◌≡◌, ℕ, true, false, List, Option, Some, None, All}
+use Rattle.cutter.specs.Cuts.{IsFront}
 use Rattle.ts_packet.specs.Packets.{skipped}
 use Rattle.cutter.specs.declared.fault.CutFault.{CutFault}
 use Rattle.cutter.specs.declared.settings.CutSettings.{CutSettings}
@@ -7,7 +8,7 @@ use Rattle.item_io.specs.Outlets.{Held, Grows}
 use Rattle.pipeline.specs.declared.lane.Stop.{Stop}
 use Rattle.pipeline.specs.declared.lane.Stop.TheVariants.{Good, Cut, Read}
 use Rattle.pipeline.specs.Ladder.{Ladder}
-use Rattle.pipeline.specs.Streams.{Taken, Stays, plans_of, fault_of, closed_of, IsFrontOf}
+use Rattle.pipeline.specs.Streams.{Taken, Stays, plans_of, fault_of, closed_of}
 use Rattle.pipeline.specs.Shown.{Shown}
 use Rattle.pipeline.specs.Items.{Part, part_at, shown_all}
 use Rattle.pipeline.specs.Weave.{Event, rendition_of, AreLegal, after_all, blocks}
@@ -60,12 +61,12 @@ IsOfEnd Read = ⊥
 
 -- it has given a beginning of what the bytes so far close
 pub record BeginsClosed (ladder : Ladder) (r : ℕ) (stream : List ℕ) (part : Part) : Type 0 where
-  pub plans : IsFrontOf part.plans (closed_of r ladder.cut stream)
+  pub plans : IsFront part.plans (closed_of r ladder.cut stream)
   pub ended : part.ended ≡ false
 
 -- it has given a beginning of what it gives of the whole stream
 pub record Begins (ladder : Ladder) (r : ℕ) (stream : List ℕ) (part : Part) : Type 0 where
-  pub plans : IsFrontOf part.plans (plans_of r ladder.cut stream)
+  pub plans : IsFront part.plans (plans_of r ladder.cut stream)
   pub ended : part.ended ≡ true → IsWhole ladder r stream part
 
 -- after so many bytes it goes on, or has stopped

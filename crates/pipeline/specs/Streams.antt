@@ -53,7 +53,3 @@ pub record Faults (taken : Taken) (whole : List ℕ) (told : CutFault) (old new 
 pub record Stays (r : ℕ) (s : CutSettings) (stream : List ℕ) (told : CutFault) : Type 0 where
   pub fault : (more : List ℕ) → fault_of r s (stream ++ more) ≡ Some told
   pub plans : (more : List ℕ) → plans_of r s (stream ++ more) ≡ closed_of r s stream
-
--- some plans begin others
-abbrev pub IsFrontOf : List SegmentPlan → List SegmentPlan → Type 0
-IsFrontOf front whole = (rest : List SegmentPlan) × (whole ≡ front ++ rest)

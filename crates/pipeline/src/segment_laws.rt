@@ -1,5 +1,6 @@
 //! What the segments of a rendition carry, and how a player opens them.
 ghost use Rattle.std.specs.Prelude.{◌≡◌, ◌∷◌, ◌++◌, All, None, Some, ℕ, List, map, slice_get};
+ghost use Rattle.cutter.specs.Cuts.{IsFront};
 ghost use Rattle.aes_cbc.specs.Block.{AreBytes};
 ghost use Rattle.ts_packet.specs.Packets.{packets};
 ghost use Rattle.cutter.specs.declared.settings.CutSettings.{CutSettings};
@@ -11,7 +12,7 @@ ghost use Rattle.pipeline.specs.Items.{Part, part_at, segment_item};
 ghost use Rattle.pipeline.specs.Listings.{segments_of, AreFramesListedBehind};
 ghost use Rattle.pipeline.specs.Weave.{Weaves};
 ghost use Rattle.pipeline.specs.Openings.{AreOfStreams, IsOfBytes, IsListedBehind};
-ghost use Rattle.pipeline.specs.Streams.{plans_of, fault_of, IsFrontOf};
+ghost use Rattle.pipeline.specs.Streams.{plans_of, fault_of};
 ghost use Rattle.pipeline.specs.Output.{output, bodies, BeginWith};
 
 /// The bodies of a rendition's segments, joined, are the accepted packets of its stream from the first cut on: all of
@@ -19,7 +20,7 @@ ghost use Rattle.pipeline.specs.Output.{output, bodies, BeginWith};
 pub fn bodies_are_the_accepted_packets()
     ensures whole { (r : ℕ) (s : CutSettings) (stream : List ℕ) → fault_of r s stream ≡ None →
         bodies (plans_of r s stream) ≡ output s (packets stream) }
-    ensures begin { (r : ℕ) (s : CutSettings) (stream : List ℕ) (given : List SegmentPlan) → IsFrontOf given (plans_of r s stream) →
+    ensures begin { (r : ℕ) (s : CutSettings) (stream : List ℕ) (given : List SegmentPlan) → IsFront given (plans_of r s stream) →
         BeginWith (output s (packets stream)) given }
 {}
 

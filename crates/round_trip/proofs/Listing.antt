@@ -19,7 +19,8 @@ use Rattle.pipeline.specs.Rows.{row_of, rows_of}
 use Rattle.pipeline.specs.Openings.{IsOfBytes}
 use Rattle.hls_check.specs.Unpacking.{packed, entry_at, bytes_at, Unpacks, AllUnpack}
 use Rattle.hls_check.specs.MediaTexts.{AreListed}
-use Rattle.round_trip.proofs.Places.{item-at, mapped-at}
+use Rattle.pipeline.proofs.Elsewhere.{some-at}
+use Rattle.round_trip.proofs.Places.{mapped-at}
 
 -- what a window lists
 abbrev pub listing_of : Pushed → Bool → Listing
@@ -127,6 +128,6 @@ unpack-all keys plans rotation of =
       each_one = omega (arith, long, rows, entries);
       unpacks = λ i lt.
           let below : i < length plans = omega (arith, lt, long) in
-          let at = item-at plans i below in
+          let at = some-at plans i below in
           unpack-one keys plans i at.0 rotation at.1 below (of i at.0 at.1);
     }

@@ -1,11 +1,5 @@
 -- Items by their places.
-use Rattle.std.proofs.Common.{◌≡◌, ℕ, zero, suc, ◌+◌, ◌<◌, List, [], ◌∷◌, ◌++◌, map, length, drop, Some, slice_get, refl, subst, arith}
-
--- there is an item within
-pub item-at : {X : Type 0} (xs : List X) (i : ℕ) → i < length xs → (x : X) × (slice_get xs i ≡ Some x)
-item-at [] i below = absurd (omega (arith, below))
-item-at (x ∷ xs) zero below = (x, refl)
-item-at (x ∷ xs) (suc i) below = item-at xs i (omega (arith, below))
+use Rattle.std.proofs.Common.{◌≡◌, ℕ, zero, suc, ◌+◌, List, [], ◌∷◌, ◌++◌, map, drop, Some, slice_get, refl, subst, arith}
 
 -- what is made of it
 pub mapped-at : {X Y : Type 0} (f : X → Y) (xs : List X) (i : ℕ) (x : X) → slice_get xs i ≡ Some x → slice_get (map f xs) i ≡ Some (f x)

@@ -1,10 +1,9 @@
 -- A media playlist of a weave, read back.
-use Rattle.std.proofs.Common.{◌≡◌, ◌∙◌, inl, inr, ℕ, ◌+◌, ◌-◌, ◌==◌, ◌<◌, ◌≤◌, true, not, None, Some, List, [], ◌∷◌, ◌++◌, map, length, take, drop, get_or, slice_get, refl, ap, sym, subst, arith, append_assoc}
+use Rattle.std.proofs.Common.{◌≡◌, ◌∙◌, inl, inr, ℕ, ◌+◌, ◌-◌, ◌<◌, ◌≤◌, true, not, None, Some, List, [], ◌∷◌, ◌++◌, map, length, take, drop, get_or, slice_get, refl, ap, sym, subst, arith, append_assoc}
 use Rattle.std.specs.List.{All}
 use Rattle.std.proofs.Math.ListN.{get_or-eq_default}
 use Rattle.std.proofs.Math.Seq.{take-append_seam}
 use Rattle.std.proofs.lemmas.Bool.{cases_Bool, cases_lt}
-use Rattle.std.proofs.lemmas.Bool.Decides.{nat_tests}
 use Rattle.std.proofs.lemmas.List.{length-map, length-drop, length-append, length-take-le, get_or-map, drop-map}
 use Rattle.std.proofs.lemmas.List.Elements.{filter-append}
 use Rattle.std.proofs.lemmas.List.Sums.{count_by-le-length}
@@ -36,7 +35,9 @@ use Rattle.pipeline.specs.Openings.{AreOfStreams, IsOfBytes}
 use Rattle.hls_check.specs.Unpacking.{packed, AllUnpack}
 use Rattle.hls_check.specs.MediaTexts.{AreListed}
 use Rattle.round_trip.specs.Returning.{AreMade, IsMade, sealed_bytes, sealed_of, ComesBack}
-use Rattle.round_trip.proofs.Places.{item-at, at-drop, at-front}
+use Rattle.pipeline.proofs.Alone.{same_test}
+use Rattle.pipeline.proofs.Elsewhere.{some-at}
+use Rattle.round_trip.proofs.Places.{at-drop, at-front}
 use Rattle.round_trip.proofs.Splitting.{split}
 use Rattle.round_trip.proofs.Listing.{listing_of, lines-are, some-listed, AreFrom, Rounds, listed-on, bytes_of, unpack-all}
 
@@ -58,9 +59,6 @@ Order = (r : ℕ) (s : CutSettings) (stream : List ℕ) (n : ℕ) (plan : Segmen
 
 abbrev pub CanBeSealed : Type 0
 CanBeSealed = (r : ℕ) (s : CutSettings) (stream : List ℕ) → AreBytes stream → All IsOfBytes (plans_of r s stream)
-
-same_test : (n : ℕ) → (n == n) ≡ true
-same_test n = grind (arith, nat_tests)
 
 -- the items of the playlist's rendition, split at it
 seen-split : (front : List ItemValue) (media : PlaylistValue) (behind : List ItemValue)
@@ -111,7 +109,7 @@ all-at plans i plan all at = subst IsOfBytes (get_or_from_slice_get plans i plan
 -- there are fewer segments than numbers
 few-plans : (r : ℕ) (cut : CutSettings) (plans : List SegmentPlan) → AreFrom r cut 0 plans → length plans ≤ 0xFFFFFFFF
 few-plans r cut plans are = elim (cases_lt 0 (length plans)) as (λ _. length plans ≤ 0xFFFFFFFF) [
-  | inl some ↦ let last = item-at plans (length plans - 1) (omega (arith, some)) in let b = (are (length plans - 1) last.0 last.1).below in omega (arith, b, some)
+  | inl some ↦ let last = some-at plans (length plans - 1) (omega (arith, some)) in let b = (are (length plans - 1) last.0 last.1).below in omega (arith, b, some)
   | inr none ↦ omega (arith, none)
 ]
 

@@ -1,4 +1,4 @@
-use Rattle.std.proofs.Common.{◌≡◌, ◌∙◌, length, ap, sym}
+use Rattle.std.proofs.Common.{◌∙◌, length, ap, sym}
 use Rattle.std.proofs.lemmas.List.{length-replicate}
 use Rattle.pipeline.specs.Items.{no_part}
 use Rattle.pipeline.specs.Weave.{none_of}
