@@ -5,32 +5,14 @@ less far: a stream whose tables are broken is only read, one without key frames 
 and writes digits without any of it.
 """
 
-import os
+import functools
 import pathlib
 import subprocess
-import time
 
-KEY = "000102030405060708090a0b0c0d0e0f"
-ROUNDS = 3
+from measuring import KEY, best_of, is_linear
+
 SIZE = 188
-
-
-def timed(command, stream, statuses=(0,)):
-    """Wall and processor seconds of the command from the stream to nowhere."""
-    with open(stream, "rb") as source, open(os.devnull, "r+b") as nowhere:
-        begin = time.perf_counter()
-        process = subprocess.Popen(command, stdin=source, stdout=nowhere, stderr=nowhere)
-        _, status, usage = os.wait4(process.pid, 0)
-        wall = time.perf_counter() - begin
-    process.returncode = os.waitstatus_to_exitcode(status)
-    if process.returncode not in statuses:
-        raise SystemExit(f"{command[:2]} ended with status {process.returncode}")
-    return wall, usage.ru_utime + usage.ru_stime
-
-
-def best(command, stream, statuses=(0,)):
-    runs = [timed(command, stream, statuses) for _ in range(ROUNDS)]
-    return min(wall for wall, _ in runs), min(processor for _, processor in runs)
+best = functools.partial(best_of, 3)
 
 
 def looped(sample, file, megabytes):
@@ -75,21 +57,20 @@ def measure(program, sample, folder, megabytes):
 
     packed, packed_small = best(one, large), best(one, small)
     others = {"ffmpeg -c copy -f hls": best(ffmpeg, large), "cat": best(["cat"], large)}
-    read, cut = best(one, unread, (1,)), best(one, uncut, (1,))
-    sealed = best([program, "seal", "--key", KEY, "--seq", "0"], large)
+    read, cut = best(one, unread, (1,)).processor, best(one, uncut, (1,)).processor
+    sealed = best([program, "seal", "--key", KEY, "--seq", "0"], large).processor
 
     size = large.stat().st_size
-    print(f"one {size / 1e6:.1f} MB: {packed[0]:.2f} s, {packed[1]:.2f} s of processor, {size / packed[0] / 1e6:.1f} MB/s")
-    for name, (wall, processor) in others.items():
-        print(f"    {name}: {packed[0] / wall:.1f} times as fast, with 1/{packed[1] / processor:.1f} of the processor time")
+    print(f"one {size / 1e6:.1f} MB: {packed.wall:.2f} s, {packed.processor:.2f} s of processor, {size / packed.wall / 1e6:.1f} MB/s")
+    for name, other in others.items():
+        faster, lighter = packed.wall / other.wall, packed.processor / other.processor
+        print(f"    {name}: {faster:.1f} times as fast, with 1/{lighter:.1f} of the processor time")
     stages = {
-        "reading packets and tables": read[1],
-        "stamps and cuts": cut[1] - read[1],
-        "sealing and hex digits": sealed[1] - read[1],
-        "bodies, heads, texts and the rest": packed[1] - cut[1] - (sealed[1] - read[1]),
+        "reading packets and tables": read,
+        "stamps and cuts": cut - read,
+        "sealing and hex digits": sealed - read,
+        "bodies, heads, texts and the rest": packed.processor - cut - (sealed - read),
     }
     for name, seconds in stages.items():
-        print(f"    {name}: {seconds:.2f} s, {100 * seconds / packed[1]:.0f} %")
-    growth = packed[0] / packed_small[0]
-    print(f"8 times the input takes {growth:.1f} times the time; at most 10: {'yes' if growth <= 10 else 'no'}")
-    return growth <= 10
+        print(f"    {name}: {seconds:.2f} s, {100 * seconds / packed.processor:.0f} %")
+    return is_linear("input takes", packed_small, packed)
