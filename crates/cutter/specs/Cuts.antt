@@ -1,5 +1,6 @@
 -- The segments of a stream: where it is cut, which plans come of it, and what fault it has.
 use Rattle.std.specs.Prelude.{◌≡◌, ℕ, ◌+◌, nat_le, List, [], ◌∷◌, ◌++◌, Option, Some, None, is_none, if◌then◌else◌}
+use Rattle.ghost_list.specs.Lists.{IsBeginning}
 use Rattle.psi_tables.specs.InForce.{InForce}
 use Rattle.psi_tables.specs.Head.{packet_count}
 use Rattle.pes_time.specs.declared.clock.Stamp.{Stamp}
@@ -127,12 +128,8 @@ pub record Gives (r : ℕ) (s : CutSettings) (ps : List (List ℕ)) (told : CutF
   pub fault : fault r s ps ≡ Some told
   pub plans : new ≡ old ++ plans r s ps
 
--- some plans are a beginning of others
-abbrev pub IsFront : List SegmentPlan → List SegmentPlan → Type 0
-IsFront front whole = (rest : List SegmentPlan) × (whole ≡ front ++ rest)
-
 -- some plans behind those that were there, which are a beginning of the stream's
 pub record GivesFront (r : ℕ) (s : CutSettings) (ps : List (List ℕ)) (old new : List SegmentPlan) : Type 0 where
   pub given : List SegmentPlan
   pub grown : new ≡ old ++ given
-  pub front : IsFront given (plans r s ps)
+  pub front : IsBeginning given (plans r s ps)

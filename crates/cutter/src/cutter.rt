@@ -9,7 +9,7 @@ use crate::following::{look_behind, watch_packet};
 use crate::going::Going;
 use crate::place::{Placed, finish, place};
 use crate::plan::Plan;
-use crate::point::counted;
+use crate::point::{Mark, counted};
 use crate::settings::CutSettings;
 use ghost_list::GhostList;
 use pes_time::{Clock, Stamp};
@@ -98,15 +98,18 @@ impl Cutter {
         let counted = counted(self.top, look);
         let (alloc, rendition, settings) = (self.alloc, self.rendition, self.settings);
         let going = self.going.take();
+        let mark = Mark {
+            packet,
+            look,
+            counted,
+        };
         let Placed { going, plan } = place(
             alloc,
             rendition,
             settings,
             going,
             self.watch.tables(),
-            packet,
-            look,
-            counted,
+            &mark,
         )?;
         watch_packet(&mut self.watch, packet)?;
         self.top = counted.or(self.top);

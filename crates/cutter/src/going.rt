@@ -1,14 +1,12 @@
 //! The segment that goes on.
 
 ghost use Rattle.std.specs.Prelude.{◌≡◌, ◌+◌, ◌≤◌, ◌<◌, ◌^◌, ◌++◌, false, length, IfOk, OnOk};
-ghost use Rattle.cutter.specs.Points.{mark};
 ghost use Rattle.cutter.specs.Segments;
 ghost use Rattle.cutter.specs.Inside.{IsWithin};
 ghost use Rattle.cutter.specs.Held.{added, empty, end_of, next_of, pending_at, plan_from, IsInRange, HasRange};
 
-use crate::look::Look;
 use crate::plan::{Frame, Plan};
-use crate::point;
+use crate::point::{self, Mark, Point};
 use crate::settings::CutSettings;
 use pes_time::Stamp;
 use psi_tables::{Tables, pmt_packets};
@@ -50,65 +48,68 @@ impl Model for Going {
 
 impl Going {
     /// The first segment of a stream, with no packet yet.
-    pub(crate) fn first(alloc: Global, start: Stamp, tables: Tables) -> Going
-        requires { IsInRange start.time }
-        ensures { result ≡ empty 0 false 0 (record { stamp = start; tables = tables }) }
+    pub(crate) fn first(alloc: Global, head: &Point<'_>) -> Result<Going, AllocError>
+        ensures { IfOk result (λ going. going ≡ empty 0 false 0 head.now) }
     {
-        Going {
+        Ok(Going {
             number: 0,
             discontinuity: false,
-            start,
-            tables,
+            start: head.stamp,
+            tables: head.tables.copy()?,
             pmt_counter: 0,
             body: Vec::new(alloc),
             frames: Vec::new(alloc),
             pending: None,
-            greatest: start.time,
-        }
+            greatest: head.stamp.time,
+        })
     }
 
     /// The segment behind this one, with no packet yet.
-    pub(crate) fn next(&self, alloc: Global, start: Stamp, tables: Tables) -> Going
-        requires start { IsInRange start.time }
-        requires number { self.now.number < 2 ^ 32 }
-        ensures { result ≡ next_of self.now (record { stamp = start; tables = tables }) }
+    pub(crate) fn next(&self, alloc: Global, head: &Point<'_>) -> Result<Going, AllocError>
+        requires { self.now.number < 2 ^ 32 }
+        ensures { IfOk result (λ going. going ≡ next_of self.now head.now) }
     {
-        let discontinuity = point::breaks(self.start, &self.tables, start, &tables);
+        let discontinuity = point::breaks(&self.head(), head);
         let counter = (usize::from(self.pmt_counter) + pmt_packets(&self.tables)) % 16;
-        Going {
+        Ok(Going {
             number: self.number + 1,
             discontinuity,
-            start,
-            tables,
+            start: head.stamp,
+            tables: head.tables.copy()?,
             pmt_counter: counter as u8,
             body: Vec::new(alloc),
             frames: Vec::new(alloc),
             pending: None,
-            greatest: start.time,
+            greatest: head.stamp.time,
+        })
+    }
+
+    /// The cut at which the segment begins.
+    fn head(&self) -> Point<'_>
+        ensures { result ≡ self.now.head }
+    {
+        Point {
+            stamp: self.start,
+            tables: &self.tables,
         }
     }
 
     /// Takes one packet more.
-    pub(crate) fn add(
-        &mut self,
-        packet: &[u8; 188],
-        look: Look,
-        counted: Option<Stamp>,
-    ) -> Result<(), AllocError>
-        requires { HasRange look.stamp }
-        ensures { OnOk result (self.new ≡ added self.old (mark packet.now look counted)) }
+    pub(crate) fn add(&mut self, mark: &Mark<'_>) -> Result<(), AllocError>
+        ensures { OnOk result (self.new ≡ added self.old mark.now) }
     {
         let offset = self.body.len() as u64;
-        if look.is_accepted {
+        if mark.look.is_accepted {
+            let packet = mark.packet;
             self.body.extend_from_slice(packet)?;
         }
-        if look.starts_video {
+        if mark.look.starts_video {
             let pending = self.pending;
             self.pending = None;
             end_frame(&mut self.frames, pending, offset)?;
-            self.pending = pending_from(self.start, offset, counted);
+            self.pending = pending_from(self.start, offset, mark.counted);
         }
-        self.greatest = later(self.start.epoch, self.greatest, look.stamp);
+        self.greatest = later(self.start.epoch, self.greatest, mark.look.stamp);
         Ok(())
     }
 
@@ -165,12 +166,11 @@ impl Going {
     }
 
     /// Whether a counted point is the next cut.
-    pub(crate) fn is_cut(&self, settings: CutSettings, stamp: Stamp, tables: &Tables) -> bool
+    pub(crate) fn is_cut(&self, settings: CutSettings, next: &Point<'_>) -> bool
         requires { settings.segment < 2 ^ 62 }
-        ensures { result ≡ Segments.is_cut settings self.now.head (record { stamp = stamp; tables = tables.now }) }
+        ensures { result ≡ Segments.is_cut settings self.now.head next.now }
     {
-        point::breaks(self.start, &self.tables, stamp, tables)
-            || point::is_due(settings, self.start, stamp)
+        point::is_cut(settings, &self.head(), next)
     }
 
     /// How many bytes the body has.

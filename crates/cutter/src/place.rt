@@ -3,16 +3,15 @@
 ghost use Rattle.std.specs.Prelude.{◌≡◌, ◌+◌, ◌<◌, ◌≤◌, ◌^◌, ◌⊎◌, nat_lt, Some, None, IfOk, IfErr, option_copied};
 ghost use Rattle.cutter.specs.declared.fault.CutFault.TheVariants.{NoMemory};
 ghost use Rattle.cutter.specs.Settings.{IsAllowed};
-ghost use Rattle.cutter.specs.Points.{mark};
 ghost use Rattle.cutter.specs.Segments;
+ghost use Rattle.cutter.specs.Held;
 ghost use Rattle.cutter.specs.Held.{added, begun, carried, sized, taken, finished, gives, faults, renewed, IsInRange, HasRange};
 
 use crate::fault::CutFault;
 use crate::going::Going;
-use crate::look::Look;
 use crate::plan::Plan;
+use crate::point::{Mark, Point};
 use crate::settings::CutSettings;
-use pes_time::Stamp;
 use psi_tables::Tables;
 use std::alloc::Global;
 
@@ -30,45 +29,33 @@ pub(crate) fn place(
     settings: CutSettings,
     going: Option<Going>,
     tables: Option<&Tables>,
-    packet: &[u8; 188],
-    look: Look,
-    counted: Option<Stamp>,
+    mark: &Mark<'_>,
 ) -> Result<Placed, CutFault>
-    requires settings { IsAllowed settings }
-    requires stamp { HasRange look.stamp }
-    requires counted { HasRange counted }
-    ensures ok { IfOk result (λ p. taken rendition settings going (option_copied tables.entry) counted (mark packet.now look counted) ≡ gives p.going p.plan) }
-    ensures err { IfErr result (λ e. (e ≡ NoMemory) ⊎ (taken rendition settings going (option_copied tables.entry) counted (mark packet.now look counted) ≡ faults e)) }
+    requires { IsAllowed settings }
+    ensures ok { IfOk result (λ p. taken rendition settings going (option_copied tables.entry) mark.now.counted mark.now ≡ gives p.going p.plan) }
+    ensures err { IfErr result (λ e. (e ≡ NoMemory) ⊎ (taken rendition settings going (option_copied tables.entry) mark.now.counted mark.now ≡ faults e)) }
 {
     let Some(tables) = tables else {
-        return carry(settings, going, packet, look, counted);
+        return carry(settings, going, mark);
     };
-    let Some(stamp) = counted else {
-        return carry(settings, going, packet, look, counted);
+    let Some(stamp) = mark.counted else {
+        return carry(settings, going, mark);
     };
+    let point = Point { stamp, tables };
     let Some(going) = going else {
-        return first(alloc, settings, tables, stamp, packet, look);
+        return first(alloc, settings, &point, mark);
     };
-    if going.is_cut(settings, stamp, tables) {
-        return cut(
-            alloc, rendition, settings, going, tables, stamp, packet, look,
-        );
+    if going.is_cut(settings, &point) {
+        return cut(alloc, rendition, settings, going, &point, mark);
     }
-    grow(settings, going, packet, look, counted)
+    grow(settings, going, mark)
 }
 
 /// The segment goes on with this packet, if there is one.
-fn carry(
-    settings: CutSettings,
-    going: Option<Going>,
-    packet: &[u8; 188],
-    look: Look,
-    counted: Option<Stamp>,
-) -> Result<Placed, CutFault>
-    requires settings { IsAllowed settings }
-    requires stamp { HasRange look.stamp }
-    ensures ok { IfOk result (λ p. carried settings going (mark packet.now look counted) ≡ gives p.going p.plan) }
-    ensures err { IfErr result (λ e. (e ≡ NoMemory) ⊎ (carried settings going (mark packet.now look counted) ≡ faults e)) }
+fn carry(settings: CutSettings, going: Option<Going>, mark: &Mark<'_>) -> Result<Placed, CutFault>
+    requires { IsAllowed settings }
+    ensures ok { IfOk result (λ p. carried settings going mark.now ≡ gives p.going p.plan) }
+    ensures err { IfErr result (λ e. (e ≡ NoMemory) ⊎ (carried settings going mark.now ≡ faults e)) }
 {
     let Some(going) = going else {
         return Ok(Placed {
@@ -76,23 +63,16 @@ fn carry(
             plan: None,
         });
     };
-    grow(settings, going, packet, look, counted)
+    grow(settings, going, mark)
 }
 
 /// The segment goes on with this packet.
-fn grow(
-    settings: CutSettings,
-    mut going: Going,
-    packet: &[u8; 188],
-    look: Look,
-    counted: Option<Stamp>,
-) -> Result<Placed, CutFault>
-    requires settings { IsAllowed settings }
-    requires stamp { HasRange look.stamp }
-    ensures ok { IfOk result (λ p. sized settings (added going (mark packet.now look counted)) None ≡ gives p.going p.plan) }
-    ensures err { IfErr result (λ e. (e ≡ NoMemory) ⊎ (sized settings (added going (mark packet.now look counted)) None ≡ faults e)) }
+fn grow(settings: CutSettings, mut going: Going, mark: &Mark<'_>) -> Result<Placed, CutFault>
+    requires { IsAllowed settings }
+    ensures ok { IfOk result (λ p. sized settings (added going mark.now) None ≡ gives p.going p.plan) }
+    ensures err { IfErr result (λ e. (e ≡ NoMemory) ⊎ (sized settings (added going mark.now) None ≡ faults e)) }
 {
-    going.add(packet, look, counted)?;
+    going.add(mark)?;
     check_size(settings, going, None)
 }
 
@@ -100,19 +80,15 @@ fn grow(
 fn first(
     alloc: Global,
     settings: CutSettings,
-    tables: &Tables,
-    stamp: Stamp,
-    packet: &[u8; 188],
-    look: Look,
+    point: &Point<'_>,
+    mark: &Mark<'_>,
 ) -> Result<Placed, CutFault>
-    requires settings { IsAllowed settings }
-    requires stamp { IsInRange stamp.time }
-    requires look { HasRange look.stamp }
-    ensures ok { IfOk result (λ p. begun settings (record { stamp = stamp; tables = tables.now }) (mark packet.now look (Some stamp)) ≡ gives p.going p.plan) }
-    ensures err { IfErr result (λ e. (e ≡ NoMemory) ⊎ (begun settings (record { stamp = stamp; tables = tables.now }) (mark packet.now look (Some stamp)) ≡ faults e)) }
+    requires { IsAllowed settings }
+    ensures ok { IfOk result (λ p. begun settings point.now mark.now ≡ gives p.going p.plan) }
+    ensures err { IfErr result (λ e. (e ≡ NoMemory) ⊎ (begun settings point.now mark.now ≡ faults e)) }
 {
-    let mut going = Going::first(alloc, stamp, tables.copy()?);
-    going.add(packet, look, Some(stamp))?;
+    let mut going = Going::first(alloc, point)?;
+    going.add(mark)?;
     check_size(settings, going, None)
 }
 
@@ -122,27 +98,21 @@ fn cut(
     rendition: usize,
     settings: CutSettings,
     going: Going,
-    tables: &Tables,
-    stamp: Stamp,
-    packet: &[u8; 188],
-    look: Look,
+    point: &Point<'_>,
+    mark: &Mark<'_>,
 ) -> Result<Placed, CutFault>
-    requires settings { IsAllowed settings }
-    requires stamp { IsInRange stamp.time }
-    requires look { HasRange look.stamp }
-    ensures ok { IfOk result (λ p. Rattle.cutter.specs.Held.cut rendition settings going (record { stamp = stamp; tables = tables.now }) (mark packet.now look (Some stamp)) ≡ gives p.going p.plan) }
-    ensures err { IfErr result (λ e. (e ≡ NoMemory) ⊎ (Rattle.cutter.specs.Held.cut rendition settings going (record { stamp = stamp; tables = tables.now }) (mark packet.now look (Some stamp)) ≡ faults e)) }
+    requires { IsAllowed settings }
+    ensures ok { IfOk result (λ p. Held.cut rendition settings going point.now mark.now ≡ gives p.going p.plan) }
+    ensures err { IfErr result (λ e. (e ≡ NoMemory) ⊎ (Held.cut rendition settings going point.now mark.now ≡ faults e)) }
 {
     let number = going.number();
-    if is_long(settings, going.ticks(settings, Some(stamp))) {
+    if is_long(settings, going.ticks(settings, Some(point.stamp))) {
         return Err(CutFault::LongSegment(number));
     }
     if number >= 0xFFFF_FFFE {
         return Err(CutFault::Limit);
     }
-    renew(
-        alloc, rendition, settings, going, tables, stamp, packet, look,
-    )
+    renew(alloc, rendition, settings, going, point, mark)
 }
 
 /// The next segment, and the plan of the one before.
@@ -151,21 +121,17 @@ fn renew(
     rendition: usize,
     settings: CutSettings,
     going: Going,
-    tables: &Tables,
-    stamp: Stamp,
-    packet: &[u8; 188],
-    look: Look,
+    point: &Point<'_>,
+    mark: &Mark<'_>,
 ) -> Result<Placed, CutFault>
     requires settings { IsAllowed settings }
     requires number { going.number < 2 ^ 32 }
-    requires stamp { IsInRange stamp.time }
-    requires look { HasRange look.stamp }
-    ensures ok { IfOk result (λ p. renewed rendition settings going (record { stamp = stamp; tables = tables.now }) (mark packet.now look (Some stamp)) ≡ gives p.going p.plan) }
-    ensures err { IfErr result (λ e. (e ≡ NoMemory) ⊎ (renewed rendition settings going (record { stamp = stamp; tables = tables.now }) (mark packet.now look (Some stamp)) ≡ faults e)) }
+    ensures ok { IfOk result (λ p. renewed rendition settings going point.now mark.now ≡ gives p.going p.plan) }
+    ensures err { IfErr result (λ e. (e ≡ NoMemory) ⊎ (renewed rendition settings going point.now mark.now ≡ faults e)) }
 {
-    let mut next = going.next(alloc, stamp, tables.copy()?);
-    let plan = going.close(rendition, settings, Some(stamp))?;
-    next.add(packet, look, Some(stamp))?;
+    let mut next = going.next(alloc, point)?;
+    let plan = going.close(rendition, settings, Some(point.stamp))?;
+    next.add(mark)?;
     check_size(settings, next, Some(plan))
 }
 

@@ -9,6 +9,44 @@ use crate::look::Look;
 use crate::settings::CutSettings;
 use pes_time::Stamp;
 use psi_tables::Tables;
+use std::marker::Model;
+
+/// A packet, what it is, and its stamp where it is a counted point. Times are in range.
+#[derive(Drop)]
+pub(crate) struct Mark<'a> {
+    pub packet: &'a [u8; 188],
+    pub look: Look,
+    pub counted: Option<Stamp>,
+}
+
+impl<'a> Model for Mark<'a> {
+    ghost use Rattle.cutter.specs.Points.{Mark, mark};
+    ghost use Rattle.cutter.specs.Held.{HasRange};
+
+    ghost Value = { Mark };
+
+    ghost view = { λ m. mark m.packet.now m.look m.counted };
+
+    ghost invariant = { λ m. HasRange m.look.stamp × HasRange m.counted };
+}
+
+/// A counted point, and the tables in force before it. Its time is in range.
+#[derive(Drop)]
+pub(crate) struct Point<'a> {
+    pub stamp: Stamp,
+    pub tables: &'a Tables,
+}
+
+impl<'a> Model for Point<'a> {
+    ghost use Rattle.cutter.specs.Segments.{Point};
+    ghost use Rattle.cutter.specs.Held.{IsInRange};
+
+    ghost Value = { Point };
+
+    ghost view = { λ p. record { stamp = p.stamp; tables = p.tables.now } };
+
+    ghost invariant = { λ p. IsInRange p.stamp.time };
+}
 
 /// The stamp of a packet that is a counted point; `top` is the last one that counted.
 pub(crate) fn counted(top: Option<Stamp>, look: Look) -> Option<Stamp>
@@ -32,14 +70,22 @@ pub(crate) fn counted(top: Option<Stamp>, look: Look) -> Option<Stamp>
 }
 
 /// Whether times and tables don't go on from one counted point to another.
-pub(crate) fn breaks(from: Stamp, from_tables: &Tables, to: Stamp, to_tables: &Tables) -> bool
-    ensures { result ≡ Segments.breaks (record { stamp = from; tables = from_tables.now }) (record { stamp = to; tables = to_tables.now }) }
+pub(crate) fn breaks(from: &Point<'_>, to: &Point<'_>) -> bool
+    ensures { result ≡ Segments.breaks from.now to.now }
 {
-    from.epoch != to.epoch || !from_tables.same(to_tables)
+    from.stamp.epoch != to.stamp.epoch || !from.tables.same(to.tables)
+}
+
+/// Whether a counted point is a cut behind the last one.
+pub(crate) fn is_cut(settings: CutSettings, head: &Point<'_>, next: &Point<'_>) -> bool
+    requires { settings.segment < 2 ^ 62 }
+    ensures { result ≡ Segments.is_cut settings head.now next.now }
+{
+    breaks(head, next) || is_due(settings, head.stamp, next.stamp)
 }
 
 /// Whether a counted point lies at least `segment` behind the last cut.
-pub(crate) fn is_due(settings: CutSettings, from: Stamp, to: Stamp) -> bool
+fn is_due(settings: CutSettings, from: Stamp, to: Stamp) -> bool
     requires segment { settings.segment < 2 ^ 62 }
     requires from { IsInRange from.time }
     ensures { result ≡ Segments.is_due settings from to }

@@ -3,12 +3,13 @@ use Rattle.std.proofs.Common.{◌≡◌, ◌≢◌, ◌∙◌, ◌⊎◌, inl, i
 use Rattle.std.specs.List.{All}
 use Rattle.std.proofs.lemmas.List.{append-nil}
 use Rattle.std.proofs.lemmas.List.Elements.{All-cons}
-use Rattle.ts_packet.specs.Packets.{packets, decided, IsBeginning}
+use Rattle.ghost_list.specs.Lists.{IsBeginning}
+use Rattle.ts_packet.specs.Packets.{packets, decided}
 use Rattle.cutter.specs.declared.settings.CutSettings.{CutSettings}
 use Rattle.cutter.specs.declared.fault.CutFault.{CutFault}
 use Rattle.cutter.specs.declared.fault.CutFault.TheVariants.{NoMemory}
 use Rattle.cutter.specs.Plans.{SegmentPlan}
-use Rattle.cutter.specs.Cuts.{closed, plans, IsFront}
+use Rattle.cutter.specs.Cuts.{closed, plans}
 use Rattle.item_io.specs.Outlets.{Held, Grows}
 use Rattle.pipeline.specs.declared.lane.Stop.TheVariants.{Cut}
 use Rattle.pipeline.specs.Ladder.{Ladder}
@@ -24,14 +25,14 @@ use Rattle.pipeline.proofs.Blocks.{grown-at, after-each}
 use Rattle.pipeline.proofs.Rows.{rows-part}
 
 abbrev Fronts : ℕ → CutSettings → Type 0
-Fronts r s = (ps : List (List ℕ)) → IsFront (closed r s ps) (plans r s ps)
+Fronts r s = (ps : List (List ℕ)) → IsBeginning (closed r s ps) (plans r s ps)
 
 abbrev Grow : ℕ → CutSettings → Type 0
-Grow r s = (ps more : List (List ℕ)) → IsFront (closed r s ps) (closed r s (ps ++ more))
+Grow r s = (ps more : List (List ℕ)) → IsBeginning (closed r s ps) (closed r s (ps ++ more))
 
 -- what is closed by the packets decided begins the plans of each stream that goes on from there
 pub begins-all : (r : ℕ) (s : CutSettings) (stream more : List ℕ) → IsBeginning (decided stream) (packets (stream ++ more)) → Fronts r s → Grow r s
-    → IsFront (closed_of r s stream) (plans_of r s (stream ++ more))
+    → IsBeginning (closed_of r s stream) (plans_of r s (stream ++ more))
 unfolding closed_of plans_of
 begins-all r s stream more (rest, whole) front grow =
     let a = grow (decided stream) rest in
@@ -42,7 +43,7 @@ begins-all r s stream more (rest, whole) front grow =
 
 -- what is closed by the packets decided begins what is closed by more
 pub grows-all : (r : ℕ) (s : CutSettings) (stream more : List ℕ) → IsBeginning (decided stream) (decided (stream ++ more)) → Grow r s
-    → IsFront (closed_of r s stream) (closed_of r s (stream ++ more))
+    → IsBeginning (closed_of r s stream) (closed_of r s (stream ++ more))
 unfolding closed_of
 grows-all r s stream more (rest, whole) grow =
     let a = grow (decided stream) rest in
@@ -142,7 +143,7 @@ cut-off ladder r parts old new shown whole ps P g begins some = record {
 }
 
 -- some plans, which begin all
-pub begun : (ladder : Ladder) (r : ℕ) (stream : List ℕ) (whole : List SegmentPlan) → IsFront whole (plans_of r ladder.cut stream)
+pub begun : (ladder : Ladder) (r : ℕ) (stream : List ℕ) (whole : List SegmentPlan) → IsBeginning whole (plans_of r ladder.cut stream)
     → Begins ladder r stream (record { plans = whole; ended = false })
 begun ladder r stream whole front = record { plans = front; ended = λ t. absurd (not_ended (sym t)) }
 
@@ -164,7 +165,7 @@ closes-all ladder r intake part stream told o stays =
     subst (λ (l : List SegmentPlan). BeginsClosed ladder r stream (record { plans = l; ended = false })) (sym all) (closes ladder r intake part stream o)
 
 -- those that fewer bytes close
-pub closed-first : (ladder : Ladder) (r : ℕ) (before stream : List ℕ) → IsFront (closed_of r ladder.cut before) (closed_of r ladder.cut stream)
+pub closed-first : (ladder : Ladder) (r : ℕ) (before stream : List ℕ) → IsBeginning (closed_of r ladder.cut before) (closed_of r ladder.cut stream)
     → BeginsClosed ladder r stream (record { plans = closed_of r ladder.cut before; ended = false })
 closed-first ladder r before stream front = record { plans = front; ended = refl }
 
@@ -178,7 +179,7 @@ fault-in ladder r intake part stream o = ap (λ q. fault_of q intake.settings st
 
 -- all plans of a stream begin themselves
 pub all-of-them : (ladder : Ladder) (r : ℕ) (intake : Taken) (part : Part) (stream : List ℕ) → IsOpen ladder r intake part
-    → IsFront (plans_of intake.rendition intake.settings stream) (plans_of r ladder.cut stream)
+    → IsBeginning (plans_of intake.rendition intake.settings stream) (plans_of r ladder.cut stream)
 all-of-them ladder r intake part stream o = ([], sym (append-nil _ ∙ plans-in ladder r intake part stream o))
 
 -- the rendition stops at its stream's fault

@@ -1,7 +1,8 @@
 -- What bytes decide only grows.
 use Rattle.std.proofs.Common.{◌≡◌, ◌∙◌, ℕ, ◌≤◌, List, [], ◌∷◌, ◌++◌, length, refl, ap, sym, subst, arith, append_assoc}
 use Rattle.std.proofs.lemmas.List.{append-nil}
-use Rattle.ts_packet.specs.Packets.{packets, decided, IsBeginning, IsDecided}
+use Rattle.ghost_list.specs.Lists.{IsBeginning}
+use Rattle.ts_packet.specs.Packets.{packets, decided, IsDecided}
 
 -- of two beginnings of a list the shorter one begins the longer one
 front-of-longer : {A : Type 0} (a b x y : List A) → a ++ x ≡ b ++ y → length a ≤ length b → (rest : List A) × (b ≡ a ++ rest)

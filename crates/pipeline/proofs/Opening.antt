@@ -4,13 +4,14 @@ use Rattle.std.specs.List.{All}
 use Rattle.std.proofs.lemmas.Bool.{cases_eq}
 use Rattle.std.proofs.lemmas.List.{append-nil, map-append, length-map, length-drop, drop-append-le, get_or-set_same, get_or-set_other, length-set}
 use Rattle.std.proofs.lemmas.Option.{get_or_from_slice_get, slice_get_within}
+use Rattle.ghost_list.specs.Lists.{IsBeginning}
 use Rattle.aes_cbc.specs.Block.{AreBytes}
 use Rattle.aes_cbc.specs.Chain.{sealed_text}
 use Rattle.ts_packet.specs.Packets.{packets}
 use Rattle.cutter.specs.declared.settings.CutSettings.{CutSettings}
 use Rattle.cutter.specs.Plans.{SegmentPlan}
 use Rattle.cutter.specs.Ordered.{IsPlan, IsPacketLong}
-use Rattle.cutter.specs.Cuts.{plans, IsFront}
+use Rattle.cutter.specs.Cuts.{plans}
 use Rattle.segment_job.specs.Vectors.{vector}
 use Rattle.segment_job.specs.Rotation.{key_of}
 use Rattle.segment_job.specs.Segments.{plain, sealed_segment}
@@ -122,31 +123,31 @@ is-listed suffice ladder r before plan allowed number of_bytes =
       opens = record { tables = of_bytes.tables; text = record { bytes = of_bytes.bytes; sealed = bytes } };
     }
 
-front-of-front : (a b c : List SegmentPlan) → IsFront a b → IsFront b c → IsFront a c
+front-of-front : (a b c : List SegmentPlan) → IsBeginning a b → IsBeginning b c → IsBeginning a c
 front-of-front a b c (x, e) (y, f) = (x ++ y, f ∙ (ap (λ l. l ++ y) e ∙ append_assoc a x y))
 
-front-of-same : (a b : List SegmentPlan) → b ≡ a → IsFront a b
+front-of-same : (a b : List SegmentPlan) → b ≡ a → IsBeginning a b
 front-of-same a b e = ([], e ∙ sym (append-nil a))
 
 -- the plans that a rendition has given stay
-step-front : (r : ℕ) (parts : List Part) (e : Event) → rendition_of e < length parts → IsFront (part_at parts r).plans (part_at (after parts e) r).plans
+step-front : (r : ℕ) (parts : List Part) (e : Event) → rendition_of e < length parts → IsBeginning (part_at parts r).plans (part_at (after parts e) r).plans
 step-front r parts (Row q p) below =
-    elim (cases_eq r q) as (λ _. IsFront (part_at parts r).plans (part_at (after parts (Row q p)) r).plans) [
-      | inl e ↦ subst (λ (k : ℕ). IsFront (part_at parts k).plans (part_at (after parts (Row q p)) k).plans) (sym e)
+    elim (cases_eq r q) as (λ _. IsBeginning (part_at parts r).plans (part_at (after parts (Row q p)) r).plans) [
+      | inl e ↦ subst (λ (k : ℕ). IsBeginning (part_at parts k).plans (part_at (after parts (Row q p)) k).plans) (sym e)
           (p ∷ [], ap (λ (part : Part). part.plans) (get_or-set_same parts q (grown (part_at parts q) p) no_part below))
       | inr n ↦ front-of-same (part_at parts r).plans (part_at (after parts (Row q p)) r).plans
           (ap (λ (part : Part). part.plans) (get_or-set_other parts q r (grown (part_at parts q) p) no_part n))
     ]
 step-front r parts (End q) below =
-    elim (cases_eq r q) as (λ _. IsFront (part_at parts r).plans (part_at (after parts (End q)) r).plans) [
-      | inl e ↦ subst (λ (k : ℕ). IsFront (part_at parts k).plans (part_at (after parts (End q)) k).plans) (sym e)
+    elim (cases_eq r q) as (λ _. IsBeginning (part_at parts r).plans (part_at (after parts (End q)) r).plans) [
+      | inl e ↦ subst (λ (k : ℕ). IsBeginning (part_at parts k).plans (part_at (after parts (End q)) k).plans) (sym e)
           (front-of-same (part_at parts q).plans (part_at (after parts (End q)) q).plans
           (ap (λ (part : Part). part.plans) (get_or-set_same parts q (closed_part (part_at parts q)) no_part below)))
       | inr n ↦ front-of-same (part_at parts r).plans (part_at (after parts (End q)) r).plans
           (ap (λ (part : Part). part.plans) (get_or-set_other parts q r (closed_part (part_at parts q)) no_part n))
     ]
 
-all-front : (r : ℕ) (parts : List Part) (events : List Event) → AreLegal parts events → IsFront (part_at parts r).plans (part_at (after_all parts events) r).plans
+all-front : (r : ℕ) (parts : List Part) (events : List Event) → AreLegal parts events → IsBeginning (part_at parts r).plans (part_at (after_all parts events) r).plans
 unfolding AreLegal after_all
 all-front r parts [] legal = front-of-same (part_at parts r).plans (part_at parts r).plans refl
 all-front r parts (e ∷ events) legal =
@@ -167,7 +168,7 @@ at-length [] x ys = refl
 at-length (y ∷ xs) x ys = at-length xs x ys
 
 -- a plan of those that begin all is at its place among them
-pub at-front : (before : List SegmentPlan) (plan : SegmentPlan) (all : List SegmentPlan) → IsFront (before ++ plan ∷ []) all → slice_get all (length before) ≡ Some plan
+pub at-front : (before : List SegmentPlan) (plan : SegmentPlan) (all : List SegmentPlan) → IsBeginning (before ++ plan ∷ []) all → slice_get all (length before) ≡ Some plan
 at-front before plan all (more, e) =
     ap (λ l. slice_get l (length before)) (e ∙ append_assoc before (plan ∷ []) more) ∙ at-length before plan more
 
@@ -186,8 +187,8 @@ within-at ladder parts events earlier r plan later legal is all =
 
 -- the plans of rendition r up to this segment begin those of its stream
 pub front-at : (ladder : Ladder) (parts : List Part) (streams : ℕ → List ℕ) (events earlier : List Event) (r : ℕ) (plan : SegmentPlan) (later : List Event)
-    → AreLegal (none_of ladder) events → after_all (none_of ladder) events ≡ parts → IsFront (part_at parts r).plans (plans_of r ladder.cut (streams r)) → events ≡ earlier ++ Row r plan ∷ later
-    → IsFront ((part_at (after_all (none_of ladder) earlier) r).plans ++ plan ∷ []) (plans_of r ladder.cut (streams r))
+    → AreLegal (none_of ladder) events → after_all (none_of ladder) events ≡ parts → IsBeginning (part_at parts r).plans (plans_of r ladder.cut (streams r)) → events ≡ earlier ++ Row r plan ∷ later
+    → IsBeginning ((part_at (after_all (none_of ladder) earlier) r).plans ++ plan ∷ []) (plans_of r ladder.cut (streams r))
 unfolding AreLegal after_all
 front-at ladder parts streams events earlier r plan later legal is of all =
     let none = none_of ladder in
@@ -197,9 +198,9 @@ front-at ladder parts streams events earlier r plan later legal is of all =
     let end : parts ≡ after_all then later = sym is ∙ (ap (after_all none) all ∙ after_all-append none earlier (Row r plan ∷ later)) in
     let here : (part_at then r).plans ≡ (part_at so_far r).plans ++ plan ∷ [] =
     ap (λ (part : Part). part.plans) (get_or-set_same so_far r (grown (part_at so_far r) plan) no_part rest.0) in
-    let stays = subst (λ (ps : List Part). IsFront (part_at then r).plans (part_at ps r).plans) (sym end) (all-front r then later rest.2) in
+    let stays = subst (λ (ps : List Part). IsBeginning (part_at then r).plans (part_at ps r).plans) (sym end) (all-front r then later rest.2) in
     front-of-front ((part_at so_far r).plans ++ plan ∷ []) (part_at parts r).plans (plans_of r ladder.cut (streams r))
-    (subst (λ l. IsFront l (part_at parts r).plans) here stays) of
+    (subst (λ l. IsBeginning l (part_at parts r).plans) here stays) of
 
 -- what holds of all plans, of one of them
 of-one : (plans : List SegmentPlan) (n : ℕ) (plan : SegmentPlan) → slice_get plans n ≡ Some plan → All IsOfBytes plans → IsOfBytes plan

@@ -3,6 +3,7 @@ use Rattle.std.proofs.Common.{◌≡◌, ◌∙◌, ℕ, Bool, true, false, List
 use Rattle.std.specs.Prelude.{is_none, if◌then◌else◌, nat_le}
 use Rattle.std.proofs.lemmas.List.{append-nil}
 use Rattle.std.proofs.lemmas.Grind.{flat_map-append}
+use Rattle.ghost_list.specs.Lists.{IsBeginning}
 use Rattle.psi_tables.specs.InForce.{InForce}
 use Rattle.pes_time.specs.declared.clock.Stamp.{Stamp}
 use Rattle.cutter.specs.declared.settings.CutSettings.{CutSettings}
@@ -13,7 +14,7 @@ use Rattle.cutter.specs.Stream.{Fact, facts, in_force}
 use Rattle.cutter.specs.Points.{Mark, mark, counted, top_after}
 use Rattle.cutter.specs.Segments.{Point, Segment, is_cut, plan_of, is_long, is_big, bytes_of, body_of}
 use Rattle.cutter.specs.Dividing.{Sight, point_at, sights_from, marks_of}
-use Rattle.cutter.specs.Cuts.{Cuts, faulted, made, going_on, with_mark, first_segment, next_segment, closing, carried_on, pointed, placed, cut_from, cuts, closed, end_fault, first_fault, fault, last_plan, plans, IsFront}
+use Rattle.cutter.specs.Cuts.{Cuts, faulted, made, going_on, with_mark, first_segment, next_segment, closing, carried_on, pointed, placed, cut_from, cuts, closed, end_fault, first_fault, fault, last_plan, plans}
 use Rattle.pipeline.specs.Output.{from_first, output, bodies, BeginWith}
 
 -- the packets so far of a segment that goes on
@@ -179,7 +180,7 @@ by-fault r s ps (Some told) e =
     }
 
 -- the bodies of plans that begin those of a stream
-pub front : (r : ℕ) (s : CutSettings) (ps : List (List ℕ)) (given : List SegmentPlan) → IsFront given (plans r s ps) → BeginWith (output s ps) given
+pub front : (r : ℕ) (s : CutSettings) (ps : List (List ℕ)) (given : List SegmentPlan) → IsBeginning given (plans r s ps) → BeginWith (output s ps) given
 front r s ps given (more, e) =
     let all = by-fault r s ps (fault r s ps) refl in
     record {

@@ -1,7 +1,8 @@
 -- From the packets that a cutter is pushed to the bytes that an intake takes.
 use Rattle.std.proofs.Common.{◌≡◌, ◌∙◌, ◌⊎◌, inl, inr, ℕ, ◌+◌, ◌<◌, ◌≤◌, ◌^◌, Bool, false, List, [], ◌++◌, length, Option, Some, None, ap, sym, subst, arith, length-append}
 use Rattle.std.proofs.lemmas.List.{append-nil, append_cancel_left}
-use Rattle.ts_packet.specs.Packets.{packets, decided, IsBeginning}
+use Rattle.ghost_list.specs.Lists.{IsBeginning}
+use Rattle.ts_packet.specs.Packets.{packets, decided}
 use Rattle.ts_packet.specs.Reading as Reading
 use Rattle.cutter.specs.declared.fault.CutFault.{CutFault}
 use Rattle.cutter.specs.declared.fault.CutFault.TheVariants.{NoMemory}

@@ -1,6 +1,6 @@
 -- A rendition on its way: what it has given, by the bytes that its input gave.
 use Rattle.std.specs.Prelude.{◌≡◌, ℕ, true, false, List, Option, Some, None, All}
-use Rattle.cutter.specs.Cuts.{IsFront}
+use Rattle.ghost_list.specs.Lists.{IsBeginning}
 use Rattle.ts_packet.specs.Packets.{skipped}
 use Rattle.cutter.specs.declared.fault.CutFault.{CutFault}
 use Rattle.cutter.specs.declared.settings.CutSettings.{CutSettings}
@@ -61,12 +61,12 @@ IsOfEnd Read = ⊥
 
 -- it has given a beginning of what the bytes so far close
 pub record BeginsClosed (ladder : Ladder) (r : ℕ) (stream : List ℕ) (part : Part) : Type 0 where
-  pub plans : IsFront part.plans (closed_of r ladder.cut stream)
+  pub plans : IsBeginning part.plans (closed_of r ladder.cut stream)
   pub ended : part.ended ≡ false
 
 -- it has given a beginning of what it gives of the whole stream
 pub record Begins (ladder : Ladder) (r : ℕ) (stream : List ℕ) (part : Part) : Type 0 where
-  pub plans : IsFront part.plans (plans_of r ladder.cut stream)
+  pub plans : IsBeginning part.plans (plans_of r ladder.cut stream)
   pub ended : part.ended ≡ true → IsWhole ladder r stream part
 
 -- after so many bytes it goes on, or has stopped

@@ -1,7 +1,7 @@
 -- How a player opens a segment: by what the media playlist right behind it lists.
 use Rattle.std.specs.Prelude.{◌≡◌, ℕ, ◌+◌, ◌<◌, Bool, false, nat_eq, codes, All, List, [], ◌∷◌, ◌++◌, length, slice_index_or, Some, slice_get}
 use Rattle.std.specs.List.{starts_with}
-use Rattle.cutter.specs.Cuts.{IsFront}
+use Rattle.ghost_list.specs.Lists.{IsBeginning}
 use Rattle.playlist_text.specs.Uris.{segment_uri}
 use Rattle.aes_cbc.specs.Block.{AreBytes}
 use Rattle.psi_tables.specs.Head.{IsSendable}
@@ -19,7 +19,7 @@ use Rattle.pipeline.specs.Items.{Part, part_at}
 -- the inputs gave bytes, and the plans that each rendition has given begin those of its input
 pub record AreOfStreams (ladder : Ladder) (parts : List Part) (streams : ℕ → List ℕ) : Type 0 where
   pub bytes : (r : ℕ) → r < length parts → AreBytes (streams r)
-  pub plans : (r : ℕ) → r < length parts → IsFront (part_at parts r).plans (plans_of r ladder.cut (streams r))
+  pub plans : (r : ℕ) → r < length parts → IsBeginning (part_at parts r).plans (plans_of r ladder.cut (streams r))
 
 -- a plan that can be sealed: its tables can be sent in a head, and its head and its body are bytes
 pub record IsOfBytes (plan : SegmentPlan) : Type 0 where

@@ -1,8 +1,9 @@
 ghost use Rattle.std.specs.Prelude.{◌≡◌, ◌+◌, ◌<◌, ◌≤◌, ◌^◌, ◌⊎◌, ℕ, List, [], ◌++◌, None, true, false, length, IfOk, IfErr, OnOk, OnErr};
-ghost use Rattle.ts_packet.specs.Packets.{packets, decided, skipped, IsBeginning};
+ghost use Rattle.ghost_list.specs.Lists.{IsBeginning};
+ghost use Rattle.ts_packet.specs.Packets.{packets, decided, skipped};
 ghost use Rattle.cutter.specs.declared.settings.CutSettings.{CutSettings};
 ghost use Rattle.cutter.specs.declared.fault.CutFault.TheVariants.{NoMemory};
-ghost use Rattle.cutter.specs.Cuts.{closed, made, IsFront};
+ghost use Rattle.cutter.specs.Cuts.{closed, made};
 ghost use Rattle.cutter.specs.Settings.{IsAllowed};
 ghost use Rattle.pipeline.specs.Streams.{plans_of, fault_of, closed_of, GrowsAlike, Stops, Faults, Stays};
 
@@ -112,8 +113,8 @@ fn decided_begin()
 /// close. No bytes close none.
 pub fn closed_plans_begin_all()
     ensures none { (r : ℕ) (s : CutSettings) → closed_of r s [] ≡ [] }
-    ensures begin { (r : ℕ) (s : CutSettings) (stream more : List ℕ) → IsFront (closed_of r s stream) (plans_of r s (stream ++ more)) }
-    ensures grow { (r : ℕ) (s : CutSettings) (stream more : List ℕ) → IsFront (closed_of r s stream) (closed_of r s (stream ++ more)) }
+    ensures begin { (r : ℕ) (s : CutSettings) (stream more : List ℕ) → IsBeginning (closed_of r s stream) (plans_of r s (stream ++ more)) }
+    ensures grow { (r : ℕ) (s : CutSettings) (stream more : List ℕ) → IsBeginning (closed_of r s stream) (closed_of r s (stream ++ more)) }
 {
     ts_packet::decided_is_the_longest();
     cutter::plans_only_grow();

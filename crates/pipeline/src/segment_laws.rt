@@ -1,6 +1,6 @@
 //! What the segments of a rendition carry, and how a player opens them.
 ghost use Rattle.std.specs.Prelude.{◌≡◌, ◌∷◌, ◌++◌, All, None, Some, ℕ, List, map, slice_get};
-ghost use Rattle.cutter.specs.Cuts.{IsFront};
+ghost use Rattle.ghost_list.specs.Lists.{IsBeginning};
 ghost use Rattle.aes_cbc.specs.Block.{AreBytes};
 ghost use Rattle.ts_packet.specs.Packets.{packets};
 ghost use Rattle.cutter.specs.declared.settings.CutSettings.{CutSettings};
@@ -20,7 +20,7 @@ ghost use Rattle.pipeline.specs.Output.{output, bodies, BeginWith};
 pub fn bodies_are_the_accepted_packets()
     ensures whole { (r : ℕ) (s : CutSettings) (stream : List ℕ) → fault_of r s stream ≡ None →
         bodies (plans_of r s stream) ≡ output s (packets stream) }
-    ensures begin { (r : ℕ) (s : CutSettings) (stream : List ℕ) (given : List SegmentPlan) → IsFront given (plans_of r s stream) →
+    ensures begin { (r : ℕ) (s : CutSettings) (stream : List ℕ) (given : List SegmentPlan) → IsBeginning given (plans_of r s stream) →
         BeginWith (output s (packets stream)) given }
 {}
 

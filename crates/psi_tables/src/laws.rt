@@ -1,6 +1,6 @@
 //! What the words of the contracts mean.
 ghost use Rattle.std.specs.Prelude.{◌≡◌, ◌+◌, ◌*◌, ◌<◌, ◌≤◌, ◌^◌, ◌↔◌, ℕ, List, ◌++◌, length, take, All, Option, Some};
-ghost use Rattle.ts_packet.specs.Packets.{IsBeginning};
+ghost use Rattle.ghost_list.specs.Lists.{IsBeginning};
 ghost use Rattle.psi_tables.specs.Crc.{IsRemainder, crc, dividend, polynomial_of};
 ghost use Rattle.psi_tables.specs.Sections.{sections, IsSection};
 ghost use Rattle.psi_tables.specs.Head.{head, packet_count, IsSendable, IsSameHead};

@@ -2,6 +2,7 @@
 -- is 0x47 (ISO/IEC 13818-1, 2.4.3.2). How packets are found in a stream that has other bytes between them is left to
 -- the receiver: here a packet is looked for where 0x47 stands again at the places of the next two.
 use Rattle.std.specs.Prelude.{◌≡◌, ℕ, zero, suc, ◌+◌, ◌-◌, ◌*◌, ◌<◌, ◌≤◌, Bool, true, false, ◌&&◌, ◌||◌, ◌==◌, ◌⊎◌, nat_le, if◌then◌else◌, List, [], ◌∷◌, ◌++◌, length, take, drop, map, slice_index}
+use Rattle.ghost_list.specs.Lists.{IsBeginning}
 use Rattle.std.specs.List.{flat_map}
 
 -- a sync byte stands at p
@@ -71,9 +72,6 @@ joined packets = flat_map (λ packet. packet) packets
 -- how many bytes of the stream lie in no packet
 unfoldable pub skipped : List ℕ → ℕ
 skipped s = length s - 188 * length (packets s)
-
-abbrev pub IsBeginning : List (List ℕ) → List (List ℕ) → Type 0
-IsBeginning front whole = (rest : List (List ℕ)) × (whole ≡ front ++ rest)
 
 -- the longest list that begins the packets of the stream however it goes on
 pub record IsDecided (s : List ℕ) (front : List (List ℕ)) : Type 0 where

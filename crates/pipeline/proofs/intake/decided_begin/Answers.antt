@@ -1,6 +1,7 @@
 use Rattle.std.proofs.Common.{[], subst}
 use Rattle.std.proofs.lemmas.List.{append-nil}
-use Rattle.ts_packet.specs.Packets.{packets, decided, IsBeginning}
+use Rattle.ghost_list.specs.Lists.{IsBeginning}
+use Rattle.ts_packet.specs.Packets.{packets, decided}
 use Rattle.pipeline.proofs.intake.decided_begin.Goals as goal
 
 pub returns-clause-begin : goal.returns-clause-begin

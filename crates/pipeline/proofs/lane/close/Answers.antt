@@ -1,7 +1,7 @@
 use Rattle.std.proofs.Common.{◌≢◌, ◌∙◌, [], List, ℕ, subst, rules, arith}
 use Rattle.std.proofs.lemmas.List.{append-nil}
 use Rattle.std.proofs.lemmas.Result.{err_from_is_err_and}
-use Rattle.cutter.specs.Cuts.{IsFront}
+use Rattle.ghost_list.specs.Lists.{IsBeginning}
 use Rattle.cutter.specs.declared.fault.CutFault.TheVariants.{NoMemory}
 use Rattle.pipeline.specs.Items.{part_at}
 use Rattle.pipeline.specs.Lanes.{Begins}
@@ -46,7 +46,7 @@ returns-in_err-give_end-in-Ok-clause-err g c =
 pub returns-then-is_memory-clause-err : goal.returns-then-is_memory-clause-err
 returns-then-is_memory-clause-err g c parts b =
     let stream = c.args.intake.now.stream in
-    let begin = subst (λ (s : List ℕ). IsFront (closed_of c.args.r c.args.settings.now.cut stream) (plans_of c.args.r c.args.settings.now.cut s)) (append-nil stream)
+    let begin = subst (λ (s : List ℕ). IsBeginning (closed_of c.args.r c.args.settings.now.cut stream) (plans_of c.args.r c.args.settings.now.cut s)) (append-nil stream)
     (c.closed_plans_begin_all.ensures.begin c.args.r c.args.settings.now.cut stream []) in
     cut-off-first c.args.settings.now c.args.r parts _ c.args.playlists.now.items c.args.intake.now (Begins c.args.settings.now c.args.r stream) b (begun c.args.settings.now c.args.r stream _ begin)
 
