@@ -1,6 +1,7 @@
 -- The number with which a line is one of many.
-use Rattle.std.proofs.Common.{◌≡◌, ◌≢◌, ℕ, zero, suc, ◌<◌, ◌≤◌, ◌^◌, inl, inr, Bool, true, false, List, Option, Some, None, refl, sym, ap, ◌∙◌, arith}
-use Rattle.std.specs.Prelude.{IfSome, if◌then◌else◌}
+use Rattle.std.proofs.Common.{◌≡◌, ◌≢◌, ℕ, zero, suc, ◌<◌, ◌≤◌, ◌^◌, inl, inr, Bool, true, false, List, Option, Some, None, refl, sym, ap, ◌∙◌, subst, arith, Result, Ok, Err}
+use Rattle.std.specs.Prelude.{IfSome, MatchResult, if◌then◌else◌}
+use Rattle.std.specs.Result.{result_ok}
 use Rattle.std.proofs.lemmas.Bool.{cases_lt}
 use Rattle.std.proofs.lemmas.Option.{same_Some, none-some}
 use Rattle.std.proofs.lemmas.Slice.Eq.{bytes_eq-Decides}
@@ -74,3 +75,19 @@ pub read-found : (line_of : ℕ → List ℕ) (line : List ℕ) (r : Option ℕ)
 read-found line_of line r bound n few read is same below =
     sym (found-only _ bound n below ((bytes_eq-Decides line (line_of n)).1 same) (λ m lt other.
     same_Some m n (sym (read.only m (omega (arith, lt, few)) ((bytes_eq-Decides line (line_of m)).0 other)) ∙ is)))
+
+-- any number below the bound may be read
+pub read-all : (line_of : ℕ → List ℕ) (line : List ℕ) (r : Option ℕ) → IfSome r (λ n. (n < 2 ^ 64) × (line ≡ line_of n)) → ((n : ℕ) → n < 2 ^ 64 → line ≡ line_of n → r ≡ Some n)
+    → r ≡ number_in line_of (2 ^ 64) line
+read-all line_of line None found only = read-nothing line_of line None (2 ^ 64) (omega arith) (record { found = found; only = only }) (λ n some. none-some n some)
+read-all line_of line (Some n) found only = read-found line_of line (Some n) (2 ^ 64) n (omega arith) (record { found = found.1; only = only }) refl found.1 found.0
+
+-- what a result says where its value is taken
+pub ok-some : {T E : Type 0} (r : Result T E) (P : T → Type 0) (Q : E → Type 0) (x : T) → result_ok r ≡ Some x → MatchResult r P Q → P x
+ok-some (Ok y) P Q x is holds = subst P (same_Some y x is) holds
+ok-some (Err e) P Q x is holds = absurd (none-some x is)
+
+-- .. and where there is none
+pub ok-none : {T E : Type 0} (r : Result T E) (P : T → Type 0) (Q : E → Type 0) → result_ok r ≡ None → MatchResult r P Q → (e : E) × Q e
+ok-none (Ok y) P Q is holds = absurd (none-some y (sym is))
+ok-none (Err e) P Q is holds = (e, holds)

@@ -5,7 +5,7 @@ use Rattle.std.proofs.lemmas.List.{get_or_append_left, get_or-append_right, get_
 use Rattle.std.specs.Prelude.{MatchOption}
 
 -- the item behind the others
-get_or-last : (xs : List (List ℕ)) (x : List ℕ) (i : ℕ) → length xs ≡ i → x ≡ get_or (xs ++ x ∷ []) i []
+pub get_or-last : (xs : List (List ℕ)) (x : List ℕ) (i : ℕ) → length xs ≡ i → x ≡ get_or (xs ++ x ∷ []) i []
 get_or-last xs x i long =
     let none : i - i ≡ 0 = omega arith in
     sym (get_or-append_right xs (x ∷ []) i i [] long (omega arith) ∙ ap (λ k. get_or (x ∷ []) k []) none)

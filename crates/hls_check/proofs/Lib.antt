@@ -3,6 +3,7 @@ pub mod Payloads
 pub mod TheHead
 pub mod Growing
 pub mod Unpacked
+pub mod Counted
 pub mod Bodies
 pub mod Spellings
 pub mod Found

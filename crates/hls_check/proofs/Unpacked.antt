@@ -1,12 +1,12 @@
 -- What all entries unpack to.
-use Rattle.std.proofs.Common.{◌≡◌, ℕ, ◌<◌, List, [], ◌++◌, length, get_or, refl, sym, ◌∙◌, subst, arith}
+use Rattle.std.proofs.Common.{◌≡◌, ℕ, ◌<◌, List, [], ◌++◌, length, get_or, refl, sym, ◌∙◌, subst, arith, inl, inr}
 use Rattle.std.proofs.lemmas.List.{ext_get_or}
 use Rattle.psi_tables.specs.InForce.{InForce}
 use Rattle.psi_tables.specs.Head.{head, IsSendable, IsSameHead}
 use Rattle.hls_check.specs.declared.fault.UnpackFault.{UnpackFault}
 use Rattle.hls_check.specs.declared.fault.UnpackFault.TheVariants.{Missing, Closed, NoHead, NoMemory}
 use Rattle.hls_check.specs.Unpacking.{Packed, BeginsWithHead, IsThere, IsFirstWithout, OfAll, AllUnpack, IsTold}
-use Rattle.hls_check.specs.Texts.{AreTexts, IsNoText, AreRests, IsNoRest}
+use Rattle.hls_check.specs.Texts.{AreTexts, IsNoText, AreRests, IsNoRest, IsNotCounted}
 
 -- texts and what stands behind their heads are what the entries unpack to
 pub all-unpack : (p : Packed) (texts rests : List (List ℕ)) → OfAll p (IsThere p) → AreTexts p texts → AreRests texts rests → AllUnpack p rests
@@ -94,3 +94,13 @@ no-rest-told p texts (NoHead i) there opened told = (
   },
 )
 no-rest-told p texts NoMemory there opened told = there
+
+-- what is told where bytes weren't counted
+pub not-counted-told : (p : Packed) (fault : UnpackFault) → OfAll p (IsThere p) → IsNotCounted p fault → IsTold p fault
+not-counted-told p fault there (inl told) = no-text-told p fault there told
+not-counted-told p fault there (inr (texts, opened, told)) = no-rest-told p texts fault there opened told
+
+-- where all entries unpack, only memory can be wanting
+pub unpacks-counted : (p : Packed) (others : List (List ℕ)) (fault : UnpackFault) → AllUnpack p others → IsNotCounted p fault → fault ≡ NoMemory
+unpacks-counted p others fault all (inl told) = unpacks-open p others fault all told
+unpacks-counted p others fault all (inr (texts, opened, told)) = unpacks-begins p texts others fault opened all told

@@ -9,17 +9,21 @@ use Rattle.hls_check.specs.declared.checking.Checked.{Checked}
 use Rattle.hls_check.specs.declared.checking.CheckFault.{CheckFault}
 use Rattle.hls_check.specs.declared.checking.CheckFault.TheVariants.{Text, Segments}
 use Rattle.hls_check.specs.MediaTexts.{IsListing, listing_text, IsUnread}
-use Rattle.hls_check.specs.Unpacking.{packed, AllUnpack, IsTold}
+use Rattle.hls_check.specs.Unpacking.{Packed, packed, AllUnpack, IsTold}
 
--- the text is that of a playlist, and each of its entries unpacks: so many, to so many bytes
+-- each entry of a playlist unpacks: so many, to so many bytes
+pub record AreUnpacked (p : Packed) (c : Checked) : Type 0 where
+  pub rests : List (List ℕ)
+  pub unpack : AllUnpack p rests
+  pub count : c.segments ≡ length p.entries
+  pub bytes : c.bytes ≡ length (concat rests)
+
+-- the text is that of a playlist, and each of its entries unpacks
 pub record AreWhole (text : List ℕ) (segments keys : List (List ℕ)) (c : Checked) : Type 0 where
   pub listing : Listing
   pub sound : IsListing listing
   pub is_text : text ≡ listing_text listing
-  pub rests : List (List ℕ)
-  pub unpack : AllUnpack (packed listing.entries segments keys) rests
-  pub count : c.segments ≡ length listing.entries
-  pub bytes : c.bytes ≡ length (concat rests)
+  pub unpacked : AreUnpacked (packed listing.entries segments keys) c
 
 -- the text is that of a playlist whose segments don't unpack
 pub record DontUnpack (text : List ℕ) (segments keys : List (List ℕ)) (fault : UnpackFault) : Type 0 where

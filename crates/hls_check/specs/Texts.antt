@@ -1,5 +1,6 @@
 -- What the steps of unpacking find.
-use Rattle.std.specs.Prelude.{◌≡◌, ⊤, ℕ, ◌<◌, List, [], length, slice_index_or}
+use Rattle.std.specs.Prelude.{◌≡◌, ⊤, ℕ, ◌<◌, ◌⊎◌, List, [], length, slice_index_or, Option, Some, None}
+use Rattle.std.specs.List.{concat}
 use Rattle.aes_cbc.specs.Opening.{Seals}
 use Rattle.hls_check.specs.declared.fault.UnpackFault.{UnpackFault}
 use Rattle.hls_check.specs.declared.fault.UnpackFault.TheVariants.{Missing, Closed, NoHead, NoMemory}
@@ -43,3 +44,12 @@ IsNoRest texts (Missing i) = ⊥
 IsNoRest texts (Closed i) = ⊥
 IsNoRest texts (NoHead i) = IsFirstHeadless texts i
 IsNoRest texts NoMemory = ⊤
+
+-- what stands behind the heads of texts: so many bytes, or a first text has none
+abbrev pub HaveBytes : List (List ℕ) → Option ℕ → ℕ → Type 0
+HaveBytes texts None bytes = (rests : List (List ℕ)) × AreRests texts rests × (bytes ≡ length (concat rests))
+HaveBytes texts (Some i) bytes = IsFirstHeadless texts i
+
+-- why bytes weren't counted: an entry doesn't open, or all open, and a text has no head
+abbrev pub IsNotCounted : Packed → UnpackFault → Type 0
+IsNotCounted p fault = IsNoText p fault ⊎ ((texts : List (List ℕ)) × AreTexts p texts × IsNoRest texts fault)

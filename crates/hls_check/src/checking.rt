@@ -1,14 +1,17 @@
 //! Whether a playlist and its segments are whole.
 
-ghost use Rattle.std.specs.Prelude.{◌≡◌, map, IfOk, IfErr, MatchResult};
+ghost use Rattle.std.specs.Prelude.{◌≡◌, ◌↔◌, ℕ, map, IfOk, IfErr, IsErrOf, MatchResult};
 ghost use Rattle.hls_check.specs.declared.checking.Checked as TheChecked;
 ghost use Rattle.hls_check.specs.declared.checking.CheckFault.TheVariants.{Text, Segments};
-ghost use Rattle.hls_check.specs.Checks.{AreWhole, IsFaulty, IsMemory};
+ghost use Rattle.hls_check.specs.declared.fault.UnpackFault.TheVariants.{NoMemory};
+ghost use Rattle.hls_check.specs.Unpacking.{packed, IsTold};
+ghost use Rattle.hls_check.specs.Checks.{AreUnpacked, AreWhole, IsFaulty, IsMemory};
 
+use crate::counting::count_bytes;
 use crate::fault::UnpackFault;
 use crate::list_fault::ListFault;
+use crate::listing::Listing;
 use crate::media_text::read_media;
-use crate::unpacking::unpack;
 use std::alloc::Global;
 use thiserror::Error;
 
@@ -47,8 +50,8 @@ impl From<UnpackFault> for CheckFault {
 }
 
 /// How many segments the playlist of this text lists, and to how many bytes they unpack. `segments` are the sealed bytes in
-/// the order of the entries, `keys` the keys of the rendition by their indexes. A text that isn't read is told before any
-/// fault of a segment.
+/// the order of the entries, `keys` the keys of the rendition by their indexes. Segments behind the last entry aren't looked
+/// at. A text that isn't read is told before any fault of a segment.
 pub fn check(
     alloc: Global,
     text: &str,
@@ -63,9 +66,34 @@ pub fn check(
     ensures err { IfErr result (IsFaulty text.now (map (λ s. s.items) segments.now) keys.now) }
 {
     let listing = read_media(alloc, text)?;
-    let bytes = unpack(alloc, &listing, segments, keys)?;
+    Ok(check_listing(alloc, &listing, segments, keys)?)
+}
+
+/// How many segments a playlist lists, and to how many bytes they unpack. `segments` are the sealed bytes in the order of the
+/// entries, `keys` the keys of the rendition by their indexes. Segments behind the last entry aren't looked at.
+///
+/// No more than one segment is held unsealed at a time.
+pub fn check_listing(
+    alloc: Global,
+    listing: &Listing,
+    segments: &[Vec<u8>],
+    keys: &[[u8; 16]],
+) -> Result<Checked, UnpackFault>
+    ensures ok { let p = packed listing.now.entries (map (λ s. s.items) segments.now) keys.now in
+        IfOk result (AreUnpacked p) }
+
+    // Where all entries unpack, that is the answer, or there was no memory for it.
+    ensures unpacks { let p = packed listing.now.entries (map (λ s. s.items) segments.now) keys.now in
+        (c : TheChecked.Checked) → AreUnpacked p c
+        → MatchResult result (λ found. found ≡ c) (λ fault. fault ≡ NoMemory) }
+    ensures err { let p = packed listing.now.entries (map (λ s. s.items) segments.now) keys.now in
+        IfErr result (IsTold p) }
+    ensures missing { let p = packed listing.now.entries (map (λ s. s.items) segments.now) keys.now in
+        (i : ℕ) → IsErrOf result (UnpackFault.Missing i) ↔ IsTold p (UnpackFault.Missing i) }
+{
+    let bytes = count_bytes(alloc, &listing.entries, segments, keys)?;
     Ok(Checked {
         segments: listing.entries.len(),
-        bytes: bytes.len(),
+        bytes,
     })
 }

@@ -19,7 +19,7 @@ pub enum UnpackFault {
     /// The text of this entry doesn't begin with a segment head.
     #[error("entry {0} doesn't begin with its tables")]
     NoHead(usize),
-    /// There was no memory for the packets.
+    /// There was no memory for a text that was opened, or for the packets.
     #[error("out of memory")]
     NoMemory,
 }

@@ -2,6 +2,7 @@
 #![tactic(auto)]
 
 mod checking;
+mod counting;
 mod fault;
 mod head;
 mod laws;
@@ -19,7 +20,7 @@ mod tests;
 mod text_tests;
 mod unpacking;
 
-pub use checking::{CheckFault, Checked, check};
+pub use checking::{CheckFault, Checked, check, check_listing};
 pub use fault::UnpackFault;
 pub use laws::{a_text_lists_one_playlist, segments_unpack_to_their_bodies};
 pub use list_fault::ListFault;

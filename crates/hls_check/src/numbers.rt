@@ -13,14 +13,8 @@ pub fn read_decimal(text: &[u8]) -> Option<u64>
     ensures found { IfSome result (λ n. text.now ≡ decimal n) }
     ensures only { (n : ℕ) → n < 2 ^ 64 → text.now ≡ decimal n → result ≡ Some n }
 {
-    let digits = match str::from_utf8(text) {
-        Ok(digits) => digits,
-        Err(_) => return None,
-    };
-    let number: u64 = match digits.parse() {
-        Ok(number) => number,
-        Err(_) => return None,
-    };
+    let digits = str::from_utf8(text).ok()?;
+    let number: u64 = digits.parse().ok()?;
     if Buffer::new().format(number).as_bytes() == text {
         return Some(number);
     }
@@ -33,10 +27,7 @@ fn between<'a>(line: &'a [u8], front: &[u8], back: &[u8]) -> Option<&'a [u8]>
         ((middle : List ℕ) → line.now ≢ front.now ++ middle ++ back.now)
         (λ middle. line.now ≡ front.now ++ middle.now ++ back.now) }
 {
-    match line.strip_prefix(front) {
-        Some(behind) => behind.strip_suffix(back),
-        None => None,
-    }
+    line.strip_prefix(front)?.strip_suffix(back)
 }
 
 /// The number that stands between two texts in a line, where it is all that does.
@@ -44,19 +35,14 @@ pub fn read_between(line: &[u8], front: &[u8], back: &[u8]) -> Option<u64>
     ensures found { IfSome result (λ n. line.now ≡ front.now ++ decimal n ++ back.now) }
     ensures only { (n : ℕ) → n < 2 ^ 64 → line.now ≡ front.now ++ decimal n ++ back.now → result ≡ Some n }
 {
-    let Some(middle) = between(line, front, back) else {
-        return None;
-    };
-    read_decimal(middle)
+    read_decimal(between(line, front, back)?)
 }
 
 /// The number behind a tag, below a bound.
 pub fn read_tagged(line: &[u8], tag: &[u8], bound: u64) -> Option<u64>
     ensures { result ≡ number_in (λ n. tag.now ++ decimal n) bound line.now }
 {
-    let Some(n) = read_between(line, tag, b"") else {
-        return None;
-    };
+    let n = read_between(line, tag, b"")?;
     if n >= bound {
         return None;
     }
@@ -67,30 +53,18 @@ pub fn read_tagged(line: &[u8], tag: &[u8], bound: u64) -> Option<u64>
 pub fn read_duration(line: &[u8]) -> Option<u64>
     ensures { result ≡ number_in duration_line (2 ^ 64) line.now }
 {
-    let micros = read_seconds(line);
-    let Some(micros) = micros else {
-        return None;
-    };
-    Some(micros)
+    read_seconds(line)
 }
 
 /// The same, by its parts.
 fn read_seconds(line: &[u8]) -> Option<u64>
-    ensures found { IfSome result (λ micros. line.now ≡ duration_line micros) }
+    ensures found { IfSome result (λ micros. (micros < 2 ^ 64) × (line.now ≡ duration_line micros)) }
     ensures only { (micros : ℕ) → micros < 2 ^ 64 → line.now ≡ duration_line micros → result ≡ Some micros }
 {
-    let Some(seconds) = between(line, b"#EXTINF:", b",") else {
-        return None;
-    };
-    let Some((front, digits)) = seconds.split_last_chunk::<6>() else {
-        return None;
-    };
-    let Some(whole) = read_between(front, b"", b".") else {
-        return None;
-    };
-    let Some(rest) = read_six_digits(digits) else {
-        return None;
-    };
+    let seconds = between(line, b"#EXTINF:", b",")?;
+    let (front, digits) = seconds.split_last_chunk::<6>()?;
+    let whole = read_between(front, b"", b".")?;
+    let rest = read_six_digits(digits)?;
     let micros = u128::from(whole) * 1_000_000 + u128::from(rest);
     if micros > u128::from(u64::MAX) {
         return None;

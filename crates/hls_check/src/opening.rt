@@ -49,7 +49,7 @@ pub fn open_segments(
 }
 
 /// The text of an entry's segment, if there is one.
-fn open_entry(
+pub fn open_entry(
     alloc: Global,
     entries: &[Entry],
     segments: &[Vec<u8>],

@@ -15,8 +15,17 @@ use percent_encoding::{DecodeError, percent_decode};
 use playlist_text::{is_name, push_escaped, push_segment_uri};
 use std::alloc::{AllocError, Global};
 
-/// The number behind the last that a segment may have.
+/// The longest target duration, in seconds.
+const LONGEST_TARGET: u64 = 3600;
+
+/// A segment's number is below 2^32 - 1.
 const NUMBERS: u64 = u32::MAX as u64;
+
+/// A discontinuity sequence is below 2^32.
+const DISCONTINUITIES: u64 = 1 << 32;
+
+/// The most keys of a rendition.
+const MOST_KEYS: u64 = 4096;
 
 /// What the line of a key begins with, before the name.
 const KEY_BEGIN: &str = "#EXT-X-KEY:METHOD=AES-128,URI=\"";
@@ -110,7 +119,7 @@ impl Reading {
     fn take_target(&mut self, line: &[u8]) -> bool
         ensures { Tells result (step_at Versioned (progress_of self.old) line.now) (progress_of self.new) }
     {
-        let Some(target) = read_tagged(line, b"#EXT-X-TARGETDURATION:", 3601) else {
+        let Some(target) = read_tagged(line, b"#EXT-X-TARGETDURATION:", LONGEST_TARGET + 1) else {
             return false;
         };
         if target == 0 {
@@ -135,7 +144,8 @@ impl Reading {
     fn take_discontinuity_sequence(&mut self, line: &[u8]) -> bool
         ensures { Tells result (step_at Sequenced (progress_of self.old) line.now) (progress_of self.new) }
     {
-        let Some(number) = read_tagged(line, b"#EXT-X-DISCONTINUITY-SEQUENCE:", NUMBERS + 1) else {
+        let Some(number) = read_tagged(line, b"#EXT-X-DISCONTINUITY-SEQUENCE:", DISCONTINUITIES)
+        else {
             return false;
         };
         self.discontinuity_sequence = number;
@@ -313,7 +323,7 @@ fn read_key(alloc: Global, line: &[u8], name: &str) -> Result<Option<u64>, Alloc
     let Some(key) = read_between(line, front.as_bytes(), b".key\"") else {
         return Ok(None);
     };
-    if key >= 4096 {
+    if key >= MOST_KEYS {
         return Ok(None);
     }
     Ok(Some(key))

@@ -1,5 +1,7 @@
 use crate::reading_tests::MEDIA;
-use crate::{CheckFault, Checked, Entry, ListFault, Listing, UnpackFault, check, unpack};
+use crate::{
+    CheckFault, Checked, Entry, ListFault, Listing, UnpackFault, check, check_listing, unpack,
+};
 use aes_cbc::{Key, seal};
 use segment_job::vector;
 use std::alloc::{AllocError, Global};
@@ -213,5 +215,33 @@ fn a_playlist_and_its_segments(rt: HostRuntime) -> Result<(), Fail> {
         check(alloc, MEDIA, &segments, &KEYS),
         Err(CheckFault::Segments(UnpackFault::Missing(1)))
     );
+    Ok(())
+}
+
+#[test]
+fn a_listing_and_its_segments(rt: HostRuntime) -> Result<(), Fail> {
+    let alloc = rt.alloc();
+    let mut segments = two_segments(alloc, &KEYS[0])?;
+    segments.push(Vec::new(alloc))?;
+    let listing = listing(alloc, 0)?;
+    assert_eq!(rt;
+        check_listing(alloc, &listing, &segments, &KEYS),
+        Ok(Checked {
+            segments: 2,
+            bytes: 752
+        })
+    );
+    segments.clear();
+    for number in [0, 1] {
+        segments.push(seal(alloc, &Key::new(KEYS[0]), &vector(number), &[0; 16])?)?;
+    }
+    let told = check_listing(alloc, &listing, &segments, &KEYS).err();
+    assert_eq!(rt; told, Some(UnpackFault::NoHead(0)));
+    cut(&mut segments, 1);
+    let told = check_listing(alloc, &listing, &segments, &KEYS).err();
+    assert_eq!(rt; told, Some(UnpackFault::Closed(1)));
+    segments.pop();
+    let told = check_listing(alloc, &listing, &segments, &KEYS).err();
+    assert_eq!(rt; told, Some(UnpackFault::Missing(1)));
     Ok(())
 }

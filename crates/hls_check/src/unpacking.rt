@@ -14,7 +14,8 @@ use psi_tables::one_head_begins_bytes;
 use std::alloc::Global;
 
 /// The packets of a playlist's segments, one behind another, without the head of each. `segments` are the sealed bytes in
-/// the order of the entries, `keys` the keys of the rendition by their indexes.
+/// the order of the entries, `keys` the keys of the rendition by their indexes. Segments behind the last entry aren't looked
+/// at.
 ///
 /// An entry's bytes open under its key and the vector of its number (RFC 8216, 5.2), and begin with the packets of its
 /// tables (3.2).

@@ -7,7 +7,7 @@ ghost use Rattle.tshls.specs.Checking;
 use crate::fault::Fault;
 use crate::files::FileReader;
 use crate::output::write_all;
-use hls_check::{Checked, Listing, read_media};
+use hls_check::{Checked, Listing, check_listing, read_media};
 use item_io::push_segment_file_name;
 use playlist_text::push_decimal;
 use std::alloc::{AllocError, Global};
@@ -50,23 +50,6 @@ fn read_text<F: FileReader>(alloc: Global, files: &F, playlist: &str) -> Result<
     }
 }
 
-/// The bytes of the segment that a playlist lists at a place.
-fn read_segment<F: FileReader>(
-    alloc: Global,
-    files: &F,
-    playlist: &str,
-    listing: &Listing,
-    place: usize,
-) -> Result<Vec<u8>, Fault>
-    requires { place < length listing.now.entries }
-    ensures ok { IfOk result (λ bytes. F.gives files.now (slice_index_or (Checking.segment_paths playlist.now listing.now) place []) bytes.items) }
-    ensures err { IfErr result (IsRefusal (Checking.RefusesOne (F.refuses files.now) (Checking.segment_paths playlist.now listing.now))) }
-{
-    let entry = listing.entries[place];
-    let path = segment_path(alloc, playlist, &listing.name, entry.number)?;
-    files.read(alloc, path.as_str())
-}
-
 /// The bytes of the segments that a playlist lists, in the order of its entries.
 fn read_segments<F: FileReader>(
     alloc: Global,
@@ -78,9 +61,9 @@ fn read_segments<F: FileReader>(
     ensures err { IfErr result (IsRefusal (Checking.RefusesOne (F.refuses files.now) (Checking.segment_paths playlist.now listing.now))) }
 {
     let mut segments = Vec::new(alloc);
-    for i in 0..listing.entries.len() {
-        let bytes = read_segment(alloc, files, playlist, listing, i)?;
-        segments.push(bytes)?;
+    for entry in &listing.entries {
+        let path = segment_path(alloc, playlist, &listing.name, entry.number)?;
+        segments.push(files.read(alloc, path.as_str())?)?;
     }
     Ok(segments)
 }
@@ -98,7 +81,7 @@ fn check_files<F: FileReader>(
     let text = read_text(alloc, files, playlist)?;
     let listing = read_media(alloc, &text)?;
     let segments = read_segments(alloc, files, playlist, &listing)?;
-    Ok(hls_check::check(alloc, &text, &segments, keys)?)
+    Ok(check_listing(alloc, &listing, &segments, keys)?)
 }
 
 /// The line that says so.

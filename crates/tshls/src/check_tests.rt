@@ -274,7 +274,7 @@ fn texts_of_faults(rt: HostRuntime) -> Result<(), Fail> {
         ),
     ];
     for (fault, text) in faults {
-        let fault = Fault::from(fault);
+        let fault = Fault::Checking(fault);
         assert_eq!(rt; fault.status(), 1);
         assert_eq!(rt; shown(alloc, fault)?.as_str(), text);
     }

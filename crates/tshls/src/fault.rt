@@ -207,12 +207,13 @@ impl From<ListFault> for Fault {
     }
 }
 
-impl From<CheckFault> for Fault {
+impl From<UnpackFault> for Fault {
     ghost use Rattle.tshls.specs.declared.fault.Fault.TheVariants.{Checking};
+    ghost use Rattle.hls_check.specs.declared.checking.CheckFault.TheVariants.{Segments};
 
-    ghost from_gives = { λ error fault. fault ≡ Checking error };
+    ghost from_gives = { λ error fault. fault ≡ Checking (Segments error) };
 
-    fn from(error: CheckFault) -> Fault {
-        Fault::Checking(error)
+    fn from(error: UnpackFault) -> Fault {
+        Fault::Checking(CheckFault::Segments(error))
     }
 }

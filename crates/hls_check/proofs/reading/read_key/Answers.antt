@@ -10,15 +10,15 @@ returns-in_default c =
     let read = key-read c.args.line.now c.args.name.now c.as_bytes.result.now c.read_between.result front c.read_between.ensures.found c.read_between.ensures.only in
     read-nothing _ c.args.line.now c.read_between.result 4096 (omega arith) read c.in_default.not-Some
 
-pub returns-then-key-ge4096 : goal.returns-then-key-ge4096
-returns-then-key-ge4096 c =
+pub returns-then-key-ge-MOST_KEYS : goal.returns-then-key-ge-MOST_KEYS
+returns-then-key-ge-MOST_KEYS c =
     let front : c.as_bytes.result.now ≡ key_front c.args.name.now = c.as_bytes.ensures.value ∙ c.in_ok-front.ensures in
     let read = key-read c.args.line.now c.args.name.now c.as_bytes.result.now c.read_between.result front c.read_between.ensures.found c.read_between.ensures.only in
-    read-refused _ c.args.line.now c.read_between.result 4096 c.in-Some.key (omega arith) read c.in-Some.is c.if-key-ge4096.true
+    read-refused _ c.args.line.now c.read_between.result 4096 c.in-Some.key (omega arith) read c.in-Some.is c.if-key-ge-MOST_KEYS.true
 
 pub returns : goal.returns
 returns c =
     let front : c.as_bytes.result.now ≡ key_front c.args.name.now = c.as_bytes.ensures.value ∙ c.in_ok-front.ensures in
     let read = key-read c.args.line.now c.args.name.now c.as_bytes.result.now c.read_between.result front c.read_between.ensures.found c.read_between.ensures.only in
     let line = MatchOption-at_some _ _ _ c.in-Some.is read.found in
-    read-found _ c.args.line.now c.read_between.result 4096 c.in-Some.key (omega arith) read c.in-Some.is line c.if-key-ge4096.false
+    read-found _ c.args.line.now c.read_between.result 4096 c.in-Some.key (omega arith) read c.in-Some.is line c.if-key-ge-MOST_KEYS.false

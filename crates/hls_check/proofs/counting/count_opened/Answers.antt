@@ -1,0 +1,28 @@
+use Rattle.std.proofs.Common.{◌∙◌, sym, subst, inl, rules}
+use Rattle.std.proofs.lemmas.Option.{MatchOption-at_some}
+use Rattle.hls_check.specs.Unpacking.{BeginsWithHead}
+use Rattle.hls_check.proofs.Growing.{MatchOption-none}
+use Rattle.hls_check.proofs.Counted.{past, headless-here, counted-here}
+use Rattle.hls_check.proofs.counting.count_opened.Goals as goal
+
+pub returns-in_default-clause-err : goal.returns-in_default-clause-err
+returns-in_default-clause-err c = inl (record {
+  entry = c.loop-i-test.true;
+  without = MatchOption-none _ _ _ c.in_default.not-Some c.in_ok-text.ensures;
+  before = λ j lt. (_, (c.loop-i.invariant.opens j lt).seals);
+})
+
+pub loop-i-preserved-then-is_some : goal.loop-i-preserved-then-is_some
+loop-i-preserved-then-is_some c =
+    past _ _ _ c.in-Some.text.items (MatchOption-at_some _ _ _ c.in-Some.is c.in_ok-text.ensures) c.loop-i.headless (sym c.is_some.ensures ∙ c.if-is_some.true) c.loop-i.invariant
+
+pub loop-i-preserved-in_default-2 : goal.loop-i-preserved-in_default-2
+loop-i-preserved-in_default-2 c =
+    let without = subst (λ t. (rest : _) → ¬ BeginsWithHead t rest) c.deref.ensures.value (MatchOption-none _ _ _ c.in_default-2.not-Some c.in_ok-rest.ensures) in
+    headless-here _ _ _ c.in-Some.text.items (MatchOption-at_some _ _ _ c.in-Some.is c.in_ok-text.ensures) c.loop-i.headless (sym c.is_some.ensures ∙ c.if-is_some.false) without c.loop-i.invariant
+
+pub loop-i-preserved : goal.loop-i-preserved
+loop-i-preserved c =
+    let begins = subst (λ t. BeginsWithHead t c.in-Some-2.rest.now) c.deref.ensures.value (MatchOption-at_some _ _ _ c.in-Some-2.is c.in_ok-rest.ensures) in
+    counted-here _ _ _ c.in-Some.text.items (MatchOption-at_some _ _ _ c.in-Some.is c.in_ok-text.ensures) c.loop-i.headless c.in-Some-2.rest.now _ (sym c.is_some.ensures ∙ c.if-is_some.false) begins (search rules)
+    c.loop-i.invariant
