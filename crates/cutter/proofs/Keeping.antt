@@ -1,5 +1,5 @@
 -- What a cutter keeps, behind each of its calls.
-use Rattle.std.proofs.Common.{◌≡◌, ◌∙◌, ◌⊎◌, inl, inr, ℕ, ◌<◌, ◌^◌, Bool, true, false, List, [], ◌∷◌, ◌++◌, length, Option, None, refl, ap, sym, arith}
+use Rattle.std.proofs.Common.{◌≡◌, ◌∙◌, ◌⊎◌, inl, inr, ℕ, ◌<◌, ◌^◌, Bool, true, false, List, [], ◌∷◌, ◌++◌, length, Option, None, refl, ap, sym, subst, arith}
 use Rattle.psi_tables.specs.InForce.{InForce, tables_behind}
 use Rattle.psi_tables.specs.Watching.{Watched}
 use Rattle.pes_time.specs.Times.{Pushed as Timed}
@@ -48,6 +48,13 @@ pub record Read (c : Inside) (p : List ℕ) (look : Look) (now : Option Gathered
   pub tables : t ≡ tables_in c
   pub counted_is : c' ≡ counted c.top look
 
+-- the same of an arrival, whose value is the packet's
+pub read-of : (c : Inside) (p q : List ℕ) (look : Look) (now : Option Gathered) (t : Option InForce) (c' : Option Stamp) → q ≡ p
+    → look ≡ look_by c.clock.gap c.clock.list (tables_in c) q → is_lost c.clock.gap c.clock.list (pts_at (tables_in c) q) ≡ false
+    → now ≡ c.going → t ≡ tables_in c → c' ≡ counted c.top look → Read c p look now t c'
+read-of c p q look now t c' same sight kept going tables point =
+    subst (λ (x : List ℕ). Read c x look now t c') same (record { look_is = sight; kept = kept; going = going; tables = tables; counted_is = point })
+
 abbrev fact : Inside → List ℕ → Fact
 fact c p = fact_behind c.settings c.fed.items p
 
@@ -91,25 +98,25 @@ push-fault c v p look now t c' e is k r (inl none) = inl none
 push-fault c v p look now t c' e is k r (inr brought) =
     inr (rw (← is) (λ more. placed-fault c.rendition c.settings c.fed.items (fact c p) p c.top c.going e more refl k.cuts (lost-is c p false k r.kept) (sym (taken-is c p look now t c' k r) ∙ brought)))
 
-pub push-lost : (c : Inside) (v : Pushed) (p : List ℕ) (e : CutFault)
-    → pushed c ≡ v → Keeps c → (e ≡ Limit) × (is_lost c.clock.gap c.clock.list (pts_at (tables_in c) p) ≡ true) → Told v p e
-push-lost c v p e is k lost =
-    inr (rw (← is, lost.0) (λ more. lost-fault c.rendition c.settings c.fed.items p c.top c.going more k.cuts (lost-is c p true k lost.1)))
+pub push-lost : (c : Inside) (v : Pushed) (p q : List ℕ) (e : CutFault)
+    → pushed c ≡ v → Keeps c → q ≡ p → (e ≡ Limit) × (is_lost c.clock.gap c.clock.list (pts_at (tables_in c) q) ≡ true) → Told v p e
+push-lost c v p q e is k same lost =
+    inr (rw (← same, ← is, lost.0) (λ more. lost-fault c.rendition c.settings c.fed.items q c.top c.going more k.cuts (lost-is c q true k lost.1)))
 
 -- what is kept behind a packet
-pub push-keeps : (c d : Inside) (p : List ℕ) (look : Look) (now : Option Gathered) (t : Option InForce) (c' : Option Stamp) (plan : Option SegmentPlan)
+pub push-keeps : (c d : Inside) (p q : List ℕ) (look : Look) (now : Option Gathered) (t : Option InForce) (c' : Option Stamp) (plan : Option SegmentPlan)
     → Keeps c → Read c p look now t c' → taken c.rendition c.settings now t c' (mark p look c') ≡ gives d.going plan
-    → d.rendition ≡ c.rendition → d.settings ≡ c.settings
-    → d.watch ≡ record { program = c.watch.program; packets = c.watch.packets ++ packet_list p }
-    → d.clock ≡ record { gap = c.clock.gap; list = with_pts c.clock.list (pts_at (tables_in c) p) }
+    → q ≡ p → d.rendition ≡ c.rendition → d.settings ≡ c.settings
+    → d.watch ≡ record { program = c.watch.program; packets = c.watch.packets ++ packet_list q }
+    → d.clock ≡ record { gap = c.clock.gap; list = with_pts c.clock.list (pts_at (tables_in c) q) }
     → d.top ≡ top_after c.top c' → d.fed.items ≡ c.fed.items ++ p ∷ []
     → Keeps d
-push-keeps c d p look now t c' plan k r gave rendition settings watch clock top fed =
+push-keeps c d p q look now t c' plan k r gave same rendition settings watch clock top fed =
     let placed = placed-by c p look now d.going t c' plan k r gave in
     let point : c' ≡ counted c.top (fact c p).look = r.counted_is ∙ ap (counted c.top) (r.look_is ∙ by-kept c (λ gap list tables. look_by gap list tables p) k) in
     record {
-      watch = rw (settings, fed, packets_of-more c.fed.items p) (watch ∙ ap (λ (w : Watched). record { program = w.program; packets = w.packets ++ packet_list p }) k.watch);
-      clock = rw (settings, fed, pts_list-more c.settings c.fed.items p) (clock ∙ by-kept {A = Timed} c (λ gap list tables. record { gap = gap; list = with_pts list (pts_at tables p) }) k);
+      watch = rw (settings, fed, packets_of-more c.fed.items p) (watch ∙ ap (λ (x : List ℕ). record { program = c.watch.program; packets = c.watch.packets ++ packet_list x }) same ∙ ap (λ (w : Watched). record { program = w.program; packets = w.packets ++ packet_list p }) k.watch);
+      clock = rw (settings, fed, pts_list-more c.settings c.fed.items p) (clock ∙ ap (λ (x : List ℕ). record { gap = c.clock.gap; list = with_pts c.clock.list (pts_at (tables_in c) x) }) same ∙ by-kept {A = Timed} c (λ gap list tables. record { gap = gap; list = with_pts list (pts_at tables p) }) k);
       cuts = rw (rendition, settings, fed, top, point) placed.at;
     }
 

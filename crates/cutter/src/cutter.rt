@@ -5,7 +5,7 @@ ghost use Rattle.cutter.specs.Ordered.{IsPlan};
 ghost use Rattle.cutter.specs.Settings.{IsAllowed};
 
 use crate::fault::CutFault;
-use crate::following::{look_behind, watch_packet};
+use crate::following::{Arrival, look_behind, watch_packet};
 use crate::going::Going;
 use crate::place::{Placed, finish, place};
 use crate::plan::Plan;
@@ -94,7 +94,8 @@ impl Cutter {
             return Err(CutFault::Ended);
         }
         self.ended = true;
-        let look = look_behind(&self.watch, &mut self.clock, packet)?;
+        let arrival = Arrival::new(packet);
+        let look = look_behind(&self.watch, &mut self.clock, &arrival)?;
         let counted = counted(self.top, look);
         let (alloc, rendition, settings) = (self.alloc, self.rendition, self.settings);
         let going = self.going.take();
@@ -111,7 +112,7 @@ impl Cutter {
             self.watch.tables(),
             &mark,
         )?;
-        watch_packet(&mut self.watch, packet)?;
+        watch_packet(&mut self.watch, &arrival)?;
         self.top = counted.or(self.top);
         self.going = going;
         self.fed.push(packet);
