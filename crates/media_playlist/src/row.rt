@@ -1,6 +1,7 @@
 ghost use Rattle.std.specs.Prelude.{◌≡◌};
 ghost use Rattle.media_playlist.specs.Rows;
 
+use playlist_text::rounded_seconds;
 use std::marker::Model;
 
 /// An I-frame of a segment: where it begins in the segment and how long it is, in bytes, and its microseconds.
@@ -44,15 +45,8 @@ pub fn is_long(target: u64, row: &Row) -> bool
     ensures { result ≡ Rows.is_long target row.now }
 {
     row.micros == 0
-        || rounded(row.micros) > u128::from(target)
+        || rounded_seconds(row.micros) > u128::from(target)
         || !is_made_of(row.micros, &row.frames)
-}
-
-/// Microseconds as whole seconds, to the nearest.
-fn rounded(micros: u64) -> u128
-    ensures { result ≡ Rows.rounded micros }
-{
-    (u128::from(micros) + 500_000) / 1_000_000
 }
 
 fn is_made_of(micros: u64, frames: &[FrameRow]) -> bool

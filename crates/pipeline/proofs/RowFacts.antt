@@ -7,7 +7,8 @@ use Rattle.std.proofs.lemmas.List.Elements.{All-cons}
 use Rattle.std.proofs.lemmas.Bool.Decides.{nat_tests}
 use Rattle.playlist_text.specs.Numbers.{micros}
 use Rattle.media_playlist.specs.declared.row.FrameRow.{FrameRow}
-use Rattle.media_playlist.specs.Rows.{SegmentRow, is_long, frame_micros, rounded}
+use Rattle.playlist_text.specs.Numbers.{rounded_seconds}
+use Rattle.media_playlist.specs.Rows.{SegmentRow, is_long, frame_micros}
 use Rattle.cutter.specs.declared.settings.CutSettings.{CutSettings}
 use Rattle.cutter.specs.declared.plan.Frame.{Frame}
 use Rattle.cutter.specs.Plans.{SegmentPlan}
@@ -79,11 +80,11 @@ few-frames size ticks f [] follow = omega (arith, follow.0, follow.1)
 few-frames size ticks f (g ∷ frames) follow = omega (arith, follow.0, follow.1, few-frames size ticks g frames follow.3)
 
 -- no row is too long that lasts some time, rounds to at most the target and is as long as its I-frames
-short-row : (target : ℕ) (row : SegmentRow) → 0 < row.micros → rounded row.micros ≤ target → 0 < length row.frames → row.micros ≡ frame_micros row.frames → is_long target row ≡ false
+short-row : (target : ℕ) (row : SegmentRow) → 0 < row.micros → rounded_seconds row.micros ≤ target → 0 < length row.frames → row.micros ≡ frame_micros row.frames → is_long target row ≡ false
 unfolding is_long
 short-row target row lasts short some made =
     let a : (row.micros == 0) ≡ false = grind (arith, nat_tests, lasts) in
-    let b : nat_lt target (rounded row.micros) ≡ false = grind (arith, nat_tests, short) in
+    let b : nat_lt target (rounded_seconds row.micros) ≡ false = grind (arith, nat_tests, short) in
     let c : nat_lt 0 (length row.frames) ≡ true = grind (arith, nat_tests, some) in
     let d : (row.micros == frame_micros row.frames) ≡ true = grind (arith, nat_tests, made) in
     rw (a, b, c, d) refl

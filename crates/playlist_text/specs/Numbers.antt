@@ -6,6 +6,10 @@ use Rattle.std.specs.Fmt.{decimal}
 abbrev pub micros : ℕ → ℕ
 micros ticks = (200 * ticks + 9) / 18
 
+-- microseconds as whole seconds, to the nearest (RFC 8216, 4.3.3.1)
+abbrev pub rounded_seconds : ℕ → ℕ
+rounded_seconds micros = (micros + 500_000) / 1_000_000
+
 -- the decimal digit at a place, counted from the right
 abbrev pub digit : ℕ → ℕ → ℕ
 digit number place = 48 + number / 10 ^ place % 10

@@ -14,6 +14,13 @@ pub fn micros(ticks: u64) -> u128
     (200 * u128::from(ticks) + 9) / 18
 }
 
+/// Microseconds as whole seconds, to the nearest (RFC 8216, 4.3.3.1).
+pub fn rounded_seconds(micros: u64) -> u128
+    ensures { result ≡ Numbers.rounded_seconds micros }
+{
+    (u128::from(micros) + 500_000) / 1_000_000
+}
+
 /// Appends a decimal integer, with no zeros in front (RFC 8216, 4.2).
 pub fn push_decimal(out: &mut String, number: u128) -> Result<(), AllocError>
     ensures { OnOk result (string_bytes out.new ≡ string_bytes out.old ++ decimal number) }
