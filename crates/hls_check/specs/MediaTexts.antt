@@ -1,7 +1,8 @@
 -- Texts of media playlists, and texts that are none (RFC 8216, 4.3).
-use Rattle.std.specs.Prelude.{◌≡◌, ◌≢◌, ⊤, ℕ, ◌+◌, ◌-◌, ◌/◌, ◌<◌, ◌≤◌, ◌^◌, ◌⊎◌, true, List, [], ◌∷◌, ◌++◌, length, take, All}
+use Rattle.std.specs.Prelude.{◌≡◌, ◌≢◌, ⊤, ℕ, ◌+◌, ◌-◌, ◌<◌, ◌≤◌, ◌^◌, ◌⊎◌, true, List, [], ◌∷◌, ◌++◌, length, take, All}
 use Rattle.std.specs.Str.{IsUtf8}
 use Rattle.playlist_text.specs.Names.{is_name}
+use Rattle.playlist_text.specs.Numbers.{rounded_seconds}
 use Rattle.playlist_text.specs.Lines.{text_of}
 use Rattle.playlist_text.specs.MediaLines.{Entry, Listing, listing_lines}
 use Rattle.hls_check.specs.declared.list_fault.ListFault.{ListFault}
@@ -14,7 +15,7 @@ pub record IsListed (target n : ℕ) (entry : Entry) : Type 0 where
   pub below : n < 2 ^ 32 - 1
   pub key : entry.key < 4096
   pub lasts : 0 < entry.micros
-  pub short : (entry.micros + 500_000) / 1_000_000 ≤ target
+  pub short : rounded_seconds entry.micros ≤ target
 
 -- entries whose numbers rise by one from this one on
 abbrev pub AreListed : ℕ → ℕ → List Entry → Type 0

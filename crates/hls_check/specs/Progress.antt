@@ -1,10 +1,11 @@
 -- How far the lines of a media playlist have been read.
-use Rattle.std.specs.Prelude.{ℕ, zero, suc, ◌+◌, ◌-◌, ◌/◌, ◌^◌, ◌==◌, ◌&&◌, Bool, true, false, nat_le, nat_lt, if◌then◌else◌, List, [], ◌∷◌, ◌++◌, length, drop, Option, is_some, Some, None, option_map, codes, not}
+use Rattle.std.specs.Prelude.{ℕ, zero, suc, ◌+◌, ◌-◌, ◌^◌, ◌==◌, ◌&&◌, Bool, true, false, nat_le, nat_lt, if◌then◌else◌, List, [], ◌∷◌, ◌++◌, length, drop, Option, is_some, Some, None, option_map, codes, not}
 use Rattle.std.specs.Fmt.{decimal}
 use Rattle.std.specs.List.{before_first}
 use Rattle.std.specs.Str.{bytes_eq, is_utf8}
 use Rattle.std.specs.Option.{option_and_then, option_or}
 use Rattle.percent_encoding.specs.Percent.{percent_decode}
+use Rattle.playlist_text.specs.Numbers.{rounded_seconds}
 use Rattle.playlist_text.specs.Names.{is_name}
 use Rattle.playlist_text.specs.Uris.{segment_uri}
 use Rattle.playlist_text.specs.MediaLines.{Entry, Listing, key_line, duration_line}
@@ -89,7 +90,7 @@ expect line wanted next = if bytes_eq line wanted then Some next else None
 
 -- a duration that an entry may have
 abbrev pub is_duration : ℕ → ℕ → Bool
-is_duration target micros = nat_lt 0 micros && nat_le ((micros + 500_000) / 1_000_000) target
+is_duration target micros = nat_lt 0 micros && nat_le (rounded_seconds micros) target
 
 abbrev pub with_key : Progress → List ℕ → ℕ → Progress
 with_key p name key = record p { stage = Keyed; name = Some name; key = key }

@@ -12,7 +12,7 @@ ghost use Rattle.hls_check.specs.Held.{progress_of, Moves, Tells};
 use crate::listing::{Entry, Listing};
 use crate::numbers::{read_between, read_duration, read_tagged};
 use percent_encoding::{DecodeError, percent_decode};
-use playlist_text::{is_name, push_escaped, push_segment_uri};
+use playlist_text::{is_name, push_escaped, push_segment_uri, rounded_seconds};
 use std::alloc::{AllocError, Global};
 
 /// The longest target duration, in seconds.
@@ -249,7 +249,7 @@ impl Reading {
         let Some(micros) = read_duration(line) else {
             return false;
         };
-        if micros == 0 || (u128::from(micros) + 500_000) / 1_000_000 > u128::from(self.target) {
+        if micros == 0 || rounded_seconds(micros) > u128::from(self.target) {
             return false;
         }
         self.micros = micros;

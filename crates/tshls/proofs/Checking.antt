@@ -1,31 +1,14 @@
 -- Files that give the segments of a playlist, one behind another.
-use Rattle.std.proofs.Common.{◌≡◌, Vec, Global, Result, Ok, Err, IfErr, ℕ, suc, ◌+◌, ◌<◌, inl, inr, List, [], ◌∷◌, ◌++◌, map, length, take, get_or, ap, sym, ◌∙◌, subst, arith}
+use Rattle.std.proofs.Common.{◌≡◌, Vec, Global, ℕ, suc, ◌+◌, ◌<◌, List, [], ◌∷◌, ◌++◌, map, length, take, get_or, ap, sym, ◌∙◌, subst, arith}
 use Rattle.std.proofs.Math.Seq.{take-suc}
-use Rattle.std.proofs.lemmas.List.{map-append, length-map, get_or-map}
+use Rattle.std.proofs.lemmas.List.{map-append, get_or-map}
 use Rattle.playlist_text.specs.MediaLines.{Entry, Listing}
-use Rattle.tshls.specs.declared.fault.Fault.{Fault}
-use Rattle.tshls.specs.Faults.{IsRefusal}
-use Rattle.tshls.specs.Checking.{AllGive, RefusesOne, segment_path, segment_paths}
+use Rattle.tshls.specs.Checking.{AllGive, segment_path, segment_paths}
 
 -- the path of a place
 pub path-at : (playlist : List ℕ) (listing : Listing) (i : ℕ) (e : Entry) → i < length listing.entries
     → get_or (segment_paths playlist listing) i [] ≡ segment_path playlist listing.name (get_or listing.entries i e).number
 path-at playlist listing i e below = get_or-map (λ x. segment_path playlist listing.name x.number) listing.entries i e [] below
-
--- .. is one of the paths
-pub refused-at : (refuses : List ℕ → Type 0) (playlist : List ℕ) (listing : Listing) (i : ℕ) (e : Entry) → i < length listing.entries
-    → refuses (segment_path playlist listing.name (get_or listing.entries i e).number) → RefusesOne refuses (segment_paths playlist listing)
-refused-at refuses playlist listing i e below refused = record {
-  place = i;
-  within = omega (arith, below, length-map listing.entries (λ x. segment_path playlist listing.name x.number));
-  refused = subst refuses (sym (path-at playlist listing i e below)) refused;
-}
-
--- a refusal, for another reason
-pub IfErr-reason : {T : Type 0} (r : Result T Fault) (P Q : Type 0) → (P → Q) → IfErr r (IsRefusal P) → IfErr r (IsRefusal Q)
-IfErr-reason (Ok x) P Q f e = e
-IfErr-reason (Err fault) P Q f (inl (is, p)) = inl (is, f p)
-IfErr-reason (Err fault) P Q f (inr is) = inr is
 
 give-more : (gives : List ℕ → List ℕ → Type 0) (paths all : List (List ℕ)) (path bytes : List ℕ) → AllGive gives paths all → gives path bytes
     → AllGive gives (paths ++ path ∷ []) (all ++ bytes ∷ [])

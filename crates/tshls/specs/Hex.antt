@@ -5,15 +5,15 @@ use Rattle.hex.specs.Hex.{decode_sized}
 use Rattle.segment_job.specs.Vectors.{vector}
 
 -- the 16 bytes that 32 hex digits of either case stand for; None for any other text
-abbrev pub block_of : List ℕ → Option (List ℕ)
-block_of text = result_ok (decode_sized text 16)
+abbrev pub bytes_of_hex : List ℕ → Option (List ℕ)
+bytes_of_hex text = result_ok (decode_sized text 16)
 
 -- the vector that exactly one of the two ways gives: a segment's number, or 32 hex digits
-abbrev pub vector_of : Option ℕ → Option (List ℕ) → Option (List ℕ)
-vector_of (Some number) None = Some (vector number)
-vector_of None (Some text) = block_of text
-vector_of None None = None
-vector_of (Some number) (Some text) = None
+abbrev pub chosen_vector : Option ℕ → Option (List ℕ) → Option (List ℕ)
+chosen_vector (Some number) None = Some (vector number)
+chosen_vector None (Some text) = bytes_of_hex text
+chosen_vector None None = None
+chosen_vector (Some number) (Some text) = None
 
 -- without one last LF, where there is one
 abbrev pub without_end : List ℕ → List ℕ

@@ -1,7 +1,7 @@
 -- Keys on the command line.
 use Rattle.std.specs.Prelude.{ℕ, ◌==◌, Bool, List, is_some}
 use Rattle.std.specs.List.{slice_split, list_all}
-use Rattle.tshls.specs.Hex.{block_of}
+use Rattle.tshls.specs.Hex.{bytes_of_hex}
 
 -- the texts with a plus between them
 abbrev pub key_texts : List ℕ → List (List ℕ)
@@ -9,4 +9,4 @@ key_texts text = slice_split (λ b. b == 43) text
 
 -- each of them is 32 hex digits
 abbrev pub are_keys : List ℕ → Bool
-are_keys text = list_all (λ t. is_some (block_of t)) (key_texts text)
+are_keys text = list_all (λ t. is_some (bytes_of_hex t)) (key_texts text)

@@ -4,7 +4,7 @@ use Rattle.std.specs.Option.{unwrap_or}
 use Rattle.cutter.specs.declared.settings.CutSettings.{CutSettings}
 use Rattle.pipeline.specs.Ladder.{Ladder, RenditionValue}
 use Rattle.tshls.specs.declared.numbers.Numbers.{Numbers}
-use Rattle.tshls.specs.Hex.{block_of}
+use Rattle.tshls.specs.Hex.{bytes_of_hex}
 use Rattle.tshls.specs.KeyLists.{key_texts}
 use Rattle.tshls.specs.Sizes.{IsSize}
 
@@ -37,7 +37,7 @@ pub record IsRenditionOf (name codecs size keys : List ℕ) (turns : ℕ) (made 
   pub name_is : made.name ≡ name
   pub codecs_are : made.codecs ≡ codecs
   pub size_is : IsSize size made.width made.height
-  pub keys_are : map block_of (key_texts keys) ≡ map Some made.keys.keys
+  pub keys_are : map bytes_of_hex (key_texts keys) ≡ map Some made.keys.keys
   pub period_is : made.keys.period ≡ turns
 
 -- the settings of one rendition, cut and listed by these numbers

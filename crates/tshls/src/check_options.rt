@@ -2,7 +2,7 @@
 ghost use Rattle.std.specs.Prelude.{◌≡◌, ◌⊎◌, ◌↔◌, map, Some, false, IfOk, IfErr, IsErrOf};
 ghost use Rattle.std.specs.String.{string_bytes};
 ghost use Rattle.tshls.specs.Faults.{IsOfCommandLine};
-ghost use Rattle.tshls.specs.Hex.{block_of};
+ghost use Rattle.tshls.specs.Hex.{bytes_of_hex};
 ghost use Rattle.tshls.specs.KeyLists.{key_texts, are_keys};
 
 use crate::fault::Fault;
@@ -19,7 +19,7 @@ pub struct CheckOptions {
 
 /// The options that the words of `check` ask for; BadKey where a key isn't 32 hex digits.
 fn read_check_options(alloc: Global, keys: &str, playlist: &str) -> Result<CheckOptions, Fault>
-    ensures keys { IfOk result (λ options. map block_of (key_texts keys.now) ≡ map Some options.keys.items) }
+    ensures keys { IfOk result (λ options. map bytes_of_hex (key_texts keys.now) ≡ map Some options.keys.items) }
     ensures playlist { IfOk result (λ options. string_bytes options.playlist ≡ playlist.now) }
     ensures bad { IsErrOf result Fault.BadKey ↔ (are_keys keys.now ≡ false) }
     ensures only { IfErr result (λ fault. (fault ≡ Fault.BadKey) ⊎ (fault ≡ Fault.NoMemory)) }

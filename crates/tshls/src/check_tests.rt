@@ -1,8 +1,10 @@
 use crate::check::check;
+use crate::check_options::CheckOptions;
 use crate::command_line::{Job, line};
 use crate::fault::Fault;
 use crate::files::FileReader;
-use crate::one_tests::{settings, standard_stream};
+use crate::fixtures::{FullWriter, KEY, standard_stream};
+use crate::one_tests::settings;
 use hls_check::{CheckFault, ListFault, UnpackFault};
 use item_io::{Item, MemoryOutlet, ReaderSource};
 use pipeline::pack_serial;
@@ -11,8 +13,6 @@ use std::fs;
 use std::test::Fail;
 
 const KEYS: [[u8; 16]; 1] = [[0, 1, 2, 3, 4, 5, 6, 7, 8, 9, 10, 11, 12, 13, 14, 15]];
-
-const DIGITS: &str = "000102030405060708090a0b0c0d0e0f";
 
 /// A file in memory.
 #[derive(Drop)]
@@ -79,7 +79,7 @@ impl MemoryFiles {
 
 /// The files of the standard stream, in the folder `hls`.
 fn packed(alloc: Global) -> Result<MemoryFiles, Fail> {
-    let settings = settings(alloc, &["--size", "1x1", "--keys", DIGITS]).map_err(|_| "line")?;
+    let settings = settings(alloc, &["--size", "1x1", "--keys", KEY]).map_err(|_| "line")?;
     let stream = standard_stream(alloc)?;
     let mut sources = Vec::new(alloc);
     sources.push(ReaderSource::new(stream.as_slice()))?;
@@ -207,37 +207,86 @@ fn files_of_the_system(rt: HostRuntime) -> Result<(), Fail> {
     Ok(())
 }
 
-/// What a refused command line prints, and the status that it ends with; its playlist and 0 where it isn't refused.
-fn line_told(alloc: Global, words: &[&str]) -> Result<(String, u8), AllocError> {
+#[test]
+fn a_failed_write_leaves_a_beginning(rt: HostRuntime) -> Result<(), Fail> {
+    let alloc = rt.alloc();
+    let files = packed(alloc)?;
+    for room in [0, 1, 8] {
+        let mut output = FullWriter {
+            taken: Vec::new(alloc),
+            room,
+        };
+        let answer = check(alloc, &files, &KEYS, "hls/v.m3u8", &mut output);
+        assert!(rt;
+            matches!(answer, Err(Fault::Unwritten)),
+            "with room for {room}"
+        );
+        assert_eq!(rt; output.taken.len(), room);
+        assert!(rt;
+            b"ok 2 752\n".starts_with(&output.taken),
+            "with room for {room}"
+        );
+    }
+    Ok(())
+}
+
+/// A playlist and the keys that a command line asks for, or what its refusal prints; with the status.
+#[derive(Drop)]
+struct LineTold {
+    text: String,
+    keys: Vec<[u8; 16]>,
+    status: u8,
+}
+
+fn line_told(alloc: Global, words: &[&str]) -> Result<LineTold, AllocError> {
     match line(alloc, words) {
-        Ok(Job::Check(options)) => Ok((String::from_str(alloc, &options.playlist)?, 0)),
+        Ok(Job::Check(options)) => {
+            let CheckOptions { keys, playlist } = options;
+            Ok(LineTold {
+                text: playlist,
+                keys,
+                status: 0,
+            })
+        }
         Ok(job) => {
             drop(job);
-            Ok((String::new(alloc), 0))
+            Ok(LineTold {
+                text: String::new(alloc),
+                keys: Vec::new(alloc),
+                status: 0,
+            })
         }
-        Err(fault) => Ok((format!(in alloc; "{fault}")?, fault.status())),
+        Err(fault) => Ok(LineTold {
+            text: format!(in alloc; "{fault}")?,
+            keys: Vec::new(alloc),
+            status: fault.status(),
+        }),
     }
 }
 
 #[test]
 fn options(rt: HostRuntime) -> Result<(), Fail> {
     let keys = "000102030405060708090a0b0c0d0e0f+100102030405060708090A0B0C0D0E0F";
-    let table: [(&[&str], &str, u8); 4] = [
-        (&["--keys", DIGITS, "a/v.m3u8"], "a/v.m3u8", 0),
-        (&["v.m3u8", "--keys", keys], "v.m3u8", 0),
-        (&["--keys", "00", "v.m3u8"], "tshls: BadKey\n", 2),
-        (&["--keys", "", "v.m3u8"], "tshls: BadKey\n", 2),
+    let mut other = KEYS[0];
+    other[0] = 0x10;
+    let two = [KEYS[0], other];
+    let table: [(&[&str], &str, &[[u8; 16]], u8); 4] = [
+        (&["--keys", KEY, "a/v.m3u8"], "a/v.m3u8", &KEYS, 0),
+        (&["v.m3u8", "--keys", keys], "v.m3u8", &two, 0),
+        (&["--keys", "00", "v.m3u8"], "tshls: BadKey\n", &[], 2),
+        (&["--keys", "", "v.m3u8"], "tshls: BadKey\n", &[], 2),
     ];
-    for (more, text, status) in table {
+    for (more, text, keys, status) in table {
         let mut words = Vec::new(rt.alloc());
         words.extend_from_slice(&["tshls", "check"])?;
         words.extend_from_slice(more)?;
         let told = line_told(rt.alloc(), words.as_slice())?;
-        assert_eq!(rt; told.0.as_str(), text, "at {more:?}");
-        assert_eq!(rt; told.1, status, "at {more:?}");
+        assert_eq!(rt; told.text.as_str(), text, "at {more:?}");
+        assert!(rt; told.keys.as_slice() == keys, "at {more:?}");
+        assert_eq!(rt; told.status, status, "at {more:?}");
     }
     for more in ["--keys", "v.m3u8"] {
-        assert_eq!(rt; line_told(rt.alloc(), &["tshls", "check", more])?.1, 2);
+        assert_eq!(rt; line_told(rt.alloc(), &["tshls", "check", more])?.status, 2);
     }
     Ok(())
 }

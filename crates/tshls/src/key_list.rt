@@ -1,7 +1,7 @@
 //! The keys of a rendition, as the command line has them.
 ghost use Rattle.std.specs.Prelude.{◌≡◌, ◌⊎◌, ◌↔◌, map, Some, false, is_some, IfOk, IfErr, IsErrOf};
 ghost use Rattle.std.specs.List.{list_all};
-ghost use Rattle.tshls.specs.Hex.{block_of};
+ghost use Rattle.tshls.specs.Hex.{bytes_of_hex};
 ghost use Rattle.tshls.specs.KeyLists.{key_texts, are_keys};
 
 use crate::cipher_options::block;
@@ -24,8 +24,8 @@ fn key_texts<'a>(alloc: Global, text: &'a str) -> Result<Vec<&'a str>, AllocErro
 
 /// The key of each text.
 fn keys_of(alloc: Global, texts: &[&str]) -> Result<Vec<[u8; 16]>, Fault>
-    ensures ok { IfOk result (λ keys. map (λ t. block_of t.now) texts.now ≡ map Some keys.items) }
-    ensures bad { IsErrOf result Fault.BadKey → list_all (λ t. is_some (block_of t.now)) texts.now ≡ false }
+    ensures ok { IfOk result (λ keys. map (λ t. bytes_of_hex t.now) texts.now ≡ map Some keys.items) }
+    ensures bad { IsErrOf result Fault.BadKey → list_all (λ t. is_some (bytes_of_hex t.now)) texts.now ≡ false }
     ensures only { IfErr result (λ fault. (fault ≡ Fault.BadKey) ⊎ (fault ≡ Fault.NoMemory)) }
 {
     let mut keys = Vec::new(alloc);
@@ -40,7 +40,7 @@ fn keys_of(alloc: Global, texts: &[&str]) -> Result<Vec<[u8; 16]>, Fault>
 
 /// The keys of texts of 32 hex digits with a `+` between them; BadKey where one isn't.
 pub fn read_keys(alloc: Global, text: &str) -> Result<Vec<[u8; 16]>, Fault>
-    ensures ok { IfOk result (λ keys. map block_of (key_texts text.now) ≡ map Some keys.items) }
+    ensures ok { IfOk result (λ keys. map bytes_of_hex (key_texts text.now) ≡ map Some keys.items) }
     ensures bad { IsErrOf result Fault.BadKey ↔ (are_keys text.now ≡ false) }
     ensures only { IfErr result (λ fault. (fault ≡ Fault.BadKey) ⊎ (fault ≡ Fault.NoMemory)) }
 {

@@ -9,6 +9,8 @@ mod cipher_options;
 mod command_line;
 mod fault;
 mod files;
+#[cfg(test)]
+mod fixtures;
 mod frame_size;
 mod input;
 mod key_list;

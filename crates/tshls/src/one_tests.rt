@@ -1,11 +1,10 @@
 use crate::command_line::{Job, line};
 use crate::fault::Fault;
+use crate::fixtures::{BrokenReader, KEY, standard_stream};
 use crate::one::one;
 use pipeline::{PackFault, Settings};
 use std::alloc::Global;
 use std::test::Fail;
-
-const KEY: &str = "000102030405060708090a0b0c0d0e0f";
 
 /// The settings of a command line that ends with these words.
 pub fn settings<'a>(alloc: Global, more: &[&'a str]) -> Result<Settings, Fault> {
@@ -176,54 +175,6 @@ fn too_many_keys(rt: HostRuntime) -> Result<(), Fail> {
     Ok(())
 }
 
-/// A packet that begins with these bytes; FF stands behind them.
-fn packet(front: &[u8]) -> [u8; 188] {
-    let mut packet = [0xFF; 188];
-    for (to, from) in packet.iter_mut().zip(front) {
-        *to = *from;
-    }
-    packet
-}
-
-/// The first packet of a frame with this stamp; a key frame has random access.
-fn frame(key_frame: bool, counter: u8, stamp: [u8; 5]) -> [u8; 188] {
-    let mut at = 4;
-    let mut packet = packet(&[0x47, 0x41, 0x00, 0x10 | counter]);
-    if key_frame {
-        packet[3] = 0x30 | counter;
-        packet[4] = 1;
-        packet[5] = 0x40;
-        at = 6;
-    }
-    let begin = [
-        0, 0, 1, 0xE0, 0, 0, 0x80, 0x80, 5, stamp[0], stamp[1], stamp[2], stamp[3], stamp[4],
-    ];
-    for (i, byte) in begin.iter().enumerate() {
-        packet[at + i] = *byte;
-    }
-    packet
-}
-
-/// Tables, and key frames at 0 and 6 seconds, each with a frame 3 seconds behind.
-pub fn standard_stream(alloc: Global) -> Result<Vec<u8>, Fail> {
-    let pat = [
-        0x47, 0x40, 0x00, 0x10, 0x00, 0x00, 0xB0, 0x0D, 0x00, 0x01, 0xC1, 0x00, 0x00, 0x00, 0x01,
-        0xF0, 0x00, 0x2A, 0xB1, 0x04, 0xB2,
-    ];
-    let pmt = [
-        0x47, 0x50, 0x00, 0x10, 0x00, 0x02, 0xB0, 0x12, 0x00, 0x01, 0xC1, 0x00, 0x00, 0xE1, 0x00,
-        0xF0, 0x00, 0x1B, 0xE1, 0x00, 0xF0, 0x00, 0x15, 0xBD, 0x4D, 0x56,
-    ];
-    let mut stream = Vec::new(alloc);
-    stream.extend_from_slice(&packet(&pat))?;
-    stream.extend_from_slice(&packet(&pmt))?;
-    stream.extend_from_slice(&frame(true, 0, [0x21, 0x00, 0x01, 0x00, 0x01]))?;
-    stream.extend_from_slice(&frame(false, 1, [0x21, 0x00, 0x11, 0x3D, 0x61]))?;
-    stream.extend_from_slice(&frame(true, 2, [0x21, 0x00, 0x21, 0x7A, 0xC1]))?;
-    stream.extend_from_slice(&frame(false, 3, [0x21, 0x00, 0x31, 0xB8, 0x21]))?;
-    Ok(stream)
-}
-
 #[test]
 fn ten_items(rt: HostRuntime) -> Result<(), Fail> {
     let alloc = rt.alloc();
@@ -274,5 +225,32 @@ fn no_program(rt: HostRuntime) -> Result<(), Fail> {
     assert_eq!(rt; fault, PackFault::NoProgram(0));
     let told = format!(in alloc; "{}", Fault::from(fault))?;
     assert_eq!(rt; told.as_str(), "tshls: NoProgram 0\n");
+    Ok(())
+}
+
+#[test]
+fn a_read_that_fails_in_mid_stream(rt: HostRuntime) -> Result<(), Fail> {
+    let alloc = rt.alloc();
+    let settings = settings(alloc, &["--size", "640x360", "--keys", KEY]).map_err(|_| "line")?;
+    let stream = standard_stream(alloc)?;
+    let whole = one(alloc, &settings, stream.as_slice(), Vec::new(alloc));
+    assert!(rt; whole.answer.is_ok());
+    let whole = String::from_utf8(whole.outlet.into_writer()).map_err(|_| "not UTF-8")?;
+    let Some((first, _)) = whole.as_str().split_once("segment v.1.ts") else {
+        return Err(Fail::from("no second segment"));
+    };
+    let Some(front) = stream.get(..940) else {
+        return Err(Fail::from("a short stream"));
+    };
+    let packed = one(
+        alloc,
+        &settings,
+        BrokenReader { bytes: front },
+        Vec::new(alloc),
+    );
+    assert!(rt; packed.answer == Err(PackFault::Read(0)));
+    assert!(rt; packed.source.into_reader().bytes.is_empty());
+    let output = packed.outlet.into_writer();
+    assert!(rt; output.as_slice() == first.as_bytes());
     Ok(())
 }

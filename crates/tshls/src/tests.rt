@@ -1,8 +1,7 @@
-ghost use Rattle.std.specs.Prelude.{◌≤◌, length};
-
 use crate::cipher_options::CipherOptions;
 use crate::command_line::{Job, line};
 use crate::fault::Fault;
+use crate::fixtures::{BrokenReader, FullWriter, KEY, key_frame};
 use crate::open::open;
 use crate::seal::seal;
 use aes_cbc::Key;
@@ -10,8 +9,6 @@ use std::alloc::{AllocError, Global};
 use std::io;
 use std::io::{ErrorKind, Read, Write};
 use std::test::Fail;
-
-const KEY: &str = "000102030405060708090a0b0c0d0e0f";
 
 const VECTOR: &str = "10013223544576679889baabdccdfeef";
 
@@ -30,17 +27,6 @@ fn options(alloc: Global) -> Result<CipherOptions, Fault> {
             Err(Fault::NoMemory)
         }
     }
-}
-
-/// The first packet of a key frame at time 0.
-fn key_frame() -> [u8; 188] {
-    let front = [
-        0x47, 0x41, 0x00, 0x30, 0x01, 0x40, 0x00, 0x00, 0x01, 0xE0, 0x00, 0x00, 0x80, 0x80, 0x05,
-        0x21, 0x00, 0x01, 0x00, 0x01,
-    ];
-    let mut packet = [0xFF; 188];
-    packet[..20].copy_from_slice(&front);
-    packet
 }
 
 /// What `seal` writes of an input with the key and the vector above.
@@ -167,45 +153,6 @@ fn clap_refuses_with_status_2(rt: HostRuntime) -> Result<(), Fail> {
         assert_eq!(rt; told.1, 2, "at {words:?}");
     }
     Ok(())
-}
-
-/// A reader that fails once it has given its bytes.
-#[derive(Drop)]
-struct BrokenReader<'a> {
-    bytes: &'a [u8],
-}
-
-impl Read for BrokenReader<'_> {
-    fn read(&mut self, buf: &mut [u8]) -> io::Result<usize> {
-        if self.bytes.is_empty() {
-            return Err(io::Error::from(ErrorKind::BrokenPipe));
-        }
-        self.bytes.read(buf)
-    }
-}
-
-/// A writer that takes a few bytes and then fails.
-#[derive(Drop)]
-struct FullWriter {
-    taken: Vec<u8>,
-    room: usize,
-}
-
-impl Write for FullWriter {
-    fn write(&mut self, buf: &[u8]) -> io::Result<usize> {
-        let count = buf.len().min(self.room);
-        if count == 0 {
-            return Err(io::Error::from(ErrorKind::StorageFull));
-        }
-        let (front, _) = buf.split_at(count);
-        self.taken.extend_from_slice(front)?;
-        self.room -= count;
-        Ok(count)
-    }
-
-    fn flush(&mut self) -> io::Result<()> {
-        Ok(())
-    }
 }
 
 #[test]
@@ -377,5 +324,54 @@ fn open_refuses_by_name(rt: HostRuntime) -> Result<(), Fail> {
     };
     let told = opened(alloc, &other_vector, b"69c4e0d86a7b0430d8cdb78070b4c55a\n")?;
     assert_eq!(rt; told.as_slice(), b"tshls: BadPadding\n".as_slice());
+    Ok(())
+}
+
+#[test]
+fn open_tells_a_failed_read(rt: HostRuntime) -> Result<(), Fail> {
+    let alloc = rt.alloc();
+    let options = options(alloc).map_err(|_| "options")?;
+    let line = sealed(alloc, &key_frame()).map_err(|_| "line")?;
+    let mut input = BrokenReader { bytes: &line };
+    let mut output = Vec::new(alloc);
+    let answer = open(
+        alloc,
+        &options.key,
+        &options.vector,
+        &mut input,
+        &mut output,
+    );
+    assert!(rt; matches!(answer, Err(Fault::Unread)));
+    assert!(rt; output.is_empty());
+    Ok(())
+}
+
+#[test]
+fn open_leaves_a_beginning(rt: HostRuntime) -> Result<(), Fail> {
+    let alloc = rt.alloc();
+    let options = options(alloc).map_err(|_| "options")?;
+    let line = sealed(alloc, &key_frame()).map_err(|_| "line")?;
+    let whole = opened(alloc, &options, &line)?;
+    assert_eq!(rt; whole.len(), 377);
+    for room in [0, 1, 376] {
+        let mut input = line.as_slice();
+        let mut output = FullWriter {
+            taken: Vec::new(alloc),
+            room,
+        };
+        let answer = open(
+            alloc,
+            &options.key,
+            &options.vector,
+            &mut input,
+            &mut output,
+        );
+        assert!(rt;
+            matches!(answer, Err(Fault::Unwritten)),
+            "with room for {room}"
+        );
+        assert_eq!(rt; output.taken.len(), room);
+        assert!(rt; whole.starts_with(&output.taken), "with room for {room}");
+    }
     Ok(())
 }
