@@ -52,6 +52,8 @@ impl FailingOutlet {
 impl Outlet for FailingOutlet {
     ghost holds = { λ o held. held.items ≡ o.items };
 
+    ghost broken = { λ o held _. held.items ≡ o.items };
+
     ghost failures = { λ o. o.failures };
 
     fn put(&mut self, item: &Item) -> Result<(), OutletFault>

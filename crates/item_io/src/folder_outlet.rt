@@ -59,6 +59,8 @@ impl<F: Files> FolderOutlet<F> {
 impl<F: Files> Outlet for FolderOutlet<F> {
     ghost holds = { λ _ _. ⊥ };
 
+    ghost broken = { λ _ _ _. ⊥ };
+
     ghost failures = { λ o. o };
 
     fn put(&mut self, item: &Item) -> Result<(), OutletFault>

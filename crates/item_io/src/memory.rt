@@ -52,6 +52,8 @@ impl MemoryOutlet {
 impl Outlet for MemoryOutlet {
     ghost holds = { λ o held. held.items ≡ o.items };
 
+    ghost broken = { λ o held _. held.items ≡ o.items };
+
     ghost failures = { λ o. o.failures };
 
     fn put(&mut self, item: &Item) -> Result<(), OutletFault>

@@ -4,10 +4,8 @@ ghost use Rattle.hex.specs.Hex.{encode_lower};
 ghost use Rattle.item_io.specs.Writing.{WritesBeginning, hex_line};
 
 use crate::fault::OutletFault;
+use crate::limits::TRIES;
 use std::io::{ErrorKind, Write};
-
-/// How often a write that is interrupted is made again.
-const TRIES: u32 = 1 << 16;
 
 /// How many bytes are turned to digits at a time.
 const CHUNK: usize = 8192;
