@@ -2,19 +2,19 @@
 use Rattle.std.proofs.Common.{◌≡◌, ◌∙◌, ◌⊎◌, inl, inr, ℕ, Bool, true, false, List, [], ◌∷◌, ◌++◌, Option, Some, None, is_none, if◌then◌else◌, refl, ap}
 use Rattle.std.proofs.lemmas.List.{append-nil}
 use Rattle.psi_tables.specs.InForce.{InForce, tables_behind}
-use Rattle.psi_tables.specs.Watching.{Watched}
+use Rattle.psi_tables.specs.State.{Watched}
 use Rattle.cutter.specs.declared.settings.CutSettings.{CutSettings}
 use Rattle.cutter.specs.declared.fault.CutFault.{CutFault}
-use Rattle.cutter.specs.declared.fault.CutFault.TheVariants.{NoMemory, LongSegment}
+use Rattle.cutter.specs.declared.fault.CutFault.TheVariants.{NoMemory, NoProgram, NoStart, LongSegment}
 use Rattle.cutter.specs.declared.cutter.Cutter.TheInside.{Inside}
 use Rattle.cutter.specs.Settings.{Pushed}
 use Rattle.cutter.specs.Plans.{SegmentPlan}
 use Rattle.cutter.specs.Stream.{in_force}
 use Rattle.cutter.specs.Segments.{Segment, is_long, plan_of}
 use Rattle.cutter.specs.Cuts.{cuts, closed, fault, plans, made, end_fault, last_plan, Ends}
-use Rattle.cutter.specs.Held.{Gathered, Out, gathered, gives, faults, finished}
+use Rattle.cutter.specs.SegmentState.{Gathered, Out, gathered, RefusesEnd, gives, faults, finished}
+use Rattle.cutter.specs.State.{held, pushed, Keeps, IsAt}
 use Rattle.pes_time.specs.declared.clock.Stamp.{Stamp}
-use Rattle.cutter.specs.Tied.{held, pushed, Keeps, IsAt}
 use Rattle.cutter.proofs.Gathering.{plan_of-gathered}
 
 -- what the end makes of the segment that goes on
@@ -69,12 +69,27 @@ finish-sound c v now t plan is k going tables gave =
     rw (← is) ((kept-ending c now t k going tables).fault ∙ ap (λ (out : Out). out.fault) gave)
 
 pub finish-fault : (c : Inside) (v : Pushed) (now : Option Gathered) (t : Option InForce) (e : CutFault) → pushed c ≡ v → Keeps c → now ≡ c.going
-    → t ≡ tables_behind c.watch.program c.watch.packets → (e ≡ NoMemory) ⊎ (finished c.rendition c.settings t now ≡ faults e)
+    → t ≡ tables_behind c.watch.program c.watch.packets → RefusesEnd (finished c.rendition c.settings t now) e
     → (e ≡ NoMemory) ⊎ Ends v.rendition v.settings v.list e (closed v.rendition v.settings v.list)
-finish-fault c v now t e is k going tables (inl none) = inl none
+finish-fault c v now t e is k going tables (inl none) = inl none.0
 finish-fault c v now t e is k going tables (inr brought) =
     let end = kept-ending c now t k going tables in
     inr (rw (← is) (record {
       fault = end.fault ∙ ap (λ (out : Out). out.fault) brought;
       plans = end.plans ∙ ap (λ (out : Out). closed c.rendition c.settings c.fed.items ++ made out.plan) brought ∙ append-nil _;
     }))
+
+long-memory : (test : Bool) (k : ℕ) (e : CutFault) (plan : SegmentPlan) → e ≡ NoMemory → (if test then faults (LongSegment k) else gives None (Some plan)) ≡ faults e → ⊥
+long-memory true k e plan none brought = let told : Some (LongSegment k) ≡ Some e = ap (λ (out : Out). out.fault) brought in cc
+long-memory false k e plan none brought = let told : None ≡ Some e = ap (λ (out : Out). out.fault) brought in cc
+
+finished-memory : (r : ℕ) (s : CutSettings) (t : Option InForce) (now : Option Gathered) (e : CutFault) → e ≡ NoMemory → finished r s t now ≡ faults e → ⊥
+finished-memory r s None None e none brought = let told : Some NoProgram ≡ Some e = ap (λ (out : Out). out.fault) brought in cc
+finished-memory r s (Some t) None e none brought = let told : Some NoStart ≡ Some e = ap (λ (out : Out). out.fault) brought in cc
+finished-memory r s None (Some g) e none brought = long-memory _ _ e _ none brought
+finished-memory r s (Some t) (Some g) e none brought = long-memory _ _ e _ none brought
+
+pub finish-scarce : (c : Inside) (v : Pushed) (now : Option Gathered) (t : Option InForce) (e : CutFault) → pushed c ≡ v → Keeps c → now ≡ c.going
+    → t ≡ tables_behind c.watch.program c.watch.packets → RefusesEnd (finished c.rendition c.settings t now) e → e ≡ NoMemory → fault v.rendition v.settings v.list ≡ None
+finish-scarce c v now t e is k going tables (inl none) memory = rw (← is) ((kept-ending c now t k going tables).fault ∙ none.1)
+finish-scarce c v now t e is k going tables (inr brought) memory = absurd (finished-memory c.rendition c.settings t now e memory brought)

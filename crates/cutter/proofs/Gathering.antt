@@ -7,7 +7,7 @@ use Rattle.cutter.specs.declared.plan.Frame.{Frame}
 use Rattle.cutter.specs.Points.{Mark}
 use Rattle.cutter.specs.Segments.{Segment, bytes_of, body_of, later, greatest, until_start, frame_at, frames_of, plan_of, ticks_between, is_discontinuity}
 use Rattle.cutter.specs.Cuts.{with_mark}
-use Rattle.cutter.specs.Held.{Framing, Gathered, framed, framing_of, no_frames, end_of, pending_at, gathered, added, plan_from}
+use Rattle.cutter.specs.SegmentState.{Framing, Gathered, framed, framing_of, no_frames, end_of, pending_at, gathered, added, plan_from}
 
 body_of-more : (marks : List Mark) (m : Mark) → body_of (marks ++ m ∷ []) ≡ body_of marks ++ bytes_of m
 body_of-more [] m = append-nil (bytes_of m)

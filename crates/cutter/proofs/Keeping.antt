@@ -1,7 +1,7 @@
 -- What a cutter keeps, behind each of its calls.
 use Rattle.std.proofs.Common.{◌≡◌, ◌∙◌, ◌⊎◌, inl, inr, ℕ, ◌<◌, ◌^◌, Bool, true, false, List, [], ◌∷◌, ◌++◌, length, Option, None, refl, ap, sym, subst, arith}
 use Rattle.psi_tables.specs.InForce.{InForce, tables_behind}
-use Rattle.psi_tables.specs.Watching.{Watched}
+use Rattle.psi_tables.specs.State.{Watched}
 use Rattle.pes_time.specs.Times.{Pushed as Timed}
 use Rattle.pes_time.specs.declared.clock.Stamp.{Stamp}
 use Rattle.cutter.specs.declared.look.Look.{Look}
@@ -12,11 +12,11 @@ use Rattle.cutter.specs.Settings.{Pushed}
 use Rattle.cutter.specs.Plans.{SegmentPlan}
 use Rattle.cutter.specs.Stream.{packet_list, packets_of, pts_from, pts_list, pts_at, with_pts, in_force, look_by, is_lost, facts_from, Fact, fact_behind}
 use Rattle.cutter.specs.Points.{mark, counted, top_after}
-use Rattle.cutter.specs.Cuts.{cut_from, cuts, closed, made, Ends}
-use Rattle.cutter.specs.Held.{Gathered, taken, gives, faults}
-use Rattle.cutter.specs.Tied.{pushed, Keeps}
+use Rattle.cutter.specs.Cuts.{cut_from, cuts, closed, made, Ends, MayHide}
+use Rattle.cutter.specs.SegmentState.{Gathered, Out, Refuses, taken, gives}
+use Rattle.cutter.specs.State.{pushed, Keeps}
 use Rattle.cutter.proofs.Facts.{packets_of-more, pts_list-more, pts_list-length}
-use Rattle.cutter.proofs.Running.{Placed, placed-more, placed-fault, lost-fault}
+use Rattle.cutter.proofs.Running.{Placed, placed-more, placed-fault, placed-told, lost-fault}
 
 -- a new one
 pub new-keeps : (c : Inside) → c.watch ≡ record { program = c.settings.program; packets = [] } → c.clock ≡ record { gap = c.settings.gap; list = [] }
@@ -93,10 +93,22 @@ abbrev pub Told : Pushed → List ℕ → CutFault → Type 0
 Told v p e = (e ≡ NoMemory) ⊎ ((more : List (List ℕ)) → Ends v.rendition v.settings (v.list ++ p ∷ more) e (closed v.rendition v.settings v.list))
 
 pub push-fault : (c : Inside) (v : Pushed) (p : List ℕ) (look : Look) (now : Option Gathered) (t : Option InForce) (c' : Option Stamp) (e : CutFault)
-    → pushed c ≡ v → Keeps c → Read c p look now t c' → (e ≡ NoMemory) ⊎ (taken c.rendition c.settings now t c' (mark p look c') ≡ faults e) → Told v p e
-push-fault c v p look now t c' e is k r (inl none) = inl none
+    → pushed c ≡ v → Keeps c → Read c p look now t c' → Refuses (taken c.rendition c.settings now t c' (mark p look c')) e → Told v p e
+push-fault c v p look now t c' e is k r (inl none) = inl none.0
 push-fault c v p look now t c' e is k r (inr brought) =
     inr (rw (← is) (λ more. placed-fault c.rendition c.settings c.fed.items (fact c p) p c.top c.going e more refl k.cuts (lost-is c p false k r.kept) (sym (taken-is c p look now t c' k r) ∙ brought)))
+
+hides-told : (out : Out) (e : CutFault) → Refuses out e → e ≡ NoMemory → MayHide out.fault
+hides-told out e (inl none) memory = none.1
+hides-told out e (inr brought) memory = rw (brought, memory) tt
+
+-- what want of memory hides
+pub push-scarce : (c : Inside) (v : Pushed) (p : List ℕ) (look : Look) (now : Option Gathered) (t : Option InForce) (c' : Option Stamp) (e : CutFault)
+    → pushed c ≡ v → Keeps c → Read c p look now t c' → Refuses (taken c.rendition c.settings now t c' (mark p look c')) e → e ≡ NoMemory
+    → MayHide (cuts v.rendition v.settings (v.list ++ p ∷ [])).fault
+push-scarce c v p look now t c' e is k r told memory =
+    rw (← is, placed-told c.rendition c.settings c.fed.items (fact c p) p c.top c.going refl k.cuts (lost-is c p false k r.kept), ← taken-is c p look now t c' k r)
+    (hides-told _ e told memory)
 
 pub push-lost : (c : Inside) (v : Pushed) (p q : List ℕ) (e : CutFault)
     → pushed c ≡ v → Keeps c → q ≡ p → (e ≡ Limit) × (is_lost c.clock.gap c.clock.list (pts_at (tables_in c) q) ≡ true) → Told v p e

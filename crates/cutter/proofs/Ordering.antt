@@ -16,7 +16,7 @@ use Rattle.cutter.specs.Segments.{Point, Segment, is_cut, bytes_of, body_of, sec
 use Rattle.cutter.specs.Cuts.{Cuts, uncut, faulted, made, going_on, with_mark, first_segment, next_segment, carried_on, pointed, placed, step, cut_from, cuts, closed, end_fault, first_fault, fault, last_plan, plans}
 use Rattle.cutter.specs.Ordered.{ArePackets, IsPlan, IsPacketLong}
 use Rattle.cutter.specs.Settings.{Pushed}
-use Rattle.cutter.specs.Tied.{pushed}
+use Rattle.cutter.specs.State.{pushed}
 use Rattle.cutter.specs.declared.cutter.Cutter.TheInside.{Inside}
 use Rattle.cutter.proofs.Rising.{IsCounted, counted_is, Rises, IsMark, last_of, Runs, Begins, Sound, runs-more, IsBehind, sound-frames, sound-lasts}
 

@@ -9,8 +9,8 @@ use Rattle.cutter.specs.Plans.{SegmentPlan}
 use Rattle.cutter.specs.Stream.{Fact, fact_behind, facts, facts_from}
 use Rattle.cutter.specs.Points.{mark, counted, top_after}
 use Rattle.cutter.specs.Cuts.{Cuts, uncut, made, step, placed, cut_from, cuts, closed, fault, plans, Ends}
-use Rattle.cutter.specs.Held.{Gathered, Out, taken, gives, faults}
-use Rattle.cutter.specs.Tied.{IsAt}
+use Rattle.cutter.specs.SegmentState.{Gathered, Out, taken, gives, faults}
+use Rattle.cutter.specs.State.{IsAt}
 use Rattle.cutter.proofs.Facts.{facts-around}
 use Rattle.cutter.proofs.Placing.{Goes, placed-goes}
 
@@ -90,6 +90,12 @@ unfolding closed
 placed-more r s ps f p last now after plan is at kept gave =
     let goes = subst (λ (out : Out). Goes (cuts r s (ps ++ p ∷ [])) out (top_after last (counted last f.look)) (closed r s ps)) gave (more-goes r s ps f p last now is at kept) in
     record { at = record { sound = goes.fault; top = goes.last refl; going = goes.going }; plans = goes.closed }
+
+-- the fault behind a packet
+pub placed-told : (r : ℕ) (s : CutSettings) (ps : List (List ℕ)) (f : Fact) (p : List ℕ) (last : Option Stamp) (now : Option Gathered)
+    → fact_behind s ps p ≡ f → IsAt (cuts r s ps) last now → f.is_lost ≡ false
+    → (cuts r s (ps ++ p ∷ [])).fault ≡ (taken r s now f.tables (counted last f.look) (mark f.packet f.look (counted last f.look))).fault
+placed-told r s ps f p last now is at kept = (more-goes r s ps f p last now is at kept).fault
 
 -- a packet that brings a fault
 pub placed-fault : (r : ℕ) (s : CutSettings) (ps : List (List ℕ)) (f : Fact) (p : List ℕ) (last : Option Stamp) (now : Option Gathered) (told : CutFault) (more : List (List ℕ))

@@ -6,7 +6,7 @@ use Rattle.psi_tables.specs.Head.{packet_count}
 use Rattle.pes_time.specs.declared.clock.Stamp.{Stamp}
 use Rattle.cutter.specs.declared.settings.CutSettings.{CutSettings}
 use Rattle.cutter.specs.declared.fault.CutFault.{CutFault}
-use Rattle.cutter.specs.declared.fault.CutFault.TheVariants.{NoProgram, NoStart, LongSegment, BigSegment, Limit}
+use Rattle.cutter.specs.declared.fault.CutFault.TheVariants.{NoProgram, NoStart, LongSegment, BigSegment, Limit, NoMemory, Ended}
 use Rattle.cutter.specs.Plans.{SegmentPlan}
 use Rattle.cutter.specs.Stream.{Fact, facts, in_force}
 use Rattle.cutter.specs.Points.{Mark, mark, counted, top_after}
@@ -109,6 +109,18 @@ first_fault (Some fault) later = Some fault
 -- the fault of a stream that ends here
 unfoldable pub fault : ℕ → CutSettings → List (List ℕ) → Option CutFault
 fault r s ps = first_fault (cuts r s ps).fault (end_fault r s (in_force s ps) (cuts r s ps).going)
+
+-- What want of memory may hide of a stream that is cut so far: that it has no fault, or BigSegment, which is looked at
+-- behind what grows. The faults that are looked at before anything grows are told.
+abbrev pub MayHide : Option CutFault → Type 0
+MayHide None = Unit {0}
+MayHide (Some NoProgram) = ⊥
+MayHide (Some NoStart) = ⊥
+MayHide (Some (LongSegment k)) = ⊥
+MayHide (Some (BigSegment k)) = Unit {0}
+MayHide (Some Limit) = ⊥
+MayHide (Some NoMemory) = Unit {0}
+MayHide (Some Ended) = Unit {0}
 
 abbrev pub last_plan : ℕ → CutSettings → Option Segment → List SegmentPlan
 last_plan r s None = []

@@ -4,10 +4,9 @@ pub mod Points
 pub mod Segments
 pub mod Cuts
 pub mod Settings
-pub mod Held
-pub mod Inside
-pub mod Tied
 pub mod Counted
 pub mod Dividing
 pub mod Faults
 pub mod Ordered
+pub mod SegmentState
+pub mod State

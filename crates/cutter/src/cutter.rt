@@ -1,6 +1,6 @@
 ghost use Rattle.std.specs.Prelude.{◌≡◌, ◌<◌, ◌^◌, ◌⊎◌, [], ◌∷◌, ◌++◌, ℕ, List, Err, true, false, None, length, IfSome, IfOk, IfErr, OnOk, OnErr};
 ghost use Rattle.cutter.specs.declared.fault.CutFault.TheVariants.{NoMemory, Ended};
-ghost use Rattle.cutter.specs.Cuts.{cuts, closed, fault, plans, made, Ends};
+ghost use Rattle.cutter.specs.Cuts.{cuts, closed, fault, plans, made, Ends, MayHide};
 ghost use Rattle.cutter.specs.Ordered.{IsPlan};
 ghost use Rattle.cutter.specs.Settings.{IsAllowed};
 
@@ -43,7 +43,7 @@ impl Model for Cutter {
 
     ghost Value = { Pushed };
 
-    ghost use Rattle.cutter.specs.Tied.{pushed, IsTied};
+    ghost use Rattle.cutter.specs.State.{pushed, IsTied};
 
     ghost view = { pushed };
 
@@ -73,7 +73,7 @@ impl Cutter {
     /// that are no packet take no part. The caller pushes fewer than 2^63 packets.
     ///
     /// A fault is told at the packet that brings it, however the stream goes on: LongSegment, BigSegment, Limit. The plans
-    /// that were given before are then all that come before the fault.
+    /// that were given before are then all that come before the fault. NoMemory stands in place of no fault but BigSegment.
     pub fn push(&mut self, packet: &[u8; 188]) -> Result<Option<Plan>, CutFault>
         requires { length self.old.list < 2 ^ 63 }
         ensures pushed { OnOk result (self.new ≡ record self.old { list = self.old.list ++ packet.now ∷ [] }) }
@@ -88,6 +88,8 @@ impl Cutter {
         ensures fault { self.old.ended ≡ false → IfErr result (λ e. (e ≡ NoMemory) ⊎ ((more : List (List ℕ)) →
             Ends self.old.rendition self.old.settings (self.old.list ++ packet.now ∷ more) e
             (closed self.old.rendition self.old.settings self.old.list))) }
+        ensures scarce { IfErr result (λ e. e ≡ NoMemory →
+            MayHide (cuts self.old.rendition self.old.settings (self.old.list ++ packet.now ∷ [])).fault) }
         ensures err { OnErr result (self.new ≡ record self.old { ended = true }) }
     {
         if self.ended {
@@ -122,7 +124,8 @@ impl Cutter {
 
     /// Ends the stream, and gives the plan of its last segment. The cutter has then ended.
     ///
-    /// Told are NoProgram where no tables were ever in force, NoStart where no segment begins, and LongSegment.
+    /// Told are NoProgram where no tables were ever in force, NoStart where no segment begins, and LongSegment. NoMemory
+    /// stands in place of none of these.
     pub fn finish(&mut self) -> Result<Option<Plan>, CutFault>
         ensures done { self.new ≡ record self.old { ended = true } }
         ensures going { OnOk result (self.old.ended ≡ false) }
@@ -136,6 +139,7 @@ impl Cutter {
         ensures fault { self.old.ended ≡ false → IfErr result (λ e. (e ≡ NoMemory)
             ⊎ Ends self.old.rendition self.old.settings self.old.list e
             (closed self.old.rendition self.old.settings self.old.list)) }
+        ensures scarce { IfErr result (λ e. e ≡ NoMemory → fault self.old.rendition self.old.settings self.old.list ≡ None) }
     {
         if self.ended {
             return Err(CutFault::Ended);

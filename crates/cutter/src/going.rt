@@ -2,8 +2,7 @@
 
 ghost use Rattle.std.specs.Prelude.{◌≡◌, ◌+◌, ◌≤◌, ◌<◌, ◌^◌, ◌++◌, false, length, IfOk, OnOk};
 ghost use Rattle.cutter.specs.Segments;
-ghost use Rattle.cutter.specs.Inside.{IsWithin};
-ghost use Rattle.cutter.specs.Held.{added, empty, end_of, next_of, pending_at, plan_from, IsInRange, HasRange};
+ghost use Rattle.cutter.specs.SegmentState.{IsWithin, added, empty, end_of, next_of, pending_at, plan_from, IsInRange, HasRange};
 
 use crate::plan::{Frame, Plan};
 use crate::point::{self, Mark, Point};
@@ -35,11 +34,11 @@ pub(crate) struct Going {
 }
 
 impl Model for Going {
-    ghost use Rattle.cutter.specs.Held.{Gathered};
+    ghost use Rattle.cutter.specs.SegmentState.{Gathered};
 
     ghost Value = { Gathered };
 
-    ghost use Rattle.cutter.specs.Inside.{gathered_by, IsSound};
+    ghost use Rattle.cutter.specs.SegmentState.{gathered_by, IsSound};
 
     ghost view = { gathered_by };
 
@@ -61,6 +60,20 @@ impl Going {
             frames: Vec::new(alloc),
             pending: None,
             greatest: head.stamp.time,
+        })
+    }
+
+    /// A segment of this number, with no packet yet.
+    #[cfg(test)]
+    pub(crate) fn numbered(
+        alloc: Global,
+        head: &Point<'_>,
+        number: u32,
+    ) -> Result<Going, AllocError> {
+        let first = Going::first(alloc, head)?;
+        Ok(Going {
+            number: u64::from(number),
+            ..first
         })
     }
 

@@ -9,6 +9,8 @@ mod fixtures;
 mod following;
 mod going;
 mod laws;
+#[cfg(test)]
+mod limit_tests;
 mod look;
 mod place;
 mod plan;

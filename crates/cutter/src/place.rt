@@ -1,11 +1,10 @@
 //! Where a packet goes: into the segment that goes on, or into a new one behind a cut.
 
-ghost use Rattle.std.specs.Prelude.{◌≡◌, ◌+◌, ◌<◌, ◌≤◌, ◌^◌, ◌⊎◌, nat_lt, Some, None, IfOk, IfErr, option_copied};
-ghost use Rattle.cutter.specs.declared.fault.CutFault.TheVariants.{NoMemory};
+ghost use Rattle.std.specs.Prelude.{◌≡◌, ◌+◌, ◌<◌, ◌≤◌, ◌^◌, nat_lt, Some, None, IfOk, IfErr, option_copied};
 ghost use Rattle.cutter.specs.Settings.{IsAllowed};
 ghost use Rattle.cutter.specs.Segments;
-ghost use Rattle.cutter.specs.Held;
-ghost use Rattle.cutter.specs.Held.{added, begun, carried, sized, taken, finished, gives, faults, renewed, IsInRange, HasRange};
+ghost use Rattle.cutter.specs.SegmentState;
+ghost use Rattle.cutter.specs.SegmentState.{added, begun, carried, sized, taken, finished, gives, faults, renewed, Refuses, RefusesEnd, IsInRange, HasRange};
 
 use crate::fault::CutFault;
 use crate::going::Going;
@@ -33,7 +32,7 @@ pub(crate) fn place(
 ) -> Result<Placed, CutFault>
     requires { IsAllowed settings }
     ensures ok { IfOk result (λ p. taken rendition settings going (option_copied tables.entry) mark.now.counted mark.now ≡ gives p.going p.plan) }
-    ensures err { IfErr result (λ e. (e ≡ NoMemory) ⊎ (taken rendition settings going (option_copied tables.entry) mark.now.counted mark.now ≡ faults e)) }
+    ensures err { IfErr result (Refuses (taken rendition settings going (option_copied tables.entry) mark.now.counted mark.now)) }
 {
     let Some(tables) = tables else {
         return carry(settings, going, mark);
@@ -55,7 +54,7 @@ pub(crate) fn place(
 fn carry(settings: CutSettings, going: Option<Going>, mark: &Mark<'_>) -> Result<Placed, CutFault>
     requires { IsAllowed settings }
     ensures ok { IfOk result (λ p. carried settings going mark.now ≡ gives p.going p.plan) }
-    ensures err { IfErr result (λ e. (e ≡ NoMemory) ⊎ (carried settings going mark.now ≡ faults e)) }
+    ensures err { IfErr result (Refuses (carried settings going mark.now)) }
 {
     let Some(going) = going else {
         return Ok(Placed {
@@ -70,7 +69,7 @@ fn carry(settings: CutSettings, going: Option<Going>, mark: &Mark<'_>) -> Result
 fn grow(settings: CutSettings, mut going: Going, mark: &Mark<'_>) -> Result<Placed, CutFault>
     requires { IsAllowed settings }
     ensures ok { IfOk result (λ p. sized settings (added going mark.now) None ≡ gives p.going p.plan) }
-    ensures err { IfErr result (λ e. (e ≡ NoMemory) ⊎ (sized settings (added going mark.now) None ≡ faults e)) }
+    ensures err { IfErr result (Refuses (sized settings (added going mark.now) None)) }
 {
     going.add(mark)?;
     check_size(settings, going, None)
@@ -85,7 +84,7 @@ fn first(
 ) -> Result<Placed, CutFault>
     requires { IsAllowed settings }
     ensures ok { IfOk result (λ p. begun settings point.now mark.now ≡ gives p.going p.plan) }
-    ensures err { IfErr result (λ e. (e ≡ NoMemory) ⊎ (begun settings point.now mark.now ≡ faults e)) }
+    ensures err { IfErr result (Refuses (begun settings point.now mark.now)) }
 {
     let mut going = Going::first(alloc, point)?;
     going.add(mark)?;
@@ -102,8 +101,8 @@ fn cut(
     mark: &Mark<'_>,
 ) -> Result<Placed, CutFault>
     requires { IsAllowed settings }
-    ensures ok { IfOk result (λ p. Held.cut rendition settings going point.now mark.now ≡ gives p.going p.plan) }
-    ensures err { IfErr result (λ e. (e ≡ NoMemory) ⊎ (Held.cut rendition settings going point.now mark.now ≡ faults e)) }
+    ensures ok { IfOk result (λ p. SegmentState.cut rendition settings going point.now mark.now ≡ gives p.going p.plan) }
+    ensures err { IfErr result (Refuses (SegmentState.cut rendition settings going point.now mark.now)) }
 {
     let number = going.number();
     if is_long(settings, going.ticks(settings, Some(point.stamp))) {
@@ -127,7 +126,7 @@ fn renew(
     requires settings { IsAllowed settings }
     requires number { going.number < 2 ^ 32 }
     ensures ok { IfOk result (λ p. renewed rendition settings going point.now mark.now ≡ gives p.going p.plan) }
-    ensures err { IfErr result (λ e. (e ≡ NoMemory) ⊎ (renewed rendition settings going point.now mark.now ≡ faults e)) }
+    ensures err { IfErr result (Refuses (renewed rendition settings going point.now mark.now)) }
 {
     let mut next = going.next(alloc, point)?;
     let plan = going.close(rendition, settings, Some(point.stamp))?;
@@ -167,7 +166,7 @@ pub(crate) fn finish(
 ) -> Result<Plan, CutFault>
     requires { IsAllowed settings }
     ensures ok { IfOk result (λ plan. finished rendition settings (option_copied tables.entry) going ≡ gives None (Some plan)) }
-    ensures err { IfErr result (λ e. (e ≡ NoMemory) ⊎ (finished rendition settings (option_copied tables.entry) going ≡ faults e)) }
+    ensures err { IfErr result (RefusesEnd (finished rendition settings (option_copied tables.entry) going)) }
 {
     let Some(going) = going else {
         return Err(if tables.is_none() {

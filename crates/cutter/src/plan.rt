@@ -33,7 +33,7 @@ impl Model for Plan {
 
     ghost Value = { SegmentPlan };
 
-    ghost use Rattle.cutter.specs.Inside.{segment_plan};
+    ghost use Rattle.cutter.specs.SegmentState.{segment_plan};
 
     ghost view = { segment_plan };
 }

@@ -1,7 +1,7 @@
 //! Counted points: where a segment may begin.
 
 ghost use Rattle.std.specs.Prelude.{◌≡◌, ◌<◌, ◌^◌};
-ghost use Rattle.cutter.specs.Held.{IsInRange, HasRange};
+ghost use Rattle.cutter.specs.SegmentState.{IsInRange, HasRange};
 ghost use Rattle.cutter.specs.Points;
 ghost use Rattle.cutter.specs.Segments;
 
@@ -21,7 +21,7 @@ pub(crate) struct Mark<'a> {
 
 impl<'a> Model for Mark<'a> {
     ghost use Rattle.cutter.specs.Points.{Mark, mark};
-    ghost use Rattle.cutter.specs.Held.{HasRange};
+    ghost use Rattle.cutter.specs.SegmentState.{HasRange};
 
     ghost Value = { Mark };
 
@@ -39,7 +39,7 @@ pub(crate) struct Point<'a> {
 
 impl<'a> Model for Point<'a> {
     ghost use Rattle.cutter.specs.Segments.{Point};
-    ghost use Rattle.cutter.specs.Held.{IsInRange};
+    ghost use Rattle.cutter.specs.SegmentState.{IsInRange};
 
     ghost Value = { Point };
 

@@ -5,7 +5,7 @@ use Rattle.cutter.specs.declared.settings.CutSettings.{CutSettings}
 use Rattle.cutter.specs.Plans.{SegmentPlan}
 use Rattle.cutter.specs.Points.{Mark}
 use Rattle.cutter.specs.Segments.{Point}
-use Rattle.cutter.specs.Held.{Gathered, Out, added, next_of, plan_from, sized, renewed, gives, faults}
+use Rattle.cutter.specs.SegmentState.{Gathered, Out, added, next_of, plan_from, sized, renewed, gives, faults}
 use Rattle.cutter.proofs.place.renew.Goals as goal
 
 -- the next segment with its packet, beside the plan of the one before

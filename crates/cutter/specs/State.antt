@@ -6,7 +6,7 @@ use Rattle.cutter.specs.Settings.{Pushed, IsAllowed}
 use Rattle.cutter.specs.Stream.{packets_of, pts_list}
 use Rattle.cutter.specs.Segments.{Segment}
 use Rattle.cutter.specs.Cuts.{Cuts, cuts}
-use Rattle.cutter.specs.Held.{Gathered, gathered}
+use Rattle.cutter.specs.SegmentState.{Gathered, gathered}
 use Rattle.cutter.specs.Ordered.{IsPacketLong}
 
 abbrev pub pushed : Inside → Pushed

@@ -1,14 +1,17 @@
--- What the code holds of a plan and of the segment that goes on.
-use Rattle.std.specs.Prelude.{ℕ, ℤ, ◌+◌, ◌-◌, ◌%◌, ◌*◌, ◌≤◌, ◌^◌, unsigned_abs, Bool, false, nat_lt, nat_le, List, [], ◌∷◌, ◌++◌, length, Option, Some, None, if◌then◌else◌}
+-- What a plan and the segment that goes on keep of their packets, and what one packet more makes of them.
+use Rattle.std.specs.Prelude.{ℕ, ◌≤◌, ◌<◌, Option, Some, None, length, ◌≡◌, ◌⊎◌, ℤ, ◌+◌, ◌-◌, ◌%◌, ◌*◌, ◌^◌, unsigned_abs, Bool, false, nat_lt, nat_le, List, [], ◌∷◌, ◌++◌, if◌then◌else◌}
+use Rattle.cutter.specs.declared.plan.Plan.TheInside.{Inside as PlanInside}
+use Rattle.cutter.specs.declared.going.Going.TheInside.{Inside as GoingInside}
+use Rattle.cutter.specs.declared.going.Pending.{Pending}
+use Rattle.cutter.specs.Plans.{SegmentPlan}
 use Rattle.psi_tables.specs.InForce.{InForce}
 use Rattle.psi_tables.specs.Head.{packet_count}
 use Rattle.pes_time.specs.declared.clock.Stamp.{Stamp}
 use Rattle.cutter.specs.declared.settings.CutSettings.{CutSettings}
 use Rattle.cutter.specs.declared.fault.CutFault.{CutFault}
-use Rattle.cutter.specs.declared.fault.CutFault.TheVariants.{NoProgram, NoStart, LongSegment, BigSegment, Limit}
-use Rattle.cutter.specs.declared.going.Pending.{Pending}
+use Rattle.cutter.specs.declared.fault.CutFault.TheVariants.{NoProgram, NoStart, LongSegment, BigSegment, Limit, NoMemory}
 use Rattle.cutter.specs.declared.plan.Frame.{Frame}
-use Rattle.cutter.specs.Plans.{SegmentPlan}
+use Rattle.cutter.specs.Cuts.{MayHide}
 use Rattle.cutter.specs.Points.{Mark}
 use Rattle.cutter.specs.Segments.{Point, Segment, bytes_of, body_of, later, greatest, ticks_between, ticks_to, breaks, is_cut, is_discontinuity, is_long}
 
@@ -109,6 +112,14 @@ gives going plan = record { going = going; plan = plan; fault = None }
 abbrev pub faults : CutFault → Out
 faults fault = record { going = None; plan = None; fault = Some fault }
 
+-- a packet isn't taken, for want of memory or for its fault
+abbrev pub Refuses : Out → CutFault → Type 0
+Refuses out e = ((e ≡ NoMemory) × MayHide out.fault) ⊎ (out ≡ faults e)
+
+-- the end isn't taken
+abbrev pub RefusesEnd : Out → CutFault → Type 0
+RefusesEnd out e = ((e ≡ NoMemory) × (out.fault ≡ None)) ⊎ (out ≡ faults e)
+
 abbrev pub sized : CutSettings → Gathered → Option SegmentPlan → Out
 sized s g plan = if nat_lt (188 * s.most) (length g.body) then faults (BigSegment g.number) else gives (Some g) plan
 
@@ -154,3 +165,38 @@ IsInRange time = unsigned_abs time ≤ 2 ^ 62
 abbrev pub HasRange : Option Stamp → Type 0
 HasRange None = Unit {0}
 HasRange (Some s) = IsInRange s.time
+
+abbrev pub segment_plan : PlanInside → SegmentPlan
+segment_plan p = record {
+  rendition = p.rendition;
+  number = p.number;
+  tables = p.tables;
+  pat_counter = p.pat_counter;
+  pmt_counter = p.pmt_counter;
+  body = p.body.items;
+  frames = p.frames.items;
+  ticks = p.ticks;
+  discontinuity = p.discontinuity;
+}
+
+abbrev pub gathered_by : GoingInside → Gathered
+gathered_by g = record {
+  number = g.number;
+  discontinuity = g.discontinuity;
+  head = record { stamp = g.start; tables = g.tables };
+  pmt_counter = g.pmt_counter;
+  body = g.body.items;
+  framing = record { ended = g.frames.items; pending = g.pending; offset = length g.body.items };
+  greatest = g.greatest;
+}
+
+-- the I-frame that goes on began in the body
+abbrev pub IsWithin : Option Pending → ℕ → Type 0
+IsWithin None offset = Unit {0}
+IsWithin (Some p) offset = p.offset ≤ offset
+
+pub record IsSound (g : GoingInside) : Type 0 where
+  pub start : IsInRange g.start.time
+  pub greatest : IsInRange g.greatest
+  pub pending : IsWithin g.pending (length g.body.items)
+  pub counter : g.pmt_counter < 16
