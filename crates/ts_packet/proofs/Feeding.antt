@@ -3,7 +3,7 @@ use Rattle.std.proofs.Common.{◌≡◌, ℕ, ◌+◌, ◌<◌, ◌≤◌, Bool,
 use Rattle.std.proofs.lemmas.List.{append-nil}
 use Rattle.std.proofs.lemmas.Bool.{false≢true}
 use Rattle.ts_packet.specs.Packets.{packets, packets_from, decided, decided_from, skipped}
-use Rattle.ts_packet.specs.Reading.{needed, Keeps, Scans, GrowsAlike}
+use Rattle.ts_packet.specs.State.{needed, Keeps, Scans, GrowsAlike}
 use Rattle.ts_packet.proofs.Front.{packets_from-short}
 use Rattle.ts_packet.proofs.Decided.{Splits-IsDecided, IsDecided-once, decided-IsDecided}
 

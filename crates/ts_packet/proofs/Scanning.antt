@@ -2,7 +2,7 @@
 use Rattle.std.proofs.Common.{◌≡◌, ℕ, ◌+◌, ◌-◌, ◌≤◌, Bool, true, false, List, [], ◌∷◌, ◌++◌, length, take, drop, refl, sym, ◌∙◌, ap, arith, append_assoc, length-append, length-drop}
 use Rattle.std.proofs.lemmas.List.{append-nil, drop-drop}
 use Rattle.ts_packet.specs.Packets.{begins}
-use Rattle.ts_packet.specs.Reading.{needed, Scans}
+use Rattle.ts_packet.specs.State.{needed, Scans}
 use Rattle.ts_packet.proofs.Front.{begins-append, packets_from-packet_append, packets_from-other_append}
 
 pub needed-least : (at_end locked : Bool) (n : ℕ) → needed at_end locked ≤ n → 188 ≤ n

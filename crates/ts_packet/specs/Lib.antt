@@ -1,4 +1,4 @@
 pub mod Bits
 pub mod Fields
 pub mod Packets
-pub mod Reading
+pub mod State

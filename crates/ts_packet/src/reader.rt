@@ -1,6 +1,6 @@
 ghost use Rattle.std.specs.Prelude.{◌≡◌, ◌+◌, ◌<◌, ◌≤◌, ◌^◌, ◌++◌, [], length, IfOk, OnOk, OnErr};
 ghost use Rattle.ts_packet.specs.Packets.{decided, packets, skipped};
-ghost use Rattle.ts_packet.specs.Reading.{GrowsAlike};
+ghost use Rattle.ts_packet.specs.State.{GrowsAlike, IsKept};
 
 use crate::joined::{Joined, UNDECIDED};
 use crate::scan::scan;
@@ -23,7 +23,7 @@ pub struct Reader {
 
 impl Model for Reader {
     ghost use Rattle.std.specs.Prelude.{ℕ, ◌<◌, ◌^◌, List, length};
-    ghost use Rattle.ts_packet.specs.Reading.{Keeps};
+    ghost use Rattle.ts_packet.specs.State.{Keeps};
 
     ghost Value = { List ℕ };
 
@@ -87,5 +87,13 @@ impl Reader {
         let skipped = self.passed + scanned.passed as u64 + left as u64;
         *self = Reader::new();
         Ok(Skipped { bytes: skipped })
+    }
+
+    /// How many bytes are kept until more of the stream has come: those behind which nothing is decided yet.
+    pub fn kept(&self) -> usize
+        ensures rest { IsKept self.now result }
+        ensures most { result ≤ 376 }
+    {
+        self.rest.len()
     }
 }

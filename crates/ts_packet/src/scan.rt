@@ -1,6 +1,6 @@
 ghost use Rattle.std.specs.Prelude.{◌≡◌, ◌+◌, ◌-◌, ◌/◌, ◌<◌, ◌≤◌, ◌^◌, length, drop, vec_len, vec_capacity};
 ghost use Rattle.ts_packet.specs.Packets.{begins, is_sync_or_beyond};
-ghost use Rattle.ts_packet.specs.Reading.{needed, Scans};
+ghost use Rattle.ts_packet.specs.State.{needed, Scans};
 
 use crate::joined::Joined;
 

@@ -1,5 +1,5 @@
 use Rattle.std.proofs.Common.{◌-◌, ◌≤◌, length, sym, arith}
-use Rattle.ts_packet.specs.Reading.{needed}
+use Rattle.ts_packet.specs.State.{needed}
 use Rattle.ts_packet.proofs.Scanning.{needed-least, Scans-packet, Scans-other}
 use Rattle.ts_packet.proofs.scan.scan.Goals as goal
 

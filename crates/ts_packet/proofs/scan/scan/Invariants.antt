@@ -1,5 +1,5 @@
 use Rattle.std.proofs.Common.{◌≤◌, ◌+◌, ◌-◌, ◌/◌, length, drop, vec_len, vec_capacity}
-use Rattle.ts_packet.specs.Reading.{Scans}
+use Rattle.ts_packet.specs.State.{Scans}
 use Rattle.ts_packet.proofs.scan.scan.Given as goal
 
 abbrev pub invariant-loop-at : goal.invariant-loop-at

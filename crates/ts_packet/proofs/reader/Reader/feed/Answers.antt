@@ -1,5 +1,5 @@
 use Rattle.std.proofs.Common.{◌≡◌, ◌++◌, ◌+◌, ◌<◌, false, length, drop, ap, arith, length-append, length-drop}
-use Rattle.ts_packet.specs.Reading.{needed}
+use Rattle.ts_packet.specs.State.{needed}
 use Rattle.ts_packet.proofs.Feeding.{Feeds, Keeps-piece}
 use Rattle.ts_packet.proofs.reader.Reader.feed.Goals as goal
 use Rattle.ts_packet.proofs.reader.Reader.feed.Goals.{After-append}

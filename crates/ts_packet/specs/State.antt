@@ -31,3 +31,11 @@ pub record Keeps (fed : List ℕ) (locked : Bool) (rest : List ℕ) (passed : �
   pub short : length rest < needed false locked
   pub goes_on : (more : List ℕ) → packets (fed ++ more) ≡ decided fed ++ packets_from locked 0 (rest ++ more)
   pub all_counted : passed + 188 * length (decided fed) + length rest ≡ length fed
+
+-- so many bytes are kept: the rest that isn't decided yet
+pub record IsKept (fed : List ℕ) (count : ℕ) : Type 0 where
+  pub locked : Bool
+  pub rest : List ℕ
+  pub passed : ℕ
+  pub keeps : Keeps fed locked rest passed
+  pub all : count ≡ length rest
