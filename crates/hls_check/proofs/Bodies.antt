@@ -2,7 +2,7 @@
 use Rattle.std.proofs.Common.{◌≡◌, ℕ, zero, suc, ◌<◌, List, [], ◌∷◌, ◌++◌, length, get_or, map, refl, sym, ap, ◌∙◌, subst, arith}
 use Rattle.aes_cbc.specs.Opening.{Seals}
 use Rattle.playlist_text.specs.MediaLines.{Entry}
-use Rattle.segment_job.specs.Vectors.{vector}
+use Rattle.playlist_text.specs.Vectors.{vector}
 use Rattle.segment_job.specs.Rotation.{KeyRotation, IsRotation, key_index}
 use Rattle.segment_job.specs.Segments.{SealedSegment, plain, plan_head}
 use Rattle.hls_check.specs.Unpacking.{packed, Unpacks, AllUnpack}

@@ -7,7 +7,7 @@ use Rattle.playlist_text.specs.Uris.{segment_uri}
 use Rattle.hls_check.specs.declared.reading.Stage.{Stage}
 use Rattle.hls_check.specs.declared.reading.Stage.TheVariants.{Fresh, Tagged, Versioned, Targeted, Sequenced, Between, Broken, Keyed, Timed, Ended}
 use Rattle.hls_check.specs.MediaTexts.{IsListing, AreFirst}
-use Rattle.hls_check.specs.Progress.{Progress, next_number, entry_of, with_entry, listing_of}
+use Rattle.hls_check.specs.State.{Progress, next_number, entry_of, with_entry, listing_of}
 use Rattle.hls_check.proofs.Going.{last_key, name_of, head_of, listed_lines, lines_at, IsAt, IsBounded, IsSound}
 use Rattle.hls_check.proofs.Stepping.{entries_lines-more, AreListed-more, other-key}
 

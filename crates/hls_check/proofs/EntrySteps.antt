@@ -12,7 +12,7 @@ use Rattle.playlist_text.specs.MediaLines.{Entry, discontinuity_lines, key_line,
 use Rattle.hls_check.specs.declared.reading.Stage.{Stage}
 use Rattle.hls_check.specs.declared.reading.Stage.TheVariants.{Between, Broken, Timed}
 use Rattle.hls_check.specs.MediaTexts.{IsListed}
-use Rattle.hls_check.specs.Progress.{Progress, next_number, number_in, number_left, expect, where_so, is_duration, with_key, keyed_by, keyed, timed, keyed_or_timed, with_entry, listed, entered, begun, step, steps}
+use Rattle.hls_check.specs.State.{Progress, next_number, number_in, number_left, expect, where_so, is_duration, with_key, keyed_by, keyed, timed, keyed_or_timed, with_entry, listed, entered, begun, step, steps}
 use Rattle.hls_check.proofs.Found.{found-none, not-true}
 use Rattle.hls_check.proofs.Stepping.{not-eq}
 use Rattle.hls_check.proofs.OneNumber.{number-found, name-found, key-apart, duration-apart}

@@ -5,7 +5,7 @@ use Rattle.std.specs.Result.{result_ok}
 use Rattle.std.proofs.lemmas.Bool.{cases_lt}
 use Rattle.std.proofs.lemmas.Option.{same_Some, none-some}
 use Rattle.std.proofs.lemmas.Slice.Eq.{bytes_eq-Decides}
-use Rattle.hls_check.specs.Progress.{found_below, number_in}
+use Rattle.hls_check.specs.State.{found_below, number_in}
 
 pub not-true : (b : Bool) → ¬ (b ≡ true) → b ≡ false
 not-true true fails = absurd (fails refl)

@@ -6,7 +6,7 @@ use Rattle.playlist_text.specs.MediaLines.{Entry, head_lines, discontinuity_line
 use Rattle.hls_check.specs.declared.reading.Stage.{Stage}
 use Rattle.hls_check.specs.declared.reading.Stage.TheVariants.{Fresh, Tagged, Versioned, Targeted, Sequenced, Between, Broken, Keyed, Timed, Ended}
 use Rattle.hls_check.specs.MediaTexts.{AreListed}
-use Rattle.hls_check.specs.Progress.{Progress, next_number}
+use Rattle.hls_check.specs.State.{Progress, next_number}
 
 -- the key of the last of some entries, or the one before where there are none
 abbrev pub key_behind : Option ℕ → List Entry → Option ℕ

@@ -6,7 +6,7 @@ use Rattle.std.proofs.lemmas.Option.{IfSome_then}
 use Rattle.playlist_text.specs.Attributes.{quoted, attribute_list}
 use Rattle.playlist_text.specs.Uris.{escaped, key_uri}
 use Rattle.playlist_text.specs.MediaLines.{key_line}
-use Rattle.hls_check.specs.Progress.{key_begin}
+use Rattle.hls_check.specs.State.{key_begin}
 use Rattle.hls_check.proofs.Found.{IsRead}
 
 -- what stands before the number

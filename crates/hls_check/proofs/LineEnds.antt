@@ -9,7 +9,7 @@ use Rattle.playlist_text.specs.Numbers.{digit, six_digits, seconds}
 use Rattle.playlist_text.specs.Uris.{escaped, segment_uri}
 use Rattle.playlist_text.specs.MediaLines.{Entry, Listing, head_lines, discontinuity_lines, key_line, key_lines, duration_line, entry_lines, entries_lines, end_lines, listing_lines}
 use Rattle.hls_check.specs.MediaTexts.{IsListed, AreListed, IsListing, IsLine}
-use Rattle.hls_check.specs.Progress.{key_begin, target_line, sequence_line, discontinuity_sequence_line}
+use Rattle.hls_check.specs.State.{key_begin, target_line, sequence_line, discontinuity_sequence_line}
 use Rattle.hls_check.proofs.KeyLines.{key_front, key_line-parts}
 use Rattle.hls_check.proofs.EscapedBytes.{escaped-in}
 use Rattle.hls_check.proofs.Stepping.{both}

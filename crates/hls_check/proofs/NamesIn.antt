@@ -7,7 +7,7 @@ use Rattle.std.proofs.lemmas.Bool.{and_from, false≢true}
 use Rattle.std.proofs.lemmas.Str.{IsUtf8-from_is_utf8, is_utf8-from_IsUtf8}
 use Rattle.percent_encoding.specs.Percent.{percent_decode}
 use Rattle.playlist_text.specs.Names.{is_name}
-use Rattle.hls_check.specs.Progress.{key_begin, name_in}
+use Rattle.hls_check.specs.State.{key_begin, name_in}
 use Rattle.hls_check.proofs.Found.{not-true}
 
 -- what the escaped text stands for

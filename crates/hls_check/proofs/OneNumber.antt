@@ -13,7 +13,7 @@ use Rattle.playlist_text.specs.Names.{is_name}
 use Rattle.playlist_text.specs.Numbers.{six_digits, seconds}
 use Rattle.playlist_text.specs.Uris.{escaped}
 use Rattle.playlist_text.specs.MediaLines.{key_line, duration_line}
-use Rattle.hls_check.specs.Progress.{number_in, name_in, key_begin}
+use Rattle.hls_check.specs.State.{number_in, name_in, key_begin}
 use Rattle.hls_check.proofs.Found.{found-only}
 use Rattle.hls_check.proofs.Spellings.{middle-same, seconds-split}
 use Rattle.hls_check.proofs.KeyLines.{key_front, key_line-parts}

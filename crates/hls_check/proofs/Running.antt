@@ -7,7 +7,7 @@ use Rattle.std.proofs.lemmas.List.{length-append}
 use Rattle.playlist_text.specs.MediaLines.{Entry, Listing, head_lines, entry_lines, entries_lines, end_lines, listing_lines}
 use Rattle.hls_check.specs.declared.reading.Stage.TheVariants.{Tagged, Versioned, Targeted, Sequenced, Between, Ended}
 use Rattle.hls_check.specs.MediaTexts.{AreListed, IsListing}
-use Rattle.hls_check.specs.Progress.{Progress, fresh, next_number, where_so, target_line, sequence_line, discontinuity_sequence_line, step_at, begun, step, steps, listing_of, ended_by, listing_at}
+use Rattle.hls_check.specs.State.{Progress, fresh, next_number, where_so, target_line, sequence_line, discontinuity_sequence_line, step_at, begun, step, steps, listing_of, ended_by, listing_at}
 use Rattle.hls_check.proofs.OneNumber.{number-found, tagged-apart}
 use Rattle.hls_check.proofs.LineEnds.{sequence-small}
 use Rattle.hls_check.proofs.EntrySteps.{if-true, steps-line, expect-same, IsBehind, IsGood, after, entry-steps}

@@ -7,7 +7,7 @@ use Rattle.std.proofs.lemmas.List.Elements.{All-cons, All-head, All-tail, All-ni
 use Rattle.playlist_text.specs.Lines.{text_of, ended_line}
 use Rattle.playlist_text.proofs.TextLines.{text_of-append, text_of-line}
 use Rattle.hls_check.specs.MediaTexts.{IsLine, Splits}
-use Rattle.hls_check.specs.Progress.{Progress, step, steps}
+use Rattle.hls_check.specs.State.{Progress, step, steps}
 
 -- one line more is read
 pub text-more : (lines : List (List ℕ)) (line behind rest text : List ℕ) → text_of lines ++ rest ≡ text → rest ≡ line ++ 10 ∷ behind

@@ -14,7 +14,7 @@ use Rattle.playlist_text.specs.MediaLines.{Entry, head_lines, discontinuity_line
 use Rattle.hls_check.specs.declared.reading.Stage.{Stage}
 use Rattle.hls_check.specs.declared.reading.Stage.TheVariants.{Fresh, Tagged, Versioned, Targeted, Sequenced, Between, Broken, Keyed, Timed, Ended}
 use Rattle.hls_check.specs.MediaTexts.{IsListed, AreListed}
-use Rattle.hls_check.specs.Progress.{Progress, next_number, number_in, number_left, entry_of, expect, where_so, is_duration, with_key, keyed_by, keyed, timed, keyed_or_timed, with_entry, listed, entered, begun, step_at, step, name_in, target_line, sequence_line, discontinuity_sequence_line}
+use Rattle.hls_check.specs.State.{Progress, next_number, number_in, number_left, entry_of, expect, where_so, is_duration, with_key, keyed_by, keyed, timed, keyed_or_timed, with_entry, listed, entered, begun, step_at, step, name_in, target_line, sequence_line, discontinuity_sequence_line}
 use Rattle.hls_check.proofs.Found.{found-some}
 use Rattle.hls_check.proofs.NamesIn.{told_name}
 use Rattle.hls_check.proofs.Going.{key_behind, last_key, name_of, head_of, listed_lines, lines_at, IsAt, IsBounded, IsSound}

@@ -11,13 +11,12 @@ use Rattle.std.proofs.lemmas.List.{take_all, length-append, take-append-drop}
 use Rattle.std.proofs.lemmas.Bool.{false≢true, ltb-true}
 use Rattle.hls_check.specs.declared.reading.Stage.{Stage}
 use Rattle.hls_check.specs.declared.reading.Stage.TheVariants.{Fresh, Tagged, Versioned, Targeted, Sequenced, Between, Broken, Keyed, Timed, Ended}
-use Rattle.hls_check.specs.Held.{Tells}
+use Rattle.hls_check.specs.State.{Tells, Progress, fresh, step, steps, listing_at, listing_of}
 use Rattle.std.proofs.lemmas.List.Elements.{All-cons, All-append, All-nil}
 use Rattle.std.proofs.Math.Seq.{take-append_seam, take-append-add}
 use Rattle.playlist_text.specs.Lines.{text_of}
 use Rattle.playlist_text.proofs.TextLines.{text_of-append}
 use Rattle.hls_check.specs.MediaTexts.{IsListing, AreFirst, IsLine, IsFirstWrong, listing_text}
-use Rattle.hls_check.specs.Progress.{Progress, fresh, step, steps, listing_at, listing_of}
 use Rattle.hls_check.proofs.Splitting.{steps-stop, steps-more, text-more, split-of, lines-same}
 use Rattle.hls_check.proofs.Going.{IsSound, lines_at, listed_lines, head_of, name_of}
 use Rattle.hls_check.proofs.Stepping.{step-lines}

@@ -3,6 +3,5 @@ pub mod Heads
 pub mod Texts
 pub mod Listed
 pub mod MediaTexts
-pub mod Progress
-pub mod Held
 pub mod Checks
+pub mod State

@@ -4,7 +4,7 @@ ghost use Rattle.std.specs.Prelude.{◌≡◌, ◌≢◌, List, ◌<◌, ◌≤�
 ghost use Rattle.std.specs.Fmt.{decimal};
 ghost use Rattle.playlist_text.specs.Numbers.{six_digits};
 ghost use Rattle.playlist_text.specs.MediaLines.{duration_line};
-ghost use Rattle.hls_check.specs.Progress.{number_in};
+ghost use Rattle.hls_check.specs.State.{number_in};
 
 use itoa::Buffer;
 

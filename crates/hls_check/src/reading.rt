@@ -5,9 +5,8 @@ ghost use Rattle.std.specs.String.{string_bytes};
 ghost use Rattle.std.specs.List.{before_first};
 ghost use Rattle.playlist_text.specs.Uris.{escaped};
 ghost use Rattle.playlist_text.specs.MediaLines.{key_line};
-ghost use Rattle.hls_check.specs.Progress.{step, step_at, fresh, expect, begun, keyed, keyed_or_timed, timed, listed, listing_at, name_in, number_in, number_left, entered, key_begin, listing_at};
+ghost use Rattle.hls_check.specs.State.{step, step_at, fresh, expect, begun, keyed, keyed_or_timed, timed, listed, listing_at, name_in, number_in, number_left, entered, key_begin, listing_at, progress_of, Moves, Tells};
 ghost use Rattle.hls_check.specs.declared.reading.Stage.TheVariants.{Versioned, Targeted, Sequenced};
-ghost use Rattle.hls_check.specs.Held.{progress_of, Moves, Tells};
 
 use crate::listing::{Entry, Listing};
 use crate::numbers::{read_between, read_duration, read_tagged};
@@ -88,7 +87,7 @@ impl Reading {
     }
 
     /// Takes the next line, and says whether it may come next.
-    #[tactic(auto, unfolding(crate::specs::Progress::step))]
+    #[tactic(auto, unfolding(crate::specs::State::step))]
     pub fn take(&mut self, line: &[u8]) -> Result<bool, AllocError>
         ensures { IfOk result (λ taken. Tells taken (step (progress_of self.old) line.now) (progress_of self.new)) }
     {
@@ -164,7 +163,7 @@ impl Reading {
         Some(number as u64)
     }
 
-    #[tactic(auto, unfolding(crate::specs::Progress::begun))]
+    #[tactic(auto, unfolding(crate::specs::State::begun))]
     fn take_first(&mut self, line: &[u8]) -> Result<bool, AllocError>
         ensures { IfOk result (λ taken. Tells taken (begun (progress_of self.old) line.now) (progress_of self.new)) }
     {
@@ -202,7 +201,7 @@ impl Reading {
         Ok(self.take_duration(line))
     }
 
-    #[tactic(auto, unfolding(crate::specs::Progress::keyed))]
+    #[tactic(auto, unfolding(crate::specs::State::keyed))]
     fn take_key(&mut self, line: &[u8]) -> Result<bool, AllocError>
         ensures { IfOk result (λ taken. Moves taken (keyed (progress_of self.old) line.now) (progress_of self.old) (progress_of self.new)) }
     {
@@ -221,7 +220,7 @@ impl Reading {
         Ok(true)
     }
 
-    #[tactic(auto, unfolding(crate::specs::Progress::keyed))]
+    #[tactic(auto, unfolding(crate::specs::State::keyed))]
     fn take_first_key(&mut self, line: &[u8]) -> Result<bool, AllocError>
         requires { self.old.name ≡ None }
         ensures { IfOk result (λ taken. Moves taken (keyed (progress_of self.old) line.now) (progress_of self.old) (progress_of self.new)) }
@@ -239,7 +238,7 @@ impl Reading {
         Ok(true)
     }
 
-    #[tactic(auto, unfolding(crate::specs::Progress::timed))]
+    #[tactic(auto, unfolding(crate::specs::State::timed))]
     fn take_duration(&mut self, line: &[u8]) -> bool
         ensures { Tells result (timed (progress_of self.old) line.now) (progress_of self.new) }
     {
@@ -257,7 +256,7 @@ impl Reading {
         true
     }
 
-    #[tactic(auto, unfolding(crate::specs::Progress::listed))]
+    #[tactic(auto, unfolding(crate::specs::State::listed))]
     fn take_segment(&mut self, line: &[u8]) -> Result<bool, AllocError>
         ensures { IfOk result (λ taken. Tells taken (listed (progress_of self.old) line.now) (progress_of self.new)) }
     {

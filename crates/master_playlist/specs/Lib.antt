@@ -1,4 +1,4 @@
 pub mod Listed
-pub mod View
 pub mod MasterLines
 pub mod Faults
+pub mod State

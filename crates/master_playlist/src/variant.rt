@@ -19,7 +19,7 @@ impl<'a> Model for Variant<'a> {
 
     ghost Value = { Listed };
 
-    ghost use Rattle.master_playlist.specs.View.{listed};
+    ghost use Rattle.master_playlist.specs.State.{listed};
 
     ghost view = { listed };
 }

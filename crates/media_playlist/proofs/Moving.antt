@@ -4,7 +4,7 @@ use Rattle.std.proofs.lemmas.Bool.{false≢true, cases_lt, lt-ltb, and_from}
 use Rattle.media_playlist.specs.declared.start.Start.{Start}
 use Rattle.media_playlist.specs.Rows.{SegmentRow}
 use Rattle.media_playlist.specs.Listed.{suffices, greatest_up_to, first_listed}
-use Rattle.media_playlist.specs.Starts.{IsStart}
+use Rattle.media_playlist.specs.State.{IsStart}
 use Rattle.media_playlist.proofs.Sufficing.{suffices-earlier, suffices-more}
 use Rattle.media_playlist.proofs.Greatest.{first_listed-IsFirstListed, first_listed-only}
 

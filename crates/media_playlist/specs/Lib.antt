@@ -2,5 +2,4 @@ pub mod Rows
 pub mod Listed
 pub mod Sequences
 pub mod Lines
-pub mod Starts
 pub mod State

@@ -2,9 +2,9 @@
 use Rattle.std.specs.Prelude.{ℕ, Bool, List, [], ◌∷◌, ◌++◌, map, codes}
 use Rattle.std.specs.List.{flat_map}
 use Rattle.std.specs.Fmt.{decimal}
-use Rattle.std.specs.Int.{to_be_bytes, w128}
 use Rattle.playlist_text.specs.Attributes.{attribute, attribute_list, hexadecimal}
 use Rattle.playlist_text.specs.Uris.{segment_uri, key_uri}
+use Rattle.playlist_text.specs.Vectors.{vector}
 use Rattle.playlist_text.specs.MediaLines.{Entry, head_lines, discontinuity_lines, key_attributes, duration_line, end_lines, listing_lines}
 use Rattle.media_playlist.specs.declared.row.FrameRow.{FrameRow}
 use Rattle.media_playlist.specs.Rows.{SegmentRow}
@@ -32,18 +32,14 @@ media_lines pushed ended = unless_empty pushed.rows
       ended = ended;
     }))
 
--- the vector of a segment: its number in 16 bytes, big-endian (RFC 8216, 5.2)
-abbrev pub vector_of : ℕ → List ℕ
-vector_of number = to_be_bytes w128 number
-
 -- the attributes of a key at a URI, with a vector (RFC 8216, 4.3.2.4)
 abbrev pub vector_key_attributes : List ℕ → List ℕ → List (List ℕ)
-vector_key_attributes uri vector = key_attributes uri ++ attribute (codes "IV") (hexadecimal vector) ∷ []
+vector_key_attributes uri iv = key_attributes uri ++ attribute (codes "IV") (hexadecimal iv) ∷ []
 
 -- the line of a key with the vector of a segment
 unfoldable pub vector_key_line : List ℕ → ℕ → ℕ → List ℕ
 vector_key_line name index number =
-    codes "#EXT-X-KEY:" ++ attribute_list (vector_key_attributes (key_uri name index) (vector_of number))
+    codes "#EXT-X-KEY:" ++ attribute_list (vector_key_attributes (key_uri name index) (vector number))
 
 -- the line of a part of a segment: its bytes, and where it begins (RFC 8216, 4.3.2.2)
 unfoldable pub range_line : ℕ → ℕ → List ℕ

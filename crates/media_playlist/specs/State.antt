@@ -1,9 +1,20 @@
 -- What a window keeps of the rows that it was pushed.
-use Rattle.std.specs.Prelude.{◌≡◌}
+use Rattle.std.specs.Prelude.{◌≡◌, ◌*◌, ◌≤◌, ◌^◌, List, length, drop, take}
+use Rattle.media_playlist.specs.declared.start.Start.{Start}
+use Rattle.media_playlist.specs.Rows.{SegmentRow}
+use Rattle.media_playlist.specs.Listed.{duration, discontinuity_count, frame_count, Pushed, first_listed}
 use Rattle.std.specs.String.{string_bytes}
 use Rattle.media_playlist.specs.declared.window.Window.TheInside.{Inside}
-use Rattle.media_playlist.specs.Listed.{Pushed, first_listed}
-use Rattle.media_playlist.specs.Starts.{IsStart}
+
+-- the counts are those of the rows before the place, the duration is that of the others, and none is large
+pub record IsStart (rows : List SegmentRow) (start : Start) : Type 0 where
+  pub up_to : start.first ≤ length rows
+  pub micros : start.listed_micros ≡ duration (drop start.first rows)
+  pub short : start.listed_micros ≤ length rows * 2 ^ 64
+  pub frames : start.frames ≡ frame_count (take start.first rows)
+  pub few : start.frames ≤ start.first * 2 ^ 64
+  pub discontinuities : start.discontinuities ≡ discontinuity_count (take start.first rows)
+  pub rare : start.discontinuities ≤ start.first
 
 abbrev pub pushed : Inside → Pushed
 pushed w = record { name = string_bytes w.name; target = w.target; window = w.window; rows = w.rows.items }

@@ -3,11 +3,13 @@ ghost use Rattle.std.specs.List.{flat_map};
 ghost use Rattle.std.specs.String.{string_bytes};
 ghost use Rattle.playlist_text.specs.Lines.{text_of};
 ghost use Rattle.playlist_text.specs.Attributes.{attribute_list};
-ghost use Rattle.media_playlist.specs.Lines.{vector_of, vector_key_attributes, vector_key_line, range_line, frame_lines, row_frame_lines, frames_only_line};
+ghost use Rattle.media_playlist.specs.Lines.{vector_key_attributes, vector_key_line, range_line, frame_lines, row_frame_lines, frames_only_line};
 
 use crate::lines::{push_bytes, push_discontinuity, push_duration, push_segment};
 use crate::row::{FrameRow, Row};
-use playlist_text::{Attribute, Value, push_attribute_list, push_decimal, push_key_uri, push_line};
+use playlist_text::{
+    Attribute, Value, push_attribute_list, push_decimal, push_key_uri, push_line, vector,
+};
 use std::alloc::AllocError;
 
 /// Appends the line that tells that a playlist is one of I-frames.
@@ -44,18 +46,11 @@ fn push_vector_key(out: &mut String, name: &str, index: u64, number: u64) -> Res
 {
     let mut uri = String::new(*out.allocator());
     push_key_uri(&mut uri, name, index)?;
-    let vector = number_vector(number);
+    let vector = vector(number);
     push_bytes(out, "#EXT-X-KEY:")?;
     push_vector_key_attributes(out, &uri, &vector)?;
     push_line(out, "")?;
     Ok(())
-}
-
-/// The vector of a segment: its number in 16 bytes, big-endian (RFC 8216, 5.2).
-fn number_vector(number: u64) -> [u8; 16]
-    ensures { result ≡ vector_of number }
-{
-    u128::from(number).to_be_bytes()
 }
 
 fn push_vector_key_attributes<'a>(

@@ -1,6 +1,6 @@
 ghost use Rattle.std.specs.Prelude.{◌≡◌, ◌+◌, ◌<◌, ◌&&◌, ◌⊎◌, true, length, drop, nat_lt};
 ghost use Rattle.media_playlist.specs.Listed.{suffices, first_listed};
-ghost use Rattle.media_playlist.specs.Starts.{IsStart};
+ghost use Rattle.media_playlist.specs.State.{IsStart};
 
 use crate::row::Row;
 
@@ -59,7 +59,7 @@ fn behind_the_first(rows: &[Row], start: Start) -> Start
 
 impl Start {
     ghost use Rattle.std.specs.Prelude.{◌≡◌, ◌+◌, ◌<◌, ◌^◌};
-    ghost use Rattle.media_playlist.specs.Starts.{IsStart};
+    ghost use Rattle.media_playlist.specs.State.{IsStart};
 
     /// The beginning of no rows.
     pub fn new() -> Start

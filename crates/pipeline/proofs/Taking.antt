@@ -3,7 +3,7 @@ use Rattle.std.proofs.Common.{◌≡◌, ◌∙◌, ◌⊎◌, inl, inr, ℕ, �
 use Rattle.std.proofs.lemmas.List.{append-nil, append_cancel_left}
 use Rattle.ghost_list.specs.Lists.{IsBeginning}
 use Rattle.ts_packet.specs.Packets.{packets, decided}
-use Rattle.ts_packet.specs.Reading as Reading
+use Rattle.ts_packet.specs.State as Reading
 use Rattle.cutter.specs.declared.fault.CutFault.{CutFault}
 use Rattle.cutter.specs.declared.fault.CutFault.TheVariants.{NoMemory}
 use Rattle.cutter.specs.Settings.{Pushed}

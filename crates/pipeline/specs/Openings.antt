@@ -6,7 +6,7 @@ use Rattle.playlist_text.specs.Uris.{segment_uri}
 use Rattle.aes_cbc.specs.Block.{AreBytes}
 use Rattle.psi_tables.specs.Head.{IsSendable}
 use Rattle.cutter.specs.Plans.{SegmentPlan}
-use Rattle.segment_job.specs.Vectors.{vector}
+use Rattle.playlist_text.specs.Vectors.{vector}
 use Rattle.segment_job.specs.Rotation.{KeyRotation}
 use Rattle.segment_job.specs.Segments.{plain, OpensTo}
 use Rattle.playlist_text.specs.Lines.{text_of}

@@ -5,3 +5,4 @@ pub mod Attributes
 pub mod AttributeValues
 pub mod Lines
 pub mod MediaLines
+pub mod Vectors

@@ -11,6 +11,7 @@ mod number;
 #[cfg(test)]
 mod tests;
 mod uri;
+mod vectors;
 
 pub use attribute::{
     Attribute, Value, push_attribute_list, push_hexadecimal, push_quoted, push_resolution,
@@ -21,3 +22,4 @@ pub use number::{micros, push_decimal, push_seconds, rounded_seconds};
 pub use uri::{
     MASTER_URI, push_escaped, push_frames_uri, push_key_uri, push_media_uri, push_segment_uri,
 };
+pub use vectors::vector;

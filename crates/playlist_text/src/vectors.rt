@@ -1,7 +1,7 @@
-//! Initialization vectors.
+//! The initialization vectors of segments (RFC 8216, 5.2).
 
 ghost use Rattle.std.specs.Prelude.{◌≡◌};
-ghost use Rattle.segment_job.specs.Vectors.{vector};
+ghost use Rattle.playlist_text.specs.Vectors.{vector};
 
 /// The initialization vector of segment `n`: its number in 16 bytes, big-endian (RFC 8216, 5.2).
 pub fn vector(n: u64) -> [u8; 16]

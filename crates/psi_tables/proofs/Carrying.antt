@@ -4,7 +4,7 @@ use Rattle.std.proofs.lemmas.Bool.{cond-true, cond-false, and_left, and_right, c
 use Rattle.std.proofs.lemmas.List.{append-nil}
 use Rattle.ts_packet.specs.Fields.{continuity_counter}
 use Rattle.psi_tables.specs.Sections.{Carrier, carrier, carriers, is_taken, follows, pointed, behind_pointer, begun_in, flow_behind, unfinished, bring_too_long, is_given_up, opening, sections_in}
-use Rattle.psi_tables.specs.Assembly.{to_come_behind, to_come, open_rest, left_open, gives_up, completed, left_behind, continued}
+use Rattle.psi_tables.specs.State.{to_come_behind, to_come, open_rest, left_open, gives_up, completed, left_behind, continued}
 use Rattle.psi_tables.proofs.Fronts.{IsOpen, a_whole, an_open, a_none, front_of, is_stuffing-append, open_rest-whole, open_rest-open, open_rest-none}
 use Rattle.psi_tables.proofs.Flow.{IsFront, not_begun, begun, none_begun, split, goes_on, front_none, front_of_rest, left_open-is_front}
 

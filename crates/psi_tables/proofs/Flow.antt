@@ -4,7 +4,7 @@ use Rattle.std.proofs.lemmas.Bool.{cond-true, cond-false, cases_Bool, eqb-true}
 use Rattle.std.proofs.lemmas.List.{append-nil}
 use Rattle.psi_tables.specs.Section.{section_length}
 use Rattle.psi_tables.specs.Sections.{is_whole, first_section, begun_in, unfinished}
-use Rattle.psi_tables.specs.Assembly.{whole_front, open_front, open_rest, left_open}
+use Rattle.psi_tables.specs.State.{whole_front, open_front, open_rest, left_open}
 use Rattle.psi_tables.proofs.Fronts.{IsWhole, IsOpen, IsNone, a_whole, an_open, a_none, front_of, whole_front-whole, whole_front-none, open_rest-whole, open_rest-open, open_rest-none}
 
 pub none_begun : (flow : List ℕ) → begun_in 0 [] flow ≡ []

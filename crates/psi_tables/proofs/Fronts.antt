@@ -5,7 +5,7 @@ use Rattle.std.proofs.lemmas.Bool.Decides.{nat_tests, leb_tells, eqb_tells}
 use Rattle.std.proofs.lemmas.List.{take-append-le, get_or_append_left}
 use Rattle.psi_tables.specs.Section.{table_id, section_length}
 use Rattle.psi_tables.specs.Sections.{is_stuffing, is_whole, is_open, first_section}
-use Rattle.psi_tables.specs.Assembly.{whole_front, open_rest}
+use Rattle.psi_tables.specs.State.{whole_front, open_rest}
 
 -- more bytes don't change a section_length that is there
 pub section_length-append : (s f : List ℕ) → 3 ≤ length s → section_length (s ++ f) ≡ section_length s

@@ -4,8 +4,7 @@ use Rattle.std.proofs.lemmas.Bool.{cases_Bool}
 use Rattle.std.proofs.lemmas.List.{append-nil}
 use Rattle.ts_packet.specs.Fields.{continuity_counter}
 use Rattle.psi_tables.specs.Sections.{carrier, carriers, is_taken, unfinished, sections_in, sections}
-use Rattle.psi_tables.specs.Assembly.{Gathered, gathered_sections, with_packet, to_come, Keeps, completed, left_behind, continued}
-use Rattle.psi_tables.specs.Following.{IsLeftOut}
+use Rattle.psi_tables.specs.State.{Gathered, gathered_sections, with_packet, to_come, Keeps, completed, left_behind, continued, IsLeftOut}
 use Rattle.psi_tables.proofs.Flow.{IsFront, front_from, front_only, front_few}
 use Rattle.psi_tables.proofs.Carrying.{taken_step, left_out_step, none_to_come, continued-is_front, left_behind-is_front}
 

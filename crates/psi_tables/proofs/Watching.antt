@@ -6,9 +6,8 @@ use Rattle.std.proofs.lemmas.Bool.{cond-true, cond-false, eqb-true}
 use Rattle.std.proofs.lemmas.List.{take-append-le, take-append-drop, length-take-le, take_all}
 use Rattle.std.proofs.lemmas.List.Elements.{filter_map-append}
 use Rattle.psi_tables.specs.Sections.{carriers, sections_in, sections}
-use Rattle.psi_tables.specs.Assembly.{Gathered, gathered_sections, with_packet}
+use Rattle.psi_tables.specs.State.{Gathered, gathered_sections, with_packet, pid_of, tables_among, Watches}
 use Rattle.psi_tables.specs.InForce.{InForce, last_or, choice_of, choice, same_pid, since_change, tables_of, put_in_force, tables_before, tables_behind}
-use Rattle.psi_tables.specs.Watching.{pid_of, tables_among, Watches}
 use Rattle.psi_tables.specs.declared.choice.Choice.{Choice}
 use Rattle.psi_tables.proofs.Choosing.{last_or-append, last_or-or}
 

@@ -3,8 +3,6 @@ pub mod Section
 pub mod Association
 pub mod ProgramMap
 pub mod Sections
-pub mod Assembly
-pub mod Following
 pub mod InForce
-pub mod Watching
 pub mod Head
+pub mod State

@@ -1,7 +1,6 @@
 ghost use Rattle.std.specs.Prelude.{◌≡◌, ◌≤◌, ◌<◌, ◌^◌, [], ◌∷◌, ◌++◌, map, IfOk, OnOk, OnErr};
-ghost use Rattle.ts_packet.specs.Reading.{GrowsAlike};
-ghost use Rattle.psi_tables.specs.Assembly.{gathered_sections, with_packet, IsKept};
-ghost use Rattle.psi_tables.specs.Following.{Follows};
+ghost use Rattle.ts_packet.specs.State.{GrowsAlike};
+ghost use Rattle.psi_tables.specs.State.{gathered_sections, with_packet, IsKept, Follows};
 
 use crate::gather::gather;
 use crate::next::{Begun, Next, continued, is_taken};
@@ -24,7 +23,7 @@ pub struct Assembler {
 }
 
 impl Model for Assembler {
-    ghost use Rattle.psi_tables.specs.Assembly.{Gathered, Keeps};
+    ghost use Rattle.psi_tables.specs.State.{Gathered, Keeps};
 
     ghost Value = { Gathered };
 

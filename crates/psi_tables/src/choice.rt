@@ -1,7 +1,7 @@
 ghost use Rattle.std.specs.Prelude.{◌≡◌, map, IfOk};
 ghost use Rattle.std.specs.List.{filter_map};
 ghost use Rattle.psi_tables.specs.InForce.{choice_of, last_or, same_pid};
-ghost use Rattle.psi_tables.specs.Watching.{pid_of};
+ghost use Rattle.psi_tables.specs.State.{pid_of};
 
 use crate::fault::TableFault;
 use crate::pat::Pat;

@@ -1,6 +1,6 @@
 ghost use Rattle.std.specs.Prelude.{◌≡◌, ◌≢◌, ◌≤◌, [], length, map, IfOk};
 ghost use Rattle.psi_tables.specs.Sections.{carrier, begun_in, unfinished, opening};
-ghost use Rattle.psi_tables.specs.Assembly.{whole_front, open_rest, left_open, completed, left_behind};
+ghost use Rattle.psi_tables.specs.State.{whole_front, open_rest, left_open, completed, left_behind};
 
 use crate::section::read_length;
 use std::alloc::{AllocError, Global};
@@ -41,7 +41,7 @@ fn is_open(bytes: &[u8]) -> bool
 
 /// The section at the front, where not all its bytes are there.
 fn open_front(bytes: &[u8]) -> &[u8]
-    ensures { result.now ≡ Rattle.psi_tables.specs.Assembly.open_front bytes.now }
+    ensures { result.now ≡ Rattle.psi_tables.specs.State.open_front bytes.now }
 {
     if bytes.is_empty() || !is_open(bytes) {
         return &[];
@@ -106,7 +106,7 @@ fn bring(alloc: Global, begun: &[u8], more: &[u8]) -> Result<Brought, AllocError
 
 /// Whether these bytes bring the section_length of a section that was begun, and it is above 1021.
 fn gives_up(begun: &[u8], more: &[u8]) -> bool
-    ensures { result ≡ Rattle.psi_tables.specs.Assembly.gives_up begun.now more.now }
+    ensures { result ≡ Rattle.psi_tables.specs.State.gives_up begun.now more.now }
 {
     let have = begun.len();
     if have == 0 || have >= 3 || more.len() < 3 - have {
@@ -149,7 +149,7 @@ fn behind_pointer(packet: &Packet) -> &[u8]
 
 /// The bytes of a packet with start indicator in which sections begin.
 fn opening_behind<'a>(begun: &[u8], packet: &'a Packet) -> &'a [u8]
-    ensures { result.now ≡ opening (Rattle.psi_tables.specs.Assembly.gives_up begun.now (Rattle.psi_tables.specs.Sections.pointed (carrier packet.now))) (carrier packet.now) }
+    ensures { result.now ≡ opening (Rattle.psi_tables.specs.State.gives_up begun.now (Rattle.psi_tables.specs.Sections.pointed (carrier packet.now))) (carrier packet.now) }
 {
     if gives_up(begun, pointed(packet)) {
         return &[];

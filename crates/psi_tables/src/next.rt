@@ -1,6 +1,6 @@
 ghost use Rattle.std.specs.Prelude.{◌≡◌};
 ghost use Rattle.psi_tables.specs.Sections.{carrier};
-ghost use Rattle.psi_tables.specs.Assembly.{IsCounter};
+ghost use Rattle.psi_tables.specs.State.{IsCounter};
 
 use ts_packet::Packet;
 
@@ -42,7 +42,7 @@ fn is_repeat(last: Option<u8>, packet: &Packet) -> bool
 /// The front of the section that was begun, where no packet is missing before this one.
 pub(crate) fn continued<'a>(begun: &'a Begun, packet: &Packet) -> &'a [u8]
     requires { IsCounter begun.now.counter }
-    ensures { result.now ≡ Rattle.psi_tables.specs.Assembly.continued begun.now.counter begun.now.bytes.items (carrier packet.now) }
+    ensures { result.now ≡ Rattle.psi_tables.specs.State.continued begun.now.counter begun.now.bytes.items (carrier packet.now) }
 {
     match begun.counter {
         None => &[],

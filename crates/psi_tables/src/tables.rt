@@ -1,7 +1,7 @@
 ghost use Rattle.std.specs.Prelude.{◌≡◌, ◌<◌, ◌^◌, None, map, IfOk, Decides};
 ghost use Rattle.psi_tables.specs.ProgramMap.{program_map, video_pid};
 ghost use Rattle.psi_tables.specs.InForce.{IsGood, HasPid, is_same, tables_of, last_or};
-ghost use Rattle.psi_tables.specs.Watching.{tables_among};
+ghost use Rattle.psi_tables.specs.State.{tables_among};
 
 use crate::choice::Choice;
 use crate::fault::TableFault;

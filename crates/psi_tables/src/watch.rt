@@ -25,7 +25,7 @@ pub struct Watch {
 }
 
 impl Model for Watch {
-    ghost use Rattle.psi_tables.specs.Watching.{Watched, Watches};
+    ghost use Rattle.psi_tables.specs.State.{Watched, Watches};
 
     ghost Value = { Watched };
 

@@ -8,7 +8,7 @@ use Rattle.cutter.specs.declared.settings.CutSettings.{CutSettings}
 use Rattle.cutter.specs.Plans.{SegmentPlan}
 use Rattle.cutter.specs.Ordered.{IsPlan}
 use Rattle.cutter.specs.Segments.{seconds}
-use Rattle.segment_job.specs.Vectors.{vector}
+use Rattle.playlist_text.specs.Vectors.{vector}
 use Rattle.segment_job.specs.Rotation.{KeyRotation, IsRotation, key_index, key_of}
 use Rattle.segment_job.specs.Segments.{plain, sealed_segment}
 use Rattle.playlist_text.specs.MediaLines.{Entry, Listing, listing_lines}

@@ -6,7 +6,7 @@ use Rattle.aes_cbc.specs.Opening.{Seals}
 use Rattle.psi_tables.specs.InForce.{InForce}
 use Rattle.psi_tables.specs.Head.{head, IsSendable}
 use Rattle.cutter.specs.Plans.{SegmentPlan}
-use Rattle.segment_job.specs.Vectors.{vector}
+use Rattle.playlist_text.specs.Vectors.{vector}
 use Rattle.segment_job.specs.Rotation.{KeyRotation, key_of}
 
 -- the head of a segment, of its plan's tables and counters (RFC 8216, 3.2)

@@ -4,7 +4,7 @@ ghost use Rattle.aes_cbc.specs.Block.{IsBlock};
 ghost use Rattle.aes_cbc.specs.Padding.{padded_text};
 ghost use Rattle.psi_tables.specs.InForce.{InForce};
 ghost use Rattle.psi_tables.specs.Head.{IsSameHead};
-ghost use Rattle.segment_job.specs.Vectors.{vector};
+ghost use Rattle.playlist_text.specs.Vectors.{vector};
 ghost use Rattle.segment_job.specs.Rotation.{KeyRotation, IsRotation, key_index, key_of};
 ghost use Rattle.segment_job.specs.Segments.{plain, plan_head, sealed_segment, OpensTo, SealedSegment, IsSealed};
 ghost use Rattle.segment_job.specs.Ranges.{widened, range_text};

@@ -15,7 +15,6 @@ mod range;
 mod sealed;
 #[cfg(test)]
 mod tests;
-mod vectors;
 
 pub use fault::{KeyFault, RangeFault};
 pub use keys::Keys;
@@ -23,6 +22,6 @@ pub use laws::{
     bytes_open_to_one_segment, key_and_vector_make_one_segment, keys_take_turns,
     no_key_and_vector_come_twice, ranges_open_alone, two_numbers_have_two_vectors,
 };
+pub use playlist_text::vector;
 pub use range::open_range;
 pub use sealed::{Sealed, seal_plan};
-pub use vectors::vector;

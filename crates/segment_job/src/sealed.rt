@@ -8,9 +8,9 @@ ghost use Rattle.segment_job.specs.Segments.{plan_head, sealed_segment, IsSealed
 
 use crate::keys::Keys;
 use crate::plain::plain_text;
-use crate::vectors::vector;
 use aes_cbc::{Key, seal};
 use cutter::Plan;
+use playlist_text::vector;
 use psi_tables::{length_of_a_head, pmt_packets};
 use std::alloc::{AllocError, Global};
 use std::fmt::{self, Debug, Formatter, Write};

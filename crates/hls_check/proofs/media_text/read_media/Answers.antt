@@ -6,8 +6,7 @@ use Rattle.std.proofs.lemmas.Option.{MatchOption-at_some, same_Some, none-some}
 use Rattle.playlist_text.specs.Lines.{text_of}
 use Rattle.playlist_text.proofs.TextLines.{text_of-nil}
 use Rattle.hls_check.specs.MediaTexts.{IsLine}
-use Rattle.hls_check.specs.Progress.{fresh, steps}
-use Rattle.hls_check.specs.Held.{progress_of}
+use Rattle.hls_check.specs.State.{fresh, steps, progress_of}
 use Rattle.hls_check.proofs.Growing.{MatchOption-none}
 use Rattle.hls_check.proofs.Splitting.{text-more, steps-more}
 use Rattle.hls_check.proofs.Taking.{wrong-line, wrong-end, text-lines, told-listing, wrong-not-listing, Tells-false, Tells-true, length-text, steps-listing}

@@ -2,8 +2,7 @@ use Rattle.std.proofs.Common.{◌≡◌, ℕ, ◌+◌, List, ◌++◌, length, S
 use Rattle.std.specs.Prelude.{All}
 use Rattle.playlist_text.specs.Lines.{text_of}
 use Rattle.hls_check.specs.MediaTexts.{IsLine}
-use Rattle.hls_check.specs.Progress.{fresh, steps}
-use Rattle.hls_check.specs.Held.{progress_of}
+use Rattle.hls_check.specs.State.{fresh, steps, progress_of}
 use Rattle.hls_check.proofs.media_text.read_media.Given as goal
 
 abbrev pub invariant-line : goal.invariant-line

@@ -2,7 +2,7 @@ use Rattle.std.proofs.Common.{◌<◌, ◌∙◌, map, get_or, [], length, ap, a
 use Rattle.std.proofs.lemmas.List.{get_or_read, length-map}
 use Rattle.std.proofs.lemmas.Result.{IfOk-weaker}
 use Rattle.playlist_text.specs.MediaLines.{Entry}
-use Rattle.segment_job.specs.Vectors.{vector}
+use Rattle.playlist_text.specs.Vectors.{vector}
 use Rattle.hls_check.specs.Unpacking.{packed}
 use Rattle.hls_check.proofs.Openings.{entry-opened}
 use Rattle.hls_check.proofs.Growing.{items_at}

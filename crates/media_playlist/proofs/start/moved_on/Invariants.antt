@@ -1,6 +1,6 @@
 use Rattle.std.proofs.Common.{◌≡◌, ◌-◌, ◌⊎◌, true, length, drop}
 use Rattle.media_playlist.specs.Listed.{suffices}
-use Rattle.media_playlist.specs.Starts.{IsStart}
+use Rattle.media_playlist.specs.State.{IsStart}
 use Rattle.media_playlist.proofs.start.moved_on.Given as goal
 
 abbrev pub invariant-loop-start : goal.invariant-loop-start

@@ -2,7 +2,7 @@ use Rattle.std.proofs.Common.{◌≡◌, ℕ, [], map, None, sym, ◌∙◌, ap}
 use Rattle.std.specs.List.{filter_map}
 use Rattle.std.specs.Option.{option_or}
 use Rattle.psi_tables.specs.InForce.{choice_of, last_or}
-use Rattle.psi_tables.specs.Watching.{tables_among}
+use Rattle.psi_tables.specs.State.{tables_among}
 use Rattle.psi_tables.proofs.Good.{HasPid-choice}
 use Rattle.psi_tables.proofs.Watching.{Steps, Watches-same, Watches-anew}
 use Rattle.psi_tables.proofs.watch.Watch.push.Goals as goal

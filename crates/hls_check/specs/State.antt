@@ -1,5 +1,7 @@
--- How far the lines of a media playlist have been read.
-use Rattle.std.specs.Prelude.{ℕ, zero, suc, ◌+◌, ◌-◌, ◌^◌, ◌==◌, ◌&&◌, Bool, true, false, nat_le, nat_lt, if◌then◌else◌, List, [], ◌∷◌, ◌++◌, length, drop, Option, is_some, Some, None, option_map, codes, not}
+-- What is kept of the lines of a media playlist that were read, and what one line more makes of it.
+use Rattle.std.specs.Prelude.{◌≡◌, Bool, true, false, Option, Some, None, option_map, ℕ, zero, suc, ◌+◌, ◌-◌, ◌^◌, ◌==◌, ◌&&◌, nat_le, nat_lt, if◌then◌else◌, List, [], ◌∷◌, ◌++◌, length, drop, is_some, codes, not}
+use Rattle.std.specs.String.{string_bytes}
+use Rattle.hls_check.specs.declared.reading.Reading.{Reading}
 use Rattle.std.specs.Fmt.{decimal}
 use Rattle.std.specs.List.{before_first}
 use Rattle.std.specs.Str.{bytes_eq, is_utf8}
@@ -177,3 +179,27 @@ abbrev pub listing_at : Stage → Progress → Option Listing
 listing_at Between p = ended_by p false
 listing_at Ended p = ended_by p true
 listing_at _ p = None
+
+-- how far a reading has come
+abbrev pub progress_of : Reading → Progress
+progress_of r = record {
+  stage = r.stage;
+  target = r.target;
+  sequence = r.sequence;
+  discontinuity_sequence = r.discontinuity_sequence;
+  name = option_map string_bytes r.name;
+  key = r.key;
+  discontinuity = r.discontinuity;
+  micros = r.micros;
+  entries = r.entries.items;
+}
+
+-- whether a line was taken: if so the reading has come so far, if not it has stayed
+abbrev pub Moves : Bool → Option Progress → Progress → Progress → Type 0
+Moves true next old new = next ≡ Some new
+Moves false next old new = (next ≡ None) × (new ≡ old)
+
+-- the same, where nothing is said of a reading that takes no line
+abbrev pub Tells : Bool → Option Progress → Progress → Type 0
+Tells true next new = next ≡ Some new
+Tells false next new = next ≡ None

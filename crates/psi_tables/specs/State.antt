@@ -1,6 +1,10 @@
--- What an assembler stands for, and what it keeps.
+-- What assemblers and watches stand for, and what they keep.
 use Rattle.std.specs.Prelude.{◌≡◌, ℕ, ◌<◌, ◌≤◌, Bool, false, ◌&&◌, nat_lt, if◌then◌else◌, List, [], ◌∷◌, ◌++◌, length, Option, Some, None}
 use Rattle.psi_tables.specs.Sections.{Carrier, carriers, follows, pointed, is_whole, is_open, first_section, begun_in, flow_behind, unfinished, bring_too_long, is_given_up, opening, sections_in, sections}
+use Rattle.psi_tables.specs.declared.next.Begun.{Begun}
+use Rattle.std.specs.List.{filter_map}
+use Rattle.psi_tables.specs.InForce.{InForce, choice, since_change, tables_of, tables_behind}
+use Rattle.psi_tables.specs.declared.choice.Choice.{Choice}
 
 -- a PID whose sections are gathered, and the packets that came, of all PIDs
 pub record Gathered : Type 0 where
@@ -77,3 +81,34 @@ left_behind begun c = if c.starts then unfinished 0 (opening (gives_up begun (po
 abbrev pub continued : Option ℕ → List ℕ → Carrier → List ℕ
 continued None begun c = []
 continued (Some counter) begun c = if follows counter c then begun else []
+
+-- the packet changes no section, whichever packets come next
+pub record IsLeftOut (g : Gathered) (p : List ℕ) : Type 0 where
+  pub same : (more : List (List ℕ)) → sections g.pid (g.packets ++ p ∷ more) ≡ sections g.pid (g.packets ++ more)
+
+-- this is kept behind the packet; or the packet is left out, and what was kept stays
+abbrev pub Follows : Gathered → List ℕ → Option Begun → Type 0
+Follows g p None = IsLeftOut g p
+Follows g p (Some begun) = Keeps (with_packet g p) begun.counter begun.bytes.items
+
+-- the program that was asked for, if one was, and the packets that came
+pub record Watched : Type 0 where
+  pub program : Option ℕ
+  pub packets : List (List ℕ)
+
+-- the PID on which the sections of PMTs are gathered; while nothing is chosen they put nothing in force
+abbrev pub pid_of : Option Choice → ℕ
+pid_of None = 0
+pid_of (Some c) = c.pmt_pid
+
+-- the tables among the sections that were found on the chosen PID
+abbrev pub tables_among : Option Choice → List (List ℕ) → List InForce
+tables_among None found = []
+tables_among (Some c) found = filter_map (tables_of c) found
+
+-- the sections that are gathered, the choice and the tables are those behind the packets that came
+pub record Watches (wanted : Option ℕ) (pats pmts : Gathered) (chosen : Option Choice) (tables : Option InForce) : Type 0 where
+  pub on_pid_0 : pats.pid ≡ 0
+  pub chosen_last : chosen ≡ choice wanted pats.packets
+  pub gathered : pmts ≡ record { pid = pid_of chosen; packets = since_change wanted pats.packets (length pats.packets) }
+  pub in_force : tables ≡ tables_behind wanted pats.packets
