@@ -14,10 +14,11 @@ use Rattle.aes_cbc.proofs.ByteLists.{byte_at, from_entries-IsBlock}
 use Rattle.aes_cbc.proofs.ProductBytes.{times_fits}
 use Rattle.aes_cbc.proofs.ProductSums.{times-sum_of_4, sum_of_4-swap}
 
-abbrev mixing : List ℕ
+-- the first rows of the matrices of MixColumns and InvMixColumns
+abbrev pub mixing : List ℕ
 mixing = 2 ∷ 3 ∷ 1 ∷ 1 ∷ []
 
-abbrev unmixing : List ℕ
+abbrev pub unmixing : List ℕ
 unmixing = 0x0E ∷ 0x0B ∷ 0x0D ∷ 0x09 ∷ []
 
 -- row r, column j of the product of the matrices of the first rows n and m, times x, is x or 0
@@ -51,16 +52,16 @@ same_sum : (f g : ℕ → ℕ) → f 0 ≡ g 0 → f 1 ≡ g 1 → f 2 ≡ g 2 �
 same_sum f g h0 h1 h2 h3 = cc
 
 -- a sum with one term
-only_0 : (x : ℕ) → bit_xor (bit_xor x 0) (bit_xor 0 0) ≡ x
+pub only_0 : (x : ℕ) → bit_xor (bit_xor x 0) (bit_xor 0 0) ≡ x
 only_0 x = xor_zero_r _ ∙ xor_zero_r x
 
-only_1 : (x : ℕ) → bit_xor (bit_xor 0 x) (bit_xor 0 0) ≡ x
+pub only_1 : (x : ℕ) → bit_xor (bit_xor 0 x) (bit_xor 0 0) ≡ x
 only_1 x = xor_zero_r _ ∙ xor_zero_l x
 
-only_2 : (x : ℕ) → bit_xor (bit_xor 0 0) (bit_xor x 0) ≡ x
+pub only_2 : (x : ℕ) → bit_xor (bit_xor 0 0) (bit_xor x 0) ≡ x
 only_2 x = xor_zero_l _ ∙ xor_zero_r x
 
-only_3 : (x : ℕ) → bit_xor (bit_xor 0 0) (bit_xor 0 x) ≡ x
+pub only_3 : (x : ℕ) → bit_xor (bit_xor 0 0) (bit_xor 0 x) ≡ x
 only_3 x = xor_zero_l _ ∙ xor_zero_l x
 
 -- row r of the two matrices' product with a column of bytes e

@@ -1,40 +1,47 @@
 //! A key of AES-128 with its round keys.
 
-ghost use Rattle.std.specs.Prelude.{◌≡◌};
+ghost use Rattle.std.specs.Prelude.{◌≡◌, ℕ, List};
 ghost use Rattle.aes_cbc.specs.Block.{IsBlock};
 ghost use Rattle.aes_cbc.specs.Cipher.{aes};
 ghost use Rattle.aes_cbc.specs.InverseCipher.{inv_aes};
+ghost use Rattle.aes_cbc.specs.Words.{words};
 
-use crate::blocks::xor_blocks;
 use crate::inverse_round::{inv_round, last_inv_round};
 use crate::round::{last_round, round};
-use crate::schedule::round_keys;
+use crate::schedule::{round_keys, round_words, unmixed_words};
+use crate::word::{block_of, words_of, xor_words};
 use std::marker::Model;
 
-/// A key of AES-128: 16 bytes (FIPS 197, 3.1). Contracts see these bytes; the round keys are computed once.
+/// A key of AES-128: 16 bytes (FIPS 197, 3.1). Contracts see these bytes. The round keys, and those that are unmixed for
+/// decryption, are computed once.
 #[derive(Drop)]
 pub struct Key {
-    round_keys: [[u8; 16]; 11],
+    bytes: [u8; 16],
+    round_keys: [[u32; 4]; 11],
+    unmixed_keys: [[u32; 4]; 11],
 }
 
 impl Model for Key {
-    ghost use Rattle.std.specs.Prelude.{ℕ, List, [], slice_index_or};
-    ghost use Rattle.aes_cbc.specs.KeyExpansion.{AreRoundKeys};
+    ghost use Rattle.std.specs.Prelude.{ℕ, List};
+    ghost use Rattle.aes_cbc.specs.KeyWords.{AreKeyWords};
 
     ghost Value = { List ℕ };
 
-    ghost view = { λ k. slice_index_or k.round_keys 0 [] };
+    ghost view = { λ k. k.bytes };
 
-    ghost invariant = { λ k. AreRoundKeys (slice_index_or k.round_keys 0 []) k.round_keys };
+    ghost invariant = { λ k. AreKeyWords k.bytes k.round_keys k.unmixed_keys };
 }
 
 impl Key {
-    /// The key of these bytes, with its round keys (FIPS 197, 5.2).
+    /// The key of these bytes, with its round keys (FIPS 197, 5.2 and 5.3.5).
     pub fn new(bytes: [u8; 16]) -> Key
         ensures { result ≡ bytes }
     {
+        let keys = round_keys(&bytes);
         Key {
-            round_keys: round_keys(&bytes),
+            bytes,
+            round_keys: round_words(&keys),
+            unmixed_keys: unmixed_words(&keys),
         }
     }
 
@@ -43,14 +50,16 @@ impl Key {
         ensures bytes { result.now ≡ self.now }
         ensures block { IsBlock self.now }
     {
-        &self.round_keys[0]
+        &self.bytes
     }
 
-    /// The cipher block of `block` (FIPS 197, 5.1).
-    pub fn encrypt_block(&self, block: &[u8; 16]) -> [u8; 16]
-        ensures { result ≡ aes self.now block.now }
+    /// The cipher block of a block, both as columns. Within a loop over blocks it is slower than as a call.
+    #[inline(never)]
+    pub(crate) fn encrypt_words(&self, block: &[u32; 4]) -> [u32; 4]
+        ensures cipher { (m : List ℕ) → IsBlock m → block.now ≡ words m → result ≡ words (aes self.now m) }
+        ensures key { IsBlock self.now }
     {
-        let mut state = xor_blocks(block, &self.round_keys[0]);
+        let mut state = xor_words(block, &self.round_keys[0]);
         'round: for i in 1..10 {
             let next = round(&state, &self.round_keys[i]);
             state = next;
@@ -58,16 +67,32 @@ impl Key {
         last_round(&state, &self.round_keys[10])
     }
 
+    /// The block of which a block is the cipher block, both as columns. Slower within a loop, as well.
+    #[inline(never)]
+    pub(crate) fn decrypt_words(&self, block: &[u32; 4]) -> [u32; 4]
+        ensures plain { (m : List ℕ) → IsBlock m → block.now ≡ words m → result ≡ words (inv_aes self.now m) }
+        ensures key { IsBlock self.now }
+    {
+        let mut state = xor_words(block, &self.round_keys[10]);
+        'round: for i in 1..10 {
+            let next = inv_round(&state, &self.unmixed_keys[10 - i]);
+            state = next;
+        }
+        last_inv_round(&state, &self.round_keys[0])
+    }
+
+    /// The cipher block of `block` (FIPS 197, 5.1).
+    pub fn encrypt_block(&self, block: &[u8; 16]) -> [u8; 16]
+        ensures { result ≡ aes self.now block.now }
+    {
+        block_of(&self.encrypt_words(&words_of(block)))
+    }
+
     /// The block of which `block` is the cipher block (FIPS 197, 5.3).
     pub fn decrypt_block(&self, block: &[u8; 16]) -> [u8; 16]
         ensures value { result ≡ inv_aes self.now block.now }
         ensures inverse { aes self.now result ≡ block.now }
     {
-        let mut state = xor_blocks(block, &self.round_keys[10]);
-        'round: for i in 1..10 {
-            let next = inv_round(&state, &self.round_keys[10 - i]);
-            state = next;
-        }
-        last_inv_round(&state, &self.round_keys[0])
+        block_of(&self.decrypt_words(&words_of(block)))
     }
 }

@@ -1,14 +1,16 @@
 //! AES-128 in CBC mode with padding, as HLS seals segments (RFC 8216, 4.3.2.4: METHOD=AES-128).
 //!
 //! A [`Key`] encrypts and decrypts single blocks of 16 bytes (FIPS 197). [`seal`] pads a text (RFC 5652, 6.3) and
-//! encrypts it as a chain of blocks from a vector on (SP 800-38A, 6.2), and [`open`] gives the text back. The functions
-//! of [`laws`] do nothing: their contracts are theorems about the definitions in `specs/`.
+//! encrypts it as a chain of blocks from a vector on (SP 800-38A, 6.2), [`seal_in_place`] does so where the text lies,
+//! and [`open`] gives the text back. The functions of [`laws`] do nothing: their contracts are theorems about the
+//! definitions in `specs/`.
 #![tactic(auto)]
 
 mod blocks;
 mod cbc;
 mod fault;
 mod inverse_round;
+mod inverse_tables;
 mod key;
 pub mod laws;
 mod opening;
@@ -16,11 +18,14 @@ mod padding;
 mod round;
 mod sbox;
 mod schedule;
+mod tables;
 #[cfg(test)]
 mod tests;
+mod unmixing;
+mod word;
 
 pub use blocks::{block_before, xor_blocks};
-pub use cbc::seal;
+pub use cbc::{seal, seal_in_place};
 pub use fault::OpenFault;
 pub use key::Key;
 pub use opening::open;

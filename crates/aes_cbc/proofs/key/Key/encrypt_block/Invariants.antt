@@ -1,6 +1,0 @@
-use Rattle.std.proofs.Common.{◌≡◌, ◌-◌}
-use Rattle.aes_cbc.specs.Cipher.{state_after}
-use Rattle.aes_cbc.proofs.key.Key.encrypt_block.Given as goal
-
-abbrev pub invariant-round : goal.invariant-round
-invariant-round l = l.state ≡ state_after l.self l.fn.block (l.i - 1)
