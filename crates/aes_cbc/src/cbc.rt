@@ -46,7 +46,7 @@ pub fn seal(alloc: Global, key: &Key, vector: &[u8; 16], text: &[u8]) -> Result<
     ensures len { IfOk result (λ v. vec_len v ≡ 16 * (length text.now / 16 + 1)) }
 {
     let mut sealed = Vec::with_capacity(alloc, 16 * (text.len() / 16 + 1))?;
-    sealed.extend_from_slice(text)?;
-    seal_in_place(key, vector, &mut sealed)?;
+    sealed.extend_from_slice(text).unwrap();
+    seal_in_place(key, vector, &mut sealed).unwrap();
     Ok(sealed)
 }
