@@ -8,14 +8,14 @@ use cutter::Plan;
 use psi_tables::{Tables, head};
 use std::alloc::{AllocError, Global};
 
-/// The segment of a plan: its head, and then its body, in memory that is taken for just that.
+/// The segment of a plan: its head, and then its body, with room behind them for a block of padding.
 pub(crate) fn plain_text(alloc: Global, plan: &Plan) -> Result<Vec<u8>, AllocError>
     ensures text { IfOk result (λ text. text.items ≡ plain plan.now) }
     ensures tables { IsSendable plan.now.tables }
 {
     are_sendable(&plan.tables);
     let mut text = head(alloc, &plan.tables, plan.pat_counter, plan.pmt_counter)?;
-    text.reserve_exact(plan.body.len())?;
+    text.reserve_exact(plan.body.len() + 16)?;
     text.extend_from_slice(&plan.body)?;
     Ok(text)
 }

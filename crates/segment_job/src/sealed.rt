@@ -1,6 +1,6 @@
 //! Segments that are sealed.
 
-ghost use Rattle.std.specs.Prelude.{◌≡◌, ◌↔◌, length, IsTrue, IfOk};
+ghost use Rattle.std.specs.Prelude.{◌≡◌, ◌↔◌, length, IsTrue, IfOk, OnOk};
 ghost use Rattle.std.specs.Arc.{arc_value};
 ghost use Rattle.aes_cbc.specs.Block.{IsBlock};
 ghost use Rattle.aes_cbc.specs.Opening.{Seals};
@@ -8,7 +8,7 @@ ghost use Rattle.segment_job.specs.Segments.{plan_head, sealed_segment, IsSealed
 
 use crate::keys::Keys;
 use crate::plain::plain_text;
-use aes_cbc::{Key, seal};
+use aes_cbc::{Key, seal_in_place};
 use cutter::Plan;
 use playlist_text::vector;
 use psi_tables::{length_of_a_head, pmt_packets};
@@ -118,15 +118,15 @@ impl Sealed {
 
 /// Seals the segment of a plan, under the key and the vector of its number.
 ///
-/// The plain segment is made once, and let go. A refusal lets go of the plan too: a caller that wants to try again keeps
-/// another `Arc` of it.
+/// The plain segment is made once, and encrypted where it lies. A refusal lets go of the plan too: a caller that wants to
+/// try again keeps another `Arc` of it.
 pub fn seal_plan(alloc: Global, plan: Arc<Plan, Global>, keys: &Keys) -> Result<Sealed, AllocError>
     ensures { IfOk result (λ sealed. sealed ≡ sealed_segment keys.now (arc_value plan)) }
 {
     let key = keys.key(plan.number);
     let vector = vector(plan.number);
-    let text = plain_text(alloc, &plan)?;
-    let bytes = seal_text(alloc, &key, &vector, &text)?;
+    let mut bytes = plain_text(alloc, &plan)?;
+    seal_text(&key, &vector, &mut bytes)?;
     Ok(Sealed {
         plan,
         key,
@@ -135,16 +135,11 @@ pub fn seal_plan(alloc: Global, plan: Arc<Plan, Global>, keys: &Keys) -> Result<
     })
 }
 
-/// The bytes that a text is sealed to under a key from a vector on.
-fn seal_text(
-    alloc: Global,
-    key: &[u8; 16],
-    vector: &[u8; 16],
-    text: &[u8],
-) -> Result<Vec<u8>, AllocError>
-    ensures seals { IfOk result (λ sealed. Seals key.now vector.now text.now sealed.items) }
+/// Seals a text where it lies, under a key from a vector on.
+fn seal_text(key: &[u8; 16], vector: &[u8; 16], text: &mut Vec<u8>) -> Result<(), AllocError>
+    ensures seals { OnOk result (Seals key.now vector.now text.old.items text.new.items) }
     ensures key { IsBlock key.now }
     ensures vector { IsBlock vector.now }
 {
-    seal(alloc, &Key::new(*key), vector, text)
+    seal_in_place(&Key::new(*key), vector, text)
 }
