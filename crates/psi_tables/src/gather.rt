@@ -1,5 +1,5 @@
 ghost use Rattle.std.specs.Prelude.{◌≡◌, ◌≢◌, ◌≤◌, [], length, map, IfOk};
-ghost use Rattle.psi_tables.specs.Sections.{carrier, begun_in, unfinished, opening};
+ghost use Rattle.psi_tables.specs.Sections.{carrier, begun_in, unfinished, pointed, behind_pointer};
 ghost use Rattle.psi_tables.specs.State.{whole_front, open_rest, left_open, completed, left_behind};
 
 use crate::section::read_length;
@@ -117,44 +117,20 @@ fn gives_up(begun: &[u8], more: &[u8]) -> bool
     u16::from_be_bytes([high, low]) % 0x1000 > 1021
 }
 
-/// The bytes of a packet with start indicator that belong to the section begun before it.
-fn pointed(packet: &Packet) -> &[u8]
-    ensures { result.now ≡ Rattle.psi_tables.specs.Sections.pointed (carrier packet.now) }
+/// The bytes of a packet with start indicator that belong to the section begun before it, and those behind them.
+fn split_at_pointer(packet: &Packet) -> (&[u8], &[u8])
+    ensures pointed { result.0.now ≡ pointed (carrier packet.now) }
+    ensures behind { result.1.now ≡ behind_pointer (carrier packet.now) }
 {
     let payload = packet.payload();
     if payload.is_empty() {
-        return &[];
+        return (&[], &[]);
     }
     let pointer = usize::from(payload[0]);
     if pointer >= payload.len() {
-        return &[];
+        return (&[], &[]);
     }
-    &payload[1..1 + pointer]
-}
-
-/// The bytes of a packet with start indicator behind those.
-fn behind_pointer(packet: &Packet) -> &[u8]
-    ensures { result.now ≡ Rattle.psi_tables.specs.Sections.behind_pointer (carrier packet.now) }
-{
-    let payload = packet.payload();
-    if payload.is_empty() {
-        return &[];
-    }
-    let pointer = usize::from(payload[0]);
-    if pointer >= payload.len() {
-        return &[];
-    }
-    &payload[1 + pointer..]
-}
-
-/// The bytes of a packet with start indicator in which sections begin.
-fn opening_behind<'a>(begun: &[u8], packet: &'a Packet) -> &'a [u8]
-    ensures { result.now ≡ opening (Rattle.psi_tables.specs.State.gives_up begun.now (Rattle.psi_tables.specs.Sections.pointed (carrier packet.now))) (carrier packet.now) }
-{
-    if gives_up(begun, pointed(packet)) {
-        return &[];
-    }
-    behind_pointer(packet)
+    (&payload[1..1 + pointer], &payload[1 + pointer..])
 }
 
 /// What a packet makes of a section that was begun.
@@ -166,8 +142,10 @@ pub(crate) fn gather(alloc: Global, begun: &[u8], packet: &Packet) -> Result<Bro
     if !packet.starts() {
         return bring(alloc, begun, packet.payload());
     }
-    let mut front = bring(alloc, begun, pointed(packet))?;
-    let mut back = begin_in(alloc, opening_behind(begun, packet))?;
+    let (front, back) = split_at_pointer(packet);
+    let back = if gives_up(begun, front) { &[] } else { back };
+    let mut front = bring(alloc, begun, front)?;
+    let mut back = begin_in(alloc, back)?;
     front.found.append(&mut back.found)?;
     Ok(Brought {
         found: front.found,
