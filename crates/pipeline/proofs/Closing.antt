@@ -7,18 +7,18 @@ use Rattle.std.proofs.lemmas.List.Elements.{All-cons, All-append}
 use Rattle.ts_packet.specs.Packets.{skipped}
 use Rattle.cutter.specs.Plans.{SegmentPlan}
 use Rattle.item_io.specs.Outlets.{Held, Grows}
-use Rattle.pipeline.specs.declared.lane.Stop.TheVariants.{Good}
-use Rattle.pipeline.specs.Ladder.{Ladder}
-use Rattle.pipeline.specs.Streams.{Taken, plans_of, fault_of}
-use Rattle.pipeline.specs.Shown.{Shown}
-use Rattle.pipeline.specs.Items.{Part, no_part, part_at, shown_all}
-use Rattle.pipeline.specs.Weave.{Event, End, rendition_of, AreLegal, closed_part, after, after_all, block, blocks}
-use Rattle.pipeline.specs.Giving.{IsGoing, rows, no_shown}
-use Rattle.pipeline.specs.Lanes.{IsWhole, Begins, Before, AreOf, Reaches, IsCutOff}
-use Rattle.pipeline.specs.Putting.{PutSome}
-use Rattle.pipeline.proofs.Puts.{grows-more, put-more}
-use Rattle.pipeline.proofs.Nexts.{shown-at, shown-set}
-use Rattle.pipeline.proofs.Rows.{rows-each, rows-part, after_all-append, blocks-append}
+use Rattle.ingest.specs.declared.lane.Stop.TheVariants.{Good}
+use Rattle.ladder_items.specs.Ladder.{Ladder}
+use Rattle.ingest.specs.Streams.{Taken, plans_of, fault_of}
+use Rattle.ladder_items.specs.Shown.{Shown}
+use Rattle.ladder_items.specs.Items.{Part, no_part, part_at, shown_all}
+use Rattle.ladder_items.specs.Weave.{Event, End, rendition_of, AreLegal, closed_part, after, after_all, block, blocks}
+use Rattle.ladder_items.specs.Giving.{IsGoing, rows, no_shown}
+use Rattle.ladder_items.specs.Lanes.{IsWhole, Begins, Before, AreOf, Reaches, IsCutOff}
+use Rattle.ladder_items.specs.Putting.{PutSome}
+use Rattle.ladder_items.proofs.Puts.{grows-more, put-more}
+use Rattle.ladder_items.proofs.Nexts.{shown-at, shown-set}
+use Rattle.ladder_items.proofs.Rows.{rows-each, rows-part, after_all-append, blocks-append, legal-append}
 use Rattle.pipeline.proofs.Feeding.{Gave, rows-of-r, rows-legal, part-behind, plans-in, fault-in}
 
 -- behind some segments the rendition goes on
@@ -42,11 +42,6 @@ end-at parts r below = get_or-set_same parts r (closed_part (part_at parts r)) n
 -- the segments, and the end behind them
 abbrev pub ended_rows : ℕ → List SegmentPlan → List Event
 ended_rows r ps = rows r ps ++ End r ∷ []
-
-pub legal-append : (parts : List Part) (xs ys : List Event) → AreLegal parts xs → AreLegal (after_all parts xs) ys → AreLegal parts (xs ++ ys)
-unfolding AreLegal after_all
-legal-append parts [] ys h k = k
-legal-append parts (x ∷ xs) ys h k = (h.0, h.1, legal-append (after parts x) xs ys h.2 k)
 
 one-end : (parts : List Part) (r : ℕ) → r < length parts → (part_at parts r).ended ≡ false → AreLegal parts (End r ∷ [])
 unfolding AreLegal

@@ -1,53 +1,26 @@
 -- The bytes of a rendition that goes on, and the segments that they close.
-use Rattle.std.proofs.Common.{◌≡◌, ◌≢◌, ◌∙◌, ◌⊎◌, inl, inr, ℕ, ◌<◌, Bool, true, false, List, [], ◌∷◌, ◌++◌, length, Some, None, refl, ap, sym, subst, arith, append_assoc}
+use Rattle.std.proofs.Common.{◌≡◌, ◌≢◌, ◌∙◌, ◌⊎◌, inl, inr, ℕ, ◌<◌, Bool, true, false, List, [], ◌∷◌, ◌++◌, length, Some, None, refl, ap, sym, subst, arith}
 use Rattle.std.specs.List.{All}
 use Rattle.std.proofs.lemmas.List.{append-nil}
 use Rattle.std.proofs.lemmas.List.Elements.{All-cons}
 use Rattle.ghost_list.specs.Lists.{IsBeginning}
-use Rattle.ts_packet.specs.Packets.{packets, decided}
 use Rattle.cutter.specs.declared.settings.CutSettings.{CutSettings}
 use Rattle.cutter.specs.declared.fault.CutFault.{CutFault}
 use Rattle.cutter.specs.declared.fault.CutFault.TheVariants.{NoMemory}
 use Rattle.cutter.specs.Plans.{SegmentPlan}
-use Rattle.cutter.specs.Cuts.{closed, plans}
 use Rattle.item_io.specs.Outlets.{Held, Grows}
-use Rattle.pipeline.specs.declared.lane.Stop.TheVariants.{Cut}
-use Rattle.pipeline.specs.Ladder.{Ladder}
-use Rattle.pipeline.specs.Streams.{Taken, AreNext, GrowsAlike, Stays, closed_of, plans_of, fault_of}
-use Rattle.pipeline.specs.Shown.{Shown}
-use Rattle.pipeline.specs.Items.{Part, part_at, count, shown_all}
-use Rattle.pipeline.specs.Weave.{Event, Row, rendition_of, AreLegal, after, after_all, blocks}
-use Rattle.pipeline.specs.Giving.{IsGoing, AreNextPlans, rows}
-use Rattle.pipeline.specs.Lanes.{IsOpen, Begins, BeginsClosed, Before, AreOf, Reaches, IsCutOff}
-use Rattle.pipeline.specs.Putting.{PutSome}
-use Rattle.pipeline.proofs.Puts.{grows-none, put-none}
-use Rattle.pipeline.proofs.Blocks.{grown-at, after-each}
-use Rattle.pipeline.proofs.Rows.{rows-part}
-
-abbrev Fronts : ℕ → CutSettings → Type 0
-Fronts r s = (ps : List (List ℕ)) → IsBeginning (closed r s ps) (plans r s ps)
-
-abbrev Grow : ℕ → CutSettings → Type 0
-Grow r s = (ps more : List (List ℕ)) → IsBeginning (closed r s ps) (closed r s (ps ++ more))
-
--- what is closed by the packets decided begins the plans of each stream that goes on from there
-pub begins-all : (r : ℕ) (s : CutSettings) (stream more : List ℕ) → IsBeginning (decided stream) (packets (stream ++ more)) → Fronts r s → Grow r s
-    → IsBeginning (closed_of r s stream) (plans_of r s (stream ++ more))
-unfolding closed_of plans_of
-begins-all r s stream more (rest, whole) front grow =
-    let a = grow (decided stream) rest in
-    let b = front (packets (stream ++ more)) in (
-      a.0 ++ b.0,
-      b.1 ∙ (ap (λ l. l ++ b.0) (ap (closed r s) whole ∙ a.1) ∙ append_assoc (closed r s (decided stream)) a.0 b.0),
-    )
-
--- what is closed by the packets decided begins what is closed by more
-pub grows-all : (r : ℕ) (s : CutSettings) (stream more : List ℕ) → IsBeginning (decided stream) (decided (stream ++ more)) → Grow r s
-    → IsBeginning (closed_of r s stream) (closed_of r s (stream ++ more))
-unfolding closed_of
-grows-all r s stream more (rest, whole) grow =
-    let a = grow (decided stream) rest in
-    (a.0, ap (closed r s) whole ∙ a.1)
+use Rattle.ingest.specs.declared.lane.Stop.TheVariants.{Cut}
+use Rattle.ladder_items.specs.Ladder.{Ladder}
+use Rattle.ingest.specs.Streams.{Taken, AreNext, GrowsAlike, Stays, closed_of, plans_of, fault_of}
+use Rattle.ladder_items.specs.Shown.{Shown}
+use Rattle.ladder_items.specs.Items.{Part, part_at, count, shown_all}
+use Rattle.ladder_items.specs.Weave.{Event, Row, rendition_of, AreLegal, after, after_all, blocks}
+use Rattle.ladder_items.specs.Giving.{IsGoing, AreNextPlans, rows}
+use Rattle.ladder_items.specs.Lanes.{IsOpen, Begins, BeginsClosed, Before, AreOf, Reaches, IsCutOff}
+use Rattle.ladder_items.specs.Putting.{PutSome}
+use Rattle.ladder_items.proofs.Puts.{grows-none, put-none}
+use Rattle.ladder_items.proofs.Blocks.{grown-at, after-each}
+use Rattle.ladder_items.proofs.Rows.{rows-part}
 
 pub none-of-r : (r : ℕ) → All (λ (e : Event). rendition_of e ≡ r) []
 none-of-r r k d below = absurd (omega (arith, below))

@@ -5,14 +5,14 @@ use Rattle.std.proofs.lemmas.List.{append-nil}
 use Rattle.std.proofs.KnownBytes.{Consumes-nil, Consumes-kept}
 use Rattle.aes_cbc.specs.Block.{AreBytes}
 use Rattle.item_io.specs.Outlets.{Held}
-use Rattle.pipeline.specs.declared.lane.Stop.TheVariants.{Read}
-use Rattle.pipeline.specs.Ladder.{Ladder}
-use Rattle.pipeline.specs.Streams.{Taken, closed_of}
-use Rattle.pipeline.specs.Shown.{Shown}
-use Rattle.pipeline.specs.Items.{Part}
-use Rattle.pipeline.specs.Weave.{AreLegal, after_all, blocks}
-use Rattle.pipeline.specs.Lanes.{Before, Reaches}
-use Rattle.pipeline.proofs.Puts.{grows-none}
+use Rattle.ingest.specs.declared.lane.Stop.TheVariants.{Read}
+use Rattle.ladder_items.specs.Ladder.{Ladder}
+use Rattle.ingest.specs.Streams.{Taken, closed_of}
+use Rattle.ladder_items.specs.Shown.{Shown}
+use Rattle.ladder_items.specs.Items.{Part}
+use Rattle.ladder_items.specs.Weave.{AreLegal, after_all, blocks}
+use Rattle.ladder_items.specs.Lanes.{Before, Reaches}
+use Rattle.ladder_items.proofs.Puts.{grows-none}
 use Rattle.pipeline.proofs.Feeding.{none-of-r}
 
 -- a read that failed took nothing, and nothing was given

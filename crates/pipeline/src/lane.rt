@@ -1,29 +1,15 @@
 ghost use Rattle.std.specs.Prelude.{◌≡◌, ◌≢◌, ◌+◌, ◌<◌, ◌^◌, ◌++◌, ℕ, List, Some, true, false, length, IfOk, IfErr, OnOk, OnErr};
 ghost use Rattle.cutter.specs.declared.fault.CutFault.TheVariants.{NoMemory};
-ghost use Rattle.pipeline.specs.Ladder.{IsAllowed};
-ghost use Rattle.pipeline.specs.Items.{Part};
-ghost use Rattle.pipeline.specs.Lanes.{Before, Begins, BeginsClosed, IsOfPiece, IsOfEnd, Reaches, IsCutOff};
-ghost use Rattle.pipeline.specs.Putting.{SaysFailures};
+ghost use Rattle.ladder_items.specs.Ladder.{IsAllowed};
+ghost use Rattle.ladder_items.specs.Items.{Part};
+ghost use Rattle.ladder_items.specs.Lanes.{Before, Begins, BeginsClosed, IsOfPiece, IsOfEnd, Reaches, IsCutOff};
+ghost use Rattle.ladder_items.specs.Putting.{SaysFailures};
 
-use crate::fault::PackFault;
-use crate::give::{give_end, give_segments};
-use crate::intake::{Intake, closed_plans_begin_all};
-use crate::playlists::Playlists;
-use crate::settings::Settings;
 use cutter::CutFault;
+use ingest::{Intake, Stop, closed_plans_begin_all};
 use item_io::Outlet;
+use ladder_items::{PackFault, Playlists, Settings, give_end, give_segments};
 use std::alloc::Global;
-
-/// Why a rendition gives no more.
-#[derive(Clone, Copy, Debug, PartialEq, Eq)]
-pub enum Stop {
-    /// Its input came to its end, and all was given. So many bytes lay in no packet.
-    Good(u64),
-    /// Its stream has a fault.
-    Cut(CutFault),
-    /// A read failed.
-    Read,
-}
 
 /// Takes the next bytes of rendition `r`, and gives the segments that they close.
 pub fn feed<O: Outlet>(

@@ -1,21 +1,19 @@
 ghost use Rattle.std.specs.Prelude.{◌≡◌, ◌<◌, ◌≤◌, ◌^◌, ◌⊎◌, ℕ, [], Some, None, length, slice_get, IfOk, IfErr, OnOk, OnErr};
-ghost use Rattle.pipeline.specs.declared.fault.PackFault.TheVariants.{Settings as SettingsFault, NoMemory};
+ghost use Rattle.ladder_items.specs.declared.fault.PackFault.TheVariants.{Settings as SettingsFault, NoMemory};
 ghost use Rattle.item_io.specs.Outlets.{Grows};
-ghost use Rattle.pipeline.specs.declared.turn.Lane.{Lane};
-ghost use Rattle.pipeline.specs.Ladder.{IsAllowed};
-ghost use Rattle.pipeline.specs.Putting.{SaysFailures};
-ghost use Rattle.pipeline.specs.World.{HaveRoom, World};
-ghost use Rattle.pipeline.specs.Packed.{IsPacked, IsCutShort, FaultSays};
+ghost use Rattle.ingest.specs.declared.lane.Lane.{Lane};
+ghost use Rattle.ladder_items.specs.Ladder.{IsAllowed};
+ghost use Rattle.ladder_items.specs.Putting.{SaysFailures};
+ghost use Rattle.ladder_items.specs.World.{HaveRoom, World};
+ghost use Rattle.ladder_items.specs.Packed.{IsPacked, IsCutShort, FaultSays};
 
-use crate::allowed::is_allowed;
-use crate::ends::{have_stopped, standing};
-use crate::fault::PackFault;
-use crate::playlists::Playlists;
-use crate::report::{Report, report_of};
-use crate::settings::Settings;
-use crate::start::{first_lanes, first_playlists};
-use crate::turn::{Lane, turn};
+use crate::turn::turn;
+use ingest::{Lane, closed_plans_begin_all};
 use item_io::{Outlet, Source};
+use ladder_items::{
+    PackFault, Playlists, Report, Settings, first_lanes, first_playlists, have_stopped, is_allowed,
+    report_of, standing,
+};
 use std::alloc::Global;
 
 /// The most reads of an input that give a byte.
@@ -45,7 +43,7 @@ pub fn pack_serial<S: Source, O: Outlet>(
     ensures breach { IfErr result (λ fault. ((IsAllowed settings.now × (length sources.old.items ≡ length settings.now.renditions)) → ⊥) →
         ((fault ≡ SettingsFault) ⊎ (fault ≡ NoMemory)) × (sources.new.items ≡ sources.old.items) × Grows (O.holds outlet.old) (O.holds outlet.new) []) }
 {
-    crate::intake::closed_plans_begin_all();
+    closed_plans_begin_all();
     if !is_allowed(alloc, settings, sources.len())? {
         return Err(PackFault::Settings);
     }
@@ -77,7 +75,7 @@ fn turns<S: Source, O: Outlet>(
     ensures failures { OnOk result (O.failures outlet.new ≡ O.failures outlet.old) }
     ensures fault { IfErr result (λ fault. SaysFailures fault (O.failures outlet.old) (O.failures outlet.new)) }
 {
-    crate::intake::closed_plans_begin_all();
+    closed_plans_begin_all();
     for _ in 0..READS {
         if have_stopped(lanes) {
             return Ok(());

@@ -1,29 +1,20 @@
 ghost use Rattle.std.specs.Prelude.{◌≡◌, ◌+◌, ◌<◌, ◌≤◌, ◌^◌, ◌++◌, ℕ, List, None, length, IfErr, OnOk, OnErr};
 ghost use Rattle.std.specs.Io.KnownBytes.{Consumes};
 ghost use Rattle.aes_cbc.specs.Block.{AreBytes};
-ghost use Rattle.pipeline.specs.Ladder.{IsAllowed};
-ghost use Rattle.pipeline.specs.Items.{Part};
-ghost use Rattle.pipeline.specs.Lanes.{Before, Reaches, IsCutOff};
-ghost use Rattle.pipeline.specs.Sources.{SourceSays, HasBegun};
-ghost use Rattle.pipeline.specs.Putting.{SaysFailures};
+ghost use Rattle.ladder_items.specs.Ladder.{IsAllowed};
+ghost use Rattle.ladder_items.specs.Items.{Part};
+ghost use Rattle.ladder_items.specs.Lanes.{Before, Reaches, IsCutOff};
+ghost use Rattle.ladder_items.specs.Sources.{SourceSays, HasBegun};
+ghost use Rattle.ladder_items.specs.Putting.{SaysFailures};
 
-use crate::fault::PackFault;
-use crate::intake::Intake;
-use crate::lane::{Stop, close, feed};
-use crate::playlists::Playlists;
-use crate::settings::Settings;
+use crate::lane::{close, feed};
+use ingest::{Lane, Stop};
 use item_io::{Outlet, Source};
+use ladder_items::{PackFault, Playlists, Settings};
 use std::alloc::Global;
 
 /// The most bytes of a read: 100 packets.
 const PIECE: usize = 18_800;
-
-/// A rendition on its way: what takes its bytes, and why it gives no more, if it stopped.
-#[derive(Drop)]
-pub struct Lane {
-    pub intake: Intake,
-    pub stop: Option<Stop>,
-}
 
 /// Reads once from the input of rendition `r`, which goes on, and gives all that comes of it.
 pub fn turn<S: Source, O: Outlet>(

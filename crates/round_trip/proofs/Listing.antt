@@ -15,11 +15,11 @@ use Rattle.playlist_text.specs.MediaLines.{Entry, Listing, listing_lines}
 use Rattle.media_playlist.specs.Rows.{SegmentRow}
 use Rattle.media_playlist.specs.Listed.{Pushed, first, first_listed, listed, removed, discontinuity_count}
 use Rattle.media_playlist.specs.Lines.{entry_of, unless_empty, media_lines}
-use Rattle.pipeline.specs.Rows.{row_of, rows_of}
-use Rattle.pipeline.specs.Openings.{IsOfBytes}
+use Rattle.ladder_items.specs.Rows.{row_of, rows_of}
+use Rattle.ingest.specs.Sealable.{IsOfBytes}
 use Rattle.hls_check.specs.Unpacking.{packed, entry_at, bytes_at, Unpacks, AllUnpack}
 use Rattle.hls_check.specs.MediaTexts.{AreListed}
-use Rattle.pipeline.proofs.Elsewhere.{some-at}
+use Rattle.ladder_items.proofs.Elsewhere.{some-at}
 use Rattle.round_trip.proofs.Places.{mapped-at}
 
 -- what a window lists

@@ -23,20 +23,21 @@ use Rattle.master_playlist.specs.declared.fault.MasterFault.{MasterFault}
 use Rattle.master_playlist.specs.declared.fault.MasterFault.TheVariants.{BadName}
 use Rattle.master_playlist.specs.Faults.{fault_of, Stands}
 use Rattle.item_io.specs.Items.{ItemValue, PlaylistValue, MediaItem}
-use Rattle.pipeline.specs.Ladder.{Ladder, no_rendition, rendition_at, unmeasured, IsAllowed}
+use Rattle.ladder_items.specs.Ladder.{Ladder, no_rendition, rendition_at, unmeasured, IsAllowed}
 use Rattle.item_io.specs.FileNames.{segment_file_name, file_name}
-use Rattle.pipeline.specs.Rows.{row_of, rows_of}
-use Rattle.pipeline.specs.Shown.{in_window, media_text}
-use Rattle.pipeline.specs.Streams.{plans_of}
-use Rattle.pipeline.specs.Items.{Part, no_part, part_at, shown_of, playlist_of, segment_item, items_of}
-use Rattle.pipeline.specs.Weave.{Weaves}
-use Rattle.pipeline.specs.Seen.{is_of, of_rendition}
-use Rattle.pipeline.specs.Openings.{AreOfStreams, IsOfBytes}
+use Rattle.ladder_items.specs.Rows.{row_of, rows_of}
+use Rattle.ladder_items.specs.Shown.{in_window, media_text}
+use Rattle.ingest.specs.Streams.{plans_of}
+use Rattle.ladder_items.specs.Items.{Part, no_part, part_at, shown_of, playlist_of, segment_item, items_of}
+use Rattle.ladder_items.specs.Weave.{Weaves}
+use Rattle.ladder_laws.specs.Seen.{is_of, of_rendition}
+use Rattle.ingest.specs.Sealable.{IsOfBytes}
+use Rattle.ladder_laws.specs.Openings.{AreOfStreams}
 use Rattle.hls_check.specs.Unpacking.{packed, AllUnpack}
 use Rattle.hls_check.specs.MediaTexts.{AreListed}
 use Rattle.round_trip.specs.Returning.{AreMade, IsMade, sealed_bytes, sealed_of, ComesBack}
-use Rattle.pipeline.proofs.Alone.{same_test}
-use Rattle.pipeline.proofs.Elsewhere.{some-at}
+use Rattle.ladder_laws.proofs.Alone.{same_test}
+use Rattle.ladder_items.proofs.Elsewhere.{some-at}
 use Rattle.round_trip.proofs.Places.{at-drop, at-front}
 use Rattle.round_trip.proofs.Splitting.{split}
 use Rattle.round_trip.proofs.Listing.{listing_of, lines-are, some-listed, AreFrom, Rounds, listed-on, bytes_of, unpack-all}

@@ -2,9 +2,9 @@
 use Rattle.std.proofs.Common.{◌≡◌, ◌∙◌, ℕ, Bool, true, false, List, [], ◌∷◌, ◌++◌, map, filter, refl, ap, sym, append_assoc}
 use Rattle.cutter.specs.Plans.{SegmentPlan}
 use Rattle.item_io.specs.Items.{ItemValue, SegmentValue, PlaylistValue, SegmentItem, MediaItem, FramesItem}
-use Rattle.pipeline.specs.Ladder.{Ladder}
-use Rattle.pipeline.specs.Items.{Part, segment_item, media_item, frames_item, items_from, end_items}
-use Rattle.pipeline.specs.Listings.{is_segment}
+use Rattle.ladder_items.specs.Ladder.{Ladder}
+use Rattle.ladder_items.specs.Items.{Part, segment_item, media_item, frames_item, items_from, end_items}
+use Rattle.ladder_laws.specs.Listings.{is_segment}
 
 -- the playlist is that of the plans given so far, whose segments stand before it
 pub record IsOfGiven (ladder : Ladder) (r : ℕ) (before plans : List SegmentPlan) (front : List ItemValue) (media : PlaylistValue) : Type 0 where

@@ -6,9 +6,9 @@ use Rattle.segment_job.specs.Rotation.{IsRotation}
 use Rattle.playlist_text.specs.MediaLines.{Listing}
 use Rattle.item_io.specs.Items.{ItemValue, PlaylistValue, SegmentItem, MediaItem, FramesItem, MasterItem}
 use Rattle.item_io.specs.FileNames.{segment_file_name, file_name}
-use Rattle.pipeline.specs.Ladder.{RenditionValue, Ladder, rendition_at}
-use Rattle.pipeline.specs.Streams.{plans_of}
-use Rattle.pipeline.specs.Listings.{segments_of}
+use Rattle.ladder_items.specs.Ladder.{RenditionValue, Ladder, rendition_at}
+use Rattle.ingest.specs.Streams.{plans_of}
+use Rattle.ladder_laws.specs.Listings.{segments_of}
 use Rattle.hls_check.specs.Unpacking.{packed, AllUnpack}
 use Rattle.hls_check.specs.MediaTexts.{IsListing, listing_text}
 

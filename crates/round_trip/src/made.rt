@@ -1,7 +1,7 @@
 //! What the types of a packager's settings keep.
 ghost use Rattle.std.specs.Prelude.{ℕ, ◌<◌, length, slice_index_or};
 ghost use Rattle.std.specs.Str.{IsUtf8};
-ghost use Rattle.pipeline.specs.Ladder.{no_rendition};
+ghost use Rattle.ladder_items.specs.Ladder.{no_rendition};
 ghost use Rattle.round_trip.specs.Returning.{IsMade, AreMade};
 
 use pipeline::{Rendition, Settings};

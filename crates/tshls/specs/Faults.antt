@@ -2,7 +2,7 @@
 use Rattle.std.specs.Prelude.{◌≡◌, ◌⊎◌, ℕ}
 use Rattle.aes_cbc.specs.declared.fault.OpenFault.{OpenFault}
 use Rattle.aes_cbc.specs.declared.fault.OpenFault.TheVariants as opening
-use Rattle.pipeline.specs.declared.fault.PackFault.TheVariants.{Settings}
+use Rattle.ladder_items.specs.declared.fault.PackFault.TheVariants.{Settings}
 use Rattle.tshls.specs.declared.fault.Fault.{Fault}
 use Rattle.tshls.specs.declared.fault.Fault.TheVariants.{Usage, NotUtf8, BadKey, BadVector, BadSize, TooMany, ZeroPeriod, BadHex, NotBlocks, BadPadding, Unread, ReadLimit, Unwritten, Packing, Checking, NoMemory}
 

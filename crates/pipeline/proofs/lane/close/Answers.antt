@@ -3,12 +3,12 @@ use Rattle.std.proofs.lemmas.List.{append-nil}
 use Rattle.std.proofs.lemmas.Result.{err_from_is_err_and}
 use Rattle.ghost_list.specs.Lists.{IsBeginning}
 use Rattle.cutter.specs.declared.fault.CutFault.TheVariants.{NoMemory}
-use Rattle.pipeline.specs.Items.{part_at}
-use Rattle.pipeline.specs.Lanes.{Begins}
-use Rattle.pipeline.specs.Weave.{after_all}
-use Rattle.pipeline.specs.Giving.{rows}
-use Rattle.pipeline.specs.Streams.{closed_of, plans_of}
-use Rattle.pipeline.proofs.Blocks.{shown-each}
+use Rattle.ladder_items.specs.Items.{part_at}
+use Rattle.ladder_items.specs.Lanes.{Begins}
+use Rattle.ladder_items.specs.Weave.{after_all}
+use Rattle.ladder_items.specs.Giving.{rows}
+use Rattle.ingest.specs.Streams.{closed_of, plans_of}
+use Rattle.ladder_items.proofs.Blocks.{shown-each}
 use Rattle.pipeline.proofs.Feeding.{gave, reaches-fault, cut-off, cut-off-first, begun, all-of-them, told-fault}
 use Rattle.pipeline.proofs.Closing.{going-on, reaches-end, cut-off-end}
 use Rattle.pipeline.proofs.lane.close.Goals as goal

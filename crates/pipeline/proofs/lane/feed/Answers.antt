@@ -1,8 +1,8 @@
 use Rattle.std.proofs.Common.{◌≢◌, ◌++◌, rules}
 use Rattle.std.proofs.lemmas.Result.{err_from_is_err_and}
 use Rattle.cutter.specs.declared.fault.CutFault.TheVariants.{NoMemory}
-use Rattle.pipeline.specs.Items.{part_at}
-use Rattle.pipeline.specs.Lanes.{BeginsClosed}
+use Rattle.ladder_items.specs.Items.{part_at}
+use Rattle.ladder_items.specs.Lanes.{BeginsClosed}
 use Rattle.pipeline.proofs.Feeding.{gave, reaches-on, reaches-fault, cut-off, cut-off-first, closes, closes-all, closed-first, told-fault}
 use Rattle.pipeline.proofs.lane.feed.Goals as goal
 

@@ -1,9 +1,9 @@
 use Rattle.std.proofs.Common.{◌≡◌, ◌∙◌, length, slice_get, refl, ap, sym, arith, rules}
 use Rattle.std.proofs.lemmas.Result.{err_from_is_err_and}
-use Rattle.pipeline.specs.Ladder.{IsAllowed}
-use Rattle.pipeline.proofs.Blocks.{shown-going, shown-each}
-use Rattle.pipeline.proofs.Worlds.{world-first, world-stop, nothing-given, parts-of, parts-length}
-use Rattle.pipeline.proofs.Endings.{world-halted, world-packed, halted-says}
+use Rattle.ladder_items.specs.Ladder.{IsAllowed}
+use Rattle.ladder_items.proofs.Blocks.{shown-going, shown-each}
+use Rattle.ladder_items.proofs.Worlds.{world-first, world-stop, nothing-given, parts-of, parts-length}
+use Rattle.ladder_items.proofs.Endings.{world-halted, world-packed, halted-says}
 use Rattle.pipeline.proofs.serial.pack_serial.Goals as goal
 
 pub returns-in_err-is_allowed-clause-fault : goal.returns-in_err-is_allowed-clause-fault

@@ -1,5 +1,5 @@
 use Rattle.std.proofs.Common.{◌≡◌}
-use Rattle.pipeline.specs.World.{World}
+use Rattle.ladder_items.specs.World.{World}
 use Rattle.pipeline.proofs.serial.turns.Given as goal
 
 abbrev pub invariant-loop : goal.invariant-loop

@@ -1,5 +1,5 @@
 use Rattle.std.proofs.Common.{ℕ, ◌<◌, get_or}
-use Rattle.pipeline.specs.Ladder.{no_rendition}
+use Rattle.ladder_items.specs.Ladder.{no_rendition}
 use Rattle.round_trip.specs.Returning.{IsMade}
 use Rattle.round_trip.proofs.made.all_are_made.Given as goal
 

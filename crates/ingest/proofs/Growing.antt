@@ -1,0 +1,91 @@
+-- Lists of plans that grow alike.
+use Rattle.std.proofs.Common.{◌≡◌, ◌∙◌, ◌⊎◌, inl, inr, ℕ, suc, ◌<◌, false, List, [], ◌∷◌, ◌++◌, length, take, drop, get_or, ap, sym, subst, append_assoc, length-append, arith}
+use Rattle.std.proofs.lemmas.List.{append-nil, take_more}
+use Rattle.std.proofs.Math.Seq.{split_at}
+use Rattle.cutter.specs.declared.settings.CutSettings.{CutSettings}
+use Rattle.cutter.specs.declared.fault.CutFault.{CutFault}
+use Rattle.cutter.specs.declared.fault.CutFault.TheVariants.{NoMemory}
+use Rattle.cutter.specs.Settings.{Pushed}
+use Rattle.cutter.specs.Plans.{SegmentPlan}
+use Rattle.cutter.specs.Cuts.{closed, made, Ends}
+use Rattle.cutter.specs.Ordered.{IsPlan}
+use Rattle.std.specs.Prelude.{Option, Some, None, IfSome, ◌+◌}
+use Rattle.ingest.specs.Streams.{AreNext, GrowsAlike, Stops}
+
+pub grows-none : (r : ℕ) (s : CutSettings) (a b old new : List SegmentPlan) → b ≡ a → new ≡ old → GrowsAlike r s a b old new
+grows-none r s a b old new e f = record { more = []; grown = e ∙ sym (append-nil a); given = f ∙ sym (append-nil old); order = tt }
+
+next-append : (r : ℕ) (s : CutSettings) (n : ℕ) (xs ys : List SegmentPlan) → AreNext r s n xs → AreNext r s (n + length xs) ys → AreNext r s n (xs ++ ys)
+next-append r s n [] ys h k = subst (λ (m : ℕ). AreNext r s m ys) (omega arith) k
+next-append r s n (x ∷ xs) ys h k = (h.0, next-append r s (n + 1) xs ys h.1 (subst (λ (m : ℕ). AreNext r s m ys) (omega arith) k))
+
+pub grows-more : (r : ℕ) (s : CutSettings) (a b c old mid new m : List SegmentPlan) → GrowsAlike r s a b old mid → c ≡ b ++ m → new ≡ mid ++ m
+    → AreNext r s (length b) m → GrowsAlike r s a c old new
+grows-more r s a b c old mid new m g e f k = record {
+  more = g.more ++ m;
+  grown = e ∙ (ap (λ list. list ++ m) g.grown ∙ append_assoc a g.more m);
+  given = f ∙ (ap (λ list. list ++ m) g.given ∙ append_assoc old g.more m);
+  order = next-append r s (length a) g.more m g.order (subst (λ (n : ℕ). AreNext r s n m) (ap length g.grown ∙ length-append a g.more) k);
+}
+
+-- one plan at most
+pub next-made : (r : ℕ) (s : CutSettings) (n : ℕ) (plan : Option SegmentPlan) → IfSome plan (λ p. IsPlan r s n p) → AreNext r s n (made plan)
+next-made r s n None h = tt
+next-made r s n (Some p) h = (h, tt)
+
+-- a packet more
+pub grows-by : (v start : Pushed) (front : List (List ℕ)) (x : List ℕ) (all : List (List ℕ)) (plan : Option SegmentPlan) (old mid new : List SegmentPlan)
+    → v ≡ record start { list = front } → all ≡ front ++ x ∷ []
+    → GrowsAlike start.rendition start.settings (closed start.rendition start.settings start.list) (closed start.rendition start.settings front) old mid
+    → closed v.rendition v.settings (v.list ++ x ∷ []) ≡ closed v.rendition v.settings v.list ++ made plan
+    → IfSome plan (λ p. IsPlan v.rendition v.settings (length (closed v.rendition v.settings v.list)) p)
+    → new ≡ mid ++ made plan
+    → GrowsAlike start.rendition start.settings (closed start.rendition start.settings start.list) (closed start.rendition start.settings all) old new
+grows-by v start front x all plan old mid new is whole g e h f =
+    let closes = rw is at e in
+    let order = rw is at h in
+    grows-more start.rendition start.settings _ _ _ old mid new (made plan) g (ap (closed start.rendition start.settings) whole ∙ closes) f
+    (next-made start.rendition start.settings (length (closed start.rendition start.settings front)) plan order)
+
+whole-of : (front ps more : List (List ℕ)) (i : ℕ) (d : List ℕ) → i < length ps
+    → (front ++ take i ps) ++ get_or ps i d ∷ (drop (suc i) ps ++ more) ≡ (front ++ ps) ++ more
+whole-of front ps more i d below =
+    append_assoc front (take i ps) (get_or ps i d ∷ (drop (suc i) ps ++ more))
+    ∙ (ap (λ list. front ++ list) (sym (append_assoc (take i ps) (get_or ps i d ∷ drop (suc i) ps) more)
+    ∙ ap (λ list. list ++ more) (sym (split_at ps i d below)))
+    ∙ sym (append_assoc front ps more))
+
+-- what a cutter that was pushed these packets says where it refuses the next one
+abbrev pub Refuses : Pushed → List ℕ → CutFault → Type 0
+Refuses v x e = (e ≡ NoMemory) ⊎ ((more : List (List ℕ)) → Ends v.rendition v.settings (v.list ++ x ∷ more) e (closed v.rendition v.settings v.list))
+
+stops-by : (start : Pushed) (ps : List (List ℕ)) (i : ℕ) (d : List ℕ) (e : CutFault) (old new : List SegmentPlan)
+    → i < length ps
+    → GrowsAlike start.rendition start.settings (closed start.rendition start.settings start.list) (closed start.rendition start.settings (start.list ++ take i ps)) old new
+    → Refuses (record start { list = start.list ++ take i ps }) (get_or ps i d) e
+    → (e ≡ NoMemory) ⊎ ((more : List (List ℕ)) → Stops start ((start.list ++ ps) ++ more) e old new)
+stops-by start ps i d e old new below grown (inl none) = inl none
+stops-by start ps i d e old new below grown (inr told) = inr (λ more.
+    let ends = subst (λ (list : List (List ℕ)). Ends start.rendition start.settings list e (closed start.rendition start.settings (start.list ++ take i ps)))
+    (whole-of start.list ps more i d below) (told (drop (suc i) ps ++ more)) in
+    record {
+      fault = ends.fault;
+      plans = record { more = grown.more; grown = ends.plans ∙ grown.grown; given = grown.given; order = grown.order };
+    })
+
+-- a fault at packet i
+pub stops-at : (v start : Pushed) (ps : List (List ℕ)) (i : ℕ) (d : List ℕ) (e : CutFault) (old new : List SegmentPlan)
+    → v ≡ record start { list = start.list ++ take i ps } → start.ended ≡ false → i < length ps
+    → GrowsAlike start.rendition start.settings (closed start.rendition start.settings start.list) (closed start.rendition start.settings (start.list ++ take i ps)) old new
+    → (v.ended ≡ false → Refuses v (get_or ps i d) e)
+    → (e ≡ NoMemory) ⊎ ((more : List (List ℕ)) → Stops start ((start.list ++ ps) ++ more) e old new)
+stops-at v start ps i d e old new is going below grown told = stops-by start ps i d e old new below grown ((rw is at told) going)
+
+pub more-of : (front ps : List (List ℕ)) (i : ℕ) (d : List ℕ) → i < length ps → front ++ take (i + 1) ps ≡ (front ++ take i ps) ++ get_or ps i d ∷ []
+more-of front ps i d below = ap (λ l. front ++ l) (take_more ps i d below) ∙ sym (append_assoc front (take i ps) (get_or ps i d ∷ []))
+
+pub pushed-more : (v w start : Pushed) (ps : List (List ℕ)) (i : ℕ) (d : List ℕ) → i < length ps → v ≡ record start { list = start.list ++ take i ps }
+    → w ≡ record v { list = v.list ++ get_or ps i d ∷ [] } → w ≡ record start { list = start.list ++ take (i + 1) ps }
+pushed-more v w start ps i d below is pushed =
+    pushed ∙ (ap (λ (u : Pushed). record u { list = u.list ++ get_or ps i d ∷ [] }) is
+    ∙ ap (λ (l : List (List ℕ)). record start { list = l }) (sym (more-of start.list ps i d below)))

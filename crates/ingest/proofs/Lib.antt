@@ -1,0 +1,9 @@
+pub mod Fronts
+pub mod Growing
+pub mod Taking
+pub mod Splitting
+pub mod Lengths
+pub mod HeadBytes
+pub mod SectionBytes
+pub mod TableBytes
+pub mod CutBytes

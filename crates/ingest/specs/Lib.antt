@@ -1,0 +1,4 @@
+pub mod Streams
+pub mod State
+pub mod Sealable
+pub mod Output

@@ -1,0 +1,170 @@
+-- How a run ends.
+use Rattle.std.proofs.Common.{◌≡◌, ◌∙◌, ℕ, zero, suc, ◌+◌, ◌<◌, ◌≤◌, ◌^◌, List, [], ◌∷◌, length, map, get_or, Option, Some, None, refl, ap, sym, subst, arith}
+use Rattle.std.specs.List.{slice_get}
+use Rattle.std.specs.Io.KnownBytes.{Consumes, IsAtEnd}
+use Rattle.std.proofs.lemmas.Option.{slice_get_within, same_Some, get_or_from_slice_get}
+use Rattle.std.proofs.lemmas.List.{length-map}
+use Rattle.aes_cbc.specs.Block.{AreBytes}
+use Rattle.ts_packet.specs.Packets.{skipped}
+use Rattle.cutter.specs.declared.fault.CutFault.TheVariants.{NoProgram as HasNoProgram, NoStart as HasNoStart, LongSegment as IsLong, BigSegment as IsBig, Limit as PassesLimit, NoMemory as WantsMemory, Ended}
+use Rattle.item_io.specs.Outlets.{Held}
+use Rattle.ladder_items.specs.declared.fault.PackFault.{PackFault}
+use Rattle.ladder_items.specs.declared.fault.PackFault.TheVariants.{Settings, Read, ReadLimit, NoProgram, NoStart, LongSegment, BigSegment, Limit, Outlet, NoMemory, Held as HeldBack}
+use Rattle.ingest.specs.declared.lane.Stop.{Stop}
+use Rattle.ingest.specs.declared.lane.Stop.TheVariants.{Good, Cut, Read as ReadFailed}
+use Rattle.ladder_items.specs.declared.report.Report.{Report}
+use Rattle.ingest.specs.declared.lane.Lane.{Lane}
+use Rattle.ladder_items.specs.Ladder.{Ladder, IsAllowed}
+use Rattle.ladder_items.specs.Shown.{Shown}
+use Rattle.ladder_items.specs.Items.{Part, part_at}
+use Rattle.ladder_items.specs.Weave.{blocks, none_of}
+use Rattle.ingest.specs.Streams.{Taken}
+use Rattle.ladder_items.specs.Lanes.{IsWhole, InStage}
+use Rattle.ladder_items.specs.Sources.{SourceSays}
+use Rattle.ladder_items.specs.Putting.{SaysFailures}
+use Rattle.ladder_items.specs.World.{World, stream_at, turns_of}
+use Rattle.ladder_items.specs.Packed.{IsReport, IsPacked, IsCutShort, IsLeft, HasHalted, told_of, gone_of, FaultSays}
+use Rattle.ladder_items.proofs.Elsewhere.{some-at}
+use Rattle.ladder_items.proofs.Stages.{stage-left, turns-none}
+use Rattle.ladder_items.proofs.Worlds.{parts-of}
+
+-- a good end tells no fault, and nothing else does so
+good-end : (k : ℕ) (stop : Option Stop) → told_of k stop ≡ None → (gone : ℕ) × (stop ≡ Some (Good gone))
+good-end k None e = cc
+good-end k (Some (Good gone)) e = (gone, refl)
+good-end k (Some (Cut told)) e = cc
+good-end k (Some ReadFailed) e = cc
+
+-- a list is another one, element by element
+same-lists : (xs ys : List ℕ) → length xs ≡ length ys → ((k x y : ℕ) → slice_get xs k ≡ Some x → slice_get ys k ≡ Some y → x ≡ y) → xs ≡ ys
+same-lists [] [] l e = refl
+same-lists [] (y ∷ ys) l e = cc
+same-lists (x ∷ xs) [] l e = cc
+same-lists (x ∷ xs) (y ∷ ys) l e =
+    let first : x ≡ y = e 0 x y refl refl in
+    let rest = same-lists xs ys (omega (arith, l)) (λ k. e (suc k)) in
+    ap (λ h. h ∷ xs) first ∙ ap (λ t. y ∷ t) rest
+
+map-at : {A : Type 0} (f : A → ℕ) (xs : List A) (k y : ℕ) → slice_get (map f xs) k ≡ Some y → (x : A) × (slice_get xs k ≡ Some x) × (y ≡ f x)
+map-at f [] k y e = cc
+map-at f (x ∷ xs) zero y e = (x, refl, cc)
+map-at f (x ∷ xs) (suc k) y e = map-at f xs k y e
+
+-- at a good end all was given, and no byte is left
+good-part : {X : Type 0} (left : X → Option (List ℕ)) (fails : X → ℕ) (ladder : Ladder) (k : ℕ) (stop : Option Stop) (gone : ℕ) (intake : Taken) (stream : List ℕ) (part : Part) (a b : X) → stop ≡ Some (Good gone)
+    → InStage stop ladder k stream intake part → SourceSays left fails k ladder.cut stream stop a b
+    → (IsWhole ladder k stream part × (gone_of stop ≡ skipped stream)) × IsAtEnd (left b) × (fails b ≡ fails a)
+good-part left fails ladder k None gone intake stream part a b is stage says = cc
+good-part left fails ladder k (Some (Good n)) gone intake stream part a b is stage says = (stage, says.1, says.0)
+good-part left fails ladder k (Some (Cut told)) gone intake stream part a b is stage says = cc
+good-part left fails ladder k (Some ReadFailed) gone intake stream part a b is stage says = cc
+
+module _ (X : Type 0) (left : X → Option (List ℕ)) (fails reads : X → ℕ) (ladder : Ladder) where
+  -- how the lanes ended
+  abbrev pub stop_at : List Lane → ℕ → Option Stop
+  stop_at lanes k = get_or (map (λ (l : Lane). l.stop) lanes) k None
+
+  stop-of : (lanes : List Lane) (k : ℕ) (lane : Lane) → slice_get lanes k ≡ Some lane → stop_at lanes k ≡ lane.stop
+  stop-of [] k lane e = cc
+  stop-of (l ∷ lanes) zero lane e = ap (λ (q : Lane). q.stop) (same_Some l lane e)
+  stop-of (l ∷ lanes) (suc k) lane e = stop-of lanes k lane e
+
+  -- each rendition came to its end, or had all its reads
+  pub world-halted : (rounds : ℕ) (before now : List X) (lanes : List Lane) (shown : List Shown) (x y : Held → Type 0) (r : ℕ) (lane : Lane)
+      → slice_get lanes r ≡ Some lane
+      → ((k : ℕ) (earlier : Lane) → k < r → slice_get lanes k ≡ Some earlier → told_of k earlier.stop ≡ None)
+      → ((k : ℕ) (lane : Lane) → slice_get lanes k ≡ Some lane → lane.stop ≡ None → rounds ≡ 2 ^ 40)
+      → rounds ≤ 2 ^ 40 → IsAllowed ladder → World left fails reads ladder rounds 0 before now lanes shown x y → HasHalted left fails reads ladder before now x y r lane.stop
+  world-halted rounds before now lanes shown x y r lane f good limit few allowed w = record {
+    streams = w.streams;
+    parts = parts-of ladder w.events;
+    items = blocks ladder (none_of ladder) w.events;
+    stops = stop_at lanes;
+    allowed = allowed;
+    same_now = w.same_now ∙ sym w.same_before;
+    weave = record { events = w.events; legal = w.legal; parts_are = refl; items_are = refl };
+    grows = w.grows;
+    each = λ k a d e h.
+        let within : k < length lanes = omega (arith, slice_get_within before k a e, w.same_before, w.same_lanes) in
+        let m = some-at lanes k within in
+        let u = w.each k a d m.0 e h m.1 in
+        subst (λ (q : Option Stop). IsLeft left fails reads ladder k a d q (stream_at w.streams k) (part_at (parts-of ladder w.events) k)) (sym (stop-of lanes k m.0 m.1))
+        (stage-left X left fails reads ladder k (turns_of rounds 0 k) a d m.0 _ _ (λ none.
+        let taken = u.reads_are none in
+        let turns = turns-none rounds k in
+        let all = limit k m.0 m.1 none in
+        omega (arith, taken, turns, all)) (omega (arith, turns-none rounds k, few)) u);
+    within = some-at before r (omega (arith, slice_get_within lanes r lane f, w.same_before, w.same_lanes));
+    at_r = stop-of lanes r lane f;
+    first = λ k below.
+        let m = some-at lanes k (omega (arith, below, slice_get_within lanes r lane f)) in
+        ap (told_of k) (stop-of lanes k m.0 m.1) ∙ good k m.0 below m.1;
+  }
+
+  -- each rendition came to its good end
+  pub world-packed : (rounds : ℕ) (before now : List X) (lanes : List Lane) (shown : List Shown) (x y : Held → Type 0) (report : Report)
+      → ((k : ℕ) (lane : Lane) → slice_get lanes k ≡ Some lane → told_of k lane.stop ≡ None)
+      → IsReport shown (map (λ (l : Lane). gone_of l.stop) lanes) report
+      → rounds ≤ 2 ^ 40 → World left fails reads ladder rounds 0 before now lanes shown x y → IsPacked left fails reads ladder before now x y report
+  world-packed rounds before now lanes shown x y report good is few w =
+      let all : (k : ℕ) (a d : X) → slice_get before k ≡ Some a → slice_get now k ≡ Some d → (m : Lane) × (slice_get lanes k ≡ Some m)
+      × (IsWhole ladder k (stream_at w.streams k) (part_at (parts-of ladder w.events) k) × (gone_of m.stop ≡ skipped (stream_at w.streams k)))
+      × AreBytes (stream_at w.streams k) × Consumes (left a) (left d) (stream_at w.streams k) × IsAtEnd (left d) × (fails d ≡ fails a) × (reads d ≤ reads a + 2 ^ 40) =
+      λ k a d e h.
+      let within : k < length lanes = omega (arith, slice_get_within before k a e, w.same_before, w.same_lanes) in
+      let m = some-at lanes k within in
+      let u = w.each k a d m.0 e h m.1 in
+      let end = good-end k m.0.stop (good k m.0 m.1) in
+      let part = good-part left fails ladder k m.0.stop end.0 m.0.intake (stream_at w.streams k) (part_at (parts-of ladder w.events) k) a d end.1 u.stage u.says in
+      let taken = u.few_reads in
+      let turns = turns-none rounds k in
+      (m.0, m.1, part.0, u.bytes, u.read, part.1, part.2, omega (arith, taken, turns, few)) in
+      record {
+        streams = w.streams;
+        parts = parts-of ladder w.events;
+        items = blocks ladder (none_of ladder) w.events;
+        weave = record { events = w.events; legal = w.legal; parts_are = refl; items_are = refl };
+        grows = w.grows;
+        same_streams = w.same_streams;
+        same_now = w.same_now ∙ sym w.same_before;
+        each = λ k a d e h. let u = all k a d e h in (u.2.0, u.3, u.4, u.5, u.6, u.7);
+        report_is = rw (← w.shown_are) (subst (λ (gone : List ℕ). IsReport shown gone report)
+            (same-lists _ _ (length-map lanes _ ∙ (w.same_lanes ∙ (sym w.same_streams ∙ sym (length-map w.streams _)))) (λ k p q e h.
+            let m = map-at _ lanes k p e in
+            let s = map-at skipped w.streams k q h in
+            let below = slice_get_within lanes k m.0 m.1 in
+            let a = some-at before k (omega (arith, below, w.same_before, w.same_lanes)) in
+            let d = some-at now k (omega (arith, below, w.same_now, w.same_lanes)) in
+            let u = all k a.0 d.0 a.1 d.1 in
+            m.2 ∙ (ap (λ (l : Lane). gone_of l.stop) (same_Some _ _ (sym m.1 ∙ u.1)) ∙ (u.2.1 ∙ (ap skipped (get_or_from_slice_get w.streams k s.0 [] s.1) ∙ sym s.2))))) is);
+      }
+
+  -- a fault that a rendition's end is told by
+  pub halted-says : (before now : List X) (x y : Held → Type 0) (f g r : ℕ) (stop : Option Stop) (e : PackFault) → told_of r stop ≡ Some e
+      → HasHalted left fails reads ladder before now x y r stop → IsCutShort left fails reads ladder before now x y → g ≡ f
+      → FaultSays left fails reads ladder before now x y f g e
+  halted-says before now x y f g r None e t h cut same = subst (FaultSays left fails reads ladder before now x y f g) (same_Some _ _ t) (h, same)
+  halted-says before now x y f g r (Some (Good n)) e t h cut same = cc
+  halted-says before now x y f g r (Some ReadFailed) e t h cut same = subst (FaultSays left fails reads ladder before now x y f g) (same_Some _ _ t) (h, same)
+  halted-says before now x y f g r (Some (Cut HasNoProgram)) e t h cut same = subst (FaultSays left fails reads ladder before now x y f g) (same_Some _ _ t) (h, same)
+  halted-says before now x y f g r (Some (Cut HasNoStart)) e t h cut same = subst (FaultSays left fails reads ladder before now x y f g) (same_Some _ _ t) (h, same)
+  halted-says before now x y f g r (Some (Cut (IsLong n))) e t h cut same = subst (FaultSays left fails reads ladder before now x y f g) (same_Some _ _ t) (h, same)
+  halted-says before now x y f g r (Some (Cut (IsBig n))) e t h cut same = subst (FaultSays left fails reads ladder before now x y f g) (same_Some _ _ t) (h, same)
+  halted-says before now x y f g r (Some (Cut PassesLimit)) e t h cut same = subst (FaultSays left fails reads ladder before now x y f g) (same_Some _ _ t) (h, same)
+  halted-says before now x y f g r (Some (Cut WantsMemory)) e t h cut same = subst (FaultSays left fails reads ladder before now x y f g) (same_Some _ _ t) (cut, same)
+  halted-says before now x y f g r (Some (Cut Ended)) e t h cut same = subst (FaultSays left fails reads ladder before now x y f g) (same_Some _ _ t) (cut, same)
+
+  -- a fault that stopped the run at once
+  pub at-once : (before now : List X) (x y : Held → Type 0) (f g : ℕ) (e : PackFault) → SaysFailures e f g → IsCutShort left fails reads ladder before now x y
+      → FaultSays left fails reads ladder before now x y f g e
+  at-once before now x y f g Settings says cut = absurd says
+  at-once before now x y f g (Read r) says cut = absurd says
+  at-once before now x y f g (ReadLimit r) says cut = absurd says
+  at-once before now x y f g (NoProgram r) says cut = absurd says
+  at-once before now x y f g (NoStart r) says cut = absurd says
+  at-once before now x y f g (LongSegment r n) says cut = absurd says
+  at-once before now x y f g (BigSegment r n) says cut = absurd says
+  at-once before now x y f g (Limit r) says cut = absurd says
+  at-once before now x y f g Outlet says cut = (cut, says)
+  at-once before now x y f g NoMemory says cut = (cut, says)
+  at-once before now x y f g (HeldBack r n) says cut = absurd says

@@ -1,0 +1,13 @@
+pub mod Ladder
+pub mod Shown
+pub mod Masters
+pub mod State
+pub mod Rows
+pub mod Items
+pub mod Weave
+pub mod Putting
+pub mod Giving
+pub mod Lanes
+pub mod Sources
+pub mod World
+pub mod Packed

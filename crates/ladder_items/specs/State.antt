@@ -1,0 +1,25 @@
+-- What settings and playlists keep.
+use Rattle.std.specs.Prelude.{◌≡◌, ◌*◌, ◌≤◌, ◌^◌, false, length}
+use Rattle.std.specs.String.{string_bytes}
+use Rattle.ladder_items.specs.declared.settings.Rendition.TheInside.{Inside as RenditionInside}
+use Rattle.ladder_items.specs.declared.settings.Settings.TheInside.{Inside as SettingsInside}
+use Rattle.ladder_items.specs.declared.playlists.Playlists.TheInside.{Inside}
+use Rattle.ladder_items.specs.Ladder.{RenditionValue, Ladder}
+use Rattle.ladder_items.specs.Shown.{Shown, segment_rates, frame_rates, lasting}
+
+abbrev pub rendition_value : RenditionInside → RenditionValue
+rendition_value r = record { name = string_bytes r.name; codecs = string_bytes r.codecs; width = r.width; height = r.height; keys = r.keys }
+
+abbrev pub ladder : SettingsInside → Ladder
+ladder s = record { renditions = s.renditions.items; cut = s.cut; window = s.window; queue = s.queue }
+
+abbrev pub shown : Inside → Shown
+shown p = record { name = p.window.name; target = p.window.target; window = p.window.window; rows = p.window.rows; ended = p.ended }
+
+-- until they end, the meters and the sum are those of the rows
+pub record IsTied (p : Inside) : Type 0 where
+  pub segments : p.ended ≡ false → p.segments ≡ record { target = p.window.target; rows = segment_rates p.window.rows }
+  pub frames : p.ended ≡ false → p.frames ≡ record { target = p.window.target; rows = frame_rates p.window.rows }
+  pub micros : p.ended ≡ false → p.micros ≡ lasting p.window.rows
+  pub few : p.ended ≡ false → length (frame_rates p.window.rows) ≤ 1000000 * length p.window.rows
+  pub small : p.ended ≡ false → lasting p.window.rows ≤ 2 ^ 32 * length p.window.rows

@@ -1,0 +1,56 @@
+-- A run on its way: what all renditions have given, by the bytes that their inputs gave.
+use Rattle.std.specs.Prelude.{◌≡◌, ℕ, ◌+◌, ◌*◌, ◌<◌, ◌≤◌, ◌^◌, nat_lt, if◌then◌else◌, List, [], length, Option, Some, None, get_or, All, slice_get, false}
+use Rattle.std.specs.Io.KnownBytes.{Consumes}
+use Rattle.aes_cbc.specs.Block.{AreBytes}
+use Rattle.item_io.specs.Outlets.{Held, Grows}
+use Rattle.ingest.specs.declared.lane.Lane.{Lane}
+use Rattle.ladder_items.specs.Ladder.{Ladder}
+use Rattle.ladder_items.specs.Shown.{Shown}
+use Rattle.ladder_items.specs.Items.{Part, part_at, shown_all}
+use Rattle.ladder_items.specs.Weave.{Event, AreLegal, after_all, blocks, none_of}
+use Rattle.ladder_items.specs.Lanes.{InStage}
+use Rattle.ladder_items.specs.Sources.{SourceSays}
+
+abbrev pub stream_at : List (List ℕ) → ℕ → List ℕ
+stream_at streams k = get_or streams k []
+
+-- how often rendition k was looked at, where those before `next` had one turn more than the rest
+abbrev pub turns_of : ℕ → ℕ → ℕ → ℕ
+turns_of rounds next k = if nat_lt k next then rounds + 1 else rounds
+
+-- rendition k, whose input was a and is b, after so many turns
+pub record Stage {X : Type 0} (left : X → Option (List ℕ)) (fails reads : X → ℕ) (ladder : Ladder) (k turns : ℕ) (a b : X) (lane : Lane) (stream : List ℕ) (part : Part) : Type 0 where
+  pub stage : InStage lane.stop ladder k stream lane.intake part
+  pub read : Consumes (left a) (left b) stream
+  pub bytes : AreBytes stream
+  pub says : SourceSays left fails k ladder.cut stream lane.stop a b
+  pub reads_are : lane.stop ≡ None → reads b ≡ reads a + turns
+  pub few_reads : reads b ≤ reads a + turns
+  pub small : lane.stop ≡ None → length stream ≤ 18800 * turns
+
+-- rendition k before its first turn
+pub record IsFirst (ladder : Ladder) (k : ℕ) (lane : Lane) : Type 0 where
+  pub stop : lane.stop ≡ None
+  pub intake : lane.intake ≡ record { rendition = k; settings = ladder.cut; stream = []; ended = false }
+
+-- the counts of an input leave room for all reads of a run
+pub record HasRoom {X : Type 0} (fails reads : X → ℕ) (input : X) : Type 0 where
+  pub for_reads : reads input + 2 ^ 40 ≤ 2 ^ 63
+  pub for_a_failure : fails input < 2 ^ 63
+
+abbrev pub HaveRoom : {X : Type 0} → (X → ℕ) → (X → ℕ) → List X → Type 0
+HaveRoom fails reads inputs = All (HasRoom fails reads) inputs
+
+-- The inputs were `before` and are `now`; each rendition had as many turns as `rounds`, those before `next` one more.
+pub record World {X : Type 0} (left : X → Option (List ℕ)) (fails reads : X → ℕ) (ladder : Ladder) (rounds next : ℕ) (before now : List X) (lanes : List Lane) (shown : List Shown) (old new : Held → Type 0) : Type 0 where
+  pub streams : List (List ℕ)
+  pub events : List Event
+  pub same_streams : length streams ≡ length ladder.renditions
+  pub same_before : length before ≡ length ladder.renditions
+  pub same_now : length now ≡ length ladder.renditions
+  pub same_lanes : length lanes ≡ length ladder.renditions
+  pub legal : AreLegal (none_of ladder) events
+  pub grows : Grows old new (blocks ladder (none_of ladder) events)
+  pub shown_are : shown ≡ shown_all ladder (after_all (none_of ladder) events)
+  pub each : (k : ℕ) (a b : X) (lane : Lane) → slice_get before k ≡ Some a → slice_get now k ≡ Some b → slice_get lanes k ≡ Some lane →
+      Stage left fails reads ladder k (turns_of rounds next k) a b lane (stream_at streams k) (part_at (after_all (none_of ladder) events) k)

@@ -1,0 +1,100 @@
+ghost use Rattle.std.specs.Prelude.{◌≡◌, ◌≤◌, None, map, length, Decides, IfOk};
+ghost use Rattle.master_playlist.specs.Faults.{fault_of};
+ghost use Rattle.ladder_items.specs.Ladder.{unmeasured, IsProgram, IsCutAllowed, IsAllowed};
+ghost use Rattle.ladder_items.specs.Ladder;
+
+use crate::settings::{Rendition, Settings};
+use cutter::CutSettings;
+use master_playlist::{MasterFault, Variant, master_text};
+use std::alloc::{AllocError, Global};
+
+/// Whether the settings are within their limits, and there are as many inputs as renditions.
+pub fn is_allowed(alloc: Global, settings: &Settings, inputs: usize) -> Result<bool, AllocError>
+    ensures { IfOk result (λ allowed. Decides allowed (IsAllowed settings.now × (inputs ≡ length settings.now.renditions))) }
+{
+    if inputs != settings.renditions.len() || !is_ladder(settings) || !is_cut(settings.cut) {
+        return Ok(false);
+    }
+    are_listable(alloc, &settings.renditions)
+}
+
+/// Whether the number of renditions, the window and the queue are within their limits.
+fn is_ladder(settings: &Settings) -> bool
+    ensures { Decides result (((1 ≤ length settings.now.renditions) × (length settings.now.renditions ≤ 8))
+        × ((1 ≤ settings.now.window) × (settings.now.window ≤ 10000))
+        × ((1 ≤ settings.now.queue) × (settings.now.queue ≤ 256))) }
+{
+    is_up_to(settings.renditions.len() as u64, 8)
+        && is_up_to(settings.window, 10_000)
+        && is_up_to(settings.queue, 256)
+}
+
+/// Whether a cutter's settings are within their limits.
+fn is_cut(cut: CutSettings) -> bool
+    ensures { Decides result (IsCutAllowed cut) }
+{
+    is_program(cut.program)
+        && is_up_to(cut.target, 3600)
+        && is_up_to(cut.segment, cut.target * 90_000)
+        && is_up_to(cut.gap, 0xFFFF_FFFF)
+        && is_up_to(cut.frame, 900_000)
+        && is_up_to(cut.most, 1_000_000)
+}
+
+/// Whether a program may be asked for.
+fn is_program(program: Option<u16>) -> bool
+    ensures { Decides result (IsProgram program) }
+{
+    match program {
+        Some(program) => program >= 1,
+        None => true,
+    }
+}
+
+fn is_up_to(value: u64, most: u64) -> bool
+    ensures { Decides result ((1 ≤ value) × (value ≤ most)) }
+{
+    value >= 1 && value <= most
+}
+
+/// Whether a master playlist can list these renditions.
+fn are_listable(alloc: Global, renditions: &[Rendition]) -> Result<bool, AllocError>
+    ensures { IfOk result (λ listable. Decides listable (fault_of (map unmeasured renditions.now) ≡ None)) }
+{
+    let variants = unmeasured_variants(alloc, renditions)?;
+    match master_text(alloc, &variants) {
+        Ok(_) => Ok(true),
+        Err(MasterFault::NoMemory) => Err(AllocError),
+        Err(_) => Ok(false),
+    }
+}
+
+/// The renditions, of which nothing is measured yet.
+fn unmeasured_variants<'a>(
+    alloc: Global,
+    renditions: &'a [Rendition],
+) -> Result<Vec<Variant<'a>>, AllocError>
+    ensures { IfOk result (λ variants. variants.items ≡ map unmeasured renditions.now) }
+{
+    let mut variants = Vec::new(alloc);
+    for rendition in renditions {
+        variants.push(unmeasured(rendition))?;
+    }
+    Ok(variants)
+}
+
+/// A rendition of which nothing is measured yet.
+fn unmeasured(rendition: &Rendition) -> Variant<'_>
+    ensures { result ≡ Ladder.unmeasured rendition.now }
+{
+    Variant {
+        name: &rendition.name,
+        codecs: &rendition.codecs,
+        width: rendition.width,
+        height: rendition.height,
+        peak: 0,
+        average: 0,
+        frame_peak: 0,
+        frame_average: 0,
+    }
+}

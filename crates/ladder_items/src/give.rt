@@ -1,0 +1,206 @@
+ghost use Rattle.std.specs.Prelude.{◌≡◌, ◌+◌, ◌<◌, ◌^◌, [], ℕ, List, false, None, All, map, length, IfOk, IfErr, OnOk, OnErr};
+ghost use Rattle.std.specs.Arc.{arc_value};
+ghost use Rattle.segment_job.specs.Segments.{sealed_segment};
+ghost use Rattle.master_playlist.specs.Faults.{fault_of};
+ghost use Rattle.item_io.specs.Outlets.{Grows};
+ghost use Rattle.ladder_items.specs.declared.fault.PackFault.TheVariants.{NoMemory};
+ghost use Rattle.ladder_items.specs.Ladder.{rendition_at, unmeasured, IsAllowed};
+ghost use Rattle.ladder_items.specs.Items.{Part, shown_all};
+ghost use Rattle.ladder_items.specs.Weave.{Row, End, after, after_all, block, blocks};
+ghost use Rattle.ladder_items.specs.Giving.{IsGoing, IsNext, AreNextPlans, rows, block_of};
+ghost use Rattle.ladder_items.specs.Putting.{PutSome, SaysFailures};
+
+use crate::fault::PackFault;
+use crate::playlists::Playlists;
+use crate::put::{put_master, put_playlists, put_segment};
+use crate::row::row_of;
+use crate::settings::{Rendition, Settings};
+use cutter::Plan;
+use item_io::Outlet;
+use segment_job::{Keys, Sealed, seal_plan};
+use std::alloc::{AllocError, Global};
+use std::sync::Arc;
+
+/// Gives the next segments of rendition `r`, each with the playlists behind it.
+pub fn give_segments<O: Outlet>(
+    alloc: Global,
+    outlet: &mut O,
+    settings: &Settings,
+    r: usize,
+    plans: Vec<Plan>,
+    playlists: &mut Vec<Playlists>,
+) -> Result<(), PackFault>
+    requires failures { O.failures outlet.old < 2 ^ 63 }
+    requires allowed { IsAllowed settings.now }
+    requires next { (parts : List Part) × AreNextPlans settings.now r parts playlists.old.items plans.items }
+    ensures ok { OnOk result ((parts : List Part) → AreNextPlans settings.now r parts playlists.old.items plans.items →
+        Grows (O.holds outlet.old) (O.holds outlet.new) (blocks settings.now parts (rows r plans.items))
+        × (playlists.new.items ≡ shown_all settings.now (after_all parts (rows r plans.items)))) }
+    ensures err { OnErr result ((parts : List Part) → AreNextPlans settings.now r parts playlists.old.items plans.items →
+        PutSome (O.holds outlet.old) (O.holds outlet.new) (blocks settings.now parts (rows r plans.items))) }
+    ensures failures { OnOk result (O.failures outlet.new ≡ O.failures outlet.old) }
+    ensures fault { IfErr result (λ fault. SaysFailures fault (O.failures outlet.old) (O.failures outlet.new)) }
+{
+    for plan in plans {
+        give_segment(alloc, outlet, settings, r, plan, playlists)?;
+    }
+    Ok(())
+}
+
+/// Gives the last playlists of rendition `r`, which end.
+pub fn give_end<O: Outlet>(
+    outlet: &mut O,
+    settings: &Settings,
+    r: usize,
+    playlists: &[Playlists],
+) -> Result<(), PackFault>
+    requires failures { O.failures outlet.old < 2 ^ 63 }
+    requires rendition { r < length settings.now.renditions }
+    requires within { r < length playlists.now }
+    ensures ok { OnOk result ((parts : List Part) → IsGoing settings.now r parts playlists.now →
+        Grows (O.holds outlet.old) (O.holds outlet.new) (block settings.now parts (End r))) }
+    ensures err { OnErr result ((parts : List Part) → IsGoing settings.now r parts playlists.now →
+        PutSome (O.holds outlet.old) (O.holds outlet.new) (block settings.now parts (End r))) }
+    ensures failures { OnOk result (O.failures outlet.new ≡ O.failures outlet.old) }
+    ensures fault { IfErr result (λ fault. SaysFailures fault (O.failures outlet.old) (O.failures outlet.new)) }
+{
+    let rendition = rendition_of(settings, r);
+    put_playlists(outlet, r, rendition, &playlists[r], true)?;
+    Ok(())
+}
+
+/// Gives the next segment of rendition `r`, its playlists and the master playlist behind it.
+fn give_segment<O: Outlet>(
+    alloc: Global,
+    outlet: &mut O,
+    settings: &Settings,
+    r: usize,
+    plan: Plan,
+    playlists: &mut Vec<Playlists>,
+) -> Result<(), PackFault>
+    requires failures { O.failures outlet.old < 2 ^ 63 }
+    requires allowed { IsAllowed settings.now }
+    requires next { (parts : List Part) × IsNext settings.now r parts playlists.old.items plan }
+    ensures ok { OnOk result ((parts : List Part) → IsNext settings.now r parts playlists.old.items plan →
+        Grows (O.holds outlet.old) (O.holds outlet.new) (block settings.now parts (Row r plan))
+        × (playlists.new.items ≡ shown_all settings.now (after parts (Row r plan)))) }
+    ensures err { OnErr result ((parts : List Part) → IsNext settings.now r parts playlists.old.items plan →
+        PutSome (O.holds outlet.old) (O.holds outlet.new) (block settings.now parts (Row r plan))) }
+    ensures failures { OnOk result (O.failures outlet.new ≡ O.failures outlet.old) }
+    ensures fault { IfErr result (λ fault. SaysFailures fault (O.failures outlet.old) (O.failures outlet.new)) }
+{
+    let sealed = seal(alloc, settings, r, plan)?;
+    give_sealed(alloc, outlet, settings, r, sealed, playlists)?;
+    Ok(())
+}
+
+/// Seals a segment of rendition `r`.
+fn seal(alloc: Global, settings: &Settings, r: usize, plan: Plan) -> Result<Sealed, AllocError>
+    requires { r < length settings.now.renditions }
+    ensures { IfOk result (λ sealed. sealed ≡ sealed_segment (rendition_at settings.now r).keys plan) }
+{
+    let shared = shared(alloc, plan)?;
+    seal_plan(alloc, shared, keys_of(settings, r))
+}
+
+/// Gives the next segment of rendition `r`, which is sealed under the rendition's keys, its playlists and the master
+/// playlist behind it.
+pub fn give_sealed<O: Outlet>(
+    alloc: Global,
+    outlet: &mut O,
+    settings: &Settings,
+    r: usize,
+    sealed: Sealed,
+    playlists: &mut Vec<Playlists>,
+) -> Result<(), PackFault>
+    requires failures { O.failures outlet.old < 2 ^ 63 }
+    requires allowed { IsAllowed settings.now }
+    requires next { (parts : List Part) × IsNext settings.now r parts playlists.old.items sealed.plan }
+    requires sealed { sealed ≡ sealed_segment (rendition_at settings.now r).keys sealed.plan }
+    ensures ok { OnOk result ((parts : List Part) → IsNext settings.now r parts playlists.old.items sealed.plan →
+        Grows (O.holds outlet.old) (O.holds outlet.new) (block settings.now parts (Row r sealed.plan))
+        × (playlists.new.items ≡ shown_all settings.now (after parts (Row r sealed.plan)))) }
+    ensures err { OnErr result ((parts : List Part) → IsNext settings.now r parts playlists.old.items sealed.plan →
+        PutSome (O.holds outlet.old) (O.holds outlet.new) (block settings.now parts (Row r sealed.plan))) }
+    ensures failures { OnOk result (O.failures outlet.new ≡ O.failures outlet.old) }
+    ensures fault { IfErr result (λ fault. SaysFailures fault (O.failures outlet.old) (O.failures outlet.new)) }
+{
+    add_row(alloc, settings, r, &sealed, playlists)?;
+    put_block(alloc, outlet, settings, r, sealed, playlists)?;
+    Ok(())
+}
+
+/// Puts a segment of rendition `r`, and the playlists with it.
+fn put_block<O: Outlet>(
+    alloc: Global,
+    outlet: &mut O,
+    settings: &Settings,
+    r: usize,
+    sealed: Sealed,
+    playlists: &[Playlists],
+) -> Result<(), PackFault>
+    requires failures { O.failures outlet.old < 2 ^ 63 }
+    requires listable { fault_of (map unmeasured settings.now.renditions) ≡ None }
+    requires each { length playlists.now ≡ length settings.now.renditions }
+    requires within { r < length playlists.now }
+    requires going { All (λ shown. shown.ended ≡ false) playlists.now }
+    ensures ok { OnOk result (Grows (O.holds outlet.old) (O.holds outlet.new) (block_of settings.now r sealed playlists.now)) }
+    ensures err { OnErr result (PutSome (O.holds outlet.old) (O.holds outlet.new) (block_of settings.now r sealed playlists.now)) }
+    ensures failures { OnOk result (O.failures outlet.new ≡ O.failures outlet.old) }
+    ensures fault { IfErr result (λ fault. SaysFailures fault (O.failures outlet.old) (O.failures outlet.new)) }
+{
+    let rendition = rendition_of(settings, r);
+    put_segment(outlet, r, rendition, sealed)?;
+    put_playlists(outlet, r, rendition, &playlists[r], false)?;
+    put_master(alloc, outlet, &settings.renditions, playlists)?;
+    Ok(())
+}
+
+/// Adds the row of the next segment of rendition `r`, which is sealed, to the rendition's playlists.
+fn add_row(
+    alloc: Global,
+    settings: &Settings,
+    r: usize,
+    sealed: &Sealed,
+    playlists: &mut Vec<Playlists>,
+) -> Result<(), PackFault>
+    requires allowed { IsAllowed settings.now }
+    requires next { (parts : List Part) × IsNext settings.now r parts playlists.old.items sealed.now.plan }
+    requires sealed { sealed.now ≡ sealed_segment (rendition_at settings.now r).keys sealed.now.plan }
+    ensures shown { OnOk result ((parts : List Part) → IsNext settings.now r parts playlists.old.items sealed.now.plan →
+        playlists.new.items ≡ shown_all settings.now (after parts (Row r sealed.now.plan))) }
+    ensures fault { IfErr result (λ fault. fault ≡ NoMemory) }
+{
+    cutter::frames_share_the_time();
+    cutter::seconds_of_ticks_are_those_of_microseconds();
+    let keys = keys_of(settings, r);
+    let row = row_of(alloc, sealed, keys)?;
+    playlists[r].push(row)?;
+    Ok(())
+}
+
+/// The keys of rendition `r`.
+fn keys_of(settings: &Settings, r: usize) -> &Keys
+    requires { r < length settings.now.renditions }
+    ensures { result.now ≡ (rendition_at settings.now r).keys }
+{
+    &rendition_of(settings, r).keys
+}
+
+/// Rendition `r`.
+fn rendition_of(settings: &Settings, r: usize) -> &Rendition
+    requires { r < length settings.now.renditions }
+    ensures { result.now ≡ rendition_at settings.now r }
+{
+    &settings.renditions[r]
+}
+
+/// A plan that can be shared.
+fn shared(alloc: Global, plan: Plan) -> Result<Arc<Plan, Global>, AllocError>
+    ensures { IfOk result (λ shared. arc_value shared ≡ plan) }
+{
+    match Arc::new(alloc, plan) {
+        Ok(shared) => Ok(shared),
+        Err(refused) => Err(AllocError::from(refused)),
+    }
+}

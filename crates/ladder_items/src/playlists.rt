@@ -1,0 +1,146 @@
+ghost use Rattle.std.specs.Prelude.{◌≡◌, ◌+◌, ◌*◌, ◌<◌, ◌≤◌, ◌^◌, [], ◌∷◌, ◌++◌, true, false, length, map, All, IfOk, IfErr, OnOk, OnErr};
+ghost use Rattle.std.specs.String.{string_bytes};
+ghost use Rattle.bandwidth.specs.Peaks.{peak_of, average_of};
+ghost use Rattle.ladder_items.specs.declared.fault.PackFault.TheVariants.{NoMemory};
+ghost use Rattle.ladder_items.specs.Shown.{IsNextRow, IsSmallFrame, frame_rate, segment_rates, frame_rates, lasting};
+ghost use Rattle.ladder_items.specs.Shown;
+
+use crate::fault::PackFault;
+use bandwidth::{Meter, Peak};
+use media_playlist::{FrameRow, Row, Window};
+use std::alloc::{AllocError, Global};
+use std::marker::Model;
+
+/// The playlists of a rendition, and the bit rates of its segments and of its I-frames.
+///
+/// Clauses see them as the rendition's name, the target duration, the least number of rows to list, and the rows of all
+/// segments. For want of memory they end, and take no more rows.
+#[derive(Drop)]
+pub struct Playlists {
+    window: Window,
+    segments: Meter,
+    frames: Meter,
+    micros: u128,
+    ended: bool,
+}
+
+impl Model for Playlists {
+    ghost use Rattle.ladder_items.specs.Shown.{Shown};
+
+    ghost Value = { Shown };
+
+    ghost use Rattle.ladder_items.specs.State.{shown, IsTied};
+
+    ghost view = { shown };
+
+    ghost invariant = { IsTied };
+}
+
+impl Playlists {
+    /// The playlists of no rows. The target duration is in seconds.
+    pub fn new(alloc: Global, name: &str, target: u64, window: u64) -> Result<Playlists, AllocError>
+        requires least { 1 ≤ target }
+        requires most { target ≤ 3600 }
+        ensures { IfOk result (λ new. new ≡ record { name = name.now; target = target; window = window; rows = []; ended = false }) }
+    {
+        Ok(Playlists {
+            window: Window::new(alloc, name, target, window)?,
+            segments: Meter::new(alloc, target),
+            frames: Meter::new(alloc, target),
+            micros: 0,
+            ended: false,
+        })
+    }
+
+    /// Takes the row of the next segment.
+    pub fn push(&mut self, row: Row) -> Result<(), PackFault>
+        requires going { self.old.ended ≡ false }
+        requires few { length self.old.rows < 2 ^ 32 }
+        requires next { IsNextRow self.old.target (length self.old.rows) row }
+        ensures pushed { OnOk result (self.new ≡ record self.old { rows = self.old.rows ++ row ∷ [] }) }
+        ensures fault { IfErr result (λ fault. fault ≡ NoMemory) }
+    {
+        self.ended = true;
+        self.segments.push(row.size, row.micros)?;
+        push_frames(&mut self.frames, &row.frames)?;
+        self.micros += u128::from(row.micros);
+        if self.window.push(row).is_err() {
+            return Err(PackFault::NoMemory);
+        }
+        self.ended = false;
+        Ok(())
+    }
+
+    /// How many segments were pushed.
+    pub fn count(&self) -> u64
+        ensures { result ≡ length self.now.rows }
+    {
+        self.window.row_count()
+    }
+
+    /// How long the segments last together, in microseconds.
+    pub fn micros(&self) -> u128
+        requires { self.now.ended ≡ false }
+        ensures { result ≡ lasting self.now.rows }
+    {
+        self.micros
+    }
+
+    /// The text of the media playlist, ended or not.
+    pub fn media_text(&self, ended: bool) -> Result<String, AllocError>
+        ensures { IfOk result (λ text. string_bytes text ≡ Shown.media_text self.now ended) }
+    {
+        self.window.media_text(ended)
+    }
+
+    /// The text of the I-frame playlist, ended or not.
+    pub fn frames_text(&self, ended: bool) -> Result<String, AllocError>
+        ensures { IfOk result (λ text. string_bytes text ≡ Shown.frames_text self.now ended) }
+    {
+        self.window.iframe_text(ended)
+    }
+
+    /// The peak bit rate of the segments. None stands for no segments.
+    pub fn peak(&self) -> Option<Peak>
+        requires { self.now.ended ≡ false }
+        ensures { result ≡ peak_of self.now.target (segment_rates self.now.rows) }
+    {
+        self.segments.peak()
+    }
+
+    /// The average bit rate of the segments. None stands for no segments.
+    pub fn average(&self) -> Option<u64>
+        requires { self.now.ended ≡ false }
+        ensures { result ≡ average_of (segment_rates self.now.rows) }
+    {
+        self.segments.average()
+    }
+
+    /// The peak bit rate of the I-frames. None stands for no I-frames.
+    pub fn frame_peak(&self) -> Option<Peak>
+        requires { self.now.ended ≡ false }
+        ensures { result ≡ peak_of self.now.target (frame_rates self.now.rows) }
+    {
+        self.frames.peak()
+    }
+
+    /// The average bit rate of the I-frames. None stands for no I-frames.
+    pub fn frame_average(&self) -> Option<u64>
+        requires { self.now.ended ≡ false }
+        ensures { result ≡ average_of (frame_rates self.now.rows) }
+    {
+        self.frames.average()
+    }
+}
+
+/// Measures the I-frames of a segment.
+fn push_frames(meter: &mut Meter, frames: &[FrameRow]) -> Result<(), AllocError>
+    requires few { length meter.old.rows + length frames.now ≤ 2 ^ 52 }
+    requires small { All IsSmallFrame frames.now }
+    ensures { OnOk result (meter.new ≡ record meter.old { rows = meter.old.rows ++ map frame_rate frames.now }) }
+{
+    for frame in frames {
+        meter.push(frame.len, frame.micros)?;
+    }
+    Ok(())
+}

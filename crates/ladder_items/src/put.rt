@@ -1,0 +1,148 @@
+ghost use Rattle.std.specs.Prelude.{◌≡◌, ◌+◌, ◌<◌, ◌^◌, [], ◌∷◌, ℕ, List, All, false, None, length, map, IfErr, OnOk, OnErr};
+ghost use Rattle.std.specs.String.{string_bytes};
+ghost use Rattle.item_io.specs.Items.{item_value, MasterItem};
+ghost use Rattle.item_io.specs.Outlets.{Grows};
+ghost use Rattle.master_playlist.specs.Faults.{fault_of};
+ghost use Rattle.ladder_items.specs.Ladder.{unmeasured};
+ghost use Rattle.ladder_items.specs.Masters.{master_of};
+ghost use Rattle.ladder_items.specs.Putting.{PutSome, SaysFailures};
+ghost use Rattle.ladder_items.specs.Items.{segment_of, media_of, frames_of};
+
+use crate::fault::PackFault;
+use crate::master::master;
+use crate::playlists::Playlists;
+use crate::settings::Rendition;
+use item_io::{Item, Outlet};
+use segment_job::Sealed;
+use std::alloc::Global;
+
+/// Puts an item.
+fn put<O: Outlet>(outlet: &mut O, item: &Item) -> Result<(), PackFault>
+    requires { O.failures outlet.old < 2 ^ 63 }
+    ensures ok { OnOk result (Grows (O.holds outlet.old) (O.holds outlet.new) (item_value item.now ∷ [])) }
+    ensures err { OnErr result (Grows (O.holds outlet.old) (O.holds outlet.new) []) }
+    ensures failures { OnOk result (O.failures outlet.new ≡ O.failures outlet.old) }
+    ensures fault { IfErr result (λ fault. SaysFailures fault (O.failures outlet.old) (O.failures outlet.new)) }
+{
+    match outlet.put(item) {
+        Ok(()) => Ok(()),
+        Err(_) => Err(PackFault::Outlet),
+    }
+}
+
+/// Puts a sealed segment of rendition `r`.
+pub fn put_segment<O: Outlet>(
+    outlet: &mut O,
+    r: usize,
+    rendition: &Rendition,
+    sealed: Sealed,
+) -> Result<(), PackFault>
+    requires { O.failures outlet.old < 2 ^ 63 }
+    ensures ok { OnOk result (Grows (O.holds outlet.old) (O.holds outlet.new) (segment_of r rendition.now sealed ∷ [])) }
+    ensures err { OnErr result (Grows (O.holds outlet.old) (O.holds outlet.new) []) }
+    ensures failures { OnOk result (O.failures outlet.new ≡ O.failures outlet.old) }
+    ensures fault { IfErr result (λ fault. SaysFailures fault (O.failures outlet.old) (O.failures outlet.new)) }
+{
+    let name = rendition.name.clone()?;
+    let (plan, bytes) = sealed.into_parts();
+    let number = plan.number;
+    drop(plan);
+    let item = Item::Segment {
+        rendition: r,
+        number,
+        name,
+        bytes,
+    };
+    put(outlet, &item)
+}
+
+/// Puts the media playlist of rendition `r`.
+fn put_media<O: Outlet>(
+    outlet: &mut O,
+    r: usize,
+    rendition: &Rendition,
+    playlists: &Playlists,
+    ended: bool,
+) -> Result<(), PackFault>
+    requires { O.failures outlet.old < 2 ^ 63 }
+    ensures ok { OnOk result (Grows (O.holds outlet.old) (O.holds outlet.new) (media_of r rendition.now playlists.now ended ∷ [])) }
+    ensures err { OnErr result (Grows (O.holds outlet.old) (O.holds outlet.new) []) }
+    ensures failures { OnOk result (O.failures outlet.new ≡ O.failures outlet.old) }
+    ensures fault { IfErr result (λ fault. SaysFailures fault (O.failures outlet.old) (O.failures outlet.new)) }
+{
+    let item = Item::Media {
+        rendition: r,
+        count: playlists.count(),
+        ended,
+        name: rendition.name.clone()?,
+        text: playlists.media_text(ended)?,
+    };
+    put(outlet, &item)
+}
+
+/// Puts the I-frame playlist of rendition `r`.
+fn put_frames<O: Outlet>(
+    outlet: &mut O,
+    r: usize,
+    rendition: &Rendition,
+    playlists: &Playlists,
+    ended: bool,
+) -> Result<(), PackFault>
+    requires { O.failures outlet.old < 2 ^ 63 }
+    ensures ok { OnOk result (Grows (O.holds outlet.old) (O.holds outlet.new) (frames_of r rendition.now playlists.now ended ∷ [])) }
+    ensures err { OnErr result (Grows (O.holds outlet.old) (O.holds outlet.new) []) }
+    ensures failures { OnOk result (O.failures outlet.new ≡ O.failures outlet.old) }
+    ensures fault { IfErr result (λ fault. SaysFailures fault (O.failures outlet.old) (O.failures outlet.new)) }
+{
+    let item = Item::Frames {
+        rendition: r,
+        count: playlists.count(),
+        ended,
+        name: rendition.name.clone()?,
+        text: playlists.frames_text(ended)?,
+    };
+    put(outlet, &item)
+}
+
+/// Puts both playlists of rendition `r`.
+pub fn put_playlists<O: Outlet>(
+    outlet: &mut O,
+    r: usize,
+    rendition: &Rendition,
+    playlists: &Playlists,
+    ended: bool,
+) -> Result<(), PackFault>
+    requires { O.failures outlet.old < 2 ^ 63 }
+    ensures ok { OnOk result (Grows (O.holds outlet.old) (O.holds outlet.new)
+        (media_of r rendition.now playlists.now ended ∷ frames_of r rendition.now playlists.now ended ∷ [])) }
+    ensures err { OnErr result (PutSome (O.holds outlet.old) (O.holds outlet.new)
+        (media_of r rendition.now playlists.now ended ∷ frames_of r rendition.now playlists.now ended ∷ [])) }
+    ensures failures { OnOk result (O.failures outlet.new ≡ O.failures outlet.old) }
+    ensures fault { IfErr result (λ fault. SaysFailures fault (O.failures outlet.old) (O.failures outlet.new)) }
+{
+    put_media(outlet, r, rendition, playlists, ended)?;
+    put_frames(outlet, r, rendition, playlists, ended)?;
+    Ok(())
+}
+
+/// Puts the master playlist of the renditions that have segments.
+pub fn put_master<O: Outlet>(
+    alloc: Global,
+    outlet: &mut O,
+    renditions: &[Rendition],
+    playlists: &[Playlists],
+) -> Result<(), PackFault>
+    requires failures { O.failures outlet.old < 2 ^ 63 }
+    requires going { All (λ shown. shown.ended ≡ false) playlists.now }
+    requires each { length playlists.now ≡ length renditions.now }
+    requires listable { fault_of (map unmeasured renditions.now) ≡ None }
+    ensures ok { OnOk result (Grows (O.holds outlet.old) (O.holds outlet.new) (MasterItem (master_of renditions.now playlists.now) ∷ [])) }
+    ensures err { OnErr result (Grows (O.holds outlet.old) (O.holds outlet.new) []) }
+    ensures failures { OnOk result (O.failures outlet.new ≡ O.failures outlet.old) }
+    ensures fault { IfErr result (λ fault. SaysFailures fault (O.failures outlet.old) (O.failures outlet.new)) }
+{
+    let item = Item::Master {
+        text: master(alloc, renditions, playlists)?,
+    };
+    put(outlet, &item)
+}

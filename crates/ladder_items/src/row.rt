@@ -1,0 +1,93 @@
+ghost use Rattle.std.specs.Prelude.{◌≡◌, ◌+◌, ◌*◌, ◌<◌, ◌≤◌, ◌^◌, All, length, drop, IfOk};
+ghost use Rattle.cutter.specs.Ordered.{IsInside, end_before};
+ghost use Rattle.segment_job.specs.Segments.{plan_head};
+ghost use Rattle.playlist_text.specs.Numbers;
+ghost use Rattle.ladder_items.specs.Rows.{frame_row};
+ghost use Rattle.ladder_items.specs.Rows;
+
+use cutter::{Frame, Plan};
+use media_playlist::{FrameRow, Row};
+use playlist_text::micros;
+use segment_job::{Keys, Sealed};
+use std::alloc::{AllocError, Global};
+
+/// The row of a sealed segment in its playlists. Its I-frames lie within its body and its time, which are small.
+#[tactic(auto, unfolding(crate::specs::Rows::row_of))]
+pub fn row_of(alloc: Global, sealed: &Sealed, keys: &Keys) -> Result<Row, AllocError>
+    requires short { sealed.now.plan.ticks < 2 ^ 45 }
+    requires small { length sealed.now.plan.body < 2 ^ 31 }
+    requires inside { All (IsInside (length sealed.now.plan.body) sealed.now.plan.ticks) sealed.now.plan.frames }
+    ensures row { IfOk result (λ row. row ≡ Rows.row_of keys.now sealed.now) }
+    ensures size { length sealed.now.bytes < 2 ^ 32 }
+{
+    segment_job::key_and_vector_make_one_segment();
+    let plan = sealed.plan();
+    Ok(Row {
+        number: plan.number,
+        size: sealed.bytes().len() as u64,
+        micros: whole_micros(plan.ticks),
+        key: keys.index(plan.number),
+        discontinuity: plan.discontinuity,
+        frames: frame_rows(alloc, head_len(sealed), plan)?,
+    })
+}
+
+/// How long the head of a segment is: one packet for its PAT, and at most six for its PMT.
+fn head_len(sealed: &Sealed) -> u64
+    ensures value { result ≡ length (plan_head sealed.now.plan) }
+    ensures short { result ≤ 188 * 7 }
+{
+    psi_tables::length_of_a_head();
+    let _ = sealed.plan().tables.section();
+    sealed.head_len()
+}
+
+/// The I-frames of a segment behind a head of so many bytes.
+fn frame_rows(alloc: Global, head: u64, plan: &Plan) -> Result<Vec<FrameRow>, AllocError>
+    requires head { head < 2 ^ 32 }
+    requires short { plan.now.ticks < 2 ^ 45 }
+    requires small { length plan.now.body < 2 ^ 32 }
+    requires inside { All (IsInside (length plan.now.body) plan.now.ticks) plan.now.frames }
+    ensures { IfOk result (λ rows. rows.items ≡ Rows.frame_rows head plan.now.ticks plan.now.frames) }
+{
+    let frames = plan.frames.as_slice();
+    let mut rows = Vec::new(alloc);
+    for i in 0..frames.len() {
+        let end = end_of(plan.ticks, frames, i);
+        rows.push(frame_row(head, frames[i], end))?;
+    }
+    Ok(rows)
+}
+
+/// Where the time of I-frame `i` ends: at the start of the next one, or with the segment.
+fn end_of(ticks: u64, frames: &[Frame], i: usize) -> u64
+    requires { i < length frames.now }
+    ensures { result ≡ end_before ticks (drop (i + 1) frames.now) }
+{
+    match frames.get(i + 1) {
+        Some(next) => next.start,
+        None => ticks,
+    }
+}
+
+fn frame_row(head: u64, frame: Frame, end: u64) -> FrameRow
+    requires head { head < 2 ^ 32 }
+    requires offset { frame.offset < 2 ^ 32 }
+    requires start { frame.start < 2 ^ 45 }
+    requires end { end < 2 ^ 45 }
+    ensures { result ≡ Rows.frame_row head frame end }
+{
+    FrameRow {
+        offset: head + frame.offset,
+        len: frame.len,
+        micros: whole_micros(end).saturating_sub(whole_micros(frame.start)),
+    }
+}
+
+/// Whole microseconds of ticks, to the nearest.
+fn whole_micros(ticks: u64) -> u64
+    requires { ticks < 2 ^ 45 }
+    ensures { result ≡ Numbers.micros ticks }
+{
+    micros(ticks) as u64
+}

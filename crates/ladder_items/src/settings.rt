@@ -1,0 +1,47 @@
+use cutter::CutSettings;
+use segment_job::Keys;
+use std::marker::Model;
+
+/// A rendition of a ladder: its name and codecs (RFC 6381) as a master playlist lists them, its size in pixels, each
+/// side from 1 to 16,384, and the keys of its segments.
+#[derive(Drop)]
+pub struct Rendition {
+    pub name: String,
+    pub codecs: String,
+    pub width: u64,
+    pub height: u64,
+    pub keys: Keys,
+}
+
+impl Model for Rendition {
+    ghost use Rattle.ladder_items.specs.Ladder.{RenditionValue};
+
+    ghost Value = { RenditionValue };
+
+    ghost use Rattle.ladder_items.specs.State.{rendition_value};
+
+    ghost view = { rendition_value };
+}
+
+/// What a packager works by.
+#[derive(Drop)]
+pub struct Settings {
+    /// The renditions of the ladder, 1 to 8.
+    pub renditions: Vec<Rendition>,
+    /// How their streams are cut.
+    pub cut: CutSettings,
+    /// The least number of segments that a playlist lists behind removed ones, 1 to 10,000.
+    pub window: u64,
+    /// The most segments that may be on their way, 1 to 256. One thread has one on its way.
+    pub queue: u64,
+}
+
+impl Model for Settings {
+    ghost use Rattle.ladder_items.specs.Ladder.{Ladder};
+
+    ghost Value = { Ladder };
+
+    ghost use Rattle.ladder_items.specs.State.{ladder};
+
+    ghost view = { ladder };
+}

@@ -1,0 +1,44 @@
+ghost use Rattle.std.specs.Prelude.{◌≡◌, ℕ, Some, length, slice_get, IfOk};
+ghost use Rattle.ingest.specs.declared.lane.Lane.{Lane};
+ghost use Rattle.ladder_items.specs.Ladder.{IsAllowed};
+ghost use Rattle.ladder_items.specs.Items.{shown_all};
+ghost use Rattle.ladder_items.specs.Weave.{none_of};
+ghost use Rattle.ladder_items.specs.World.{IsFirst};
+
+use crate::playlists::Playlists;
+use crate::settings::Settings;
+use ingest::{Intake, Lane};
+use std::alloc::{AllocError, Global};
+
+/// A lane for each rendition, whose input gave nothing yet.
+pub fn first_lanes(alloc: Global, settings: &Settings) -> Result<Vec<Lane>, AllocError>
+    requires { IsAllowed settings.now }
+    ensures each { IfOk result (λ lanes. length lanes.items ≡ length settings.now.renditions) }
+    ensures first { IfOk result (λ lanes. (k : ℕ) (lane : Lane) → slice_get lanes.items k ≡ Some lane → IsFirst settings.now k lane) }
+{
+    let mut lanes = Vec::new(alloc);
+    for r in 0..settings.renditions.len() {
+        lanes.push(Lane {
+            intake: Intake::new(alloc, r, settings.cut),
+            stop: None,
+        })?;
+    }
+    Ok(lanes)
+}
+
+/// The playlists of each rendition, which has given nothing yet.
+pub fn first_playlists(alloc: Global, settings: &Settings) -> Result<Vec<Playlists>, AllocError>
+    requires { IsAllowed settings.now }
+    ensures { IfOk result (λ playlists. playlists.items ≡ shown_all settings.now (none_of settings.now)) }
+{
+    let mut playlists = Vec::new(alloc);
+    for rendition in &settings.renditions {
+        playlists.push(Playlists::new(
+            alloc,
+            &rendition.name,
+            settings.cut.target,
+            settings.window,
+        )?)?;
+    }
+    Ok(playlists)
+}

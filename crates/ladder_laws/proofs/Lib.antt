@@ -1,0 +1,5 @@
+pub mod Alone
+pub mod Together
+pub mod KeyLines
+pub mod Opening
+pub mod FrameListing

@@ -1,5 +1,0 @@
-use Rattle.pipeline.proofs.Alone.{seen}
-use Rattle.pipeline.proofs.laws.each_rendition_is_seen_alone.Goals as goal
-
-pub returns : goal.returns
-returns c ladder parts items r w = seen ladder parts items r w

@@ -1,5 +1,0 @@
-use Rattle.pipeline.proofs.Together.{segments, masters}
-use Rattle.pipeline.proofs.laws.rows_stand_together.Goals as goal
-
-pub returns : goal.returns
-returns c = record { segments = segments; masters = masters }
