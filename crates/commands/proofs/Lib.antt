@@ -1,0 +1,4 @@
+pub mod KeyLists
+pub mod SealedTexts
+pub mod LineRuns
+pub mod SegmentFiles

@@ -1,0 +1,21 @@
+use Rattle.std.proofs.Common.{◌≡◌, ap, Err}
+use Rattle.std.proofs.lemmas.Result.{err_from_is_err_and}
+use Rattle.commands.specs.Told.{opening_of}
+use Rattle.commands.specs.declared.opening.OpeningFault.TheVariants.{NotBlocks}
+use Rattle.commands.proofs.SealedTexts.{opening_of-NotBlocks}
+use Rattle.commands.proofs.opening.open.Goals as goal
+
+pub returns-in_err-plain-clause-not_blocks : goal.returns-in_err-plain-clause-not_blocks
+returns-in_err-plain-clause-not_blocks g c = λ told.
+    let p = err_from_is_err_and c.from_residual-in_err-plain.result c.from_residual-in_err-plain.ensures.1 in
+    let same : opening_of c.in_err-plain.field-0.0 ≡ NotBlocks = cc (told, p.1, p.2) in
+    let not_blocks = c.in_err-plain.ensures.not_blocks.0 (ap Err (opening_of-NotBlocks _ same)) in
+    record {
+      sealed = c.in_ok-sealed.sealed.items;
+      read = record {
+        bytes = c.in_ok-line.line.items;
+        read = c.in_ok-line.ensures.all;
+        digits = rw c.deref.ensures.value at c.in_ok-sealed.ensures.ok;
+      };
+      not_blocks = rw c.deref-2.ensures.value at not_blocks;
+    }

@@ -1,0 +1,13 @@
+use Rattle.std.proofs.Common.{◌≡◌, ◌+◌, ◌*◌, ◌≤◌, length}
+use Rattle.std.specs.Io.KnownBytes.{Consumes}
+use Rattle.ts_packet.specs.Packets.{decided}
+use Rattle.commands.proofs.packets.read_packets.Given as goal
+
+abbrev pub invariant-loop : goal.invariant-loop
+invariant-loop g l = record {
+  read : Consumes (g.S.Source.remaining l.initial.input) (g.S.Source.remaining l.input) l.reader;
+  given : l.packets.items ≡ decided l.reader;
+  few : length l.reader ≤ 18800 * l.counter;
+  reads : g.S.Source.reads l.input ≡ g.S.Source.reads l.initial.input + l.counter;
+  unfailed : g.S.Source.failures l.input ≡ g.S.Source.failures l.initial.input;
+}

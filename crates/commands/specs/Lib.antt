@@ -1,0 +1,12 @@
+pub mod Checking
+pub mod Counts
+pub mod Defaults
+pub mod Hex
+pub mod KeyLists
+pub mod Packing
+pub mod Ranges
+pub mod Settings
+pub mod Sizes
+pub mod Statuses
+pub mod Streams
+pub mod Told

@@ -1,0 +1,106 @@
+-- What `one` read and wrote.
+use Rattle.std.specs.Prelude.{◌≡◌, ℕ, ◌^◌, List, [], ◌++◌, ◌⊎◌, length, Option, Some, None}
+use Rattle.std.specs.Io.KnownBytes.{Consumes, IsAtEnd, Appends}
+use Rattle.cutter.specs.declared.fault.CutFault.TheVariants.{NoProgram as HasNoProgram, NoStart as HasNoStart, LongSegment as IsLong, BigSegment as IsBig, Limit as PassesLimit}
+use Rattle.item_io.specs.Items.{ItemValue}
+use Rattle.item_io.specs.ItemLines.{lines_of, WritesLines}
+use Rattle.pipeline.specs.declared.fault.PackFault.{PackFault}
+use Rattle.pipeline.specs.declared.fault.PackFault.TheVariants.{Settings, Read, ReadLimit, NoProgram, NoStart, LongSegment, BigSegment, Limit, Outlet, NoMemory, Held}
+use Rattle.pipeline.specs.declared.lane.Stop.{Stop}
+use Rattle.pipeline.specs.declared.lane.Stop.TheVariants.{Good, Cut, Read as ReadFailed}
+use Rattle.pipeline.specs.Ladder.{Ladder, IsAllowed}
+use Rattle.pipeline.specs.Items.{Part, part_at}
+use Rattle.pipeline.specs.Weave.{Weaves}
+use Rattle.pipeline.specs.Lanes.{IsWhole}
+use Rattle.pipeline.specs.Sources.{HasBegun}
+use Rattle.pipeline.specs.Streams.{Stays}
+use Rattle.pipeline.specs.Packed.{HasGiven}
+use Rattle.commands.specs.Streams.{ReadsAll}
+
+-- All that the reader gave was packed, and the writer got the lines of all segments and playlists.
+pub record WritesPacked (ladder : Ladder) (left left_then held held_then : Option (List ℕ)) : Type 0 where
+  pub stream : List ℕ
+  pub parts : List Part
+  pub items : List ItemValue
+  pub read : ReadsAll left left_then stream
+  pub whole : IsWhole ladder 0 stream (part_at parts 0)
+  pub weave : Weaves ladder parts items
+  pub written : Appends held held_then (lines_of items)
+
+-- where a stream's fault is told, the reader came to its end, or the fault stands however the stream goes on
+abbrev pub FaultStands : Option Stop → Ladder → List ℕ → Option (List ℕ) → Type 0
+FaultStands None ladder stream left_then = Unit {0}
+FaultStands (Some (Good gone)) ladder stream left_then = IsAtEnd left_then
+FaultStands (Some (Cut told)) ladder stream left_then = IsAtEnd left_then ⊎ Stays 0 ladder.cut stream told
+FaultStands (Some ReadFailed) ladder stream left_then = Unit {0}
+
+-- The stream stopped this way, and the writer got the lines of all that comes before.
+pub record StopsPacking (ladder : Ladder) (left left_then held held_then : Option (List ℕ)) (stop : Option Stop) : Type 0 where
+  pub stream : List ℕ
+  pub parts : List Part
+  pub items : List ItemValue
+  pub consumed : Consumes left left_then stream
+  pub stands : FaultStands stop ladder stream left_then
+  pub given : HasGiven stop ladder 0 stream (part_at parts 0)
+  pub weave : Weaves ladder parts items
+  pub written : Appends held held_then (lines_of items)
+
+-- The work was cut off behind these items: with the rest they are what a beginning of the stream gives.
+pub record CutsPackingOff (ladder : Ladder) (left left_then : Option (List ℕ)) (given : List ItemValue) : Type 0 where
+  pub stream : List ℕ
+  pub parts : List Part
+  pub rest : List ItemValue
+  pub consumed : Consumes left left_then stream
+  pub begun : HasBegun ladder 0 left_then stream (part_at parts 0)
+  pub weave : Weaves ladder parts (given ++ rest)
+
+-- For want of memory: the writer got the lines of these items, and nothing else.
+pub record WantsMemory (ladder : Ladder) (left left_then held held_then : Option (List ℕ)) : Type 0 where
+  pub given : List ItemValue
+  pub cut : CutsPackingOff ladder left left_then given
+  pub written : Appends held held_then (lines_of given)
+
+-- At a put that failed: the writer got the lines of these items, and a beginning of one more item's lines besides.
+pub record FailsToPut (ladder : Ladder) (left left_then held held_then : Option (List ℕ)) : Type 0 where
+  pub given : List ItemValue
+  pub cut : CutsPackingOff ladder left left_then given
+  pub written : WritesLines held held_then given
+
+-- Nothing was read or written, since the settings aren't allowed or aren't those of one rendition.
+pub record RefusesSettings (ladder : Ladder) (left left_then held held_then : Option (List ℕ)) : Type 0 where
+  pub refused : (IsAllowed ladder × (length ladder.renditions ≡ 1)) → ⊥
+  pub unread : left_then ≡ left
+  pub unwritten : Appends held held_then []
+
+-- what each fault of the one rendition says
+abbrev pub PackingSays : Ladder → Option (List ℕ) → Option (List ℕ) → Option (List ℕ) → Option (List ℕ) → PackFault → Type 0
+PackingSays ladder left left_then held held_then Settings = RefusesSettings ladder left left_then held held_then
+PackingSays ladder left left_then held held_then (Read r) = (r ≡ 0) × StopsPacking ladder left left_then held held_then (Some ReadFailed)
+PackingSays ladder left left_then held held_then (ReadLimit r) = (r ≡ 0) × StopsPacking ladder left left_then held held_then None
+PackingSays ladder left left_then held held_then (NoProgram r) = (r ≡ 0) × StopsPacking ladder left left_then held held_then (Some (Cut HasNoProgram))
+PackingSays ladder left left_then held held_then (NoStart r) = (r ≡ 0) × StopsPacking ladder left left_then held held_then (Some (Cut HasNoStart))
+PackingSays ladder left left_then held held_then (LongSegment r n) = (r ≡ 0) × StopsPacking ladder left left_then held held_then (Some (Cut (IsLong n)))
+PackingSays ladder left left_then held held_then (BigSegment r n) = (r ≡ 0) × StopsPacking ladder left left_then held held_then (Some (Cut (IsBig n)))
+PackingSays ladder left left_then held held_then (Limit r) = (r ≡ 0) × StopsPacking ladder left left_then held held_then (Some (Cut PassesLimit))
+PackingSays ladder left left_then held held_then Outlet = FailsToPut ladder left left_then held held_then
+PackingSays ladder left left_then held held_then NoMemory = WantsMemory ladder left left_then held held_then
+PackingSays ladder left left_then held held_then (Held r n) = ⊥
+
+-- no read failed, and no put
+pub record NoneFailed (failed_reads failed_puts : ℕ) : Type 0 where
+  pub reads : failed_reads ≡ 0
+  pub puts : failed_puts ≡ 0
+
+-- what each fault says of how many reads gave bytes, and how many reads and puts failed
+abbrev pub CountsSay : ℕ → ℕ → ℕ → PackFault → Type 0
+CountsSay reads failed_reads failed_puts Settings = (reads ≡ 0) × NoneFailed failed_reads failed_puts
+CountsSay reads failed_reads failed_puts (Read r) = (failed_reads ≡ 1) × (failed_puts ≡ 0)
+CountsSay reads failed_reads failed_puts (ReadLimit r) = (reads ≡ 2 ^ 40) × NoneFailed failed_reads failed_puts
+CountsSay reads failed_reads failed_puts (NoProgram r) = NoneFailed failed_reads failed_puts
+CountsSay reads failed_reads failed_puts (NoStart r) = NoneFailed failed_reads failed_puts
+CountsSay reads failed_reads failed_puts (LongSegment r n) = NoneFailed failed_reads failed_puts
+CountsSay reads failed_reads failed_puts (BigSegment r n) = NoneFailed failed_reads failed_puts
+CountsSay reads failed_reads failed_puts (Limit r) = NoneFailed failed_reads failed_puts
+CountsSay reads failed_reads failed_puts Outlet = failed_puts ≡ 1
+CountsSay reads failed_reads failed_puts NoMemory = failed_puts ≡ 0
+CountsSay reads failed_reads failed_puts (Held r n) = ⊥

@@ -1,0 +1,24 @@
+-- The status that a process ends with: 2 where its words are refused, else 1.
+use Rattle.std.specs.Prelude.{ℕ}
+use Rattle.commands.specs.declared.cipher.CipherFault.{CipherFault}
+use Rattle.commands.specs.declared.cipher.CipherFault.TheVariants as cipher
+use Rattle.commands.specs.declared.key_list.KeyListFault.{KeyListFault}
+use Rattle.commands.specs.declared.key_list.KeyListFault.TheVariants as keys
+use Rattle.commands.specs.declared.settings.SettingsFault.{SettingsFault}
+use Rattle.commands.specs.declared.settings.SettingsFault.TheVariants as settings
+
+abbrev pub cipher_status : CipherFault → ℕ
+cipher_status cipher.BadKey = 2
+cipher_status cipher.BadVector = 2
+
+abbrev pub key_list_status : KeyListFault → ℕ
+key_list_status keys.BadKey = 2
+key_list_status keys.NoMemory = 1
+
+abbrev pub settings_status : SettingsFault → ℕ
+settings_status settings.BadKey = 2
+settings_status settings.BadSize = 2
+settings_status settings.TooMany = 1
+settings_status settings.ZeroPeriod = 1
+settings_status settings.Settings = 1
+settings_status settings.NoMemory = 1

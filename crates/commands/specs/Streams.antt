@@ -1,0 +1,71 @@
+-- What a command read and wrote.
+use Rattle.std.specs.Prelude.{◌≡◌, ℕ, List, Option, Ok, is_err, true}
+use Rattle.std.specs.Io.KnownBytes.{Consumes, IsAtEnd, Appends}
+use Rattle.ts_packet.specs.Packets.{packets, joined}
+use Rattle.hex.specs.Hex.{decode_of}
+use Rattle.aes_cbc.specs.Chain.{sealed_text}
+use Rattle.aes_cbc.specs.Opening.{Seals, IsInBlocks, IsNotBlocks}
+use Rattle.item_io.specs.Writing.{WritesBeginning, hex_line}
+use Rattle.commands.specs.Hex.{without_end}
+
+-- A reader that had these bytes left gave `bytes` and came to its end.
+pub record ReadsAll (left left_then : Option (List ℕ)) (bytes : List ℕ) : Type 0 where
+  pub consumed : Consumes left left_then bytes
+  pub at_end : IsAtEnd left_then
+
+-- the line that `seal` writes of a stream
+abbrev pub sealed_line : List ℕ → List ℕ → List ℕ → List ℕ
+sealed_line key vector bytes = hex_line (sealed_text key vector (joined (packets bytes)))
+
+-- All that the reader gave was sealed, and the writer got that line.
+pub record WritesSealed (key vector : List ℕ) (left left_then held held_then : Option (List ℕ)) : Type 0 where
+  pub bytes : List ℕ
+  pub read : ReadsAll left left_then bytes
+  pub written : Appends held held_then (sealed_line key vector bytes)
+
+-- All that the reader gave was sealed, and the writer got a beginning of that line.
+pub record BeginsSealed (key vector : List ℕ) (left left_then held held_then : Option (List ℕ)) : Type 0 where
+  pub bytes : List ℕ
+  pub read : ReadsAll left left_then bytes
+  pub written : WritesBeginning held held_then (sealed_line key vector bytes)
+
+-- The reader gave a line of hex digits, of either case, that stand for `sealed`.
+pub record ReadsDigits (left left_then : Option (List ℕ)) (sealed : List ℕ) : Type 0 where
+  pub bytes : List ℕ
+  pub read : ReadsAll left left_then bytes
+  pub digits : decode_of (without_end bytes) ≡ Ok sealed
+
+-- The reader gave something else.
+pub record ReadsOther (left left_then : Option (List ℕ)) : Type 0 where
+  pub bytes : List ℕ
+  pub read : ReadsAll left left_then bytes
+  pub other : is_err (decode_of (without_end bytes)) ≡ true
+
+-- The reader gave a sealed text, and the writer got the line of the text that has those bytes.
+pub record WritesOpened (key vector : List ℕ) (left left_then held held_then : Option (List ℕ)) : Type 0 where
+  pub sealed : List ℕ
+  pub read : ReadsDigits left left_then sealed
+  pub plain : List ℕ
+  pub seals : Seals key vector plain sealed
+  pub written : Appends held held_then (hex_line plain)
+
+-- The reader gave a sealed text, and the writer got a beginning of that line.
+pub record BeginsOpened (key vector : List ℕ) (left left_then held held_then : Option (List ℕ)) : Type 0 where
+  pub sealed : List ℕ
+  pub read : ReadsDigits left left_then sealed
+  pub plain : List ℕ
+  pub seals : Seals key vector plain sealed
+  pub written : WritesBeginning held held_then (hex_line plain)
+
+-- The reader gave digits that stand for no whole blocks.
+pub record ReadsNoBlocks (left left_then : Option (List ℕ)) : Type 0 where
+  pub sealed : List ℕ
+  pub read : ReadsDigits left left_then sealed
+  pub not_blocks : IsNotBlocks sealed
+
+-- The reader gave digits that stand for whole blocks which no text has under the key and the vector.
+pub record ReadsNoSealed (key vector : List ℕ) (left left_then : Option (List ℕ)) : Type 0 where
+  pub sealed : List ℕ
+  pub read : ReadsDigits left left_then sealed
+  pub in_blocks : IsInBlocks sealed
+  pub of_no_text : (plain : List ℕ) → ¬ Seals key vector plain sealed

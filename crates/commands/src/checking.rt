@@ -1,0 +1,191 @@
+ghost use Rattle.std.specs.Prelude.{◌≡◌, ◌≢◌, OnOk, IfOk, IfErr, IsErrOf, map};
+ghost use Rattle.std.specs.Path.{path_buf_bytes};
+ghost use Rattle.std.specs.String.{string_bytes};
+ghost use Rattle.commands.specs.Checking;
+
+use crate::files::{FileFault, FileReader};
+use crate::output::write_all;
+use hls_check::{CheckFault, Checked, ListFault, Listing, UnpackFault, check_listing, read_media};
+use item_io::{OutletFault, push_segment_file_name};
+use playlist_text::push_decimal;
+use std::alloc::{AllocError, Global};
+use std::io::Write;
+use std::path::{Path, PathBuf};
+use thiserror::Error;
+
+/// Why `check` ends without having done its work.
+#[derive(Clone, Copy, Debug, PartialEq, Eq, Error)]
+pub enum CheckingFault {
+    /// A file can't be read, or the playlist isn't UTF-8.
+    #[error("a file can't be read")]
+    Unread,
+    /// The playlist isn't one, or its segments don't unpack.
+    #[error("{0}")]
+    Faulty(CheckFault),
+    /// A write failed; what was written is a beginning of the line.
+    #[error("the line can't be written")]
+    Unwritten,
+    #[error("out of memory")]
+    NoMemory,
+}
+
+impl From<AllocError> for CheckingFault {
+    ghost use Rattle.commands.specs.declared.checking.CheckingFault.TheVariants.{NoMemory};
+
+    ghost from_gives = { λ _ fault. fault ≡ NoMemory };
+
+    fn from(_: AllocError) -> CheckingFault {
+        CheckingFault::NoMemory
+    }
+}
+
+impl From<FileFault> for CheckingFault {
+    ghost use Rattle.commands.specs.Told.{checking_of};
+
+    ghost from_gives = { λ why fault. fault ≡ checking_of why };
+
+    fn from(why: FileFault) -> CheckingFault {
+        match why {
+            FileFault::Unread => CheckingFault::Unread,
+            FileFault::NoMemory => CheckingFault::NoMemory,
+        }
+    }
+}
+
+impl From<ListFault> for CheckingFault {
+    ghost use Rattle.commands.specs.declared.checking.CheckingFault.TheVariants.{Faulty};
+    ghost use Rattle.hls_check.specs.declared.checking.CheckFault.TheVariants.{Text};
+
+    ghost from_gives = { λ why fault. fault ≡ Faulty (Text why) };
+
+    fn from(why: ListFault) -> CheckingFault {
+        CheckingFault::Faulty(CheckFault::Text(why))
+    }
+}
+
+impl From<UnpackFault> for CheckingFault {
+    ghost use Rattle.commands.specs.declared.checking.CheckingFault.TheVariants.{Faulty};
+    ghost use Rattle.hls_check.specs.declared.checking.CheckFault.TheVariants.{Segments};
+
+    ghost from_gives = { λ why fault. fault ≡ Faulty (Segments why) };
+
+    fn from(why: UnpackFault) -> CheckingFault {
+        CheckingFault::Faulty(CheckFault::Segments(why))
+    }
+}
+
+impl From<OutletFault> for CheckingFault {
+    ghost use Rattle.commands.specs.declared.checking.CheckingFault.TheVariants.{Unwritten};
+
+    ghost from_gives = { λ _ fault. fault ≡ Unwritten };
+
+    fn from(_: OutletFault) -> CheckingFault {
+        CheckingFault::Unwritten
+    }
+}
+
+/// The folder in which a file lies.
+fn folder_of(path: &str) -> &str
+    ensures { result.now ≡ Checking.folder_of path.now }
+{
+    match Path::new(path).parent() {
+        Some(folder) => folder.as_str(),
+        None => "",
+    }
+}
+
+/// The path of a segment, in the folder of its playlist.
+fn segment_path(
+    alloc: Global,
+    playlist: &str,
+    name: &str,
+    number: u64,
+) -> Result<PathBuf, AllocError>
+    ensures { IfOk result (λ path. path_buf_bytes path ≡ Checking.segment_path playlist.now name.now number) }
+{
+    let mut file = String::new(alloc);
+    push_segment_file_name(&mut file, name, number)?;
+    Path::new(folder_of(playlist)).join(alloc, file.as_str())
+}
+
+/// The text of a playlist.
+fn read_text<F: FileReader>(alloc: Global, files: &F, playlist: &str) -> Result<String, FileFault>
+    ensures ok { IfOk result (λ text. F.gives files.now playlist.now (string_bytes text)) }
+    ensures unread { IsErrOf result FileFault.Unread → Checking.IsNoText (F.gives files.now) (F.refuses files.now) playlist.now }
+{
+    let bytes = files.read(alloc, playlist)?;
+    match String::from_utf8(bytes) {
+        Ok(text) => Ok(text),
+        Err(_) => Err(FileFault::Unread),
+    }
+}
+
+/// The bytes of the segments that a playlist lists, in the order of its entries.
+fn read_segments<F: FileReader>(
+    alloc: Global,
+    files: &F,
+    playlist: &str,
+    listing: &Listing,
+) -> Result<Vec<Vec<u8>>, FileFault>
+    ensures ok { IfOk result (λ segments. Checking.AllGive (F.gives files.now) (Checking.segment_paths playlist.now listing.now) (map (λ s. s.items) segments.items)) }
+    ensures unread { IsErrOf result FileFault.Unread → Checking.RefusesOne (F.refuses files.now) (Checking.segment_paths playlist.now listing.now) }
+{
+    let mut segments = Vec::new(alloc);
+    for entry in &listing.entries {
+        let path = segment_path(alloc, playlist, &listing.name, entry.number)?;
+        segments.push(files.read(alloc, path.as_str())?)?;
+    }
+    Ok(segments)
+}
+
+/// How many segments a playlist lists, and to how many bytes they unpack.
+fn check_files<F: FileReader>(
+    alloc: Global,
+    files: &F,
+    keys: &[[u8; 16]],
+    playlist: &str,
+) -> Result<Checked, CheckingFault>
+    ensures ok { IfOk result (Checking.ChecksWell (F.gives files.now) keys.now playlist.now) }
+    ensures err { IfErr result (Checking.IsCheckFault (F.gives files.now) (F.refuses files.now) keys.now playlist.now) }
+{
+    let text = read_text(alloc, files, playlist)?;
+    let listing = read_media(alloc, &text)?;
+    let segments = read_segments(alloc, files, playlist, &listing)?;
+    Ok(check_listing(alloc, &listing, &segments, keys)?)
+}
+
+/// The line that says so.
+fn checked_line(alloc: Global, checked: Checked) -> Result<String, AllocError>
+    ensures { IfOk result (λ line. string_bytes line ≡ Checking.checked_line checked) }
+{
+    let mut line = String::from_str(alloc, "ok ")?;
+    push_decimal(&mut line, checked.segments as u128)?;
+    line.push_str(" ")?;
+    push_decimal(&mut line, checked.bytes as u128)?;
+    line.push_str("\n")?;
+    Ok(line)
+}
+
+/// The command `check`: reads a playlist and, from its folder, the segments that it lists, unpacks them under the keys of
+/// their rendition, and writes how many there are and to how many bytes they unpack, as the line `ok SEGMENTS BYTES`.
+///
+/// A playlist that can't be read, or isn't UTF-8, is Unread. What is none is told before a segment that can't be read,
+/// and that before all that a segment holds. Before every fault but Unwritten nothing was written; at Unwritten a
+/// beginning of the line was.
+pub fn check<F: FileReader, W: Write>(
+    alloc: Global,
+    files: &F,
+    keys: &[[u8; 16]],
+    playlist: &str,
+    output: &mut W,
+) -> Result<(), CheckingFault>
+    ensures ok { OnOk result (Checking.WritesChecked (F.gives files.now) keys.now playlist.now (W.contents output.old) (W.contents output.new)) }
+    ensures unwritten { IsErrOf result CheckingFault.Unwritten → Checking.BeginsChecked (F.gives files.now) keys.now playlist.now (W.contents output.old) (W.contents output.new) }
+    ensures other { IfErr result (λ fault. fault ≢ CheckingFault.Unwritten → Checking.IsCheckFault (F.gives files.now) (F.refuses files.now) keys.now playlist.now fault) }
+    ensures untouched { IfErr result (λ fault. fault ≢ CheckingFault.Unwritten → output.new ≡ output.old) }
+{
+    let checked = check_files(alloc, files, keys, playlist)?;
+    let line = checked_line(alloc, checked)?;
+    write_all(output, line.as_bytes())?;
+    Ok(())
+}

@@ -1,0 +1,66 @@
+//! Files that are read whole.
+ghost use Rattle.std.specs.Prelude.{◌≡◌, ⊤, List, ℕ, IfOk, IsErrOf};
+
+use std::alloc::{AllocError, AllocFailed, Global};
+use std::{fs, io};
+use thiserror::Error;
+
+/// Why a file isn't read.
+#[derive(Clone, Copy, Debug, PartialEq, Eq, Error)]
+pub enum FileFault {
+    #[error("a file can't be read")]
+    Unread,
+    #[error("out of memory")]
+    NoMemory,
+}
+
+impl From<AllocError> for FileFault {
+    ghost use Rattle.commands.specs.declared.files.FileFault.TheVariants.{NoMemory};
+
+    ghost from_gives = { λ _ fault. fault ≡ NoMemory };
+
+    fn from(_: AllocError) -> FileFault {
+        FileFault::NoMemory
+    }
+}
+
+impl<T: Drop> From<AllocFailed<T>> for FileFault {
+    ghost use Rattle.commands.specs.declared.files.FileFault.TheVariants.{NoMemory};
+
+    ghost from_gives = { λ _ fault. fault ≡ NoMemory };
+
+    fn from(_: AllocFailed<T>) -> FileFault {
+        FileFault::NoMemory
+    }
+}
+
+/// What reads files by their paths.
+pub trait FileReader {
+    /// Reading the file at a path may give these bytes. A reader that can't tell what its files hold says so of all bytes.
+    ghost gives: { Self → List ℕ → List ℕ → Type 0 };
+
+    /// Reading the file at a path may fail.
+    ghost refuses: { Self → List ℕ → Type 0 };
+
+    /// The bytes of the file at a path.
+    fn read(&self, alloc: Global, path: &str) -> Result<Vec<u8>, FileFault>
+        ensures ok { IfOk result (λ bytes. gives self.now path.now bytes.items) }
+        ensures unread { IsErrOf result FileFault.Unread → refuses self.now path.now };
+}
+
+/// The files of the system. What they hold is the system's, so nothing is claimed of it.
+impl FileReader for HostRuntime {
+    ghost gives = { λ _ _ _. ⊤ };
+
+    ghost refuses = { λ _ _. ⊤ };
+
+    fn read(&self, _alloc: Global, path: &str) -> Result<Vec<u8>, FileFault> {
+        match fs::read(self, path) {
+            Ok(bytes) => Ok(bytes),
+            Err(error) => match error.kind() {
+                io::ErrorKind::OutOfMemory => Err(FileFault::NoMemory),
+                _ => Err(FileFault::Unread),
+            },
+        }
+    }
+}

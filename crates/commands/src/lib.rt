@@ -1,0 +1,39 @@
+//! The commands: what each reads and writes, and how it takes the words that it is asked by. How those words came off a
+//! command line is nothing that it knows.
+#![tactic(auto)]
+
+mod check_options;
+mod checking;
+mod cipher;
+mod files;
+mod frame_size;
+mod key_list;
+mod limits;
+mod numbers;
+mod opening;
+mod output;
+mod packets;
+mod packing;
+mod reading;
+mod sealing;
+mod settings;
+#[cfg(test)]
+mod tests;
+
+pub use check_options::{CheckOptions, CheckWords, read_check_options};
+pub use checking::{CheckingFault, check};
+pub use cipher::{CipherFault, CipherOptions, CipherWords, read_cipher_options};
+pub use files::{FileFault, FileReader};
+pub use key_list::KeyListFault;
+pub use limits::{
+    LEAST, MOST_FRAME, MOST_GAP, MOST_KEYS, MOST_PACKETS, MOST_PIXELS, MOST_PROGRAM, MOST_TARGET,
+    MOST_WINDOW, TICKS, ranges_are_those_of_a_run,
+};
+pub use numbers::{
+    DEFAULT_FRAME, DEFAULT_GAP, DEFAULT_MOST, DEFAULT_NAME, DEFAULT_PERIOD, DEFAULT_TARGET,
+    DEFAULT_WINDOW, NumberWords, Numbers,
+};
+pub use opening::{OpeningFault, open};
+pub use packing::{Packed, one};
+pub use sealing::{SealingFault, seal};
+pub use settings::{PackingWords, SettingsFault, read_settings};

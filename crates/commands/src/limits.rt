@@ -1,0 +1,44 @@
+//! The ranges of what a packager takes, for those who tell them.
+ghost use Rattle.std.specs.Prelude.{◌≤◌, ◌<◌, ◌↔◌, ℕ, List, length};
+ghost use Rattle.cutter.specs.declared.settings.CutSettings as TheSettings;
+ghost use Rattle.pipeline.specs.Ladder.{Ladder, IsCutAllowed, IsAllowed};
+ghost use Rattle.commands.specs.Ranges.{AreInRange, IsWindow};
+ghost use Rattle.commands.specs.Settings.{TakeTurns};
+ghost use Rattle.commands.specs.declared.limits.TheConstants.{MOST_KEYS};
+
+/// The ticks of a second: times are counted in 1/90000 s.
+pub const TICKS: u64 = 90_000;
+
+/// The least of each number below.
+pub const LEAST: u64 = 1;
+
+/// The longest target duration, in seconds.
+pub const MOST_TARGET: u64 = 3_600;
+
+/// The greatest number of segments that a window may ask for.
+pub const MOST_WINDOW: u64 = 10_000;
+
+/// The longest last frame of an epoch, in ticks.
+pub const MOST_FRAME: u64 = 900_000;
+
+/// The greatest distance of two times of one epoch, in ticks.
+pub const MOST_GAP: u64 = 0xFFFF_FFFF;
+
+/// The most packets of a segment's body.
+pub const MOST_PACKETS: u64 = 1_000_000;
+
+/// The last number of a program.
+pub const MOST_PROGRAM: u64 = 65_535;
+
+/// The most keys of a rendition.
+pub const MOST_KEYS: usize = 4_096;
+
+/// The greatest width and height of a picture.
+pub const MOST_PIXELS: u64 = 16_384;
+
+/// These are the ranges outside which a run is refused.
+pub fn ranges_are_those_of_a_run()
+    ensures cut { (cut : TheSettings.CutSettings) → IsCutAllowed cut ↔ AreInRange cut }
+    ensures window { (ladder : Ladder) → IsAllowed ladder → IsWindow ladder.window }
+    ensures keys { (keys : List (List ℕ)) (period : ℕ) → TakeTurns keys period ↔ ((length keys ≤ MOST_KEYS) × (0 < period)) }
+{}

@@ -1,0 +1,130 @@
+ghost use Rattle.std.specs.Prelude.{◌≡◌, ◌≢◌, ◌⊎◌, OnOk, IfOk, IfErr, IsErrOf, true, is_err, Ok};
+ghost use Rattle.hex.specs.Hex.{decode_of};
+ghost use Rattle.commands.specs.Counts.{HasRoom, OpeningCounts};
+ghost use Rattle.commands.specs.Hex.{without_end};
+ghost use Rattle.commands.specs.Streams.{WritesOpened, BeginsOpened, ReadsOther, ReadsNoBlocks, ReadsNoSealed};
+
+use crate::output::write_hex_line;
+use crate::reading::{ReadingFault, read_all};
+use aes_cbc::{Key, OpenFault};
+use hex::FromHexError;
+use item_io::{OutletFault, Source};
+use std::alloc::Global;
+use std::io::Write;
+use thiserror::Error;
+
+/// Why `open` ends without having done its work.
+#[derive(Clone, Copy, Debug, PartialEq, Eq, Error)]
+pub enum OpeningFault {
+    /// A read failed.
+    #[error("the input can't be read")]
+    Unread,
+    /// 2^40 reads each gave a byte, and the end hadn't come.
+    #[error("the input takes too many reads")]
+    ReadLimit,
+    /// The input isn't one line of an even number of hex digits.
+    #[error("the input isn't a line of hex digits")]
+    BadHex,
+    /// The sealed bytes aren't whole blocks, or there are none.
+    #[error("the sealed bytes aren't whole blocks")]
+    NotBlocks,
+    /// No text has these sealed bytes under the key and the vector.
+    #[error("no text has these sealed bytes")]
+    BadPadding,
+    /// A write failed; what was written is a beginning of the line.
+    #[error("the line can't be written")]
+    Unwritten,
+    #[error("out of memory")]
+    NoMemory,
+}
+
+impl From<ReadingFault> for OpeningFault {
+    ghost use Rattle.commands.specs.Told.{opening_of_reading};
+
+    ghost from_gives = { λ why fault. fault ≡ opening_of_reading why };
+
+    fn from(why: ReadingFault) -> OpeningFault {
+        match why {
+            ReadingFault::Unread => OpeningFault::Unread,
+            ReadingFault::ReadLimit => OpeningFault::ReadLimit,
+            ReadingFault::NoMemory => OpeningFault::NoMemory,
+        }
+    }
+}
+
+impl From<OpenFault> for OpeningFault {
+    ghost use Rattle.commands.specs.Told.{opening_of};
+
+    ghost from_gives = { λ why fault. fault ≡ opening_of why };
+
+    fn from(why: OpenFault) -> OpeningFault {
+        match why {
+            OpenFault::NotBlocks => OpeningFault::NotBlocks,
+            OpenFault::BadPadding => OpeningFault::BadPadding,
+            OpenFault::NoMemory => OpeningFault::NoMemory,
+        }
+    }
+}
+
+impl From<OutletFault> for OpeningFault {
+    ghost use Rattle.commands.specs.declared.opening.OpeningFault.TheVariants.{Unwritten};
+
+    ghost from_gives = { λ _ fault. fault ≡ Unwritten };
+
+    fn from(_: OutletFault) -> OpeningFault {
+        OpeningFault::Unwritten
+    }
+}
+
+/// The text without one last LF, where there is one.
+fn without_end(text: &[u8]) -> &[u8]
+    ensures { result.now ≡ without_end text.now }
+{
+    match text.split_last() {
+        Some((b'\n', front)) => front,
+        _ => text,
+    }
+}
+
+/// The bytes that a line of hex digits of either case stands for; its end may be missing.
+fn decode_line(alloc: Global, line: &[u8]) -> Result<Vec<u8>, OpeningFault>
+    ensures ok { IfOk result (λ bytes. decode_of (without_end line.now) ≡ Ok bytes.items) }
+    ensures bad { IsErrOf result OpeningFault.BadHex → is_err (decode_of (without_end line.now)) ≡ true }
+    ensures only { IfErr result (λ fault. (fault ≡ OpeningFault.BadHex) ⊎ (fault ≡ OpeningFault.NoMemory)) }
+{
+    match hex::decode(alloc, without_end(line)) {
+        Ok(bytes) => Ok(bytes),
+        Err(FromHexError::OutOfMemory) => Err(OpeningFault::NoMemory),
+        Err(_) => Err(OpeningFault::BadHex),
+    }
+}
+
+/// The command `open`: reads one line of hex digits to the input's end, opens the bytes that they stand for under a key
+/// and a vector, and writes the text that has those sealed bytes as one line of lower-case hex digits.
+///
+/// Unread is told exactly where a read failed, and ReadLimit only after 2^40 reads. BadHex is told before NotBlocks, and
+/// that before BadPadding. Before every fault but Unwritten nothing was written; at Unwritten a beginning of that line
+/// was.
+pub fn open<S: Source, W: Write>(
+    alloc: Global,
+    key: &Key,
+    vector: &[u8; 16],
+    input: &mut S,
+    output: &mut W,
+) -> Result<(), OpeningFault>
+    requires room { HasRoom (S.reads input.old) (S.failures input.old) }
+    ensures ok { OnOk result (WritesOpened key.now vector.now (S.remaining input.old) (S.remaining input.new) (W.contents output.old) (W.contents output.new)) }
+    ensures ok_counts { OnOk result (S.failures input.new ≡ S.failures input.old) }
+    ensures unwritten { IsErrOf result OpeningFault.Unwritten → BeginsOpened key.now vector.now (S.remaining input.old) (S.remaining input.new) (W.contents output.old) (W.contents output.new) }
+    ensures bad_hex { IsErrOf result OpeningFault.BadHex → ReadsOther (S.remaining input.old) (S.remaining input.new) }
+    ensures not_blocks { IsErrOf result OpeningFault.NotBlocks → ReadsNoBlocks (S.remaining input.old) (S.remaining input.new) }
+    ensures bad_padding { IsErrOf result OpeningFault.BadPadding → ReadsNoSealed key.now vector.now (S.remaining input.old) (S.remaining input.new) }
+    ensures untouched { IfErr result (λ fault. fault ≢ OpeningFault.Unwritten → output.new ≡ output.old) }
+    ensures counts { IfErr result (OpeningCounts (S.reads input.old) (S.reads input.new) (S.failures input.old) (S.failures input.new)) }
+{
+    let line = read_all(alloc, input)?;
+    let sealed = decode_line(alloc, &line)?;
+    let plain = aes_cbc::open(alloc, key, vector, &sealed)?;
+    write_hex_line(output, &plain)?;
+    Ok(())
+}

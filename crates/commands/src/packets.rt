@@ -1,0 +1,34 @@
+ghost use Rattle.std.specs.Prelude.{◌≡◌, ℕ, List, OnOk, IfOk, IfErr};
+ghost use Rattle.ts_packet.specs.Packets.{packets};
+ghost use Rattle.commands.specs.Counts.{HasRoom, ReadingCounts};
+ghost use Rattle.commands.specs.Streams.{ReadsAll};
+
+use crate::reading::ReadingFault;
+use item_io::{PIECE, READS, Source};
+use std::alloc::Global;
+use ts_packet::Reader;
+
+/// All packets of an input, which is read to its end.
+pub(crate) fn read_packets<S: Source>(
+    alloc: Global,
+    input: &mut S,
+) -> Result<Vec<[u8; 188]>, ReadingFault>
+    requires room { HasRoom (S.reads input.old) (S.failures input.old) }
+    ensures packets { IfOk result (λ found. (bytes : List ℕ)
+        × ReadsAll (S.remaining input.old) (S.remaining input.new) bytes × (found.items ≡ packets bytes)) }
+    ensures ok_counts { OnOk result (S.failures input.new ≡ S.failures input.old) }
+    ensures counts { IfErr result (ReadingCounts (S.reads input.old) (S.reads input.new) (S.failures input.old) (S.failures input.new)) }
+{
+    let mut reader = Reader::new();
+    let mut packets = Vec::new(alloc);
+    let mut piece = [0; PIECE];
+    for _ in 0..READS {
+        let count = input.read(&mut piece)?;
+        if count == 0 {
+            reader.finish(&mut packets)?;
+            return Ok(packets);
+        }
+        reader.feed(&piece[..count], &mut packets)?;
+    }
+    Err(ReadingFault::ReadLimit)
+}

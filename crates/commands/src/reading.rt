@@ -1,0 +1,56 @@
+ghost use Rattle.std.specs.Prelude.{◌≡◌, OnOk, IfOk, IfErr};
+ghost use Rattle.commands.specs.Counts.{HasRoom, ReadingCounts};
+ghost use Rattle.commands.specs.Streams.{ReadsAll};
+
+use item_io::{PIECE, READS, ReadFault, Source};
+use std::alloc::{AllocError, Global};
+
+/// Why an input isn't read to its end.
+#[derive(Clone, Copy, Debug, PartialEq, Eq, Drop)]
+pub(crate) enum ReadingFault {
+    /// A read failed.
+    Unread,
+    /// 2^40 reads each gave a byte, and the end hadn't come.
+    ReadLimit,
+    /// Memory was refused.
+    NoMemory,
+}
+
+impl From<AllocError> for ReadingFault {
+    ghost use Rattle.commands.specs.declared.reading.ReadingFault.TheVariants.{NoMemory};
+
+    ghost from_gives = { λ _ fault. fault ≡ NoMemory };
+
+    fn from(_: AllocError) -> ReadingFault {
+        ReadingFault::NoMemory
+    }
+}
+
+impl From<ReadFault> for ReadingFault {
+    ghost use Rattle.commands.specs.declared.reading.ReadingFault.TheVariants.{Unread};
+
+    ghost from_gives = { λ _ fault. fault ≡ Unread };
+
+    fn from(_: ReadFault) -> ReadingFault {
+        ReadingFault::Unread
+    }
+}
+
+/// All bytes of an input, which is read to its end.
+pub(crate) fn read_all<S: Source>(alloc: Global, input: &mut S) -> Result<Vec<u8>, ReadingFault>
+    requires room { HasRoom (S.reads input.old) (S.failures input.old) }
+    ensures all { IfOk result (λ bytes. ReadsAll (S.remaining input.old) (S.remaining input.new) bytes.items) }
+    ensures ok_counts { OnOk result (S.failures input.new ≡ S.failures input.old) }
+    ensures counts { IfErr result (ReadingCounts (S.reads input.old) (S.reads input.new) (S.failures input.old) (S.failures input.new)) }
+{
+    let mut bytes = Vec::new(alloc);
+    let mut piece = [0; PIECE];
+    for _ in 0..READS {
+        let count = input.read(&mut piece)?;
+        if count == 0 {
+            return Ok(bytes);
+        }
+        bytes.extend_from_slice(&piece[..count])?;
+    }
+    Err(ReadingFault::ReadLimit)
+}

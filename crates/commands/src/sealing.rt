@@ -1,0 +1,87 @@
+ghost use Rattle.std.specs.Prelude.{◌≡◌, ◌≢◌, OnOk, IfErr, IsErrOf};
+ghost use Rattle.commands.specs.Counts.{HasRoom, SealingCounts};
+ghost use Rattle.commands.specs.Streams.{WritesSealed, BeginsSealed};
+
+use crate::output::write_hex_line;
+use crate::packets::read_packets;
+use crate::reading::ReadingFault;
+use aes_cbc::Key;
+use item_io::{OutletFault, Source};
+use std::alloc::{AllocError, Global};
+use std::io::Write;
+use thiserror::Error;
+
+/// Why `seal` ends without having done its work.
+#[derive(Clone, Copy, Debug, PartialEq, Eq, Error)]
+pub enum SealingFault {
+    /// A read failed.
+    #[error("the input can't be read")]
+    Unread,
+    /// 2^40 reads each gave a byte, and the end hadn't come.
+    #[error("the input takes too many reads")]
+    ReadLimit,
+    /// A write failed; what was written is a beginning of the line.
+    #[error("the line can't be written")]
+    Unwritten,
+    #[error("out of memory")]
+    NoMemory,
+}
+
+impl From<AllocError> for SealingFault {
+    ghost use Rattle.commands.specs.declared.sealing.SealingFault.TheVariants.{NoMemory};
+
+    ghost from_gives = { λ _ fault. fault ≡ NoMemory };
+
+    fn from(_: AllocError) -> SealingFault {
+        SealingFault::NoMemory
+    }
+}
+
+impl From<ReadingFault> for SealingFault {
+    ghost use Rattle.commands.specs.Told.{sealing_of};
+
+    ghost from_gives = { λ why fault. fault ≡ sealing_of why };
+
+    fn from(why: ReadingFault) -> SealingFault {
+        match why {
+            ReadingFault::Unread => SealingFault::Unread,
+            ReadingFault::ReadLimit => SealingFault::ReadLimit,
+            ReadingFault::NoMemory => SealingFault::NoMemory,
+        }
+    }
+}
+
+impl From<OutletFault> for SealingFault {
+    ghost use Rattle.commands.specs.declared.sealing.SealingFault.TheVariants.{Unwritten};
+
+    ghost from_gives = { λ _ fault. fault ≡ Unwritten };
+
+    fn from(_: OutletFault) -> SealingFault {
+        SealingFault::Unwritten
+    }
+}
+
+/// The command `seal`: reads the input to its end, takes its packets, and writes them, sealed under a key and a vector
+/// without a segment head, as one line of lower-case hex digits.
+///
+/// Unread is told exactly where a read failed, and ReadLimit only after 2^40 reads. Before every fault but Unwritten
+/// nothing was written; at Unwritten a beginning of that line was.
+pub fn seal<S: Source, W: Write>(
+    alloc: Global,
+    key: &Key,
+    vector: &[u8; 16],
+    input: &mut S,
+    output: &mut W,
+) -> Result<(), SealingFault>
+    requires room { HasRoom (S.reads input.old) (S.failures input.old) }
+    ensures ok { OnOk result (WritesSealed key.now vector.now (S.remaining input.old) (S.remaining input.new) (W.contents output.old) (W.contents output.new)) }
+    ensures ok_counts { OnOk result (S.failures input.new ≡ S.failures input.old) }
+    ensures unwritten { IsErrOf result SealingFault.Unwritten → BeginsSealed key.now vector.now (S.remaining input.old) (S.remaining input.new) (W.contents output.old) (W.contents output.new) }
+    ensures untouched { IfErr result (λ fault. fault ≢ SealingFault.Unwritten → output.new ≡ output.old) }
+    ensures counts { IfErr result (SealingCounts (S.reads input.old) (S.reads input.new) (S.failures input.old) (S.failures input.new)) }
+{
+    let packets = read_packets(alloc, input)?;
+    let sealed = aes_cbc::seal(alloc, key, vector, packets.as_flattened())?;
+    write_hex_line(output, &sealed)?;
+    Ok(())
+}

@@ -1,0 +1,6 @@
+mod check;
+mod fixtures;
+mod one;
+mod open;
+mod seal;
+mod words;
