@@ -7,18 +7,18 @@ use Rattle.cutter.specs.declared.fault.CutFault.{CutFault}
 use Rattle.item_io.specs.Items.{ItemValue}
 use Rattle.item_io.specs.Outlets.{Held as HeldItems, Grows}
 use Rattle.item_io.specs.ItemLines.{HoldsLines, WritesLines, lines_of}
-use Rattle.pipeline.specs.declared.fault.PackFault.{PackFault}
-use Rattle.pipeline.specs.declared.fault.PackFault.TheVariants.{Settings, Read, ReadLimit, NoProgram, NoStart, LongSegment, BigSegment, Limit, Outlet, NoMemory, Held}
-use Rattle.pipeline.specs.declared.lane.Stop.{Stop}
-use Rattle.pipeline.specs.declared.lane.Stop.TheVariants.{Good, Cut, Read as ReadFailed}
-use Rattle.pipeline.specs.declared.report.Report.{Report}
-use Rattle.pipeline.specs.Ladder.{Ladder}
-use Rattle.pipeline.specs.Items.{Part, no_part, part_at}
-use Rattle.pipeline.specs.Weave.{none_of, AreLegal, after_all, blocks}
-use Rattle.pipeline.specs.Streams.{closed_of}
-use Rattle.pipeline.specs.Sources.{SourceSays}
-use Rattle.pipeline.specs.World.{stream_at}
-use Rattle.pipeline.specs.Packed.{IsPacked, IsCutShort, HasHalted, IsRefused, IsLeft, FaultSays}
+use Rattle.ladder_items.specs.declared.fault.PackFault.{PackFault}
+use Rattle.ladder_items.specs.declared.fault.PackFault.TheVariants.{Settings, Read, ReadLimit, NoProgram, NoStart, LongSegment, BigSegment, Limit, Outlet, NoMemory, Held}
+use Rattle.ingest.specs.declared.lane.Stop.{Stop}
+use Rattle.ingest.specs.declared.lane.Stop.TheVariants.{Good, Cut, Read as ReadFailed}
+use Rattle.ladder_items.specs.declared.report.Report.{Report}
+use Rattle.ladder_items.specs.Ladder.{Ladder}
+use Rattle.ladder_items.specs.Items.{Part, no_part, part_at}
+use Rattle.ladder_items.specs.Weave.{none_of, AreLegal, after_all, blocks}
+use Rattle.ingest.specs.Streams.{closed_of}
+use Rattle.ladder_items.specs.Sources.{SourceSays}
+use Rattle.ladder_items.specs.World.{stream_at}
+use Rattle.ladder_items.specs.Packed.{IsPacked, IsCutShort, HasHalted, IsRefused, IsLeft, FaultSays}
 use Rattle.commands.specs.Packing.{WritesPacked, FaultStands, StopsPacking, CutsPackingOff, WantsMemory, FailsToPut, RefusesSettings, PackingSays, NoneFailed, CountsSay}
 
 -- the only element of a list is at its front

@@ -2,7 +2,7 @@
 use Rattle.std.specs.Prelude.{ℕ, ◌-◌, ◌==◌, if◌then◌else◌, List, length, take, slice_index, Option, Some, None}
 use Rattle.std.specs.Result.{result_ok}
 use Rattle.hex.specs.Hex.{decode_sized}
-use Rattle.segment_job.specs.Vectors.{vector}
+use Rattle.playlist_text.specs.Vectors.{vector}
 
 -- the 16 bytes that 32 hex digits of either case stand for; None for any other text
 abbrev pub bytes_of_hex : List ℕ → Option (List ℕ)

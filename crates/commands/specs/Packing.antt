@@ -4,17 +4,17 @@ use Rattle.std.specs.Io.KnownBytes.{Consumes, IsAtEnd, Appends}
 use Rattle.cutter.specs.declared.fault.CutFault.TheVariants.{NoProgram as HasNoProgram, NoStart as HasNoStart, LongSegment as IsLong, BigSegment as IsBig, Limit as PassesLimit}
 use Rattle.item_io.specs.Items.{ItemValue}
 use Rattle.item_io.specs.ItemLines.{lines_of, WritesLines}
-use Rattle.pipeline.specs.declared.fault.PackFault.{PackFault}
-use Rattle.pipeline.specs.declared.fault.PackFault.TheVariants.{Settings, Read, ReadLimit, NoProgram, NoStart, LongSegment, BigSegment, Limit, Outlet, NoMemory, Held}
-use Rattle.pipeline.specs.declared.lane.Stop.{Stop}
-use Rattle.pipeline.specs.declared.lane.Stop.TheVariants.{Good, Cut, Read as ReadFailed}
-use Rattle.pipeline.specs.Ladder.{Ladder, IsAllowed}
-use Rattle.pipeline.specs.Items.{Part, part_at}
-use Rattle.pipeline.specs.Weave.{Weaves}
-use Rattle.pipeline.specs.Lanes.{IsWhole}
-use Rattle.pipeline.specs.Sources.{HasBegun}
-use Rattle.pipeline.specs.Streams.{Stays}
-use Rattle.pipeline.specs.Packed.{HasGiven}
+use Rattle.ladder_items.specs.declared.fault.PackFault.{PackFault}
+use Rattle.ladder_items.specs.declared.fault.PackFault.TheVariants.{Settings, Read, ReadLimit, NoProgram, NoStart, LongSegment, BigSegment, Limit, Outlet, NoMemory, Held}
+use Rattle.ingest.specs.declared.lane.Stop.{Stop}
+use Rattle.ingest.specs.declared.lane.Stop.TheVariants.{Good, Cut, Read as ReadFailed}
+use Rattle.ladder_items.specs.Ladder.{Ladder, IsAllowed}
+use Rattle.ladder_items.specs.Items.{Part, part_at}
+use Rattle.ladder_items.specs.Weave.{Weaves}
+use Rattle.ladder_items.specs.Lanes.{IsWhole}
+use Rattle.ladder_items.specs.Sources.{HasBegun}
+use Rattle.ingest.specs.Streams.{Stays}
+use Rattle.ladder_items.specs.Packed.{HasGiven}
 use Rattle.commands.specs.Streams.{ReadsAll}
 
 -- All that the reader gave was packed, and the writer got the lines of all segments and playlists.

@@ -2,7 +2,7 @@
 use Rattle.std.specs.Prelude.{◌≡◌, ℕ, ◌*◌, ◌<◌, ◌≤◌, ◌^◌, List, [], ◌∷◌, map, length, Some}
 use Rattle.std.specs.Option.{unwrap_or}
 use Rattle.cutter.specs.declared.settings.CutSettings.{CutSettings}
-use Rattle.pipeline.specs.Ladder.{Ladder, RenditionValue}
+use Rattle.ladder_items.specs.Ladder.{Ladder, RenditionValue}
 use Rattle.commands.specs.declared.numbers.Numbers.{Numbers}
 use Rattle.commands.specs.Hex.{bytes_of_hex}
 use Rattle.commands.specs.KeyLists.{key_texts}

@@ -1,7 +1,7 @@
 //! The ranges of what a packager takes, for those who tell them.
 ghost use Rattle.std.specs.Prelude.{◌≤◌, ◌<◌, ◌↔◌, ℕ, List, length};
 ghost use Rattle.cutter.specs.declared.settings.CutSettings as TheSettings;
-ghost use Rattle.pipeline.specs.Ladder.{Ladder, IsCutAllowed, IsAllowed};
+ghost use Rattle.ladder_items.specs.Ladder.{Ladder, IsCutAllowed, IsAllowed};
 ghost use Rattle.commands.specs.Ranges.{AreInRange, IsWindow};
 ghost use Rattle.commands.specs.Settings.{TakeTurns};
 ghost use Rattle.commands.specs.declared.limits.TheConstants.{MOST_KEYS};

@@ -1,5 +1,5 @@
 ghost use Rattle.std.specs.Prelude.{◌≡◌, ◌∷◌, [], length, IfOk, IfErr, OnOk};
-ghost use Rattle.pipeline.specs.Ladder.{IsAllowed};
+ghost use Rattle.ladder_items.specs.Ladder.{IsAllowed};
 ghost use Rattle.commands.specs.Packing.{WritesPacked, PackingSays, NoneFailed, CountsSay};
 
 use item_io::{LineOutlet, ReaderSource, lines_of_given_items_are_written};
