@@ -2,12 +2,17 @@
 ghost use Rattle.std.specs.Prelude.{IfErr};
 ghost use Rattle.tshls.specs.Faults.{IsOfCommandLine};
 
-use crate::check_options::{CheckOptions, check_options, with_check_options};
-use crate::cipher_options::{CipherOptions, read_cipher_options};
 use crate::fault::Fault;
-use crate::packing_options::{one_settings, with_rendition, with_settings};
+use crate::help;
+use crate::options::{
+    check_words, cipher_words, number_words, packing_words, with_check_options,
+    with_cipher_options, with_numbers, with_rendition,
+};
+use clap::Command;
 use clap::error::ErrorKind;
-use clap::{Arg, ArgMatches, Command};
+use commands::{
+    CheckOptions, CipherOptions, read_check_options, read_cipher_options, read_settings,
+};
 use pipeline::Settings;
 use std::alloc::{AllocError, Global};
 use std::convert::AsStr;
@@ -33,59 +38,51 @@ pub fn line<'a, S: AsStr>(alloc: Global, words: &'a [S]) -> Result<Job, Fault>
     let mut command = program(alloc)?;
     let matches = command.try_get_matches_from_mut(words)?;
     match matches.subcommand() {
-        Some(("seal", options)) => return Ok(Job::Seal(cipher_options(options)?)),
-        Some(("open", options)) => return Ok(Job::Open(cipher_options(options)?)),
-        Some(("one", options)) => return Ok(Job::One(one_settings(alloc, options)?)),
-        Some(("check", options)) => return Ok(Job::Check(check_options(alloc, options)?)),
+        Some(("seal", options)) => {
+            let options = read_cipher_options(cipher_words(options))?;
+            return Ok(Job::Seal(options));
+        }
+        Some(("open", options)) => {
+            let options = read_cipher_options(cipher_words(options))?;
+            return Ok(Job::Open(options));
+        }
+        Some(("one", options)) => {
+            let settings = read_settings(alloc, packing_words(options), number_words(options))?;
+            return Ok(Job::One(settings));
+        }
+        Some(("check", options)) => {
+            let options = read_check_options(alloc, check_words(options))?;
+            return Ok(Job::Check(options));
+        }
         _ => {}
     }
     Err(Fault::from(command.error(ErrorKind::MissingSubcommand, "a command is wanted")?))
 }
 
-fn cipher_options(options: &ArgMatches<'_>) -> Result<CipherOptions, Fault>
-    ensures { IfErr result IsOfCommandLine }
-{
-    let key = options.get_str("key").unwrap_or("");
-    read_cipher_options(key, options.get_one::<u64>("seq"), options.get_str("iv"))
-}
-
 fn program<'a>(alloc: Global) -> Result<Command<'a>, AllocError> {
-    let seal = Command::new(alloc, "seal").about(
-        "Read a transport stream, and print its packets, sealed, as one line of hex digits",
-    );
-    let open = Command::new(alloc, "open").about(
-        "Read what seal prints, and print what was sealed, as one line of hex digits",
-    );
-    let one = Command::new(alloc, "one").about(
-        "Read a transport stream, and print its segments, sealed, and its playlists as lines",
-    );
-    let check = Command::new(alloc, "check").about(
-        "Read a media playlist and the segments beside it, and print how many bytes they unpack to",
-    );
+    let seal = Command::new(alloc, "seal")
+        .about("Read a transport stream, and print its packets, sealed, as one line of hex digits")
+        .after_help(help::SEAL);
+    let open = Command::new(alloc, "open")
+        .about("Read what seal prints, and print what was sealed, as one line of hex digits")
+        .after_help(help::OPEN);
+    let one = Command::new(alloc, "one")
+        .about(
+            "Read a transport stream, and print its segments, sealed, and its playlists as lines",
+        )
+        .after_help(help::ONE);
+    let check = Command::new(alloc, "check")
+        .about(
+            "Read a media playlist and the segments beside it, and print how many bytes they unpack to",
+        )
+        .after_help(help::CHECK);
     Command::new(alloc, "tshls")
         .about("MPEG-2 transport streams to encrypted HLS")
+        .version(help::VERSION)
         .subcommand_required(true)
         .arg_required_else_help(true)
         .subcommand(with_cipher_options(alloc, seal)?)?
         .subcommand(with_cipher_options(alloc, open)?)?
-        .subcommand(with_settings(alloc, with_rendition(alloc, one)?)?)?
+        .subcommand(with_numbers(alloc, with_rendition(alloc, one)?)?)?
         .subcommand(with_check_options(alloc, check)?)
-}
-
-fn with_cipher_options<'a>(alloc: Global, command: Command<'a>) -> Result<Command<'a>, AllocError> {
-    let key = Arg::new(alloc, "key")
-        .long("key")
-        .value_name("HEX")
-        .required(true)
-        .help("The key: 32 hex digits");
-    let seq = Arg::new(alloc, "seq")
-        .long("seq")
-        .value_name("N")
-        .value_parser(clap::value_parser!(u64))
-        .help("The segment's number, which gives the vector");
-    let iv = Arg::new(alloc, "iv")
-        .long("iv")
-        .value_name("HEX")
-        .help("The vector itself: 32 hex digits");
-    command.arg(key)?.arg(seq)?.arg(iv)
 }

@@ -1,47 +1,32 @@
 ghost use Rattle.std.specs.Prelude.{◌≡◌};
 
-use aes_cbc::OpenFault;
+use commands::{
+    CheckingFault, CipherFault, KeyListFault, OpeningFault, SealingFault, SettingsFault,
+};
 use hls_check::{CheckFault, ListFault, UnpackFault};
-use item_io::{OutletFault, ReadFault};
 use pipeline::PackFault;
 use std::alloc::{AllocError, AllocFailed};
 use std::fmt;
 
-/// Why a command ends without having done its work. It prints as the line that standard error gets.
+/// Why the program ends without having done its work. It prints as the line that standard error gets.
 #[derive(Debug, Drop)]
 pub enum Fault {
     /// The command line isn't one; clap's text says why, or is the help that was asked for.
     Usage(clap::Error),
     /// A word of the command line isn't UTF-8.
     NotUtf8,
-    /// A key isn't 32 hex digits.
-    BadKey,
-    /// A vector isn't 32 hex digits, or not exactly one of the two ways to give it was used.
-    BadVector,
-    /// A size isn't two numbers round an `x`.
-    BadSize,
-    /// A rendition has more than 4,096 keys.
-    TooMany,
-    /// The keys take turns after no segment at all.
-    ZeroPeriod,
-    /// The input isn't one line of an even number of hex digits.
-    BadHex,
-    /// The sealed bytes aren't whole blocks, or there are none.
-    NotBlocks,
-    /// No text has these sealed bytes under the key and the vector.
-    BadPadding,
-    /// A read failed.
-    Unread,
-    /// 2^40 reads each gave a byte, and the end hadn't come.
-    ReadLimit,
-    /// A write failed; what was written is a beginning of the answer.
-    Unwritten,
-    /// A stream wasn't packed to its end; where it is Settings, nothing was read.
-    Packing(PackFault),
-    /// A playlist isn't one, or its segments don't unpack.
-    Checking(CheckFault),
-    /// Memory was refused.
+    /// Its words tell no key and vector.
+    Cipher(CipherFault),
+    /// They tell no settings.
+    Settings(SettingsFault),
+    /// They tell no keys.
+    KeyList(KeyListFault),
+    /// Memory for the command line was refused.
     NoMemory,
+    Sealing(SealingFault),
+    Opening(OpeningFault),
+    Packing(PackFault),
+    Checking(CheckingFault),
 }
 
 impl Fault {
@@ -53,7 +38,9 @@ impl Fault {
     {
         match self {
             Fault::Usage(_) | Fault::NotUtf8 => 2,
-            Fault::BadKey | Fault::BadVector | Fault::BadSize => 2,
+            Fault::Cipher(fault) => fault.status(),
+            Fault::Settings(fault) => fault.status(),
+            Fault::KeyList(fault) => fault.status(),
             _ => 1,
         }
     }
@@ -61,61 +48,77 @@ impl Fault {
 
 impl fmt::Display for Fault {
     fn fmt<W: fmt::Write>(&self, f: &mut fmt::Formatter<W>) -> fmt::Result {
-        let name = match self {
-            Fault::Usage(error) => return write!(f, "{error}"),
-            Fault::Packing(fault) => return write_packing(f, *fault),
-            Fault::Checking(CheckFault::Text(fault)) => return write_unlisted(f, *fault),
-            Fault::Checking(CheckFault::Segments(fault)) => return write_unpacked(f, *fault),
-            Fault::NotUtf8 => "NotUtf8",
-            Fault::BadKey => "BadKey",
-            Fault::BadVector => "BadVector",
-            Fault::BadSize => "BadSize",
-            Fault::TooMany => "TooMany",
-            Fault::ZeroPeriod => "ZeroPeriod",
-            Fault::BadHex => "BadHex",
-            Fault::NotBlocks => "NotBlocks",
-            Fault::BadPadding => "BadPadding",
-            Fault::Unread => "Unread",
-            Fault::ReadLimit => "ReadLimit",
-            Fault::Unwritten => "Unwritten",
-            Fault::NoMemory => "NoMemory",
-        };
-        writeln!(f, "tshls: {name}")
+        if let Fault::Usage(error) = self {
+            return write!(f, "{error}");
+        }
+        f.write_str("tshls: ")?;
+        match self {
+            Fault::Packing(fault) => write_packing(f, *fault)?,
+            Fault::Checking(fault) => write_checking(f, *fault)?,
+            _ => f.write_str(name_of(self))?,
+        }
+        f.write_str("\n")
     }
 }
 
-/// The line of a packager's fault: its name, and then the rendition's number and the segment's, where it has them.
+/// The name of a fault that has no numbers.
+fn name_of(fault: &Fault) -> &'static str {
+    match fault {
+        Fault::NotUtf8 => "NotUtf8",
+        Fault::Cipher(CipherFault::BadKey) => "BadKey",
+        Fault::Cipher(CipherFault::BadVector) => "BadVector",
+        Fault::KeyList(KeyListFault::BadKey) => "BadKey",
+        Fault::Settings(SettingsFault::BadKey) => "BadKey",
+        Fault::Settings(SettingsFault::BadSize) => "BadSize",
+        Fault::Settings(SettingsFault::TooMany) => "TooMany",
+        Fault::Settings(SettingsFault::ZeroPeriod) => "ZeroPeriod",
+        Fault::Settings(SettingsFault::Settings) => "Settings",
+        Fault::Sealing(SealingFault::Unread) | Fault::Opening(OpeningFault::Unread) => "Unread",
+        Fault::Sealing(SealingFault::ReadLimit) => "ReadLimit",
+        Fault::Opening(OpeningFault::ReadLimit) => "ReadLimit",
+        Fault::Sealing(SealingFault::Unwritten) => "Unwritten",
+        Fault::Opening(OpeningFault::Unwritten) => "Unwritten",
+        Fault::Opening(OpeningFault::BadHex) => "BadHex",
+        Fault::Opening(OpeningFault::NotBlocks) => "NotBlocks",
+        Fault::Opening(OpeningFault::BadPadding) => "BadPadding",
+        _ => "NoMemory",
+    }
+}
+
+/// A packager's fault: its name, and then the rendition's number and the segment's, where it has them.
 fn write_packing<W: fmt::Write>(f: &mut fmt::Formatter<W>, fault: PackFault) -> fmt::Result {
     match fault {
-        PackFault::Settings => writeln!(f, "tshls: Settings"),
-        PackFault::Read(r) => writeln!(f, "tshls: Read {r}"),
-        PackFault::ReadLimit(r) => writeln!(f, "tshls: ReadLimit {r}"),
-        PackFault::NoProgram(r) => writeln!(f, "tshls: NoProgram {r}"),
-        PackFault::NoStart(r) => writeln!(f, "tshls: NoStart {r}"),
-        PackFault::LongSegment(r, n) => writeln!(f, "tshls: LongSegment {r} {n}"),
-        PackFault::BigSegment(r, n) => writeln!(f, "tshls: BigSegment {r} {n}"),
-        PackFault::Limit(r) => writeln!(f, "tshls: Limit {r}"),
-        PackFault::Outlet => writeln!(f, "tshls: Outlet"),
-        PackFault::NoMemory => writeln!(f, "tshls: NoMemory"),
-        PackFault::Held(r, n) => writeln!(f, "tshls: Held {r} {n}"),
+        PackFault::Settings => write!(f, "Settings"),
+        PackFault::Read(r) => write!(f, "Read {r}"),
+        PackFault::ReadLimit(r) => write!(f, "ReadLimit {r}"),
+        PackFault::NoProgram(r) => write!(f, "NoProgram {r}"),
+        PackFault::NoStart(r) => write!(f, "NoStart {r}"),
+        PackFault::LongSegment(r, n) => write!(f, "LongSegment {r} {n}"),
+        PackFault::BigSegment(r, n) => write!(f, "BigSegment {r} {n}"),
+        PackFault::Limit(r) => write!(f, "Limit {r}"),
+        PackFault::Outlet => write!(f, "Outlet"),
+        PackFault::NoMemory => write!(f, "NoMemory"),
+        PackFault::Held(r, n) => write!(f, "Held {r} {n}"),
     }
 }
 
-/// The line of what isn't a playlist: the number of its first wrong line.
-fn write_unlisted<W: fmt::Write>(f: &mut fmt::Formatter<W>, fault: ListFault) -> fmt::Result {
+/// A fault of `check`: its name, and then the number of the first wrong line, or the place of the first such entry,
+/// counted from 0.
+fn write_checking<W: fmt::Write>(f: &mut fmt::Formatter<W>, fault: CheckingFault) -> fmt::Result {
     match fault {
-        ListFault::NotProfile(line) => writeln!(f, "tshls: NotProfile {line}"),
-        ListFault::NoMemory => writeln!(f, "tshls: NoMemory"),
-    }
-}
-
-/// The line of segments that don't unpack: the place of the first such entry, counted from 0.
-fn write_unpacked<W: fmt::Write>(f: &mut fmt::Formatter<W>, fault: UnpackFault) -> fmt::Result {
-    match fault {
-        UnpackFault::Missing(i) => writeln!(f, "tshls: Missing {i}"),
-        UnpackFault::Closed(i) => writeln!(f, "tshls: Closed {i}"),
-        UnpackFault::NoHead(i) => writeln!(f, "tshls: NoHead {i}"),
-        UnpackFault::NoMemory => writeln!(f, "tshls: NoMemory"),
+        CheckingFault::Unread => write!(f, "Unread"),
+        CheckingFault::Unwritten => write!(f, "Unwritten"),
+        CheckingFault::NoMemory => write!(f, "NoMemory"),
+        CheckingFault::Faulty(CheckFault::Text(why)) => match why {
+            ListFault::NotProfile(line) => write!(f, "NotProfile {line}"),
+            ListFault::NoMemory => write!(f, "NoMemory"),
+        },
+        CheckingFault::Faulty(CheckFault::Segments(why)) => match why {
+            UnpackFault::Missing(i) => write!(f, "Missing {i}"),
+            UnpackFault::Closed(i) => write!(f, "Closed {i}"),
+            UnpackFault::NoHead(i) => write!(f, "NoHead {i}"),
+            UnpackFault::NoMemory => write!(f, "NoMemory"),
+        },
     }
 }
 
@@ -139,26 +142,6 @@ impl<T: Drop> From<AllocFailed<T>> for Fault {
     }
 }
 
-impl From<ReadFault> for Fault {
-    ghost use Rattle.tshls.specs.declared.fault.Fault.TheVariants.{Unread};
-
-    ghost from_gives = { λ _ fault. fault ≡ Unread };
-
-    fn from(_: ReadFault) -> Fault {
-        Fault::Unread
-    }
-}
-
-impl From<OutletFault> for Fault {
-    ghost use Rattle.tshls.specs.declared.fault.Fault.TheVariants.{Unwritten};
-
-    ghost from_gives = { λ _ fault. fault ≡ Unwritten };
-
-    fn from(_: OutletFault) -> Fault {
-        Fault::Unwritten
-    }
-}
-
 impl From<clap::Error> for Fault {
     ghost use Rattle.tshls.specs.Faults.{IsOfCommandLine};
 
@@ -172,48 +155,72 @@ impl From<clap::Error> for Fault {
     }
 }
 
-impl From<OpenFault> for Fault {
-    ghost use Rattle.tshls.specs.Faults.{fault_of_opening};
+impl From<CipherFault> for Fault {
+    ghost use Rattle.tshls.specs.declared.fault.Fault.TheVariants.{Cipher};
 
-    ghost from_gives = { λ error fault. fault ≡ fault_of_opening error };
+    ghost from_gives = { λ why fault. fault ≡ Cipher why };
 
-    fn from(error: OpenFault) -> Fault {
-        match error {
-            OpenFault::NotBlocks => Fault::NotBlocks,
-            OpenFault::BadPadding => Fault::BadPadding,
-            OpenFault::NoMemory => Fault::NoMemory,
-        }
+    fn from(why: CipherFault) -> Fault {
+        Fault::Cipher(why)
+    }
+}
+
+impl From<SettingsFault> for Fault {
+    ghost use Rattle.tshls.specs.declared.fault.Fault.TheVariants.{Settings};
+
+    ghost from_gives = { λ why fault. fault ≡ Settings why };
+
+    fn from(why: SettingsFault) -> Fault {
+        Fault::Settings(why)
+    }
+}
+
+impl From<KeyListFault> for Fault {
+    ghost use Rattle.tshls.specs.declared.fault.Fault.TheVariants.{KeyList};
+
+    ghost from_gives = { λ why fault. fault ≡ KeyList why };
+
+    fn from(why: KeyListFault) -> Fault {
+        Fault::KeyList(why)
+    }
+}
+
+impl From<SealingFault> for Fault {
+    ghost use Rattle.tshls.specs.declared.fault.Fault.TheVariants.{Sealing};
+
+    ghost from_gives = { λ why fault. fault ≡ Sealing why };
+
+    fn from(why: SealingFault) -> Fault {
+        Fault::Sealing(why)
+    }
+}
+
+impl From<OpeningFault> for Fault {
+    ghost use Rattle.tshls.specs.declared.fault.Fault.TheVariants.{Opening};
+
+    ghost from_gives = { λ why fault. fault ≡ Opening why };
+
+    fn from(why: OpeningFault) -> Fault {
+        Fault::Opening(why)
     }
 }
 
 impl From<PackFault> for Fault {
     ghost use Rattle.tshls.specs.declared.fault.Fault.TheVariants.{Packing};
 
-    ghost from_gives = { λ error fault. fault ≡ Packing error };
+    ghost from_gives = { λ why fault. fault ≡ Packing why };
 
-    fn from(error: PackFault) -> Fault {
-        Fault::Packing(error)
+    fn from(why: PackFault) -> Fault {
+        Fault::Packing(why)
     }
 }
 
-impl From<ListFault> for Fault {
+impl From<CheckingFault> for Fault {
     ghost use Rattle.tshls.specs.declared.fault.Fault.TheVariants.{Checking};
-    ghost use Rattle.hls_check.specs.declared.checking.CheckFault.TheVariants.{Text};
 
-    ghost from_gives = { λ error fault. fault ≡ Checking (Text error) };
+    ghost from_gives = { λ why fault. fault ≡ Checking why };
 
-    fn from(error: ListFault) -> Fault {
-        Fault::Checking(CheckFault::Text(error))
-    }
-}
-
-impl From<UnpackFault> for Fault {
-    ghost use Rattle.tshls.specs.declared.fault.Fault.TheVariants.{Checking};
-    ghost use Rattle.hls_check.specs.declared.checking.CheckFault.TheVariants.{Segments};
-
-    ghost from_gives = { λ error fault. fault ≡ Checking (Segments error) };
-
-    fn from(error: UnpackFault) -> Fault {
-        Fault::Checking(CheckFault::Segments(error))
+    fn from(why: CheckingFault) -> Fault {
+        Fault::Checking(why)
     }
 }

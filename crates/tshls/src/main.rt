@@ -1,38 +1,17 @@
 //! tshls: MPEG-2 transport streams to encrypted HLS.
 #![tactic(auto)]
 
-mod check;
-mod check_options;
-#[cfg(test)]
-mod check_tests;
-mod cipher_options;
 mod command_line;
 mod fault;
-mod files;
-#[cfg(test)]
-mod fixtures;
-mod frame_size;
-mod input;
-mod key_list;
-mod ladder;
-mod numbers;
-mod one;
-#[cfg(test)]
-mod one_tests;
-mod open;
-mod output;
-mod packets;
-mod packing_options;
-mod seal;
+mod help;
+mod options;
 #[cfg(test)]
 mod tests;
 
-use crate::check::check;
 use crate::command_line::{Job, line};
 use crate::fault::Fault;
-use crate::one::{Packed, one};
-use crate::open::open;
-use crate::seal::seal;
+use commands::{Packed, check, one, open, seal};
+use item_io::ReaderSource;
 use std::process::ExitCode;
 use std::{env, io};
 
@@ -51,19 +30,19 @@ fn run(rt: &HostRuntime) -> Result<(), Fault> {
             rt.alloc(),
             &options.key,
             &options.vector,
-            &mut rt.stdin(),
+            &mut ReaderSource::new(rt.stdin()),
             &mut rt.stdout(),
-        ),
+        )?,
         Job::Open(options) => open(
             rt.alloc(),
             &options.key,
             &options.vector,
-            &mut rt.stdin(),
+            &mut ReaderSource::new(rt.stdin()),
             &mut rt.stdout(),
-        ),
+        )?,
         Job::One(settings) => {
             let Packed { answer, .. } = one(rt.alloc(), &settings, rt.stdin(), rt.stdout());
-            Ok(answer?)
+            answer?
         }
         Job::Check(options) => check(
             rt.alloc(),
@@ -71,8 +50,9 @@ fn run(rt: &HostRuntime) -> Result<(), Fault> {
             &options.keys,
             &options.playlist,
             &mut rt.stdout(),
-        ),
+        )?,
     }
+    Ok(())
 }
 
 fn main(rt: HostRuntime) -> ExitCode {

@@ -1,13 +1,12 @@
+use super::words::KEY;
 use crate::command_line::{Job, line};
 use crate::fault::Fault;
-use crate::fixtures::{BrokenReader, KEY, standard_stream};
-use crate::one::one;
-use pipeline::{PackFault, Settings};
+use pipeline::Settings;
 use std::alloc::Global;
 use std::test::Fail;
 
 /// The settings of a command line that ends with these words.
-pub fn settings<'a>(alloc: Global, more: &[&'a str]) -> Result<Settings, Fault> {
+fn settings<'a>(alloc: Global, more: &[&'a str]) -> Result<Settings, Fault> {
     let mut words: Vec<&'a str> = Vec::new(alloc);
     words.extend_from_slice(&["tshls", "one", "--codecs", "avc1.4d401e"])?;
     words.extend_from_slice(more)?;
@@ -172,85 +171,5 @@ fn too_many_keys(rt: HostRuntime) -> Result<(), Fail> {
     keys.push_str(KEY)?;
     let words = ["--size", "1x1", "--keys", keys.as_str(), "--period", "0"];
     assert_eq!(rt; told(alloc, &words)?.0.as_str(), "tshls: TooMany\n");
-    Ok(())
-}
-
-#[test]
-fn ten_items(rt: HostRuntime) -> Result<(), Fail> {
-    let alloc = rt.alloc();
-    let settings = settings(alloc, &["--size", "640x360", "--keys", KEY]).map_err(|_| "line")?;
-    let stream = standard_stream(alloc)?;
-    let packed = one(alloc, &settings, stream.as_slice(), Vec::new(alloc));
-    assert!(rt; packed.answer.is_ok());
-    assert!(rt; packed.source.into_reader().is_empty());
-    let text = String::from_utf8(packed.outlet.into_writer()).map_err(|_| "not UTF-8")?;
-    let wanted = [
-        "segment v.0.ts 768",
-        "media v.m3u8 8",
-        "frames v.iframes.m3u8 10",
-        "master master.m3u8 5",
-        "segment v.1.ts 768",
-        "media v.m3u8 10",
-        "frames v.iframes.m3u8 14",
-        "master master.m3u8 5",
-        "media v.m3u8 11",
-        "frames v.iframes.m3u8 15",
-    ];
-    let mut found = 0;
-    for line in text.lines() {
-        if line.starts_with("segment ")
-            || line.starts_with("media ")
-            || line.starts_with("frames ")
-            || line.starts_with("master ")
-        {
-            assert!(rt; found < 10);
-            assert_eq!(rt; line, wanted[found]);
-            found += 1;
-        }
-    }
-    assert_eq!(rt; found, 10);
-    Ok(())
-}
-
-#[test]
-fn no_program(rt: HostRuntime) -> Result<(), Fail> {
-    let alloc = rt.alloc();
-    let settings = settings(alloc, &["--size", "640x360", "--keys", KEY]).map_err(|_| "line")?;
-    let empty: &[u8] = &[];
-    let packed = one(alloc, &settings, empty, Vec::new(alloc));
-    assert!(rt; packed.outlet.into_writer().is_empty());
-    let Err(fault) = packed.answer else {
-        return Err(Fail::from("packed"));
-    };
-    assert_eq!(rt; fault, PackFault::NoProgram(0));
-    let told = format!(in alloc; "{}", Fault::from(fault))?;
-    assert_eq!(rt; told.as_str(), "tshls: NoProgram 0\n");
-    Ok(())
-}
-
-#[test]
-fn a_read_that_fails_in_mid_stream(rt: HostRuntime) -> Result<(), Fail> {
-    let alloc = rt.alloc();
-    let settings = settings(alloc, &["--size", "640x360", "--keys", KEY]).map_err(|_| "line")?;
-    let stream = standard_stream(alloc)?;
-    let whole = one(alloc, &settings, stream.as_slice(), Vec::new(alloc));
-    assert!(rt; whole.answer.is_ok());
-    let whole = String::from_utf8(whole.outlet.into_writer()).map_err(|_| "not UTF-8")?;
-    let Some((first, _)) = whole.as_str().split_once("segment v.1.ts") else {
-        return Err(Fail::from("no second segment"));
-    };
-    let Some(front) = stream.get(..940) else {
-        return Err(Fail::from("a short stream"));
-    };
-    let packed = one(
-        alloc,
-        &settings,
-        BrokenReader { bytes: front },
-        Vec::new(alloc),
-    );
-    assert!(rt; packed.answer == Err(PackFault::Read(0)));
-    assert!(rt; packed.source.into_reader().bytes.is_empty());
-    let output = packed.outlet.into_writer();
-    assert!(rt; output.as_slice() == first.as_bytes());
     Ok(())
 }

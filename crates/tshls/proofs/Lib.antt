@@ -1,4 +1,0 @@
-pub mod KeyLists
-pub mod Opening
-pub mod Packed
-pub mod Checking

@@ -1,0 +1,60 @@
+//! What help tells of the faults of each command.
+
+/// The version that `--version` prints.
+pub const VERSION: &str = "0.1.0";
+
+/// The faults of `seal`.
+pub const SEAL: &str = "\
+Faults, as 'tshls: NAME' on standard error:
+  BadKey     --key isn't 32 hex digits
+  BadVector  --iv isn't 32 hex digits, or --seq and --iv are both given, or neither is
+  Unread     Standard input couldn't be read; nothing was printed
+  ReadLimit  2^40 reads didn't come to the end of the input
+  Unwritten  Standard output took only a beginning of the line
+  NoMemory   Memory was refused; nothing was printed";
+
+/// The faults of `open`.
+pub const OPEN: &str = "\
+Faults, as 'tshls: NAME' on standard error:
+  BadKey      --key isn't 32 hex digits
+  BadVector   --iv isn't 32 hex digits, or --seq and --iv are both given, or neither is
+  Unread      Standard input couldn't be read; nothing was printed
+  ReadLimit   2^40 reads didn't come to the end of the input
+  BadHex      The input isn't one line of an even number of hex digits
+  NotBlocks   The digits aren't whole blocks of 16 bytes, or there are none
+  BadPadding  Sealed under another key or vector, or damaged
+  Unwritten   Standard output took only a beginning of the line
+  NoMemory    Memory was refused; nothing was printed";
+
+/// The faults of `one`.
+pub const ONE: &str = "\
+Ticks are 1/90000 s. Faults, as 'tshls: NAME NUMBERS' on standard error; what was printed before one stands:
+  LongSegment  This segment would last longer than the target. Without --segment it is the target, so a key frame
+               distance that doesn't divide it, or one lost key frame, ends the run. Give as --segment the target
+               less the distance of key frames: --target 6 --segment 4 for a key frame every 2 s.
+  NoProgram    No tables. The input is empty or isn't a transport stream (no packets were found); it has no PAT; the
+               PAT or the PMT is damaged (bad CRC); the PAT doesn't have --program; or the PMT is of another form:
+               several sections, not current, encrypted, or with another program's number.
+  NoStart      No key frame to begin at. The program has no video of type 01, 02, 10, 1B or 24; its key frames have no
+               random_access_indicator, or no PTS, or are scrambled; or the input ended before the first one.
+  Settings     An option is outside its range: target, segment (at most the target), window, frame, gap, most,
+               program, a side of the size; or the name isn't 1 to 64 bytes without control bytes and / . : or is
+               'master'; or the codecs aren't 1 to 128 bytes of printable ASCII without a quotation mark.
+  BigSegment   This segment has more packets than --most: give more, or a shorter --segment.
+  Limit        The last number of a segment, or the range of time, is passed.
+  BadKey       A key isn't 32 hex digits.         BadSize     The size isn't WIDTHxHEIGHT.
+  TooMany      More than 4096 keys.               ZeroPeriod  --period is 0.
+  Read         Standard input couldn't be read.   ReadLimit   2^40 reads didn't come to its end.
+  Outlet       Standard output can't be written.  NoMemory    Memory was refused.";
+
+/// The faults of `check`.
+pub const CHECK: &str = "\
+Faults, as 'tshls: NAME NUMBER' on standard error:
+  BadKey      A key isn't 32 hex digits
+  Unread      The playlist or a segment that it lists can't be read, or the playlist isn't UTF-8
+  NotProfile  The line of this number isn't what tshls writes there
+  Missing     The entry of this place, counted from 0, has no key among --keys
+  Closed      Its segment doesn't open: another key, or damaged
+  NoHead      It doesn't begin with tables
+  Unwritten   Standard output took only a beginning of the line
+  NoMemory    Memory was refused";

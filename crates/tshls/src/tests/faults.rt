@@ -1,0 +1,165 @@
+use crate::fault::Fault;
+use commands::{
+    CheckingFault, CipherFault, KeyListFault, OpeningFault, SealingFault, SettingsFault,
+};
+use hls_check::{CheckFault, ListFault, UnpackFault};
+use pipeline::PackFault;
+use std::alloc::{AllocError, Global};
+use std::test::Fail;
+
+/// Whether a fault prints so, and ends with this status.
+fn is_told(alloc: Global, fault: Fault, text: &str, status: u8) -> Result<bool, AllocError> {
+    let told = format!(in alloc; "{fault}")?;
+    Ok(told.as_str() == text && fault.status() == status)
+}
+
+#[test]
+fn of_the_line(rt: HostRuntime) -> Result<(), Fail> {
+    let table = [
+        (Fault::NotUtf8, "tshls: NotUtf8\n", 2),
+        (Fault::NoMemory, "tshls: NoMemory\n", 1),
+        (Fault::Cipher(CipherFault::BadKey), "tshls: BadKey\n", 2),
+        (
+            Fault::Cipher(CipherFault::BadVector),
+            "tshls: BadVector\n",
+            2,
+        ),
+        (Fault::KeyList(KeyListFault::BadKey), "tshls: BadKey\n", 2),
+        (
+            Fault::KeyList(KeyListFault::NoMemory),
+            "tshls: NoMemory\n",
+            1,
+        ),
+        (Fault::Settings(SettingsFault::BadKey), "tshls: BadKey\n", 2),
+        (
+            Fault::Settings(SettingsFault::BadSize),
+            "tshls: BadSize\n",
+            2,
+        ),
+        (
+            Fault::Settings(SettingsFault::TooMany),
+            "tshls: TooMany\n",
+            1,
+        ),
+        (
+            Fault::Settings(SettingsFault::ZeroPeriod),
+            "tshls: ZeroPeriod\n",
+            1,
+        ),
+        (
+            Fault::Settings(SettingsFault::Settings),
+            "tshls: Settings\n",
+            1,
+        ),
+        (
+            Fault::Settings(SettingsFault::NoMemory),
+            "tshls: NoMemory\n",
+            1,
+        ),
+    ];
+    for (fault, text, status) in table {
+        assert!(rt; is_told(rt.alloc(), fault, text, status)?, "at {text}");
+    }
+    Ok(())
+}
+
+#[test]
+fn of_sealing(rt: HostRuntime) -> Result<(), Fail> {
+    let table = [
+        (SealingFault::Unread, "tshls: Unread\n"),
+        (SealingFault::ReadLimit, "tshls: ReadLimit\n"),
+        (SealingFault::Unwritten, "tshls: Unwritten\n"),
+        (SealingFault::NoMemory, "tshls: NoMemory\n"),
+    ];
+    for (fault, text) in table {
+        assert!(rt;
+            is_told(rt.alloc(), Fault::from(fault), text, 1)?,
+            "at {text}"
+        );
+    }
+    Ok(())
+}
+
+#[test]
+fn of_opening(rt: HostRuntime) -> Result<(), Fail> {
+    let table = [
+        (OpeningFault::Unread, "tshls: Unread\n"),
+        (OpeningFault::ReadLimit, "tshls: ReadLimit\n"),
+        (OpeningFault::BadHex, "tshls: BadHex\n"),
+        (OpeningFault::NotBlocks, "tshls: NotBlocks\n"),
+        (OpeningFault::BadPadding, "tshls: BadPadding\n"),
+        (OpeningFault::Unwritten, "tshls: Unwritten\n"),
+        (OpeningFault::NoMemory, "tshls: NoMemory\n"),
+    ];
+    for (fault, text) in table {
+        assert!(rt;
+            is_told(rt.alloc(), Fault::from(fault), text, 1)?,
+            "at {text}"
+        );
+    }
+    Ok(())
+}
+
+#[test]
+fn of_packing(rt: HostRuntime) -> Result<(), Fail> {
+    let table = [
+        (PackFault::Settings, "tshls: Settings\n"),
+        (PackFault::Read(0), "tshls: Read 0\n"),
+        (PackFault::ReadLimit(0), "tshls: ReadLimit 0\n"),
+        (PackFault::NoProgram(0), "tshls: NoProgram 0\n"),
+        (PackFault::NoStart(0), "tshls: NoStart 0\n"),
+        (PackFault::LongSegment(0, 3), "tshls: LongSegment 0 3\n"),
+        (PackFault::BigSegment(0, 4), "tshls: BigSegment 0 4\n"),
+        (PackFault::Limit(0), "tshls: Limit 0\n"),
+        (PackFault::Outlet, "tshls: Outlet\n"),
+        (PackFault::NoMemory, "tshls: NoMemory\n"),
+        (PackFault::Held(1, 2), "tshls: Held 1 2\n"),
+    ];
+    for (fault, text) in table {
+        assert!(rt;
+            is_told(rt.alloc(), Fault::from(fault), text, 1)?,
+            "at {text}"
+        );
+    }
+    Ok(())
+}
+
+#[test]
+fn of_checking(rt: HostRuntime) -> Result<(), Fail> {
+    let table = [
+        (CheckingFault::Unread, "tshls: Unread\n"),
+        (CheckingFault::Unwritten, "tshls: Unwritten\n"),
+        (CheckingFault::NoMemory, "tshls: NoMemory\n"),
+        (
+            CheckingFault::Faulty(CheckFault::Text(ListFault::NotProfile(7))),
+            "tshls: NotProfile 7\n",
+        ),
+        (
+            CheckingFault::Faulty(CheckFault::Text(ListFault::NoMemory)),
+            "tshls: NoMemory\n",
+        ),
+        (
+            CheckingFault::Faulty(CheckFault::Segments(UnpackFault::Missing(3))),
+            "tshls: Missing 3\n",
+        ),
+        (
+            CheckingFault::Faulty(CheckFault::Segments(UnpackFault::Closed(4))),
+            "tshls: Closed 4\n",
+        ),
+        (
+            CheckingFault::Faulty(CheckFault::Segments(UnpackFault::NoHead(0))),
+            "tshls: NoHead 0\n",
+        ),
+        (
+            CheckingFault::Faulty(CheckFault::Segments(UnpackFault::NoMemory)),
+            "tshls: NoMemory\n",
+        ),
+    ];
+    for (fault, text) in table {
+        assert!(rt;
+            is_told(rt.alloc(), Fault::from(fault), text, 1)?,
+            "at {text}"
+        );
+    }
+    Ok(())
+}
