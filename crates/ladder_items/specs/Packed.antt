@@ -1,5 +1,5 @@
 -- How a run ends, and what it has given then.
-use Rattle.std.specs.Prelude.{◌≡◌, ℕ, ◌+◌, ◌^◌, ◌<◌, ◌≤◌, ◌⊎◌, List, [], ◌++◌, length, map, sum, Option, Some, None, slice_get}
+use Rattle.std.specs.Prelude.{◌≡◌, ℕ, ◌+◌, ◌^◌, ◌<◌, ◌≤◌, ◌⊎◌, List, [], length, map, sum, Option, Some, None, slice_get}
 use Rattle.std.specs.Option.{unwrap_or}
 use Rattle.std.specs.Io.KnownBytes.{Consumes, IsAtEnd}
 use Rattle.aes_cbc.specs.Block.{AreBytes}
@@ -18,7 +18,7 @@ use Rattle.ladder_items.specs.Ladder.{Ladder, IsAllowed}
 use Rattle.ladder_items.specs.Shown.{Shown, segment_rates, lasting}
 use Rattle.ladder_items.specs.Masters.{peak_rate}
 use Rattle.ladder_items.specs.Items.{Part, part_at, shown_all}
-use Rattle.ladder_items.specs.Weave.{Event, AreLegal, after_all, blocks, none_of, Weaves}
+use Rattle.ladder_items.specs.Weave.{Weaves}
 use Rattle.ladder_items.specs.Putting.{PutSome}
 use Rattle.ladder_items.specs.Lanes.{IsWhole, IsClosed, HasStopped}
 use Rattle.ladder_items.specs.Sources.{SourceSays, HasBegun}
@@ -31,6 +31,9 @@ pub record IsReport (shown : List Shown) (gone : List ℕ) (report : Report) : T
   pub peaks : report.peaks.items ≡ map (λ (s : Shown). peak_rate (peak_of s.target (segment_rates s.rows))) shown
   pub averages : report.averages.items ≡ map (λ (s : Shown). unwrap_or (average_of (segment_rates s.rows)) 0) shown
   pub skipped : report.skipped.items ≡ gone
+
+-- the calling thread sealed all segments itself, and threw none away
+pub record IsAlone (report : Report) : Type 0 where
   pub workers : report.workers.items ≡ []
   pub own : report.own ≡ sum report.counts.items
   pub thrown : report.thrown ≡ 0
@@ -54,17 +57,6 @@ abbrev pub HasGiven : Option Stop → Ladder → ℕ → List ℕ → Part → T
 HasGiven None ladder r stream part = IsClosed ladder r stream part
 HasGiven (Some stop) ladder r stream part = HasStopped stop ladder r stream part
 
--- A run that was stopped in a turn of rendition r: before that turn each rendition had given all that its bytes close, or
--- had stopped, and in the turn one read was made, of r alone.
-pub record StopsAtOnce (ladder : Ladder) (r : ℕ) (streams : List (List ℕ)) (given : List ItemValue) : Type 0 where
-  pub earlier : List (List ℕ)
-  pub events : List Event
-  pub legal : AreLegal (none_of ladder) events
-  pub given_before : (rest : List ItemValue) × (given ≡ blocks ladder (none_of ladder) events ++ rest)
-  pub each : (k : ℕ) → k < length ladder.renditions → (stop : Option Stop) × HasGiven stop ladder k (stream_at earlier k) (part_at (after_all (none_of ladder) events) k)
-  pub piece : (more : List ℕ) × (length more ≤ 18800) × (stream_at streams r ≡ stream_at earlier r ++ more)
-  pub others : (k : ℕ) → (k ≡ r → ⊥) → stream_at streams k ≡ stream_at earlier k
-
 -- The run was stopped: the items put are a beginning of a weave of beginnings.
 pub record IsCutShort {X : Type 0} (left : X → Option (List ℕ)) (fails reads : X → ℕ) (ladder : Ladder) (before now : List X) (old new : Held → Type 0) : Type 0 where
   pub streams : List (List ℕ)
@@ -77,8 +69,6 @@ pub record IsCutShort {X : Type 0} (left : X → Option (List ℕ)) (fails reads
   pub each : (k : ℕ) (a b : X) → slice_get before k ≡ Some a → slice_get now k ≡ Some b →
       HasBegun ladder k (left b) (stream_at streams k) (part_at parts k) × AreBytes (stream_at streams k) × Consumes (left a) (left b) (stream_at streams k)
   pub counts : (k : ℕ) (a b : X) → slice_get before k ≡ Some a → slice_get now k ≡ Some b → (fails b ≤ fails a + 1) × (reads b ≤ reads a + 2 ^ 40)
-  pub in_turn : ℕ
-  pub at_once : StopsAtOnce ladder in_turn streams some.given
 
 -- one rendition as the run left it
 pub record IsLeft {X : Type 0} (left : X → Option (List ℕ)) (fails reads : X → ℕ) (ladder : Ladder) (k : ℕ) (a b : X) (stop : Option Stop) (stream : List ℕ) (part : Part) : Type 0 where

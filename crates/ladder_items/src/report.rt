@@ -1,5 +1,5 @@
 ghost use Rattle.std.specs.Prelude.{◌≡◌, ◌≤◌, ◌+◌, ◌^◌, ℕ, List, Some, false, All, length, map, IfOk, OnOk, [], ◌∷◌, ◌++◌};
-ghost use Rattle.ladder_items.specs.Packed.{IsReport, gone_of};
+ghost use Rattle.ladder_items.specs.Packed.{IsReport, IsAlone, gone_of};
 ghost use Rattle.ladder_items.specs.Shown.{Shown};
 
 use crate::master::rate;
@@ -37,7 +37,8 @@ pub fn report_of(
     requires each { length lanes.now ≡ length playlists.now }
     requires going { All (λ shown. shown.ended ≡ false) playlists.now }
     requires few { length playlists.now ≤ 8 }
-    ensures { IfOk result (IsReport playlists.now (map (λ lane. gone_of lane.stop) lanes.now)) }
+    ensures numbers { IfOk result (IsReport playlists.now (map (λ lane. gone_of lane.stop) lanes.now)) }
+    ensures alone { IfOk result IsAlone }
 {
     let mut report = Report {
         counts: Vec::new(alloc),
@@ -61,6 +62,7 @@ fn add(report: &mut Report, playlists: &Playlists, skipped: u64) -> Result<(), A
     requires room { report.old.own + 2 ^ 64 ≤ 2 ^ 128 }
     ensures added { OnOk result ((shown : List Shown) (gone : List ℕ) → IsReport shown gone report.old →
         IsReport (shown ++ playlists.now ∷ []) (gone ++ skipped ∷ []) report.new) }
+    ensures alone { OnOk result (IsAlone report.old → IsAlone report.new) }
     ensures own { OnOk result (report.new.own ≤ report.old.own + 2 ^ 64) }
 {
     report.counts.push(playlists.count())?;

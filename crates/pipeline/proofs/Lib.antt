@@ -1,3 +1,4 @@
 pub mod Feeding
 pub mod Closing
 pub mod Turns
+pub mod AtOnce

@@ -3,7 +3,8 @@ use Rattle.std.proofs.lemmas.Result.{err_from_is_err_and}
 use Rattle.ladder_items.specs.Ladder.{IsAllowed}
 use Rattle.ladder_items.proofs.Blocks.{shown-going, shown-each}
 use Rattle.ladder_items.proofs.Worlds.{world-first, world-stop, nothing-given, parts-of, parts-length}
-use Rattle.ladder_items.proofs.Endings.{world-halted, world-packed, halted-says}
+use Rattle.ladder_items.proofs.Endings.{world-halted, world-packed, halted-says, at-once}
+use Rattle.pipeline.proofs.AtOnce.{sudden-unheld, told-unheld, none-at-once, stop-at-once}
 use Rattle.pipeline.proofs.serial.pack_serial.Goals as goal
 
 pub returns-in_err-is_allowed-clause-fault : goal.returns-in_err-is_allowed-clause-fault
@@ -68,4 +69,51 @@ returns-clause-ok g c =
     let ok = c.in_ok-turns.ensures.ok in
     world-packed _ _ g.S.Source.failures g.S.Source.reads _ ok.0 _ _ _ _ _ _ c.in_ok-report_of.field-0
     (λ k lane at. c.in_default.ensures.none refl k lane (ap (λ lanes. slice_get lanes k) c.deref.ensures.value ∙ at))
-    (rw (c.deref-3.ensures.value, c.deref-2.ensures.value) at c.in_ok-report_of.ensures) ok.1 ok.2
+    (rw (c.deref-3.ensures.value, c.deref-2.ensures.value) at c.in_ok-report_of.ensures.numbers) ok.1 ok.2
+
+pub returns-in_err-is_allowed-clause-at_once : goal.returns-in_err-is_allowed-clause-at_once
+returns-in_err-is_allowed-clause-at_once g c =
+    let told = err_from_is_err_and c.from_residual.result c.from_residual.ensures.1 in
+    rw told.1 (λ sudden. none-at-once _ _ g.S.Source.failures g.S.Source.reads _ _ _ (λ k. c.closed_plans_begin_all.ensures.none k c.args.settings.now.cut))
+
+pub returns-in_err-lanes-clause-at_once : goal.returns-in_err-lanes-clause-at_once
+returns-in_err-lanes-clause-at_once g c =
+    let told = err_from_is_err_and c.from_residual-in_err-lanes.result c.from_residual-in_err-lanes.ensures.1 in
+    rw told.1 (λ sudden. none-at-once _ _ g.S.Source.failures g.S.Source.reads _ _ _ (λ k. c.closed_plans_begin_all.ensures.none k c.args.settings.now.cut))
+
+pub returns-in_err-playlists-clause-at_once : goal.returns-in_err-playlists-clause-at_once
+returns-in_err-playlists-clause-at_once g c =
+    let told = err_from_is_err_and c.from_residual-in_err-playlists.result c.from_residual-in_err-playlists.ensures.1 in
+    rw told.1 (λ sudden. none-at-once _ _ g.S.Source.failures g.S.Source.reads _ _ _ (λ k. c.closed_plans_begin_all.ensures.none k c.args.settings.now.cut))
+
+pub returns-in-Some-clause-at_once : goal.returns-in-Some-clause-at_once
+returns-in-Some-clause-at_once g c sudden =
+    let allowed : IsAllowed c.args.settings.now × (c.len.result ≡ length c.args.settings.now.renditions) = search rules in
+    let ok = c.in_ok-turns.ensures.ok in
+    stop-at-once _ _ _ _ _ _ _ _ _ _ _ _ ok.1 allowed.0 ok.2
+
+pub returns-in_err-report_of-clause-at_once : goal.returns-in_err-report_of-clause-at_once
+returns-in_err-report_of-clause-at_once g c =
+    let allowed : IsAllowed c.args.settings.now × (c.len.result ≡ length c.args.settings.now.renditions) = search rules in
+    let told = err_from_is_err_and c.from_residual-in_err-report_of.result c.from_residual-in_err-report_of.ensures.1 in
+    rw told.1 (λ sudden. stop-at-once _ _ _ _ _ _ _ _ _ _ _ _ c.in_ok-turns.ensures.ok.1 allowed.0 c.in_ok-turns.ensures.ok.2)
+
+pub returns-in_err-turns-clause-fault : goal.returns-in_err-turns-clause-fault
+returns-in_err-turns-clause-fault g c =
+    let told = err_from_is_err_and c.from_residual-in_err-turns.result c.from_residual-in_err-turns.ensures.1 in
+    rw (told.1, told.2) (at-once _ _ g.S.Source.failures g.S.Source.reads _ _ _ _ _ _ _ _ c.in_err-turns.ensures.fault c.in_err-turns.ensures.err.cut)
+
+pub returns-in_err-turns-clause-at_once : goal.returns-in_err-turns-clause-at_once
+returns-in_err-turns-clause-at_once g c =
+    let told = err_from_is_err_and c.from_residual-in_err-turns.result c.from_residual-in_err-turns.ensures.1 in
+    rw told.1 (λ sudden. c.in_err-turns.ensures.err)
+
+pub returns-in_err-turns-clause-never_held : goal.returns-in_err-turns-clause-never_held
+returns-in_err-turns-clause-never_held g c =
+    let told = err_from_is_err_and c.from_residual-in_err-turns.result c.from_residual-in_err-turns.ensures.1 in
+    rw (told.1, told.2) (λ r n is. sudden-unheld _ _ _ r n c.in_err-turns.ensures.fault is)
+
+pub returns-in-Some-clause-never_held : goal.returns-in-Some-clause-never_held
+returns-in-Some-clause-never_held g c r n is =
+    let some = c.in-Some.ensures.some in
+    told-unheld some.0 some.1.stop c.in-Some.fault r n some.3 is

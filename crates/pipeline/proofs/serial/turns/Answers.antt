@@ -2,7 +2,8 @@ use Rattle.std.proofs.Common.{◌∙◌, ◌<◌, length, slice_get, refl, ap, s
 use Rattle.std.proofs.lemmas.Option.{slice_get_read}
 use Rattle.std.proofs.lemmas.Result.{err_from_is_err_and}
 use Rattle.ladder_items.proofs.Elsewhere.{none-there, some-there}
-use Rattle.ladder_items.proofs.Worlds.{put-back, parts-of, before-of, reads-fit, world-step, world-skip, world-round, world-cut}
+use Rattle.ladder_items.proofs.Worlds.{put-back, parts-of, before-of, reads-fit, world-step, world-skip, world-round}
+use Rattle.pipeline.proofs.AtOnce.{world-cut}
 use Rattle.pipeline.proofs.serial.turns.Goals as goal
 
 pub returns-then-have_stopped-clause-ok : goal.returns-then-have_stopped-clause-ok

@@ -1,0 +1,180 @@
+-- A run that is stopped at once.
+use Rattle.std.proofs.Common.{◌≡◌, ◌∙◌, inl, inr, ℕ, ◌+◌, ◌<◌, ◌≤◌, ◌^◌, List, [], ◌++◌, length, replicate, Option, Some, None, refl, ap, sym, subst, arith}
+use Rattle.std.specs.List.{slice_get}
+use Rattle.std.specs.Io.KnownBytes.{Consumes}
+use Rattle.std.proofs.Math.ListN.{set}
+use Rattle.std.proofs.KnownBytes.{Consumes-trans}
+use Rattle.std.proofs.lemmas.List.{append-nil, length-set, get_or-set_same, get_or-set_other, append_assoc}
+use Rattle.std.proofs.lemmas.Option.{slice_get_within, same_Some}
+use Rattle.std.proofs.lemmas.Bool.{cases_eq}
+use Rattle.std.proofs.lemmas.List.Elements.{All-append}
+use Rattle.aes_cbc.specs.Block.{AreBytes}
+use Rattle.item_io.specs.Outlets.{Held}
+use Rattle.ingest.specs.declared.lane.Lane.{Lane}
+use Rattle.ingest.specs.declared.lane.Stop.{Stop}
+use Rattle.ingest.specs.declared.lane.Stop.TheVariants.{Good, Cut, Read as ReadFailed}
+use Rattle.cutter.specs.declared.fault.CutFault.TheVariants.{NoProgram as HasNoProgram, NoStart as HasNoStart, LongSegment as IsLong, BigSegment as IsBig, Limit as PassesLimit, NoMemory as WantsMemory, Ended}
+use Rattle.ingest.specs.Streams.{closed_of}
+use Rattle.ladder_items.specs.declared.fault.PackFault.{PackFault}
+use Rattle.ladder_items.specs.declared.fault.PackFault.TheVariants.{Held as HeldBack}
+use Rattle.ladder_items.specs.Ladder.{Ladder, IsAllowed}
+use Rattle.ladder_items.specs.Shown.{Shown}
+use Rattle.ladder_items.specs.Items.{Part, no_part, part_at}
+use Rattle.ladder_items.specs.Weave.{AreLegal, after_all, blocks, none_of}
+use Rattle.ladder_items.specs.Putting.{SaysFailures}
+use Rattle.ladder_items.specs.Lanes.{Before, IsClosed, IsCutOff}
+use Rattle.ladder_items.specs.Sources.{HasBegun}
+use Rattle.ladder_items.specs.World.{World, stream_at, turns_of}
+use Rattle.ladder_items.specs.Packed.{HasGiven, told_of}
+use Rattle.ladder_items.proofs.Puts.{grows-more}
+use Rattle.ladder_items.proofs.Rows.{after_all-append, blocks-append, legal-append}
+use Rattle.ladder_items.proofs.Elsewhere.{set-here, set-elsewhere, some-at, all-other}
+use Rattle.ladder_items.proofs.Stages.{says-one, stage-ended, turns-most, turns-now, stage-begins, open-stage, same-fails}
+use Rattle.ladder_items.proofs.Worlds.{parts-of, at-default, stage-at as world-stage, before-of as world-before, world-stop, nothing-given}
+use Rattle.pipeline.specs.OneThread.{IsCutAtOnce}
+
+-- a fault that stops a run at once is told of no segment
+pub sudden-unheld : (e : PackFault) (f g r n : ℕ) → SaysFailures e f g → e ≡ HeldBack r n → ⊥
+sudden-unheld e f g r n says is = subst (λ (d : PackFault). SaysFailures d f g) is says
+
+-- nor is a fault that a rendition's end is told by
+pub told-unheld : (k : ℕ) (stop : Option Stop) (e : PackFault) (r n : ℕ) → told_of k stop ≡ Some e → e ≡ HeldBack r n → ⊥
+told-unheld k None e r n told is = cc
+told-unheld k (Some (Good gone)) e r n told is = cc
+told-unheld k (Some ReadFailed) e r n told is = cc
+told-unheld k (Some (Cut HasNoProgram)) e r n told is = cc
+told-unheld k (Some (Cut HasNoStart)) e r n told is = cc
+told-unheld k (Some (Cut (IsLong m))) e r n told is = cc
+told-unheld k (Some (Cut (IsBig m))) e r n told is = cc
+told-unheld k (Some (Cut PassesLimit)) e r n told is = cc
+told-unheld k (Some (Cut WantsMemory)) e r n told is = cc
+told-unheld k (Some (Cut Ended)) e r n told is = cc
+
+module _ (X : Type 0) (left : X → Option (List ℕ)) (fails reads : X → ℕ) (ladder : Ladder) where
+  -- what a rendition had given
+  given-at : (rounds next : ℕ) (before now : List X) (lanes : List Lane) (shown : List Shown) (x y : Held → Type 0)
+      (w : World left fails reads ladder rounds next before now lanes shown x y) (k : ℕ) → k < length ladder.renditions
+      → (stop : Option Stop) × HasGiven stop ladder k (stream_at w.streams k) (part_at (parts-of ladder w.events) k)
+  given-at rounds next before now lanes shown x y w k within =
+      let a = some-at before k (omega (arith, within, w.same_before)) in
+      let b = some-at now k (omega (arith, within, w.same_now)) in
+      let m = some-at lanes k (omega (arith, within, w.same_lanes)) in
+      (m.0.stop, stage-ended ladder k m.0.stop m.0.intake _ _ (w.each k a.0 b.0 m.0 a.1 b.1 m.1).stage)
+
+  -- a turn was cut off
+  pub world-cut : (rounds next r : ℕ) (before now : List X) (lanes : List Lane) (shown : List Shown) (x y z : Held → Type 0) (b c : X) (lane : Lane)
+      → slice_get now r ≡ Some b → slice_get lanes r ≡ Some lane → lane.stop ≡ None
+      → ((parts : List Part) → Before ladder r parts shown lane.intake → (more : List ℕ) × Consumes (left b) (left c) more × (length more ≤ 18800) × AreBytes more
+      × IsCutOff ladder r parts y z (HasBegun ladder r (left c) (lane.intake.stream ++ more)))
+      → fails c ≡ fails b → reads c ≤ reads b + 1 → next ≡ r → rounds < 2 ^ 40
+      → IsAllowed ladder → World left fails reads ladder rounds next before now lanes shown x y → IsCutAtOnce left fails reads ladder before (set now r c) x z
+  world-cut rounds next r before now lanes shown x y z b c lane f g goes_on turn same_fails one_read mine_next below allowed w =
+      let s = world-stage X left fails reads ladder rounds next before now lanes shown x y w r b lane f g in
+      let now_turns : turns_of rounds next r ≡ rounds = ap (λ n. turns_of rounds n r) mine_next ∙ turns-now rounds r in
+      let o = open-stage X left fails reads ladder r _ s.0 b lane _ _ goes_on s.2 in
+      let t = turn (parts-of ladder w.events) (world-before X left fails reads ladder rounds next before now lanes shown x y w r b lane f g goes_on) in
+      let cut = t.4 in
+      let bytes : AreBytes (lane.intake.stream ++ t.0) = All-append (λ (v : ℕ). v < 256) lane.intake.stream t.0 (subst AreBytes (sym o.1) s.2.bytes) t.3 in
+      let stream = lane.intake.stream ++ t.0 in
+      let all = after_all-append (none_of ladder) w.events cut.events in
+      let here : r < length w.streams = omega (arith, slice_get_within now r b f, w.same_now, w.same_streams) in
+      let mine : stream_at (set w.streams r stream) r ≡ stream = get_or-set_same w.streams r stream [] here in
+      let read : Consumes (left s.0) (left c) stream =
+      subst (λ (l : List ℕ). Consumes (left s.0) (left c) (l ++ t.0)) (sym o.1) (Consumes-trans (left s.0) (left b) (left c) _ t.0 s.2.read t.1) in
+      let begun = subst (λ (ps : List Part). HasBegun ladder r (left c) stream (part_at ps r)) (sym all) cut.begins in
+      let counted : (fails c ≤ fails s.0 + 1) × (reads c ≤ reads s.0 + 2 ^ 40) =
+      (omega (arith, same_fails, same-fails X left fails reads ladder r _ s.0 b lane _ _ goes_on s.2), omega (arith, one_read, s.2.few_reads, now_turns, below)) in
+      let both = subst (λ (l : List ℕ). HasBegun ladder r (left c) l (part_at (parts-of ladder (w.events ++ cut.events)) r) × AreBytes l × Consumes (left s.0) (left c) l) (sym mine) (begun, bytes, read) in
+      record {
+        cut = record {
+          streams = set w.streams r stream;
+          parts = parts-of ladder (w.events ++ cut.events);
+          items = blocks ladder (none_of ladder) (w.events ++ cut.events);
+          weave = record { events = w.events ++ cut.events; legal = legal-append (none_of ladder) w.events cut.events w.legal cut.are_of.legal; parts_are = refl; items_are = refl };
+          some = record {
+            given = blocks ladder (none_of ladder) w.events ++ cut.some.given;
+            rest = cut.some.rest;
+            all = blocks-append ladder (none_of ladder) w.events cut.events
+                ∙ (ap (λ items. blocks ladder (none_of ladder) w.events ++ items) cut.some.all ∙ sym (append_assoc (blocks ladder (none_of ladder) w.events) cut.some.given cut.some.rest));
+            grows = grows-more x y z (blocks ladder (none_of ladder) w.events) cut.some.given w.grows cut.some.grows;
+          };
+          allowed = inr allowed;
+          same_now = length-set _ _ _ ∙ (w.same_now ∙ sym w.same_before);
+          each = λ k a d e h.
+              elim (cases_eq k r) as (λ _. HasBegun ladder k (left d) (stream_at (set w.streams r stream) k) (part_at (parts-of ladder (w.events ++ cut.events)) k) × AreBytes (stream_at (set w.streams r stream) k) × Consumes (left a) (left d) (stream_at (set w.streams r stream) k)) [
+                | inl q ↦ subst (λ (j : ℕ). slice_get before j ≡ Some a → slice_get (set now r c) j ≡ Some d
+                    → HasBegun ladder j (left d) (stream_at (set w.streams r stream) j) (part_at (parts-of ladder (w.events ++ cut.events)) j) × AreBytes (stream_at (set w.streams r stream) j) × Consumes (left a) (left d) (stream_at (set w.streams r stream) j)) (sym q)
+                    (λ e h. subst (λ (v : X). HasBegun ladder r (left d) (stream_at (set w.streams r stream) r) (part_at (parts-of ladder (w.events ++ cut.events)) r) × AreBytes (stream_at (set w.streams r stream) r) × Consumes (left v) (left d) (stream_at (set w.streams r stream) r)) (same_Some _ _ (sym s.1 ∙ e))
+                    (subst (λ (v : X). HasBegun ladder r (left v) (stream_at (set w.streams r stream) r) (part_at (parts-of ladder (w.events ++ cut.events)) r) × AreBytes (stream_at (set w.streams r stream) r) × Consumes (left s.0) (left v) (stream_at (set w.streams r stream) r)) (set-here now r c d h) both)) e h
+                | inr q ↦
+                    let within : k < length lanes = omega (arith, slice_get_within before k a e, w.same_before, w.same_lanes) in
+                    let m = some-at lanes k within in
+                    let u = w.each k a d m.0 e (sym (set-elsewhere now r k c q) ∙ h) m.1 in
+                    let part = ap (λ (ps : List Part). part_at ps k) all ∙ all-other r k (parts-of ladder w.events) cut.events cut.are_of.of_r q in
+                    subst (λ (l : List ℕ). HasBegun ladder k (left d) l (part_at (parts-of ladder (w.events ++ cut.events)) k) × AreBytes l × Consumes (left a) (left d) l) (sym (get_or-set_other w.streams r k stream [] q))
+                    (subst (λ (p : Part). HasBegun ladder k (left d) (stream_at w.streams k) p) (sym part) (stage-begins left fails ladder k m.0.stop m.0.intake _ _ a d u.stage u.says), u.bytes, u.read)
+              ];
+          counts = λ k a d e h.
+              elim (cases_eq k r) as (λ _. (fails d ≤ fails a + 1) × (reads d ≤ reads a + 2 ^ 40)) [
+                | inl q ↦ subst (λ (j : ℕ). slice_get before j ≡ Some a → slice_get (set now r c) j ≡ Some d → (fails d ≤ fails a + 1) × (reads d ≤ reads a + 2 ^ 40)) (sym q)
+                    (λ e h. subst (λ (v : X). (fails d ≤ fails v + 1) × (reads d ≤ reads v + 2 ^ 40)) (same_Some _ _ (sym s.1 ∙ e))
+                    (subst (λ (v : X). (fails v ≤ fails s.0 + 1) × (reads v ≤ reads s.0 + 2 ^ 40)) (set-here now r c d h) counted)) e h
+                | inr q ↦
+                    let within : k < length lanes = omega (arith, slice_get_within before k a e, w.same_before, w.same_lanes) in
+                    let m = some-at lanes k within in
+                    let u = w.each k a d m.0 e (sym (set-elsewhere now r k c q) ∙ h) m.1 in
+                    (says-one left fails k ladder.cut _ m.0.stop a d u.says, omega (arith, u.few_reads, turns-most rounds next k, below))
+              ];
+        };
+        in_turn = r;
+        at_once = record {
+          earlier = w.streams;
+          events = w.events;
+          legal = w.legal;
+          given_before = (cut.some.given, refl);
+          each = λ k within. given-at rounds next before now lanes shown x y w k within;
+          piece = (t.0, t.2, mine ∙ ap (λ (l : List ℕ). l ++ t.0) o.1);
+          others = λ k q. get_or-set_other w.streams r k stream [] q;
+        };
+      }
+
+  -- the run was stopped between two turns
+  pub stop-at-once : (rounds : ℕ) (before now : List X) (lanes : List Lane) (shown : List Shown) (x y : Held → Type 0) → rounds ≤ 2 ^ 40
+      → IsAllowed ladder → World left fails reads ladder rounds 0 before now lanes shown x y → IsCutAtOnce left fails reads ladder before now x y
+  unfolding world-stop
+  stop-at-once rounds before now lanes shown x y few allowed w = record {
+    cut = world-stop X left fails reads ladder rounds before now lanes shown x y few allowed w;
+    in_turn = 0;
+    at_once = record {
+      earlier = w.streams;
+      events = w.events;
+      legal = w.legal;
+      given_before = ([], sym (append-nil _));
+      each = λ k within. given-at rounds 0 before now lanes shown x y w k within;
+      piece = ([], omega arith, sym (append-nil _));
+      others = λ k q. refl;
+    };
+  }
+
+  -- nothing was read or given
+  pub none-at-once : (before : List X) (x : Held → Type 0) → ((k : ℕ) → closed_of k ladder.cut [] ≡ []) → IsCutAtOnce left fails reads ladder before before x x
+  unfolding nothing-given after_all blocks AreLegal
+  none-at-once before x none =
+      let n = length ladder.renditions in
+      record {
+        cut = nothing-given X left fails reads ladder before x none;
+        in_turn = 0;
+        at_once = record {
+          earlier = replicate n [];
+          events = [];
+          legal = tt;
+          given_before = ([], refl);
+          each = λ k within. (
+            None,
+            subst (λ (l : List ℕ). IsClosed ladder k l (part_at (none_of ladder) k)) (sym (at-default n k []))
+                (subst (λ (p : Part). IsClosed ladder k [] p) (sym (at-default n k no_part)) (record { plans = sym (none k); ended = refl })),
+          );
+          piece = ([], omega arith, sym (append-nil _));
+          others = λ k q. refl;
+        };
+      }

@@ -1,0 +1,27 @@
+-- What is true of a run on one thread alone.
+use Rattle.std.specs.Prelude.{◌≡◌, ℕ, ◌<◌, ◌≤◌, List, ◌++◌, length, Option}
+use Rattle.item_io.specs.Items.{ItemValue}
+use Rattle.item_io.specs.Outlets.{Held}
+use Rattle.ingest.specs.declared.lane.Stop.{Stop}
+use Rattle.ladder_items.specs.Ladder.{Ladder}
+use Rattle.ladder_items.specs.Items.{part_at}
+use Rattle.ladder_items.specs.Weave.{Event, AreLegal, after_all, blocks, none_of}
+use Rattle.ladder_items.specs.World.{stream_at}
+use Rattle.ladder_items.specs.Packed.{HasGiven, IsCutShort}
+
+-- A run that was stopped in a turn of rendition r: before that turn each rendition had given all that its bytes close, or
+-- had stopped, and in the turn one read was made, of r alone.
+pub record StopsAtOnce (ladder : Ladder) (r : ℕ) (streams : List (List ℕ)) (given : List ItemValue) : Type 0 where
+  pub earlier : List (List ℕ)
+  pub events : List Event
+  pub legal : AreLegal (none_of ladder) events
+  pub given_before : (rest : List ItemValue) × (given ≡ blocks ladder (none_of ladder) events ++ rest)
+  pub each : (k : ℕ) → k < length ladder.renditions → (stop : Option Stop) × HasGiven stop ladder k (stream_at earlier k) (part_at (after_all (none_of ladder) events) k)
+  pub piece : (more : List ℕ) × (length more ≤ 18800) × (stream_at streams r ≡ stream_at earlier r ++ more)
+  pub others : (k : ℕ) → (k ≡ r → ⊥) → stream_at streams k ≡ stream_at earlier k
+
+-- The run was stopped at once: the items put are a beginning of a weave of beginnings, and nothing was read behind them.
+pub record IsCutAtOnce {X : Type 0} (left : X → Option (List ℕ)) (fails reads : X → ℕ) (ladder : Ladder) (before now : List X) (old new : Held → Type 0) : Type 0 where
+  pub cut : IsCutShort left fails reads ladder before now old new
+  pub in_turn : ℕ
+  pub at_once : StopsAtOnce ladder in_turn cut.streams cut.some.given
