@@ -1,16 +1,20 @@
 -- What a meter keeps when it takes a row, and what it tells.
-use Rattle.std.proofs.Common.{◌≡◌, ℕ, ◌+◌, ◌*◌, ◌^◌, ◌<◌, ◌≤◌, Bool, true, List, [], ◌∷◌, ◌++◌, length, Option, Some, None, refl, sym, ap, ◌∙◌, inl, inr, arith, length-append}
+use Rattle.std.proofs.Common.{◌≡◌, ℕ, ◌+◌, ◌*◌, ◌^◌, ◌<◌, ◌≤◌, Bool, true, List, [], ◌∷◌, ◌++◌, length, take, drop, Option, Some, None, refl, sym, ap, ◌∙◌, inl, inr, arith, length-append}
 use Rattle.std.proofs.lemmas.Bool.{cases_lt, eqb-true, eq-eqb}
+use Rattle.std.proofs.lemmas.List.{take_all}
 use Rattle.std.proofs.lemmas.List.Elements.{All-nil, All-push}
 use Rattle.bandwidth.specs.declared.run.Row.{Row}
 use Rattle.bandwidth.specs.declared.run.Run.{Run}
 use Rattle.bandwidth.specs.declared.meter.Meter.TheInside.{Inside}
 use Rattle.bandwidth.specs.Runs.{IsRow, AreRows, bytes, micros, run, rate, is_in_range}
 use Rattle.bandwidth.specs.Peaks.{is_single, best_of, best, peak_from, peak_of, average_of}
-use Rattle.bandwidth.specs.Steps.{AreSmall, IsOf, BestOf, IsRangedToLast}
-use Rattle.bandwidth.specs.Kept.{IsTied}
+use Rattle.bandwidth.specs.Steps.{AreSmall, IsOf, BestOf}
+use Rattle.bandwidth.specs.Gaps.{IsPlace, IsWindow, IsUpTo, no_place}
+use Rattle.bandwidth.specs.declared.place.Place.{Place}
+use Rattle.bandwidth.specs.State.{IsTied}
 use Rattle.bandwidth.proofs.BestOf.{AreBoth, BestOf-both, BestOf-one}
 use Rattle.bandwidth.proofs.Rows.{bytes-none, micros-none, bytes-push, micros-push, bytes-le, bytes-few, micros-ge, micros-le, run-push, run-single, IsOf-lasts}
+use Rattle.bandwidth.proofs.Moves.{none_before}
 use Rattle.bandwidth.proofs.PeakOf.{IsOf-run, best_is}
 
 -- a run of the rows before is one of all
@@ -32,19 +36,6 @@ IsOf-before p rows x r is below = record {
 -- another ends at the last row
 last : (p : Run → Bool) (rows : List Row) (x : Row) (r : Run) → IsOf p (rows ++ x ∷ []) r → length rows ≤ r.to → r.to ≡ length rows
 last p rows x r is behind = omega (arith, is.is_run.1, length-append rows (x ∷ []), behind)
-
--- the runs in range of one row more
-both_ranged : (target : ℕ) (rows : List Row) (x : Row) → AreRows (rows ++ x ∷ []) →
-    AreBoth (IsOf (is_in_range target) rows) (IsRangedToLast target (rows ++ x ∷ []) 0) (IsOf (is_in_range target) (rows ++ x ∷ []))
-both_ranged target rows x are = record {
-  split = λ r is. elim (cases_lt r.to (length rows)) [
-    | inl below ↦ inl (IsOf-before (is_in_range target) rows x r is below)
-    | inr behind ↦ inr (record { is_of = is; last = omega (arith, last (is_in_range target) rows x r is behind, length-append rows (x ∷ [])); at_least = omega arith })
-  ];
-  left = λ r is. IsOf-push (is_in_range target) rows x r is;
-  right = λ r is. is.is_of;
-  lasts = λ r is. IsOf-lasts (is_in_range target) (rows ++ x ∷ []) r are is;
-}
 
 -- a single run ends where it begins
 single_ends : (r : Run) → is_single r ≡ true → r.from ≡ r.to
@@ -77,76 +68,104 @@ empty : (j : ℕ) → j < length {A = Row} [] → ⊥
 empty j below = omega (arith, below)
 
 -- a meter that was pushed nothing
-pub IsTied-none : (m : Inside) → 1 ≤ m.target → m.target ≤ 3600 → m.rows.items ≡ [] → m.bytes ≡ 0 → m.micros ≡ 0 → m.ranged ≡ None → m.single ≡ None →
-    IsTied m
-IsTied-none m least most none no_bytes no_micros no_ranged no_single = record {
+pub IsTied-none : (m : Inside) → 1 ≤ m.target → m.target ≤ 3600 → m.pushed.items ≡ [] → m.total ≡ no_place → m.ranged ≡ None → m.single ≡ None →
+    IsWindow m.target [] None m.window → IsTied m
+IsTied-none m least most none no_total no_ranged no_single window = record {
   least = least;
   most = most;
   are = rw none (All-nil IsRow);
   few = rw none (omega arith);
-  bytes_are = no_bytes ∙ sym (ap bytes none ∙ bytes-none);
-  micros_are = no_micros ∙ sym (ap micros none ∙ micros-none);
+  total = rw (no_total, none) (record { within = omega arith; bytes_are = sym bytes-none; micros_are = sym micros-none });
+  end = rw (no_total, none) refl;
+  window = rw (none, no_ranged) window;
   ranged = rw (no_ranged, none) (λ r is. empty r.to is.is_run.1);
   ranged_small = rw no_ranged tt;
   single = rw (no_single, none) (λ r is. empty r.to is.is_run.1);
   single_small = rw no_single tt;
 }
 
+-- the place behind one row more
+pub IsPlace-more : (rows : List Row) (x : Row) (p q : Place) → IsPlace rows p → p.at ≡ length rows → q.at ≡ p.at + 1 → q.bytes ≡ p.bytes + x.size → q.micros ≡ p.micros + x.micros →
+    IsPlace (rows ++ x ∷ []) q × (q.at ≡ length (rows ++ x ∷ []))
+IsPlace-more rows x p q is end at more_bytes more_micros =
+    let size : length (rows ++ x ∷ []) ≡ length rows + 1 = length-append rows (x ∷ []) in
+    let whole : take q.at (rows ++ x ∷ []) ≡ rows ++ x ∷ [] = take_all q.at (rows ++ x ∷ []) (omega (arith, at, end, size)) in
+    let before : take p.at rows ≡ rows = take_all p.at rows (omega (arith, end)) in (
+      record {
+        within = omega (arith, at, end, size);
+        bytes_are = omega (arith, more_bytes, is.bytes_are, ap bytes before, ap bytes whole, bytes-push rows x);
+        micros_are = omega (arith, more_micros, is.micros_are, ap micros before, ap micros whole, micros-push rows x);
+      },
+      omega (arith, at, end, size),
+    )
+
+-- the best run in range of the rows before, among those of all that begin before the window
+pub up_to_first : (target : ℕ) (rows : List Row) (x : Row) (first : ℕ) (o : Option Run) → ((i : ℕ) → i < first → target * 3000000 < micros (drop i (rows ++ x ∷ [])) * 2) →
+    BestOf (IsOf (is_in_range target) rows) o → BestOf (IsUpTo target (rows ++ x ∷ []) first) o
+up_to_first target rows x first o least best =
+    none_before target rows x first o least (IsOf-push (is_in_range target) rows x) (IsOf-before (is_in_range target) rows x) best
+
 -- a meter that took one row more
-pub record IsOneMore (m n : Inside) (x : Row) (ranged : Option Run) (single : Run) : Type 0 where
+pub record IsOneMore (m n : Inside) (x : Row) (single : Run) : Type 0 where
   pub target_same : n.target ≡ m.target
-  pub rows_grown : n.rows.items ≡ m.rows.items ++ x ∷ []
-  pub bytes_grown : n.bytes ≡ m.bytes + x.size
-  pub micros_grown : n.micros ≡ m.micros + x.micros
-  pub best_ranged : BestOf (IsRangedToLast m.target (m.rows.items ++ x ∷ []) 0) ranged
-  pub ranged_is : n.ranged ≡ best_of m.ranged ranged
+  pub pushed_grown : n.pushed.items ≡ m.pushed.items ++ x ∷ []
+  pub total : IsPlace (m.pushed.items ++ x ∷ []) n.total
+  pub end : n.total.at ≡ length (m.pushed.items ++ x ∷ [])
+  pub window : IsWindow m.target (m.pushed.items ++ x ∷ []) n.ranged n.window
+  pub ranged : BestOf (IsOf (is_in_range m.target) (m.pushed.items ++ x ∷ [])) n.ranged
   pub ranged_small : AreSmall n.ranged
-  pub single_run : single ≡ record { from = length m.rows.items; to = length m.rows.items; bytes = x.size; micros = x.micros }
+  pub single_run : single ≡ record { from = length m.pushed.items; to = length m.pushed.items; bytes = x.size; micros = x.micros }
   pub single_is : n.single ≡ best_of m.single (Some single)
   pub single_small : AreSmall n.single
 
-pub IsTied-one : (m n : Inside) (x : Row) (ranged : Option Run) (single : Run) → IsTied m → length m.rows.items < 2 ^ 52 → IsRow x →
-    IsOneMore m n x ranged single → IsTied n
-IsTied-one m n x ranged single tied few row more =
-    let are : AreRows (m.rows.items ++ x ∷ []) = All-push IsRow m.rows.items x tied.are row in
-    let best = BestOf-both (IsOf (is_in_range m.target) m.rows.items) (IsRangedToLast m.target (m.rows.items ++ x ∷ []) 0) (IsOf (is_in_range m.target) (m.rows.items ++ x ∷ []))
-    (both_ranged m.target m.rows.items x are) m.ranged ranged tied.ranged more.best_ranged in
-    let best_single = BestOf-both (IsOf is_single m.rows.items) (λ r. r ≡ single) (IsOf is_single (m.rows.items ++ x ∷ []))
-    (both_single m.rows.items x single are more.single_run) m.single (Some single) tied.single (BestOf-one single) in
+pub IsTied-one : (m n : Inside) (x : Row) (single : Run) → IsTied m → length m.pushed.items < 2 ^ 52 → IsRow x → IsOneMore m n x single → IsTied n
+IsTied-one m n x single tied few row more =
+    let rows : List Row = m.pushed.items in
+    let are : AreRows (rows ++ x ∷ []) = All-push IsRow rows x tied.are row in
+    let best_single = BestOf-both (IsOf is_single rows) (λ r. r ≡ single) (IsOf is_single (rows ++ x ∷ []))
+    (both_single rows x single are more.single_run) m.single (Some single) tied.single (BestOf-one single) in
     record {
       least = rw more.target_same tied.least;
       most = rw more.target_same tied.most;
-      are = rw more.rows_grown are;
-      few = omega (arith, ap length more.rows_grown, length-append m.rows.items (x ∷ []), few);
-      bytes_are = omega (arith, more.bytes_grown, tied.bytes_are, ap bytes more.rows_grown, bytes-push m.rows.items x);
-      micros_are = omega (arith, more.micros_grown, tied.micros_are, ap micros more.rows_grown, micros-push m.rows.items x);
-      ranged = rw (more.ranged_is, more.target_same, more.rows_grown) best;
+      are = rw more.pushed_grown are;
+      few = omega (arith, ap length more.pushed_grown, length-append rows (x ∷ []), few);
+      total = rw more.pushed_grown more.total;
+      end = rw more.pushed_grown more.end;
+      window = rw (more.target_same, more.pushed_grown) more.window;
+      ranged = rw (more.target_same, more.pushed_grown) more.ranged;
       ranged_small = more.ranged_small;
-      single = rw (more.single_is, more.rows_grown) best_single;
+      single = rw (more.single_is, more.pushed_grown) best_single;
       single_small = more.single_small;
     }
 
--- the sums stay far below 2^128
-pub micros_below : (m : Inside) → IsTied m → m.micros ≤ 2 ^ 84
-micros_below m tied = omega (arith, tied.micros_are, tied.few, micros-le m.rows.items tied.are)
+-- the totals are the sums of all rows
+pub total_bytes : (m : Inside) → IsTied m → m.total.bytes ≡ bytes m.pushed.items
+total_bytes m tied = tied.total.bytes_are ∙ ap bytes (take_all m.total.at m.pushed.items (omega (arith, tied.end)))
 
-pub bytes_below : (m : Inside) → IsTied m → m.bytes ≤ 2 ^ 84
-bytes_below m tied = omega (arith, tied.bytes_are, tied.few, bytes-few m.rows.items tied.are)
+pub total_micros : (m : Inside) → IsTied m → m.total.micros ≡ micros m.pushed.items
+total_micros m tied = tied.total.micros_are ∙ ap micros (take_all m.total.at m.pushed.items (omega (arith, tied.end)))
+
+-- the sums stay far below 2^128
+pub micros_below : (m : Inside) → IsTied m → m.total.micros ≤ 2 ^ 84
+micros_below m tied = omega (arith, total_micros m tied, tied.few, micros-le m.pushed.items tied.are)
+
+pub bytes_below : (m : Inside) → IsTied m → m.total.bytes ≤ 2 ^ 84
+bytes_below m tied = omega (arith, total_bytes m tied, tied.few, bytes-few m.pushed.items tied.are)
 
 -- and the rate of all rows fits
-pub bytes_at_most : (m : Inside) → IsTied m → m.bytes ≤ 2 ^ 32 * m.micros
-bytes_at_most m tied = omega (arith, tied.bytes_are, tied.micros_are, bytes-le m.rows.items tied.are)
+pub bytes_at_most : (m : Inside) → IsTied m → m.total.bytes ≤ 2 ^ 32 * m.total.micros
+bytes_at_most m tied = omega (arith, total_bytes m tied, total_micros m tied, bytes-le m.pushed.items tied.are)
 
 -- some rows last some time
-pub micros_some : (m : Inside) → IsTied m → 0 < length m.rows.items → 0 < m.micros
-micros_some m tied some = omega (arith, tied.micros_are, micros-ge m.rows.items tied.are, some)
+pub micros_some : (m : Inside) → IsTied m → 0 < length m.pushed.items → 0 < m.total.micros
+micros_some m tied some = omega (arith, total_micros m tied, micros-ge m.pushed.items tied.are, some)
 
 -- the peak is that of the best runs kept
-pub peak_is : (m : Inside) → IsTied m → peak_from m.ranged m.single ≡ peak_of m.target m.rows.items
+pub peak_is : (m : Inside) → IsTied m → peak_from m.ranged m.single ≡ peak_of m.target m.pushed.items
 unfolding peak_of
 peak_is m tied =
-    ap (λ (b : Option Run). peak_from b m.single) (best_is (is_in_range m.target) m.rows.items m.ranged tied.are tied.ranged)
-    ∙ ap (λ (b : Option Run). peak_from (best (is_in_range m.target) m.rows.items) b) (best_is is_single m.rows.items m.single tied.are tied.single)
+    ap (λ (b : Option Run). peak_from b m.single) (best_is (is_in_range m.target) m.pushed.items m.ranged tied.are tied.ranged)
+    ∙ ap (λ (b : Option Run). peak_from (best (is_in_range m.target) m.pushed.items) b) (best_is is_single m.pushed.items m.single tied.are tied.single)
 
 -- the average of some rows
 pub average-some : (rows : List Row) → 0 < length rows → Some (rate (bytes rows) (micros rows)) ≡ average_of rows

@@ -2,4 +2,5 @@ pub mod Runs
 pub mod Peaks
 pub mod Pushed
 pub mod Steps
-pub mod Kept
+pub mod Gaps
+pub mod State

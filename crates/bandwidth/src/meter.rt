@@ -2,8 +2,11 @@ ghost use Rattle.std.specs.Prelude.{◌≡◌, ◌+◌, ◌*◌, ◌<◌, ◌≤
 ghost use Rattle.bandwidth.specs.Peaks.{peak_of, average_of};
 ghost use Rattle.bandwidth.specs.Steps.{IsSmall};
 
-use crate::best::{best_of, best_to_last};
+use crate::best::best_of;
+use crate::place::Place;
 use crate::run::{Row, Run, rate_of};
+use crate::window::Window;
+use ghost_list::GhostList;
 use std::alloc::{AllocError, Global};
 use std::marker::Model;
 
@@ -23,17 +26,21 @@ pub struct Peak {
 /// Measures the peak and the average bit rate of the rows that it is pushed, which are the segments of a playlist or
 /// its I-frames (RFC 8216, 4.1 and 4.3.4.2).
 ///
-/// Clauses see a meter as its target and the list of all rows that it was pushed. It keeps all of them, but a push
-/// looks only at the last ones, at each of those within one and a half of the target and at one more: a few of the
-/// segments or I-frames of a usual stream, as many as there are of one with an I-frame in every packet.
+/// Clauses see a meter as its target and the list of all rows that it was pushed, and its peak and average are proved to
+/// be those of that list. It keeps the sums of all rows, the best run in range, the best row, and a window: of single
+/// rows those alone from which on the rows last at most one and a half of the target. Its invariant says so.
+///
+/// That a push takes a constant number of steps on average, whatever the rows, is not proved; the type of the window
+/// says why it does.
 #[derive(Drop)]
 pub struct Meter {
     target: u64,
-    rows: Vec<Row>,
-    bytes: u128,
-    micros: u128,
+    /// The place behind all rows, with their sums.
+    total: Place,
+    window: Window,
     ranged: Option<Run>,
     single: Option<Run>,
+    pushed: GhostList<Row>,
 }
 
 impl Model for Meter {
@@ -41,9 +48,9 @@ impl Model for Meter {
 
     ghost Value = { Pushed };
 
-    ghost use Rattle.bandwidth.specs.Kept.{pushed, IsTied};
+    ghost use Rattle.bandwidth.specs.State.{meter_value, IsTied};
 
-    ghost view = { pushed };
+    ghost view = { meter_value };
 
     ghost invariant = { IsTied };
 }
@@ -57,11 +64,15 @@ impl Meter {
     {
         Meter {
             target,
-            rows: Vec::new(alloc),
-            bytes: 0,
-            micros: 0,
+            total: Place {
+                at: 0,
+                bytes: 0,
+                micros: 0,
+            },
+            window: Window::new(alloc, target),
             ranged: None,
             single: None,
+            pushed: GhostList::new(),
         }
     }
 
@@ -75,19 +86,25 @@ impl Meter {
             (self.new ≡ record self.old { rows = self.old.rows ++ record { size = size; micros = micros } ∷ [] }) }
         ensures err { OnErr result (self.new ≡ self.old) }
     {
-        let at = self.rows.len() as u64;
-        self.rows.push(Row { size, micros })?;
+        self.window.push(self.total)?;
+        self.pushed.push(&Row { size, micros });
         let single = Run {
-            from: at,
-            to: at,
+            from: self.total.at,
+            to: self.total.at,
             bytes: u128::from(size),
             micros,
         };
-        let ranged = best_to_last(self.target, &self.rows);
-        self.ranged = best_of(self.ranged, ranged);
+        self.total = Place {
+            at: self.total.at + 1,
+            bytes: self.total.bytes + u128::from(size),
+            micros: self.total.micros + u128::from(micros),
+        };
+        self.window
+            .move_on(self.target, self.total, self.ranged, &self.pushed);
+        self.ranged = self
+            .window
+            .look(self.target, self.total, self.ranged, &self.pushed);
         self.single = best_of(self.single, Some(single));
-        self.bytes += u128::from(size);
-        self.micros += u128::from(micros);
         Ok(())
     }
 
@@ -108,10 +125,10 @@ impl Meter {
     pub fn average(&self) -> Option<u64>
         ensures { result ≡ average_of self.now.rows }
     {
-        if self.rows.is_empty() {
+        if self.total.at == 0 {
             return None;
         }
-        Some(rate_of(self.bytes, self.micros))
+        Some(rate_of(self.total.bytes, self.total.micros))
     }
 }
 
