@@ -81,4 +81,5 @@ def main():
         (folder / f"{name}.ts").write_bytes(data)
 
 
-main()
+if __name__ == "__main__":
+    main()
