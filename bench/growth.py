@@ -20,7 +20,7 @@ from standard_stream import every, stream
 
 best = functools.partial(best_of, 3)
 SECONDS = 3
-FRAMES = 16_000
+FRAMES = 64_000
 
 
 def peak_memory(command, file):
