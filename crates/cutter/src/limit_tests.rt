@@ -1,7 +1,7 @@
 //! The number behind which no segment begins: 2^32 - 2 is the last.
 
 use crate::fixtures::Step::{Key, Pat, Pmt};
-use crate::fixtures::{SETTINGS, stream};
+use crate::fixtures::{SETTINGS, is_allowed, stream};
 use crate::following::{Arrival, look_behind, watch_packet};
 use crate::going::Going;
 use crate::place::place;
@@ -14,6 +14,9 @@ use std::test::Fail;
 
 /// What a cut answers behind a segment of this number.
 fn cut_behind(alloc: Global, number: u32, settings: CutSettings) -> Result<Option<u64>, CutFault> {
+    if !is_allowed(settings) {
+        return Ok(None);
+    }
     let mut watch = Watch::new(alloc, None);
     let mut clock = Clock::new(900_000);
     let packets = stream(alloc, &[Pat, Pmt, Key(540_000)])?;

@@ -167,9 +167,7 @@ fn a_finished_reader_stands_as_a_new_one(rt: HostRuntime) -> Result<(), Fail> {
     assert_eq!(rt; reader.kept(), 0);
     assert_eq!(rt; reader.finish(&mut first)?, Skipped { bytes: 0 });
     let mut second = Vec::new(alloc);
-    reader.feed(&bytes[..376], &mut second)?;
-    assert_eq!(rt; (second.len(), reader.kept()), (0, 376));
-    reader.feed(&bytes[376..], &mut second)?;
+    reader.feed(&bytes, &mut second)?;
     assert_eq!(rt; reader.finish(&mut second)?, Skipped { bytes: 0 });
     assert_eq!(rt; first.as_flattened(), bytes.as_slice());
     assert_eq!(rt; second.as_flattened(), bytes.as_slice());
