@@ -22,4 +22,4 @@ pub use number::{micros, push_decimal, push_seconds, rounded_seconds};
 pub use uri::{
     MASTER_URI, push_escaped, push_frames_uri, push_key_uri, push_media_uri, push_segment_uri,
 };
-pub use vectors::vector;
+pub use vectors::{salted_vector, vector};

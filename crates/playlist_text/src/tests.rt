@@ -1,7 +1,7 @@
 use crate::{
     Attribute, Value, is_codecs, is_name, micros, push_attribute_list, push_decimal, push_escaped,
     push_frames_uri, push_hexadecimal, push_key_uri, push_line, push_media_uri, push_quoted,
-    push_resolution, push_seconds, push_segment_uri,
+    push_resolution, push_seconds, push_segment_uri, salted_vector, vector,
 };
 use std::test::Fail;
 
@@ -18,6 +18,27 @@ fn micros_of_ticks(rt: HostRuntime) -> Result<(), Fail> {
         assert_eq!(rt; micros(ticks), wanted, "{ticks}");
     }
     assert_eq!(rt; micros(u64::MAX), 204_963_823_041_217_240_167);
+    Ok(())
+}
+
+#[test]
+fn vectors_of_numbers(rt: HostRuntime) -> Result<(), Fail> {
+    let mut wanted = [0; 16];
+    wanted[14] = 1;
+    wanted[15] = 2;
+    assert_eq!(rt; vector(258), wanted);
+    assert_eq!(rt; salted_vector(None, 258), wanted);
+
+    let mut salt = [0; 16];
+    for i in 0..16 {
+        salt[i] = 0xF0 + i as u8;
+    }
+    for (n, end) in [(0, [0xFE, 0xFF]), (1, [0xFE, 0xFE]), (256, [0xFF, 0xFF])] {
+        let mut wanted = salt;
+        wanted[14] = end[0];
+        wanted[15] = end[1];
+        assert_eq!(rt; salted_vector(Some(salt), n), wanted, "{n}");
+    }
     Ok(())
 }
 
