@@ -49,6 +49,7 @@ IsStart-nil target window rows start none is =
     rw (none, is) (
       record {
         up_to = omega arith;
+        most = omega arith;
         micros = refl;
         short = omega arith;
         frames = refl;

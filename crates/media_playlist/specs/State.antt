@@ -9,6 +9,7 @@ use Rattle.media_playlist.specs.declared.window.Window.TheInside.{Inside}
 -- the counts are those of the rows before the place, the duration is that of the others, and none is large
 pub record IsStart (rows : List SegmentRow) (start : Start) : Type 0 where
   pub up_to : start.first ≤ length rows
+  pub most : length rows ≤ 2 ^ 52
   pub micros : start.listed_micros ≡ duration (drop start.first rows)
   pub short : start.listed_micros ≤ length rows * 2 ^ 64
   pub frames : start.frames ≡ frame_count (take start.first rows)
@@ -17,9 +18,10 @@ pub record IsStart (rows : List SegmentRow) (start : Start) : Type 0 where
   pub rare : start.discontinuities ≤ start.first
 
 abbrev pub pushed : Inside → Pushed
-pushed w = record { name = string_bytes w.name; target = w.target; window = w.window; rows = w.rows.items }
+pushed w = record { name = string_bytes w.name; target = w.target; window = w.window; rows = w.taken.items }
 
--- the listed rows begin where they should
+-- the listed rows begin where they should, and of all rows it has those alone
 pub record IsTied (w : Inside) : Type 0 where
-  pub counts : IsStart w.rows.items w.start
-  pub first : w.start.first ≡ first_listed w.target w.window w.rows.items
+  pub counts : IsStart w.taken.items w.start
+  pub first : w.start.first ≡ first_listed w.target w.window w.taken.items
+  pub rows : w.rows.items ≡ drop w.start.first w.taken.items

@@ -11,6 +11,7 @@ use playlist_text::{
     Attribute, Value, push_attribute_list, push_decimal, push_key_uri, push_line, vector,
 };
 use std::alloc::AllocError;
+use std::collections::VecDeque;
 
 /// Appends the line that tells that a playlist is one of I-frames.
 pub fn push_frames_only(out: &mut String) -> Result<(), AllocError>
@@ -20,12 +21,12 @@ pub fn push_frames_only(out: &mut String) -> Result<(), AllocError>
 }
 
 /// Appends the lines of rows in the playlist of I-frames.
-pub fn push_frames(out: &mut String, name: &str, rows: &[Row]) -> Result<(), AllocError>
+pub fn push_frames(out: &mut String, name: &str, rows: &VecDeque<Row>) -> Result<(), AllocError>
     ensures { OnOk result (string_bytes out.new
-        ≡ string_bytes out.old ++ text_of (flat_map (row_frame_lines name.now) rows.now)) }
+        ≡ string_bytes out.old ++ text_of (flat_map (row_frame_lines name.now) rows.now.items)) }
 {
-    for row in rows {
-        push_row_frames(out, name, row)?;
+    for place in 0..rows.len() {
+        push_row_frames(out, name, &rows[place])?;
     }
     Ok(())
 }

@@ -9,14 +9,16 @@ use crate::lines::{push_bytes, push_discontinuity, push_duration, push_segment};
 use crate::row::Row;
 use playlist_text::{Attribute, Value, push_attribute_list, push_key_uri, push_line};
 use std::alloc::AllocError;
+use std::collections::VecDeque;
 
 /// Appends the lines of rows in the media playlist.
-pub fn push_entries(out: &mut String, name: &str, rows: &[Row]) -> Result<(), AllocError>
+pub fn push_entries(out: &mut String, name: &str, rows: &VecDeque<Row>) -> Result<(), AllocError>
     ensures { OnOk result (string_bytes out.new
-        ≡ string_bytes out.old ++ text_of (entries_lines name.now None (map entry_of rows.now))) }
+        ≡ string_bytes out.old ++ text_of (entries_lines name.now None (map entry_of rows.now.items))) }
 {
     let mut before = None;
-    for row in rows {
+    for place in 0..rows.len() {
+        let row = &rows[place];
         push_entry(out, name, before, row)?;
         before = Some(row.key);
     }

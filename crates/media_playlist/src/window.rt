@@ -10,21 +10,25 @@ use crate::lines::{push_end, push_head};
 use crate::media::push_entries;
 use crate::row::{Row, is_long};
 use crate::start::{Start, moved_on};
+use ghost_list::GhostList;
 use std::alloc::{AllocError, Global};
+use std::collections::VecDeque;
 use std::marker::Model;
 
 /// The rows of a rendition as they come, of which its playlists list the last: as few as are as many as the window and
 /// last at least three target durations (RFC 8216, 6.2.2).
 ///
 /// Clauses see a window as its name, its target duration in seconds, the least number of rows to list, and the list of
-/// all rows that it was pushed.
+/// all rows that it was pushed. It keeps the rows that it lists, and of those before them only how many they are and how
+/// many I-frames and discontinuities they have. Its invariant says so.
 #[derive(Drop)]
 pub struct Window {
     name: String,
     target: u64,
     window: u64,
-    rows: Vec<Row>,
+    rows: VecDeque<Row>,
     start: Start,
+    taken: GhostList<Row>,
 }
 
 impl Model for Window {
@@ -50,8 +54,9 @@ impl Window {
             name,
             target,
             window,
-            rows: Vec::new(alloc),
+            rows: VecDeque::new(alloc),
             start: Start::new(),
+            taken: GhostList::new(),
         })
     }
 
@@ -59,7 +64,7 @@ impl Window {
     pub fn row_count(&self) -> u64
         ensures { result ≡ length self.now.rows }
     {
-        self.rows.len() as u64
+        self.start.first + self.rows.len() as u64
     }
 
     /// Takes the next row. Fewer than 2^52 rows came before: the caller's care.
@@ -80,8 +85,10 @@ impl Window {
             return Err(WindowFault::OutOfOrder);
         }
         let start = self.start.with_micros(row.micros);
-        self.rows.push(row)?;
-        self.start = moved_on(self.target, self.window, &self.rows, start);
+        self.rows.reserve(1)?;
+        self.taken.push(&row);
+        self.rows.push_back_reserved(row);
+        self.start = moved_on(self.target, self.window, &mut self.rows, start, &self.taken);
         Ok(())
     }
 
@@ -90,18 +97,17 @@ impl Window {
         ensures { IfOk result (λ text. string_bytes text ≡ text_of (media_lines self.now ended)) }
     {
         let mut out = String::new(*self.rows.allocator());
-        let rows = self.rows.as_slice();
-        if rows.is_empty() {
+        if self.row_count() == 0 {
             return Ok(out);
         }
         let start = self.start;
         push_head(
             &mut out,
             self.target,
-            start.first as u128,
+            u128::from(start.first),
             start.discontinuities,
         )?;
-        push_entries(&mut out, &self.name, &rows[start.first..])?;
+        push_entries(&mut out, &self.name, &self.rows)?;
         push_end(&mut out, ended)?;
         Ok(out)
     }
@@ -111,14 +117,13 @@ impl Window {
         ensures { IfOk result (λ text. string_bytes text ≡ text_of (iframe_lines self.now ended)) }
     {
         let mut out = String::new(*self.rows.allocator());
-        let rows = self.rows.as_slice();
-        if rows.is_empty() {
+        if self.row_count() == 0 {
             return Ok(out);
         }
         let start = self.start;
         push_head(&mut out, self.target, start.frames, start.discontinuities)?;
         push_frames_only(&mut out)?;
-        push_frames(&mut out, &self.name, &rows[start.first..])?;
+        push_frames(&mut out, &self.name, &self.rows)?;
         push_end(&mut out, ended)?;
         Ok(out)
     }

@@ -5,6 +5,6 @@ use Rattle.playlist_text.specs.Lines.{text_of}
 use Rattle.media_playlist.specs.Lines.{row_frame_lines}
 use Rattle.media_playlist.proofs.iframes.push_frames.Given as goal
 
-abbrev pub invariant-loop-row : goal.invariant-loop-row
-invariant-loop-row l =
-    string_bytes l.out ++ text_of (flat_map (row_frame_lines l.name) (drop l.row-index l.rows)) ≡ string_bytes l.initial.out ++ text_of (flat_map (row_frame_lines l.name) l.rows)
+abbrev pub invariant-loop-place : goal.invariant-loop-place
+invariant-loop-place l =
+    string_bytes l.out ++ text_of (flat_map (row_frame_lines l.name) (drop l.place l.rows.items)) ≡ string_bytes l.initial.out ++ text_of (flat_map (row_frame_lines l.name) l.rows.items)

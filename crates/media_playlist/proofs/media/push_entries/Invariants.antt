@@ -5,6 +5,6 @@ use Rattle.playlist_text.specs.MediaLines.{entries_lines}
 use Rattle.media_playlist.specs.Lines.{entry_of}
 use Rattle.media_playlist.proofs.media.push_entries.Given as goal
 
-abbrev pub invariant-loop-row : goal.invariant-loop-row
-invariant-loop-row l =
-    string_bytes l.out ++ text_of (entries_lines l.name l.before (map entry_of (drop l.row-index l.rows))) ≡ string_bytes l.initial.out ++ text_of (entries_lines l.name None (map entry_of l.rows))
+abbrev pub invariant-loop-place : goal.invariant-loop-place
+invariant-loop-place l =
+    string_bytes l.out ++ text_of (entries_lines l.name l.before (map entry_of (drop l.place l.rows.items))) ≡ string_bytes l.initial.out ++ text_of (entries_lines l.name None (map entry_of l.rows.items))
