@@ -1,11 +1,9 @@
 -- The playlists of a window, line by line (RFC 8216, 4.3).
-use Rattle.std.specs.Prelude.{ℕ, Bool, List, [], ◌∷◌, ◌++◌, map, codes}
+use Rattle.std.specs.Prelude.{ℕ, Bool, Option, List, [], ◌∷◌, ◌++◌, map, codes}
 use Rattle.std.specs.List.{flat_map}
 use Rattle.std.specs.Fmt.{decimal}
-use Rattle.playlist_text.specs.Attributes.{attribute, attribute_list, hexadecimal}
-use Rattle.playlist_text.specs.Uris.{segment_uri, key_uri}
-use Rattle.playlist_text.specs.Vectors.{vector}
-use Rattle.playlist_text.specs.MediaLines.{Entry, head_lines, discontinuity_lines, key_attributes, duration_line, end_lines, listing_lines}
+use Rattle.playlist_text.specs.Uris.{segment_uri}
+use Rattle.playlist_text.specs.MediaLines.{Entry, head_lines, type_lines, discontinuity_lines, vector_key_line, duration_line, end_lines, listing_lines}
 use Rattle.media_playlist.specs.declared.row.FrameRow.{FrameRow}
 use Rattle.media_playlist.specs.Rows.{SegmentRow}
 use Rattle.media_playlist.specs.Listed.{Pushed, first, listed, removed, discontinuity_count, frame_count}
@@ -28,18 +26,11 @@ media_lines pushed ended = unless_empty pushed.rows
       target = pushed.target;
       sequence = first pushed;
       discontinuity_sequence = discontinuity_count (removed pushed);
+      event = pushed.event;
+      salt = pushed.salt;
       entries = map entry_of (listed pushed);
       ended = ended;
     }))
-
--- the attributes of a key at a URI, with a vector (RFC 8216, 4.3.2.4)
-abbrev pub vector_key_attributes : List ℕ → List ℕ → List (List ℕ)
-vector_key_attributes uri iv = key_attributes uri ++ attribute (codes "IV") (hexadecimal iv) ∷ []
-
--- the line of a key with the vector of a segment
-unfoldable pub vector_key_line : List ℕ → ℕ → ℕ → List ℕ
-vector_key_line name index number =
-    codes "#EXT-X-KEY:" ++ attribute_list (vector_key_attributes (key_uri name index) (vector number))
 
 -- the line of a part of a segment: its bytes, and where it begins (RFC 8216, 4.3.2.2)
 unfoldable pub range_line : ℕ → ℕ → List ℕ
@@ -51,10 +42,10 @@ frame_lines name number frame =
     duration_line frame.micros ∷ range_line frame.len frame.offset ∷ segment_uri name number ∷ []
 
 -- the lines of the I-frames of a row
-unfoldable pub row_frame_lines : List ℕ → SegmentRow → List (List ℕ)
-row_frame_lines name row =
+unfoldable pub row_frame_lines : List ℕ → Option (List ℕ) → SegmentRow → List (List ℕ)
+row_frame_lines name salt row =
     discontinuity_lines row.discontinuity
-    ++ vector_key_line name row.key row.number ∷ []
+    ++ vector_key_line name salt row.key row.number ∷ []
     ++ flat_map (frame_lines name row.number) row.frames
 
 -- the line of a playlist of I-frames (RFC 8216, 4.3.3.6)
@@ -65,6 +56,7 @@ frames_only_line = codes "#EXT-X-I-FRAMES-ONLY"
 unfoldable pub iframe_lines : Pushed → Bool → List (List ℕ)
 iframe_lines pushed ended = unless_empty pushed.rows
     (head_lines pushed.target (frame_count (removed pushed)) (discontinuity_count (removed pushed))
+    ++ type_lines pushed.event
     ++ frames_only_line ∷ []
-    ++ flat_map (row_frame_lines pushed.name) (listed pushed)
+    ++ flat_map (row_frame_lines pushed.name pushed.salt) (listed pushed)
     ++ end_lines ended)

@@ -1,5 +1,5 @@
 -- Which rows a sliding playlist lists (RFC 8216, 6.2.2).
-use Rattle.std.specs.Prelude.{◌≡◌, ℕ, zero, suc, ◌*◌, ◌≤◌, ◌⊎◌, Bool, true, ◌&&◌, nat_le, if◌then◌else◌, List, length, drop, take, sum_by, count_by}
+use Rattle.std.specs.Prelude.{◌≡◌, ℕ, zero, suc, ◌*◌, ◌≤◌, ◌⊎◌, Bool, true, ◌&&◌, nat_le, if◌then◌else◌, Option, List, length, drop, take, sum_by, count_by}
 use Rattle.media_playlist.specs.Rows.{SegmentRow}
 
 -- the microseconds of some rows together
@@ -25,16 +25,18 @@ greatest_up_to test (suc n) = if test (suc n) then suc n else greatest_up_to tes
 unfoldable pub first_listed : ℕ → ℕ → List SegmentRow → ℕ
 first_listed target window rows = greatest_up_to (λ j. suffices target window (drop j rows)) (length rows)
 
--- what a window stands for: the rendition's name, the target duration in seconds, the least number of rows to list, and all rows that it was pushed
+-- what a window stands for: the rendition's name, the target duration in seconds, the least number of rows to list, whether it is one of an event, which lists all rows, the salt of its vectors where it has one, and all rows that it was pushed
 pub record Pushed : Type 0 where
   pub name : List ℕ
   pub target : ℕ
   pub window : ℕ
+  pub event : Bool
+  pub salt : Option (List ℕ)
   pub rows : List SegmentRow
 
 -- the place of its first listed row
 abbrev pub first : Pushed → ℕ
-first pushed = first_listed pushed.target pushed.window pushed.rows
+first pushed = if pushed.event then 0 else first_listed pushed.target pushed.window pushed.rows
 
 -- the rows that are listed
 abbrev pub listed : Pushed → List SegmentRow

@@ -2,7 +2,7 @@
 use Rattle.std.specs.Prelude.{◌≡◌, ◌*◌, ◌≤◌, ◌^◌, List, length, drop, take}
 use Rattle.media_playlist.specs.declared.start.Start.{Start}
 use Rattle.media_playlist.specs.Rows.{SegmentRow}
-use Rattle.media_playlist.specs.Listed.{duration, discontinuity_count, frame_count, Pushed, first_listed}
+use Rattle.media_playlist.specs.Listed.{duration, discontinuity_count, frame_count, Pushed, first}
 use Rattle.std.specs.String.{string_bytes}
 use Rattle.media_playlist.specs.declared.window.Window.TheInside.{Inside}
 
@@ -18,10 +18,10 @@ pub record IsStart (rows : List SegmentRow) (start : Start) : Type 0 where
   pub rare : start.discontinuities ≤ start.first
 
 abbrev pub pushed : Inside → Pushed
-pushed w = record { name = string_bytes w.name; target = w.target; window = w.window; rows = w.taken.items }
+pushed w = record { name = string_bytes w.name; target = w.target; window = w.window; event = w.event; salt = w.salt; rows = w.taken.items }
 
 -- the listed rows begin where they should, and of all rows it has those alone
 pub record IsTied (w : Inside) : Type 0 where
   pub counts : IsStart w.taken.items w.start
-  pub first : w.start.first ≡ first_listed w.target w.window w.taken.items
+  pub first : w.start.first ≡ first (pushed w)
   pub rows : w.rows.items ≡ drop w.start.first w.taken.items

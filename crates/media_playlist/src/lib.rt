@@ -1,5 +1,6 @@
 //! Media playlists of a live rendition (RFC 8216, 4.3.3 and 6.2.2): the rows of its segments as they come, a window
-//! that slides over them, and the texts of the playlist of segments and the playlist of I-frames.
+//! that slides over them or, for an event, grows with them, and the texts of the playlist of segments and the playlist of
+//! I-frames.
 #![tactic(auto)]
 
 mod fault;
@@ -11,6 +12,7 @@ mod row;
 mod start;
 #[cfg(test)]
 mod tests;
+mod vector_key;
 mod window;
 
 pub use fault::WindowFault;

@@ -3,7 +3,7 @@ ghost use Rattle.std.specs.Fmt.{decimal};
 ghost use Rattle.std.specs.String.{string_bytes};
 ghost use Rattle.playlist_text.specs.Lines.{text_of};
 ghost use Rattle.playlist_text.specs.Uris.{segment_uri};
-ghost use Rattle.playlist_text.specs.MediaLines.{head_lines, discontinuity_lines, duration_line, end_lines};
+ghost use Rattle.playlist_text.specs.MediaLines.{head_lines, type_lines, discontinuity_lines, duration_line, end_lines};
 
 use playlist_text::{push_decimal, push_line, push_seconds, push_segment_uri};
 use std::alloc::AllocError;
@@ -14,9 +14,10 @@ pub fn push_head(
     target: u64,
     sequence: u128,
     discontinuity_sequence: u64,
+    event: bool,
 ) -> Result<(), AllocError>
     ensures { OnOk result (string_bytes out.new
-        ≡ string_bytes out.old ++ text_of (head_lines target sequence discontinuity_sequence)) }
+        ≡ string_bytes out.old ++ text_of (head_lines target sequence discontinuity_sequence ++ type_lines event)) }
 {
     push_line(out, "#EXTM3U")?;
     push_line(out, "#EXT-X-VERSION:4")?;
@@ -27,7 +28,19 @@ pub fn push_head(
         "#EXT-X-DISCONTINUITY-SEQUENCE:",
         u128::from(discontinuity_sequence),
     )?;
+    push_type(out, event)?;
     Ok(())
+}
+
+/// Appends the line of the type, where the playlist is one of an event.
+#[tactic(auto, unfolding(playlist_text::specs::Lines::text_of, playlist_text::specs::MediaLines::type_lines))]
+fn push_type(out: &mut String, event: bool) -> Result<(), AllocError>
+    ensures { OnOk result (string_bytes out.new ≡ string_bytes out.old ++ text_of (type_lines event)) }
+{
+    if !event {
+        return Ok(());
+    }
+    push_line(out, "#EXT-X-PLAYLIST-TYPE:EVENT")
 }
 
 /// Appends a line that ends in a number.

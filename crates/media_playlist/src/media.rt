@@ -2,24 +2,30 @@ ghost use Rattle.std.specs.Prelude.{◌≡◌, [], ◌∷◌, ◌++◌, map, OnO
 ghost use Rattle.std.specs.String.{string_bytes};
 ghost use Rattle.playlist_text.specs.Lines.{text_of};
 ghost use Rattle.playlist_text.specs.Attributes.{attribute_list};
-ghost use Rattle.playlist_text.specs.MediaLines.{key_attributes, key_line, key_lines, entry_lines, entries_lines};
+ghost use Rattle.playlist_text.specs.MediaLines.{key_attributes, key_line, key_lines, entry_key_lines, entry_lines, entries_lines};
 ghost use Rattle.media_playlist.specs.Lines.{entry_of};
 
 use crate::lines::{push_bytes, push_discontinuity, push_duration, push_segment};
 use crate::row::Row;
+use crate::vector_key::push_vector_key;
 use playlist_text::{Attribute, Value, push_attribute_list, push_key_uri, push_line};
 use std::alloc::AllocError;
 use std::collections::VecDeque;
 
 /// Appends the lines of rows in the media playlist.
-pub fn push_entries(out: &mut String, name: &str, rows: &VecDeque<Row>) -> Result<(), AllocError>
+pub fn push_entries(
+    out: &mut String,
+    name: &str,
+    salt: Option<[u8; 16]>,
+    rows: &VecDeque<Row>,
+) -> Result<(), AllocError>
     ensures { OnOk result (string_bytes out.new
-        ≡ string_bytes out.old ++ text_of (entries_lines name.now None (map entry_of rows.now.items))) }
+        ≡ string_bytes out.old ++ text_of (entries_lines name.now salt None (map entry_of rows.now.items))) }
 {
     let mut before = None;
     for place in 0..rows.len() {
         let row = &rows[place];
-        push_entry(out, name, before, row)?;
+        push_entry(out, name, salt, before, row)?;
         before = Some(row.key);
     }
     Ok(())
@@ -29,17 +35,36 @@ pub fn push_entries(out: &mut String, name: &str, rows: &VecDeque<Row>) -> Resul
 fn push_entry(
     out: &mut String,
     name: &str,
+    salt: Option<[u8; 16]>,
     before: Option<u64>,
     row: &Row,
 ) -> Result<(), AllocError>
     ensures { OnOk result (string_bytes out.new
-        ≡ string_bytes out.old ++ text_of (entry_lines name.now before (entry_of row.now))) }
+        ≡ string_bytes out.old ++ text_of (entry_lines name.now salt before (entry_of row.now))) }
 {
     push_discontinuity(out, row.discontinuity)?;
-    push_key_lines(out, name, before, row.key)?;
+    push_entry_key(out, name, salt, before, row)?;
     push_duration(out, row.micros)?;
     push_segment(out, name, row.number)?;
     Ok(())
+}
+
+/// Appends the line of a row's key: with a salt always, and with the row's vector.
+#[tactic(auto, unfolding(playlist_text::specs::MediaLines::entry_key_lines))]
+fn push_entry_key(
+    out: &mut String,
+    name: &str,
+    salt: Option<[u8; 16]>,
+    before: Option<u64>,
+    row: &Row,
+) -> Result<(), AllocError>
+    ensures { OnOk result (string_bytes out.new
+        ≡ string_bytes out.old ++ text_of (entry_key_lines name.now salt before (entry_of row.now))) }
+{
+    match salt {
+        None => push_key_lines(out, name, before, row.key),
+        Some(salt) => push_vector_key(out, name, Some(salt), row.key, row.number),
+    }
 }
 
 /// Appends the line of a key, unless the row before had it.

@@ -165,6 +165,127 @@ hd%201.4.ts
     Ok(())
 }
 
+/// A salt of the bytes from F0 on.
+fn salt() -> [u8; 16] {
+    let mut salt = [0; 16];
+    for i in 0..16 {
+        salt[i] = 0xF0 + i as u8;
+    }
+    salt
+}
+
+const SALTED_MEDIA: &str = "#EXTM3U
+#EXT-X-VERSION:4
+#EXT-X-TARGETDURATION:6
+#EXT-X-MEDIA-SEQUENCE:0
+#EXT-X-DISCONTINUITY-SEQUENCE:0
+#EXT-X-KEY:METHOD=AES-128,URI=\"v.0.key\",IV=0xF0F1F2F3F4F5F6F7F8F9FAFBFCFDFEFF
+#EXTINF:6.000000,
+v.0.ts
+#EXT-X-KEY:METHOD=AES-128,URI=\"v.0.key\",IV=0xF0F1F2F3F4F5F6F7F8F9FAFBFCFDFEFE
+#EXTINF:3.040000,
+v.1.ts
+#EXT-X-ENDLIST
+";
+
+const SALTED_IFRAMES: &str = "#EXTM3U
+#EXT-X-VERSION:4
+#EXT-X-TARGETDURATION:6
+#EXT-X-MEDIA-SEQUENCE:0
+#EXT-X-DISCONTINUITY-SEQUENCE:0
+#EXT-X-I-FRAMES-ONLY
+#EXT-X-KEY:METHOD=AES-128,URI=\"v.0.key\",IV=0xF0F1F2F3F4F5F6F7F8F9FAFBFCFDFEFF
+#EXTINF:6.000000,
+#EXT-X-BYTERANGE:188@376
+v.0.ts
+#EXT-X-KEY:METHOD=AES-128,URI=\"v.0.key\",IV=0xF0F1F2F3F4F5F6F7F8F9FAFBFCFDFEFE
+#EXTINF:3.040000,
+#EXT-X-BYTERANGE:188@376
+v.1.ts
+#EXT-X-ENDLIST
+";
+
+#[test]
+fn two_salted_key_frames(rt: HostRuntime) -> Result<(), Fail> {
+    let alloc = rt.alloc();
+    let mut window = Window::salted(alloc, "v", 6, 5, salt())?;
+    push(&rt, &mut window, row(alloc, 0, 6_000_000, 0, false)?)?;
+    push(&rt, &mut window, row(alloc, 1, 3_040_000, 0, false)?)?;
+    assert_eq!(rt; window.media_text(true)?.as_str(), SALTED_MEDIA);
+    assert_eq!(rt; window.iframe_text(true)?.as_str(), SALTED_IFRAMES);
+    Ok(())
+}
+
+const EVENT_MEDIA: &str = "#EXTM3U
+#EXT-X-VERSION:4
+#EXT-X-TARGETDURATION:6
+#EXT-X-MEDIA-SEQUENCE:0
+#EXT-X-DISCONTINUITY-SEQUENCE:0
+#EXT-X-PLAYLIST-TYPE:EVENT
+#EXT-X-KEY:METHOD=AES-128,URI=\"v.0.key\"
+#EXTINF:5.000000,
+v.0.ts
+";
+
+const EVENT_IFRAMES: &str = "#EXTM3U
+#EXT-X-VERSION:4
+#EXT-X-TARGETDURATION:6
+#EXT-X-MEDIA-SEQUENCE:0
+#EXT-X-DISCONTINUITY-SEQUENCE:0
+#EXT-X-PLAYLIST-TYPE:EVENT
+#EXT-X-I-FRAMES-ONLY
+#EXT-X-KEY:METHOD=AES-128,URI=\"v.0.key\",IV=0x00000000000000000000000000000000
+#EXTINF:5.000000,
+#EXT-X-BYTERANGE:188@376
+v.0.ts
+";
+
+#[test]
+fn an_event_keeps_rows(rt: HostRuntime) -> Result<(), Fail> {
+    let alloc = rt.alloc();
+    let mut window = Window::event(alloc, "v", 6, None)?;
+    assert_eq!(rt; window.media_text(true)?.as_str(), "");
+    push(&rt, &mut window, row(alloc, 0, 5_000_000, 0, false)?)?;
+    assert_eq!(rt; window.media_text(false)?.as_str(), EVENT_MEDIA);
+    assert_eq!(rt; window.iframe_text(false)?.as_str(), EVENT_IFRAMES);
+    for number in 1..7 {
+        push(&rt, &mut window, row(alloc, number, 5_000_000, 0, false)?)?;
+    }
+    let media = window.media_text(true)?;
+    let frames = window.iframe_text(true)?;
+    assert_begins(&rt, alloc, media.as_str(), 0, 0);
+    assert_begins(&rt, alloc, frames.as_str(), 0, 0);
+    assert_eq!(rt; media.lines().count(), 22);
+    assert_eq!(rt; frames.lines().count(), 36);
+    Ok(())
+}
+
+#[test]
+fn an_event_keeps_its_discontinuities(rt: HostRuntime) -> Result<(), Fail> {
+    let alloc = rt.alloc();
+    let mut window = Window::event(alloc, "v", 6, Some(salt()))?;
+    for number in 0..7 {
+        push(
+            &rt,
+            &mut window,
+            row(alloc, number, 6_000_000, 0, number == 1)?,
+        )?;
+        let text = window.media_text(false)?;
+        assert_begins(&rt, alloc, text.as_str(), 0, 0);
+        let mut lines = text.lines();
+        let tagged = lines.any(|line| line == "#EXT-X-DISCONTINUITY");
+        assert_eq!(rt; tagged, number >= 1, "{number}");
+        if tagged {
+            let key =
+                "#EXT-X-KEY:METHOD=AES-128,URI=\"v.0.key\",IV=0xF0F1F2F3F4F5F6F7F8F9FAFBFCFDFEFE";
+            assert_eq!(rt; lines.next(), Some(key));
+            assert_eq!(rt; lines.next(), Some("#EXTINF:6.000000,"));
+            assert_eq!(rt; lines.next(), Some("v.1.ts"));
+        }
+    }
+    Ok(())
+}
+
 /// An I-frame playlist of one row with two I-frames.
 const TWO_FRAMES: &str = "#EXTM3U
 #EXT-X-VERSION:4

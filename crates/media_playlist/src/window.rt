@@ -1,4 +1,4 @@
-ghost use Rattle.std.specs.Prelude.{◌≡◌, ◌≢◌, ◌<◌, ◌^◌, ◌↔◌, [], ◌∷◌, ◌++◌, length, IsTrue, IfOk, OnOk, OnErr, IsErrOf, false};
+ghost use Rattle.std.specs.Prelude.{◌≡◌, ◌≢◌, ◌<◌, ◌^◌, ◌↔◌, [], ◌∷◌, ◌++◌, length, IsTrue, IfOk, OnOk, OnErr, IsErrOf, Some, None, true, false};
 ghost use Rattle.std.specs.String.{string_bytes};
 ghost use Rattle.playlist_text.specs.Lines.{text_of};
 ghost use Rattle.media_playlist.specs.Rows;
@@ -18,14 +18,19 @@ use std::marker::Model;
 /// The rows of a rendition as they come, of which its playlists list the last: as few as are as many as the window and
 /// last at least three target durations (RFC 8216, 6.2.2).
 ///
-/// Clauses see a window as its name, its target duration in seconds, the least number of rows to list, and the list of
-/// all rows that it was pushed. It keeps the rows that it lists, and of those before them only how many they are and how
-/// many I-frames and discontinuities they have. Its invariant says so.
+/// A window of an event lists all rows instead (RFC 8216, 4.3.3.5).
+///
+/// Clauses see a window as its name, its target duration in seconds, the least number of rows to list, whether it is one
+/// of an event, the salt of its vectors where it has one, and the list of all rows that it was pushed. It keeps the rows
+/// that it lists, and of those before them only how many they are and how many I-frames and discontinuities they have. Its
+/// invariant says so.
 #[derive(Drop)]
 pub struct Window {
     name: String,
     target: u64,
     window: u64,
+    event: bool,
+    salt: Option<[u8; 16]>,
     rows: VecDeque<Row>,
     start: Start,
     taken: GhostList<Row>,
@@ -46,14 +51,83 @@ impl Model for Window {
 impl Window {
     /// A window that was pushed nothing. The target duration is in seconds.
     pub fn new(alloc: Global, name: &str, target: u64, window: u64) -> Result<Window, AllocError>
-        ensures { IfOk result (λ new.
-            new ≡ record { name = name.now; target = target; window = window; rows = [] }) }
+        ensures { IfOk result (λ new. new ≡ record {
+          name = name.now;
+          target = target;
+          window = window;
+          event = false;
+          salt = None;
+          rows = [];
+        }) }
+    {
+        Window::with(alloc, name, target, window, false, None)
+    }
+
+    /// The same for a rendition whose vectors are salted: its media playlist lists the vector of each row (RFC 8216,
+    /// 4.3.2.4 and 5.2).
+    pub fn salted(
+        alloc: Global,
+        name: &str,
+        target: u64,
+        window: u64,
+        salt: [u8; 16],
+    ) -> Result<Window, AllocError>
+        ensures { IfOk result (λ new. new ≡ record {
+          name = name.now;
+          target = target;
+          window = window;
+          event = false;
+          salt = Some salt;
+          rows = [];
+        }) }
+    {
+        Window::with(alloc, name, target, window, false, Some(salt))
+    }
+
+    /// The same for an event: no row is ever removed, and both playlists say so (RFC 8216, 4.3.3.5). No least number of
+    /// rows is asked for; clauses see it as 0.
+    pub fn event(
+        alloc: Global,
+        name: &str,
+        target: u64,
+        salt: Option<[u8; 16]>,
+    ) -> Result<Window, AllocError>
+        ensures { IfOk result (λ new. new ≡ record {
+          name = name.now;
+          target = target;
+          window = 0;
+          event = true;
+          salt = salt;
+          rows = [];
+        }) }
+    {
+        Window::with(alloc, name, target, 0, true, salt)
+    }
+
+    fn with(
+        alloc: Global,
+        name: &str,
+        target: u64,
+        window: u64,
+        event: bool,
+        salt: Option<[u8; 16]>,
+    ) -> Result<Window, AllocError>
+        ensures { IfOk result (λ new. new ≡ record {
+          name = name.now;
+          target = target;
+          window = window;
+          event = event;
+          salt = salt;
+          rows = [];
+        }) }
     {
         let name = String::from_str(alloc, name)?;
         Ok(Window {
             name,
             target,
             window,
+            event,
+            salt,
             rows: VecDeque::new(alloc),
             start: Start::new(),
             taken: GhostList::new(),
@@ -88,6 +162,10 @@ impl Window {
         self.rows.reserve(1)?;
         self.taken.push(&row);
         self.rows.push_back_reserved(row);
+        if self.event {
+            self.start = start;
+            return Ok(());
+        }
         self.start = moved_on(self.target, self.window, &mut self.rows, start, &self.taken);
         Ok(())
     }
@@ -106,8 +184,9 @@ impl Window {
             self.target,
             u128::from(start.first),
             start.discontinuities,
+            self.event,
         )?;
-        push_entries(&mut out, &self.name, &self.rows)?;
+        push_entries(&mut out, &self.name, self.salt, &self.rows)?;
         push_end(&mut out, ended)?;
         Ok(out)
     }
@@ -120,10 +199,14 @@ impl Window {
         if self.row_count() == 0 {
             return Ok(out);
         }
-        let start = self.start;
-        push_head(&mut out, self.target, start.frames, start.discontinuities)?;
+        let Start {
+            frames,
+            discontinuities,
+            ..
+        } = self.start;
+        push_head(&mut out, self.target, frames, discontinuities, self.event)?;
         push_frames_only(&mut out)?;
-        push_frames(&mut out, &self.name, &self.rows)?;
+        push_frames(&mut out, &self.name, self.salt, &self.rows)?;
         push_end(&mut out, ended)?;
         Ok(out)
     }

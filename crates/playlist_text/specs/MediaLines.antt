@@ -3,7 +3,8 @@ use Rattle.std.specs.Prelude.{ℕ, Bool, ◌==◌, if◌then◌else◌, Option, 
 use Rattle.std.specs.Fmt.{decimal}
 use Rattle.playlist_text.specs.Numbers.{seconds}
 use Rattle.playlist_text.specs.Uris.{segment_uri, key_uri}
-use Rattle.playlist_text.specs.Attributes.{quoted, attribute, attribute_list}
+use Rattle.playlist_text.specs.Attributes.{quoted, hexadecimal, attribute, attribute_list}
+use Rattle.playlist_text.specs.Vectors.{salted_vector}
 
 -- one segment of a playlist: its number, the index of its key, its microseconds, and whether it is a discontinuity
 pub record Entry : Type 0 where
@@ -12,12 +13,14 @@ pub record Entry : Type 0 where
   pub micros : ℕ
   pub discontinuity : Bool
 
--- a media playlist: the rendition's name, the target duration in seconds, the numbers of media and of discontinuities at its beginning, its segments, and whether it has ended
+-- a media playlist: the rendition's name, the target duration in seconds, the numbers of media and of discontinuities at its beginning, whether it is one of an event, the salt of its vectors where it lists them, its segments, and whether it has ended
 pub record Listing : Type 0 where
   pub name : List ℕ
   pub target : ℕ
   pub sequence : ℕ
   pub discontinuity_sequence : ℕ
+  pub event : Bool
+  pub salt : Option (List ℕ)
   pub entries : List Entry
   pub ended : Bool
 
@@ -30,6 +33,10 @@ head_lines target sequence discontinuity_sequence =
     ∷ (codes "#EXT-X-MEDIA-SEQUENCE:" ++ decimal sequence)
     ∷ (codes "#EXT-X-DISCONTINUITY-SEQUENCE:" ++ decimal discontinuity_sequence)
     ∷ []
+
+-- the line of a playlist that only grows (4.3.3.5)
+unfoldable pub type_lines : Bool → List (List ℕ)
+type_lines event = if event then codes "#EXT-X-PLAYLIST-TYPE:EVENT" ∷ [] else []
 
 -- the line before a discontinuity (4.3.2.3)
 unfoldable pub discontinuity_lines : Bool → List (List ℕ)
@@ -49,21 +56,35 @@ unfoldable pub key_lines : List ℕ → Option ℕ → ℕ → List (List ℕ)
 key_lines name None index = key_line name index ∷ []
 key_lines name (Some before) index = if before == index then [] else key_line name index ∷ []
 
+-- the attributes of a key at a URI, with a vector
+abbrev pub vector_key_attributes : List ℕ → List ℕ → List (List ℕ)
+vector_key_attributes uri iv = key_attributes uri ++ attribute (codes "IV") (hexadecimal iv) ∷ []
+
+-- the line of a key with the vector of a segment, under a salt or none
+unfoldable pub vector_key_line : List ℕ → Option (List ℕ) → ℕ → ℕ → List ℕ
+vector_key_line name salt index number =
+    codes "#EXT-X-KEY:" ++ attribute_list (vector_key_attributes (key_uri name index) (salted_vector salt number))
+
+-- the key lines of a segment behind one with a key, or behind none: with a salt, one with its own vector
+unfoldable pub entry_key_lines : List ℕ → Option (List ℕ) → Option ℕ → Entry → List (List ℕ)
+entry_key_lines name None before entry = key_lines name before entry.key
+entry_key_lines name (Some salt) before entry = vector_key_line name (Some salt) entry.key entry.number ∷ []
+
 -- the line of a duration in microseconds (4.3.2.1)
 unfoldable pub duration_line : ℕ → List ℕ
 duration_line micros = codes "#EXTINF:" ++ seconds micros ++ codes ","
 
 -- the lines of a segment behind one with a key, or behind none
-unfoldable pub entry_lines : List ℕ → Option ℕ → Entry → List (List ℕ)
-entry_lines name before entry =
-    discontinuity_lines entry.discontinuity ++ key_lines name before entry.key
+unfoldable pub entry_lines : List ℕ → Option (List ℕ) → Option ℕ → Entry → List (List ℕ)
+entry_lines name salt before entry =
+    discontinuity_lines entry.discontinuity ++ entry_key_lines name salt before entry
     ++ duration_line entry.micros ∷ segment_uri name entry.number ∷ []
 
 -- the lines of all segments
-unfoldable pub entries_lines : List ℕ → Option ℕ → List Entry → List (List ℕ)
-entries_lines name before [] = []
-entries_lines name before (entry ∷ entries) =
-    entry_lines name before entry ++ entries_lines name (Some entry.key) entries
+unfoldable pub entries_lines : List ℕ → Option (List ℕ) → Option ℕ → List Entry → List (List ℕ)
+entries_lines name salt before [] = []
+entries_lines name salt before (entry ∷ entries) =
+    entry_lines name salt before entry ++ entries_lines name salt (Some entry.key) entries
 
 -- the last line of a playlist that has ended (4.3.3.4)
 unfoldable pub end_lines : Bool → List (List ℕ)
@@ -73,5 +94,6 @@ end_lines ended = if ended then codes "#EXT-X-ENDLIST" ∷ [] else []
 unfoldable pub listing_lines : Listing → List (List ℕ)
 listing_lines listing =
     head_lines listing.target listing.sequence listing.discontinuity_sequence
-    ++ entries_lines listing.name None listing.entries
+    ++ type_lines listing.event
+    ++ entries_lines listing.name listing.salt None listing.entries
     ++ end_lines listing.ended

@@ -8,4 +8,5 @@ returns c =
     let version = text_of-then _ _ _ _ _ c.in_ok-push_line.ensures c.in_ok-push_line-2.ensures in
     let target = text_of-then _ _ _ _ _ version (rw c.from.ensures at c.in_ok-push_number_line.ensures) in
     let sequence = text_of-then _ _ _ _ _ target c.in_ok-push_number_line-2.ensures in
-    text_of-then _ _ _ _ _ sequence (rw c.from-2.ensures at c.in_ok-push_number_line-3.ensures)
+    let head = text_of-then _ _ _ _ _ sequence (rw c.from-2.ensures at c.in_ok-push_number_line-3.ensures) in
+    text_of-then _ _ _ _ _ head c.in_ok-push_type.ensures

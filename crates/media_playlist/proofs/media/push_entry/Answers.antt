@@ -5,6 +5,6 @@ use Rattle.media_playlist.proofs.media.push_entry.Goals as goal
 pub returns : goal.returns
 unfolding entry_lines
 returns c =
-    let keys = text_of-then _ _ _ _ _ c.in_ok-push_discontinuity.ensures c.in_ok-push_key_lines.ensures in
+    let keys = text_of-then _ _ _ _ _ c.in_ok-push_discontinuity.ensures (rw (← c.row.view_is) at c.in_ok-push_entry_key.ensures) in
     let segment = text_of-then _ _ _ _ _ c.in_ok-push_duration.ensures c.in_ok-push_segment.ensures in
     rw (← c.row.view_is) (text_of-then _ _ _ _ _ keys segment)
