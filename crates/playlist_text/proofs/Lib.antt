@@ -1,3 +1,4 @@
 pub mod Escapes
 pub mod Joins
 pub mod TextLines
+pub mod SaltedVectors

@@ -65,10 +65,10 @@ unfoldable pub vector_key_line : List ℕ → Option (List ℕ) → ℕ → ℕ 
 vector_key_line name salt index number =
     codes "#EXT-X-KEY:" ++ attribute_list (vector_key_attributes (key_uri name index) (salted_vector salt number))
 
--- the key lines of a segment behind one with a key, or behind none: with a salt, one with its own vector
-unfoldable pub entry_key_lines : List ℕ → Option (List ℕ) → Option ℕ → Entry → List (List ℕ)
-entry_key_lines name None before entry = key_lines name before entry.key
-entry_key_lines name (Some salt) before entry = vector_key_line name (Some salt) entry.key entry.number ∷ []
+-- the key lines of a segment behind one with a key, or behind none: with a salt, one with the vector of its number
+unfoldable pub entry_key_lines : List ℕ → Option (List ℕ) → Option ℕ → ℕ → ℕ → List (List ℕ)
+entry_key_lines name None before index number = key_lines name before index
+entry_key_lines name (Some salt) before index number = vector_key_line name (Some salt) index number ∷ []
 
 -- the line of a duration in microseconds (4.3.2.1)
 unfoldable pub duration_line : ℕ → List ℕ
@@ -77,7 +77,7 @@ duration_line micros = codes "#EXTINF:" ++ seconds micros ++ codes ","
 -- the lines of a segment behind one with a key, or behind none
 unfoldable pub entry_lines : List ℕ → Option (List ℕ) → Option ℕ → Entry → List (List ℕ)
 entry_lines name salt before entry =
-    discontinuity_lines entry.discontinuity ++ entry_key_lines name salt before entry
+    discontinuity_lines entry.discontinuity ++ entry_key_lines name salt before entry.key entry.number
     ++ duration_line entry.micros ∷ segment_uri name entry.number ∷ []
 
 -- the lines of all segments
