@@ -1,5 +1,5 @@
 -- Sealed segments unpack to the bodies of their plans.
-use Rattle.std.proofs.Common.{◌≡◌, ℕ, zero, suc, ◌<◌, List, [], ◌∷◌, ◌++◌, length, get_or, map, refl, sym, ap, ◌∙◌, subst, arith}
+use Rattle.std.proofs.Common.{◌≡◌, ℕ, zero, suc, ◌<◌, None, List, [], ◌∷◌, ◌++◌, length, get_or, map, refl, sym, ap, ◌∙◌, subst, arith}
 use Rattle.aes_cbc.specs.Opening.{Seals}
 use Rattle.playlist_text.specs.MediaLines.{Entry}
 use Rattle.playlist_text.specs.Vectors.{vector}
@@ -38,7 +38,7 @@ as-many keys (entry ∷ entries) [] each = absurd each
 
 -- each entry unpacks to its body
 each-unpacks : (keys : KeyRotation) (entries : List Entry) (sealed : List SealedSegment) → IsRotation keys → ListEach keys entries sealed
-    → (i : ℕ) → i < length (bodies_of sealed) → Unpacks (packed entries (bytes_of sealed) keys.keys) i (get_or (bodies_of sealed) i [])
+    → (i : ℕ) → i < length (bodies_of sealed) → Unpacks (packed None entries (bytes_of sealed) keys.keys) i (get_or (bodies_of sealed) i [])
 each-unpacks keys [] [] sound each i lt = absurd (omega (arith, lt))
 each-unpacks keys [] (s ∷ sealed) sound each i lt = absurd each
 each-unpacks keys (entry ∷ entries) [] sound each i lt = absurd each
@@ -67,6 +67,6 @@ each-unpacks keys (entry ∷ entries) (s ∷ sealed) sound each (suc i) lt =
     }
 
 pub bodies-unpack : (keys : KeyRotation) (entries : List Entry) (sealed : List SealedSegment) → IsRotation keys → ListEach keys entries sealed
-    → AllUnpack (packed entries (map (λ s. s.bytes) sealed) keys.keys) (map (λ s. s.plan.body) sealed)
+    → AllUnpack (packed None entries (map (λ s. s.bytes) sealed) keys.keys) (map (λ s. s.plan.body) sealed)
 bodies-unpack keys entries sealed sound each =
     record { each_one = as-many keys entries sealed each; unpacks = each-unpacks keys entries sealed sound each }

@@ -2,14 +2,14 @@
 use Rattle.std.proofs.Common.{◌≡◌, ℕ, ◌-◌, ◌<◌, ◌^◌, inl, inr, Bool, true, false, List, [], ◌∷◌, ◌++◌, length, take, drop, None, refl, sym, ap, ◌∙◌, subst, arith, append_assoc, append-nil}
 use Rattle.std.proofs.lemmas.Bool.{cases_lt}
 use Rattle.std.proofs.lemmas.List.{length-append, take-append-drop}
-use Rattle.playlist_text.specs.MediaLines.{Listing, discontinuity_lines, key_lines, duration_line, entry_lines, entries_lines, end_lines, listing_lines}
+use Rattle.playlist_text.specs.MediaLines.{Listing, type_lines, discontinuity_lines, duration_line, entry_lines, entries_lines, end_lines, listing_lines}
 use Rattle.playlist_text.specs.Uris.{segment_uri}
 use Rattle.hls_check.specs.declared.reading.Stage.{Stage}
-use Rattle.hls_check.specs.declared.reading.Stage.TheVariants.{Fresh, Tagged, Versioned, Targeted, Sequenced, Between, Broken, Keyed, Timed, Ended}
+use Rattle.hls_check.specs.declared.reading.Stage.TheVariants.{Fresh, Tagged, Versioned, Targeted, Sequenced, Headed, Between, Broken, Keyed, Timed, Ended}
 use Rattle.hls_check.specs.MediaTexts.{IsListing, AreFirst}
 use Rattle.hls_check.specs.State.{Progress, next_number, entry_of, with_entry, listing_of}
-use Rattle.hls_check.proofs.Going.{last_key, name_of, head_of, listed_lines, lines_at, IsAt, IsBounded, IsSound}
-use Rattle.hls_check.proofs.Stepping.{entries_lines-more, AreListed-more, other-key}
+use Rattle.hls_check.proofs.Going.{last_key, name_of, head_of, front_of, keys_of, listed_lines, lines_at, IsAt, IsBounded, IsSound}
+use Rattle.hls_check.proofs.Stepping.{entries_lines-more, AreListed-more, key-listed}
 
 -- lines that begin those of a playlist, and all before them
 first-of : (a b : List (List ℕ)) → AreFirst (a ++ b) → AreFirst a
@@ -26,6 +26,8 @@ told-sound p ended bounded some = record {
   some_target = bounded.some_target;
   target = bounded.target;
   discontinuity_sequence = bounded.discontinuity_sequence;
+  event = bounded.event;
+  salt = bounded.salt;
   some = some;
   entries = bounded.entries;
 }
@@ -47,15 +49,14 @@ later-bounded p bounded left = record {
   target = bounded.target;
   sequence = bounded.sequence;
   discontinuity_sequence = bounded.discontinuity_sequence;
+  event = bounded.event;
+  salt = bounded.salt;
   key = bounded.key;
   lasts = bounded.lasts;
   short = bounded.short;
   entries = AreListed-more p.target p.sequence p.entries (entry_of p (next_number p)) bounded.entries
       (record { number = refl; below = left; key = bounded.key; lasts = bounded.lasts; short = bounded.short });
 }
-
-abbrev keys_of : Progress → List (List ℕ)
-keys_of p = key_lines (name_of p) (last_key p.entries) p.key
 
 abbrev rest_of : Progress → List (List ℕ)
 rest_of p = duration_line p.micros ∷ segment_uri (name_of p) (next_number p) ∷ []
@@ -66,8 +67,8 @@ later-first p bounded left =
     let some : 0 < length (p.entries ++ entry_of p (next_number p) ∷ []) = omega (arith, length-append p.entries (entry_of p (next_number p) ∷ [])) in
     subst AreFirst (
     append-nil (listed_lines (later p))
-    ∙ ap (λ x. head_of p ++ x) (entries_lines-more (name_of p) None p.entries (entry_of p (next_number p)))
-    ∙ sym (append_assoc (head_of p) (entries_lines (name_of p) None p.entries) (entry_lines (name_of p) (last_key p.entries) (entry_of p (next_number p))))
+    ∙ ap (λ x. front_of p ++ x) (entries_lines-more (name_of p) p.salt None p.entries (entry_of p (next_number p)))
+    ∙ sym (append_assoc (front_of p) (entries_lines (name_of p) p.salt None p.entries) (entry_lines (name_of p) p.salt (last_key p.entries) (entry_of p (next_number p))))
     ) (told-first (later p) false (later-bounded p bounded left) some)
 
 later-broken : (p : Progress) → IsBounded p → next_number p < 2 ^ 32 - 1 → AreFirst ((listed_lines p ++ discontinuity_lines p.discontinuity) ++ (keys_of p ++ rest_of p))
@@ -89,11 +90,15 @@ later-timed p bounded left =
     subst AreFirst (sym (append_assoc front (duration_line p.micros ∷ []) (segment_uri (name_of p) (next_number p) ∷ []))) (later-keyed p bounded left)
 
 -- the lines of the head
-head-first : (p : Progress) (n : ℕ) → IsBounded p → p.entries ≡ [] → AreFirst (take n (head_of p))
-head-first p n bounded none =
+whole-head-first : (p : Progress) → IsBounded p → p.entries ≡ [] → AreFirst (head_of p)
+whole-head-first p bounded none =
     let left : next_number p < 2 ^ 32 - 1 = omega (arith, bounded.sequence, ap length none) in
     let whole = first-of (listed_lines p) (discontinuity_lines p.discontinuity ++ keys_of p ++ rest_of p) (later-first p bounded left) in
-    first-of (take n (head_of p)) (drop n (head_of p)) (subst AreFirst (sym (take-append-drop n (head_of p))) (first-of (head_of p) (entries_lines (name_of p) None p.entries) whole))
+    first-of (head_of p) (type_lines p.event) (first-of (front_of p) (entries_lines (name_of p) p.salt None p.entries) whole)
+
+head-first : (p : Progress) (n : ℕ) → IsBounded p → p.entries ≡ [] → AreFirst (take n (head_of p))
+head-first p n bounded none =
+    first-of (take n (head_of p)) (drop n (head_of p)) (subst AreFirst (sym (take-append-drop n (head_of p))) (whole-head-first p bounded none))
 
 between-first : (p : Progress) → IsBounded p → AreFirst (listed_lines p)
 between-first p bounded = elim (cases_lt (next_number p) (2 ^ 32 - 1)) [
@@ -107,12 +112,13 @@ first-at Tagged p bounded at = head-first p 1 bounded at.0
 first-at Versioned p bounded at = head-first p 2 bounded at.0
 first-at Targeted p bounded at = head-first p 3 bounded at.0
 first-at Sequenced p bounded at = head-first p 4 bounded at.0
+first-at Headed p bounded at = whole-head-first p bounded at.0
 first-at Between p bounded at = between-first p bounded
 first-at Broken p bounded at =
     subst (λ b. AreFirst (listed_lines p ++ discontinuity_lines b)) at.1
     (first-of (listed_lines p ++ discontinuity_lines p.discontinuity) (keys_of p ++ rest_of p) (later-broken p bounded at.2))
 first-at Keyed p bounded at =
-    subst (λ x. AreFirst (listed_lines p ++ discontinuity_lines p.discontinuity ++ x)) (other-key (name_of p) p.key (last_key p.entries) at.1)
+    subst (λ x. AreFirst (listed_lines p ++ discontinuity_lines p.discontinuity ++ x)) (key-listed (name_of p) p.salt (last_key p.entries) p.key (next_number p) at.1)
     (first-of (listed_lines p ++ discontinuity_lines p.discontinuity ++ keys_of p) (rest_of p) (later-keyed p bounded at.2))
 first-at Timed p bounded at =
     first-of (listed_lines p ++ discontinuity_lines p.discontinuity ++ keys_of p ++ duration_line p.micros ∷ []) (segment_uri (name_of p) (next_number p) ∷ [])

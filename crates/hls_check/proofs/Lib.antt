@@ -8,6 +8,7 @@ pub mod Bodies
 pub mod Spellings
 pub mod Found
 pub mod KeyLines
+pub mod Salts
 pub mod NamesIn
 pub mod Going
 pub mod Stepping

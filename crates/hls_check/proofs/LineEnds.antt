@@ -5,12 +5,17 @@ use Rattle.std.specs.Fmt.{decimal}
 use Rattle.std.proofs.lemmas.Bool.{false≢true, eq-eqb}
 use Rattle.std.proofs.lemmas.Fmt.{decimal_by_steps}
 use Rattle.std.proofs.lemmas.List.Elements.{All-nil, All-cons, All-append, All-map}
+use Rattle.hex.specs.Hex.{encode_upper}
+use Rattle.playlist_text.specs.Attributes.{hexadecimal}
+use Rattle.playlist_text.specs.Vectors.{salted_vector}
+use Rattle.playlist_text.proofs.SaltedVectors.{salted-small}
 use Rattle.playlist_text.specs.Numbers.{digit, six_digits, seconds}
 use Rattle.playlist_text.specs.Uris.{escaped, segment_uri}
-use Rattle.playlist_text.specs.MediaLines.{Entry, Listing, head_lines, discontinuity_lines, key_line, key_lines, duration_line, entry_lines, entries_lines, end_lines, listing_lines}
+use Rattle.playlist_text.specs.MediaLines.{Entry, Listing, head_lines, type_lines, discontinuity_lines, key_line, vector_key_line, key_lines, entry_key_lines, duration_line, entry_lines, entries_lines, end_lines, listing_lines}
 use Rattle.hls_check.specs.MediaTexts.{IsListed, AreListed, IsListing, IsLine}
-use Rattle.hls_check.specs.State.{key_begin, target_line, sequence_line, discontinuity_sequence_line}
-use Rattle.hls_check.proofs.KeyLines.{key_front, key_line-parts}
+use Rattle.hls_check.specs.State.{key_begin, key_end, key_line_under, target_line, sequence_line, discontinuity_sequence_line}
+use Rattle.hls_check.proofs.KeyLines.{key_front, key_line_under-parts}
+use Rattle.hls_check.proofs.Salts.{upper-without}
 use Rattle.hls_check.proofs.EscapedBytes.{escaped-in}
 use Rattle.hls_check.proofs.Stepping.{both}
 
@@ -60,14 +65,21 @@ duration-line micros small =
 escaped-line : (name : List ℕ) → IsLine (escaped name)
 escaped-line name = λ k d lt. (escaped-in name k d lt).0
 
-key-line : (name : List ℕ) (key : ℕ) → key < 4096 → IsLine (key_line name key)
-key-line name key small =
-    subst IsLine (sym (key_line-parts name key))
-    (joined (key_front name ++ decimal key) (codes ".key\"")
+end-line : (salt : Option (List ℕ)) (n : ℕ) → IsLine (key_end salt n)
+unfolding hexadecimal
+end-line None n = written (codes ".key\"") refl
+end-line (Some salt) n =
+    let digits = encode_upper (salted_vector (Some salt) n) in
+    joined (codes ".key\",IV=0x") digits (written (codes ".key\",IV=0x") refl) (upper-without 10 refl (salted_vector (Some salt) n) (salted-small salt n))
+
+key-line : (name : List ℕ) (salt : Option (List ℕ)) (n key : ℕ) → key < 4096 → IsLine (key_line_under name salt n key)
+key-line name salt n key small =
+    subst IsLine (sym (key_line_under-parts name salt n key))
+    (joined (key_front name ++ decimal key) (key_end salt n)
     (joined (key_front name) (decimal key)
     (joined (key_begin ++ escaped name) (codes ".") (joined key_begin (escaped name) (written key_begin refl) (escaped-line name)) (written (codes ".") refl))
     (decimal-line key (omega (arith, small))))
-    (written (codes ".key\"") refl))
+    (end-line salt n))
 
 segment-line : (name : List ℕ) (n : ℕ) → n < 2 ^ 32 → IsLine (segment_uri name n)
 unfolding segment_uri
@@ -100,6 +112,11 @@ head-IsLine t s d one two three =
     (and-line (discontinuity_sequence_line d) []
     (joined (codes "#EXT-X-DISCONTINUITY-SEQUENCE:") (decimal d) (written (codes "#EXT-X-DISCONTINUITY-SEQUENCE:") refl) (decimal-line d (omega (arith, three)))) no-lines))))
 
+type-IsLine : (b : Bool) → All IsLine (type_lines b)
+unfolding type_lines
+type-IsLine true = and-line (codes "#EXT-X-PLAYLIST-TYPE:EVENT") [] (written (codes "#EXT-X-PLAYLIST-TYPE:EVENT") refl) no-lines
+type-IsLine false = no-lines
+
 -- the lines of an entry
 discontinuity-IsLine : (b : Bool) → All IsLine (discontinuity_lines b)
 unfolding discontinuity_lines
@@ -108,28 +125,36 @@ discontinuity-IsLine false = no-lines
 
 keys-by : (name : List ℕ) (key : ℕ) (b : Bool) → key < 4096 → All IsLine (if b then [] else key_line name key ∷ [])
 keys-by name key true small = no-lines
-keys-by name key false small = and-line (key_line name key) [] (key-line name key small) no-lines
+keys-by name key false small = and-line (key_line name key) [] (key-line name None 0 key small) no-lines
 
 keys-IsLine : (name : List ℕ) (before : Option ℕ) (key : ℕ) → key < 4096 → All IsLine (key_lines name before key)
 unfolding key_lines
-keys-IsLine name None key small = and-line (key_line name key) [] (key-line name key small) no-lines
+keys-IsLine name None key small = and-line (key_line name key) [] (key-line name None 0 key small) no-lines
 keys-IsLine name (Some before) key small = keys-by name key (before == key) small
 
-entry-IsLine : (name : List ℕ) (before : Option ℕ) (target n : ℕ) (entry : Entry) → target ≤ 3600 → IsListed target n entry → All IsLine (entry_lines name before entry)
+all-keys-IsLine : (name : List ℕ) (salt : Option (List ℕ)) (before : Option ℕ) (key n : ℕ) → key < 4096 → All IsLine (entry_key_lines name salt before key n)
+unfolding entry_key_lines
+all-keys-IsLine name None before key n small = keys-IsLine name before key small
+all-keys-IsLine name (Some salt) before key n small =
+    and-line (vector_key_line name (Some salt) key n) [] (key-line name (Some salt) n key small) no-lines
+
+entry-IsLine : (name : List ℕ) (salt : Option (List ℕ)) (before : Option ℕ) (target n : ℕ) (entry : Entry) → target ≤ 3600 → IsListed target n entry
+    → All IsLine (entry_lines name salt before entry)
 unfolding entry_lines
-entry-IsLine name before target n entry few listed =
-    and-lines (discontinuity_lines entry.discontinuity ++ key_lines name before entry.key) (duration_line entry.micros ∷ segment_uri name entry.number ∷ [])
-    (and-lines (discontinuity_lines entry.discontinuity) (key_lines name before entry.key) (discontinuity-IsLine entry.discontinuity) (keys-IsLine name before entry.key listed.key))
+entry-IsLine name salt before target n entry few listed =
+    let keys = entry_key_lines name salt before entry.key entry.number in
+    and-lines (discontinuity_lines entry.discontinuity ++ keys) (duration_line entry.micros ∷ segment_uri name entry.number ∷ [])
+    (and-lines (discontinuity_lines entry.discontinuity) keys (discontinuity-IsLine entry.discontinuity) (all-keys-IsLine name salt before entry.key entry.number listed.key))
     (and-line (duration_line entry.micros) (segment_uri name entry.number ∷ []) (duration-line entry.micros (omega (arith, few, listed.short)))
     (and-line (segment_uri name entry.number) [] (segment-line name entry.number (omega (arith, listed.number, listed.below))) no-lines))
 
-entries-IsLine : (name : List ℕ) (before : Option ℕ) (target n : ℕ) (entries : List Entry) → target ≤ 3600 → AreListed target n entries
-    → All IsLine (entries_lines name before entries)
+entries-IsLine : (name : List ℕ) (salt : Option (List ℕ)) (before : Option ℕ) (target n : ℕ) (entries : List Entry) → target ≤ 3600 → AreListed target n entries
+    → All IsLine (entries_lines name salt before entries)
 unfolding entries_lines
-entries-IsLine name before target n [] few listed = no-lines
-entries-IsLine name before target n (entry ∷ entries) few listed =
-    and-lines (entry_lines name before entry) (entries_lines name (Some entry.key) entries) (entry-IsLine name before target n entry few listed.0)
-    (entries-IsLine name (Some entry.key) target (n + 1) entries few listed.1)
+entries-IsLine name salt before target n [] few listed = no-lines
+entries-IsLine name salt before target n (entry ∷ entries) few listed =
+    and-lines (entry_lines name salt before entry) (entries_lines name salt (Some entry.key) entries) (entry-IsLine name salt before target n entry few listed.0)
+    (entries-IsLine name salt (Some entry.key) target (n + 1) entries few listed.1)
 
 end-IsLine : (b : Bool) → All IsLine (end_lines b)
 unfolding end_lines
@@ -146,7 +171,9 @@ unfolding listing_lines
 listing-IsLine l sound =
     let first = sequence-small l.target l.sequence l.entries sound.some sound.entries in
     let head = head_lines l.target l.sequence l.discontinuity_sequence in
-    and-lines (head ++ entries_lines l.name None l.entries) (end_lines l.ended)
-    (and-lines head (entries_lines l.name None l.entries) (head-IsLine l.target l.sequence l.discontinuity_sequence sound.target (omega (arith, first)) sound.discontinuity_sequence)
-    (entries-IsLine l.name None l.target l.sequence l.entries sound.target sound.entries))
+    let entries = entries_lines l.name l.salt None l.entries in
+    and-lines (head ++ type_lines l.event ++ entries) (end_lines l.ended)
+    (and-lines (head ++ type_lines l.event) entries
+    (and-lines head (type_lines l.event) (head-IsLine l.target l.sequence l.discontinuity_sequence sound.target (omega (arith, first)) sound.discontinuity_sequence) (type-IsLine l.event))
+    (entries-IsLine l.name l.salt None l.target l.sequence l.entries sound.target sound.entries))
     (end-IsLine l.ended)

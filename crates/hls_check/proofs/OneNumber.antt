@@ -1,5 +1,5 @@
 -- A line has one number, and the line of a key one name.
-use Rattle.std.proofs.Common.{◌≡◌, ℕ, ◌-◌, ◌/◌, ◌%◌, ◌<◌, ◌≤◌, ◌^◌, ◌==◌, true, Some, List, ◌∷◌, ◌++◌, length, take, drop, get_or, refl, sym, ap, ◌∙◌, arith, append_assoc}
+use Rattle.std.proofs.Common.{◌≡◌, ℕ, ◌-◌, ◌/◌, ◌%◌, ◌<◌, ◌≤◌, ◌^◌, ◌==◌, true, Option, Some, List, ◌∷◌, ◌++◌, length, take, drop, get_or, refl, sym, ap, ◌∙◌, arith, append_assoc}
 use Rattle.std.specs.Prelude.{codes}
 use Rattle.std.specs.Fmt.{decimal}
 use Rattle.std.specs.List.{before_first}
@@ -12,11 +12,11 @@ use Rattle.percent_encoding.specs.Percent.{percent_decode}
 use Rattle.playlist_text.specs.Names.{is_name}
 use Rattle.playlist_text.specs.Numbers.{six_digits, seconds}
 use Rattle.playlist_text.specs.Uris.{escaped}
-use Rattle.playlist_text.specs.MediaLines.{key_line, duration_line}
-use Rattle.hls_check.specs.State.{number_in, name_in, key_begin}
+use Rattle.playlist_text.specs.MediaLines.{duration_line}
+use Rattle.hls_check.specs.State.{number_in, name_in, key_begin, key_end, key_line_under}
 use Rattle.hls_check.proofs.Found.{found-only}
 use Rattle.hls_check.proofs.Spellings.{middle-same, seconds-split}
-use Rattle.hls_check.proofs.KeyLines.{key_front, key_line-parts}
+use Rattle.hls_check.proofs.KeyLines.{key_front, key_line_under-parts}
 use Rattle.hls_check.proofs.NamesIn.{told_name, a-name}
 use Rattle.hls_check.proofs.EscapedBytes.{escaped-in, before-point, escaped-decoded}
 
@@ -34,10 +34,11 @@ pub tagged-apart : (tag : List ℕ) (bound : ℕ) → bound ≤ 2 ^ 64 → AreAp
 tagged-apart tag bound few m n one other same =
     decimal_injective m n (omega (arith, one, few)) (omega (arith, other, few)) (append_cancel_left tag (decimal m) (decimal n) same)
 
-pub key-apart : (name : List ℕ) → AreApart (key_line name) 4096
-key-apart name m n one other same =
+pub key-apart : (name : List ℕ) (salt : Option (List ℕ)) (number : ℕ) → AreApart (key_line_under name salt number) 4096
+key-apart name salt number m n one other same =
+    let line = key_line_under name salt number in
     decimal_injective m n (omega (arith, one)) (omega (arith, other))
-    (middle-same (key_line name m) (key_front name) (codes ".key\"") (decimal m) (decimal n) (key_line-parts name m) (same ∙ key_line-parts name n))
+    (middle-same (line m) (key_front name) (key_end salt number) (decimal m) (decimal n) (key_line_under-parts name salt number m) (same ∙ key_line_under-parts name salt number n))
 
 -- six digits are one number
 six-apart : (m n : ℕ) → m < 1_000_000 → n < 1_000_000 → six_digits m ≡ six_digits n → m ≡ n
@@ -76,13 +77,13 @@ duration-apart m n one other same =
     seconds-apart m n one other (middle-same (duration_line m) (codes "#EXTINF:") (codes ",") (seconds m) (seconds n) refl same)
 
 -- the line of a key has its name
-told-name : (name : List ℕ) (key : ℕ) → IsUtf8 name → name ≡ told_name (key_line name key)
-told-name name key utf8 =
-    let rest = decimal key ++ codes ".key\"" in
+told-name : (name : List ℕ) (salt : Option (List ℕ)) (n key : ℕ) → IsUtf8 name → name ≡ told_name (key_line_under name salt n key)
+told-name name salt n key utf8 =
+    let rest = decimal key ++ key_end salt n in
     let uri = escaped name ++ 46 ∷ rest in
-    let line : key_line name key ≡ key_begin ++ uri
-    = key_line-parts name key
-    ∙ append_assoc (key_front name) (decimal key) (codes ".key\"")
+    let line : key_line_under name salt n key ≡ key_begin ++ uri
+    = key_line_under-parts name salt n key
+    ∙ append_assoc (key_front name) (decimal key) (key_end salt n)
     ∙ append_assoc (key_begin ++ escaped name) (codes ".") rest
     ∙ append_assoc key_begin (escaped name) (46 ∷ rest) in
     sym (
@@ -92,5 +93,5 @@ told-name name key utf8 =
     ∙ escaped-decoded name utf8
     )
 
-pub name-found : (name : List ℕ) (key : ℕ) → is_name name ≡ true → IsUtf8 name → name_in (key_line name key) ≡ Some name
-name-found name key good utf8 = sym (a-name (key_line name key) name (told-name name key utf8) good utf8)
+pub name-found : (name : List ℕ) (salt : Option (List ℕ)) (n key : ℕ) → is_name name ≡ true → IsUtf8 name → name_in (key_line_under name salt n key) ≡ Some name
+name-found name salt n key good utf8 = sym (a-name (key_line_under name salt n key) name (told-name name salt n key utf8) good utf8)

@@ -1,22 +1,32 @@
 -- The lines of a playlist run through.
-use Rattle.std.proofs.Common.{◌≡◌, ℕ, ◌+◌, ◌-◌, ◌<◌, ◌≤◌, ◌^◌, Bool, true, false, Option, Some, None, List, [], ◌∷◌, ◌++◌, length, refl, sym, ap, ◌∙◌, subst, arith, append_assoc, append-nil}
-use Rattle.std.specs.Prelude.{codes, nat_lt, option_map}
+use Rattle.std.proofs.Common.{◌≡◌, ℕ, ◌+◌, ◌-◌, ◌<◌, ◌≤◌, ◌^◌, ◌==◌, ◌&&◌, inr, Bool, true, false, Option, Some, None, List, [], ◌∷◌, ◌++◌, length, get_or, refl, sym, ap, ◌∙◌, subst, arith, append_assoc, append-nil}
+use Rattle.std.specs.Prelude.{codes, nat_lt, option_map, if◌then◌else◌}
 use Rattle.std.specs.Option.{option_and_then}
-use Rattle.std.proofs.lemmas.Bool.{lt-ltb}
+use Rattle.std.specs.Str.{bytes_eq}
+use Rattle.std.proofs.lemmas.Bool.{lt-ltb, eq-eqb, and_from}
+use Rattle.std.proofs.lemmas.Option.{none-some}
+use Rattle.std.proofs.lemmas.Slice.Eq.{bytes_eq-Decides}
 use Rattle.std.proofs.lemmas.List.{length-append}
-use Rattle.playlist_text.specs.MediaLines.{Entry, Listing, head_lines, entry_lines, entries_lines, end_lines, listing_lines}
-use Rattle.hls_check.specs.declared.reading.Stage.TheVariants.{Tagged, Versioned, Targeted, Sequenced, Between, Ended}
-use Rattle.hls_check.specs.MediaTexts.{AreListed, IsListing}
-use Rattle.hls_check.specs.State.{Progress, fresh, next_number, where_so, target_line, sequence_line, discontinuity_sequence_line, step_at, begun, step, steps, listing_of, ended_by, listing_at}
+use Rattle.playlist_text.specs.MediaLines.{Entry, Listing, head_lines, type_lines, discontinuity_lines, key_line, vector_key_line, entry_key_lines, duration_line, entry_lines, entries_lines, end_lines, listing_lines}
+use Rattle.playlist_text.specs.Uris.{segment_uri}
+use Rattle.hls_check.specs.declared.reading.Stage.TheVariants.{Tagged, Versioned, Targeted, Sequenced, Headed, Between, Ended}
+use Rattle.hls_check.specs.MediaTexts.{AreListed, IsListing, IsSalt}
+use Rattle.hls_check.specs.State.{Progress, fresh, next_number, where_so, target_line, sequence_line, discontinuity_sequence_line, step_at, begun, headed, keyed, timed, key_line_under, step, steps, listing_of, ended_by, listing_at}
+use Rattle.hls_check.proofs.Found.{not-true}
+use Rattle.hls_check.proofs.Stepping.{key-listed}
 use Rattle.hls_check.proofs.OneNumber.{number-found, tagged-apart}
 use Rattle.hls_check.proofs.LineEnds.{sequence-small}
 use Rattle.hls_check.proofs.EntrySteps.{if-true, steps-line, expect-same, IsBehind, IsGood, after, entry-steps}
 
 -- behind the head
-abbrev begun_with : ℕ → ℕ → ℕ → Progress
-begun_with t s d = record fresh { stage = Between; target = t; sequence = s; discontinuity_sequence = d }
+abbrev headed_with : ℕ → ℕ → ℕ → Progress
+headed_with t s d = record fresh { stage = Headed; target = t; sequence = s; discontinuity_sequence = d }
 
-head-steps : (t s d : ℕ) (lines : List (List ℕ)) → 0 < t → t ≤ 3600 → s < 2 ^ 32 - 1 → d < 2 ^ 32 → steps fresh (head_lines t s d ++ lines) ≡ steps (begun_with t s d) lines
+-- and behind the type
+abbrev begun_with : ℕ → ℕ → ℕ → Bool → Progress
+begun_with t s d event = record fresh { stage = Between; target = t; sequence = s; discontinuity_sequence = d; event = event }
+
+head-steps : (t s d : ℕ) (lines : List (List ℕ)) → 0 < t → t ≤ 3600 → s < 2 ^ 32 - 1 → d < 2 ^ 32 → steps fresh (head_lines t s d ++ lines) ≡ steps (headed_with t s d) lines
 unfolding head_lines step
 head-steps t s d lines some few first small =
     let one = record fresh { stage = Tagged } in
@@ -35,46 +45,70 @@ head-steps t s d lines some few first small =
     ap (option_map (λ n. record three { stage = Sequenced; sequence = n }))
     (number-found sequence_line (2 ^ 32 - 1) s (tagged-apart (codes "#EXT-X-MEDIA-SEQUENCE:") (2 ^ 32 - 1) (omega arith)) first)
     )
-    ∙ steps-line four (begun_with t s d) (discontinuity_sequence_line d) lines (
-    ap (option_map (λ n. record four { stage = Between; discontinuity_sequence = n }))
+    ∙ steps-line four (headed_with t s d) (discontinuity_sequence_line d) lines (
+    ap (option_map (λ n. record four { stage = Headed; discontinuity_sequence = n }))
     (number-found discontinuity_sequence_line (2 ^ 32) d (tagged-apart (codes "#EXT-X-DISCONTINUITY-SEQUENCE:") (2 ^ 32) (omega arith)) small)
     )
 
--- behind some entries
-abbrev after_all : Progress → List ℕ → List Entry → Progress
-after_all p name [] = record p { stage = Between }
-after_all p name (entry ∷ entries) = after_all (after p name entry) name entries
+-- the line of the type is taken
+type-steps : (t s d : ℕ) (lines : List (List ℕ)) → s ≡ 0 → d ≡ 0 → steps (headed_with t s d) (codes "#EXT-X-PLAYLIST-TYPE:EVENT" ∷ lines) ≡ steps (begun_with t s d true) lines
+unfolding step headed
+type-steps t s d lines first none =
+    steps-line (headed_with t s d) (begun_with t s d true) (codes "#EXT-X-PLAYLIST-TYPE:EVENT") lines
+    (if-true (s == 0 && d == 0) (Some (begun_with t s d true)) None (and_from (s == 0) (d == 0) (eq-eqb s 0 first) (eq-eqb d 0 none)))
 
-entries-steps : (p : Progress) (name : List ℕ) (before : Option ℕ) (entries : List Entry) (lines : List (List ℕ)) → IsGood name → p.target ≤ 3600
-    → AreListed p.target (next_number p) entries → IsBehind p name before
-    → steps (record p { stage = Between }) (entries_lines name before entries ++ lines) ≡ steps (after_all p name entries) lines
+-- a line that is none of a type comes next without it
+untyped-line : (t s d : ℕ) (line : List ℕ) (lines : List (List ℕ)) → bytes_eq line (codes "#EXT-X-PLAYLIST-TYPE:EVENT") ≡ false
+    → steps (headed_with t s d) (line ∷ lines) ≡ steps (begun_with t s d false) (line ∷ lines)
+unfolding steps step headed begun keyed timed
+untyped-line t s d line lines other =
+    ap (λ o. option_and_then (λ r. steps r lines) o)
+    (ap (λ b. if b then where_so (s == 0 && d == 0) (begun_with t s d true) else begun (begun_with t s d false) line) other)
+
+-- behind some entries
+abbrev after_all : Progress → List ℕ → Option (List ℕ) → List Entry → Progress
+after_all p name salt [] = record p { stage = Between }
+after_all p name salt (entry ∷ entries) = after_all (after p name salt entry) name salt entries
+
+entries-steps : (p : Progress) (name : List ℕ) (salt : Option (List ℕ)) (before : Option ℕ) (entries : List Entry) (lines : List (List ℕ)) → IsGood name → IsSalt salt → p.target ≤ 3600
+    → AreListed p.target (next_number p) entries → IsBehind p name salt before
+    → steps (record p { stage = Between }) (entries_lines name salt before entries ++ lines) ≡ steps (after_all p name salt entries) lines
 unfolding entries_lines
-entries-steps p name before [] lines good few are is = refl
-entries-steps p name before (entry ∷ entries) lines good few are is =
-    let next : next_number p + 1 ≡ next_number (after p name entry) = omega (arith, length-append p.entries (entry ∷ [])) in
-    ap (steps (record p { stage = Between })) (append_assoc (entry_lines name before entry) (entries_lines name (Some entry.key) entries) lines)
-    ∙ entry-steps p name before entry (entries_lines name (Some entry.key) entries ++ lines) good few are.0 is
-    ∙ entries-steps (after p name entry) name (Some entry.key) entries lines good few (subst (λ n. AreListed p.target n entries) next are.1) (refl, refl)
+entries-steps p name salt before [] lines good sixteen few are is = refl
+entries-steps p name salt before (entry ∷ entries) lines good sixteen few are is =
+    let next : next_number p + 1 ≡ next_number (after p name salt entry) = omega (arith, length-append p.entries (entry ∷ [])) in
+    ap (steps (record p { stage = Between })) (append_assoc (entry_lines name salt before entry) (entries_lines name salt (Some entry.key) entries) lines)
+    ∙ entry-steps p name salt before entry (entries_lines name salt (Some entry.key) entries ++ lines) good sixteen few are.0 is
+    ∙ entries-steps (after p name salt entry) name salt (Some entry.key) entries lines good sixteen few (subst (λ n. AreListed p.target n entries) next are.1) (refl, refl, refl)
 
 -- what they tell
-after_all-listing : (p : Progress) (name : List ℕ) (entries : List Entry) (ended : Bool)
-    → listing_of (after_all p name entries) ended name ≡ record (listing_of p ended name) { entries = p.entries ++ entries }
-after_all-listing p name [] ended = ap (λ es. record (listing_of p ended name) { entries = es }) (sym (append-nil p.entries))
-after_all-listing p name (entry ∷ entries) ended =
-    after_all-listing (after p name entry) name entries ended
-    ∙ ap (λ es. record (listing_of p ended name) { entries = es }) (append_assoc p.entries (entry ∷ []) entries)
+after_all-told : (p : Progress) (name : List ℕ) (salt : Option (List ℕ)) (entries : List Entry) (ended : Bool) → p.salt ≡ salt
+    → listing_of (after_all p name salt entries) ended name ≡ record (listing_of p ended name) { salt = salt; entries = p.entries ++ entries }
+after_all-told p name salt [] ended same =
+    ap (λ x. record (listing_of p ended name) { salt = x }) same
+    ∙ ap (λ es. record (listing_of p ended name) { salt = salt; entries = es }) (sym (append-nil p.entries))
+after_all-told p name salt (entry ∷ entries) ended same =
+    after_all-told (after p name salt entry) name salt entries ended refl
+    ∙ ap (λ es. record (listing_of p ended name) { salt = salt; entries = es }) (append_assoc p.entries (entry ∷ []) entries)
 
-after_all-stage : (p : Progress) (name : List ℕ) (entries : List Entry) → (after_all p name entries).stage ≡ Between
-after_all-stage p name [] = refl
-after_all-stage p name (entry ∷ entries) = after_all-stage (after p name entry) name entries
+after_all-listing : (p : Progress) (name : List ℕ) (salt : Option (List ℕ)) (entries : List Entry) (ended : Bool) → 0 < length entries
+    → listing_of (after_all p name salt entries) ended name ≡ record (listing_of p ended name) { salt = salt; entries = p.entries ++ entries }
+after_all-listing p name salt [] ended some = absurd (omega (arith, some))
+after_all-listing p name salt (entry ∷ entries) ended some =
+    after_all-told (after p name salt entry) name salt entries ended refl
+    ∙ ap (λ es. record (listing_of p ended name) { salt = salt; entries = es }) (append_assoc p.entries (entry ∷ []) entries)
 
-after_all-named : (p : Progress) (name : List ℕ) (entries : List Entry) → p.name ≡ Some name → (after_all p name entries).name ≡ Some name
-after_all-named p name [] known = known
-after_all-named p name (entry ∷ entries) known = after_all-named (after p name entry) name entries refl
+after_all-stage : (p : Progress) (name : List ℕ) (salt : Option (List ℕ)) (entries : List Entry) → (after_all p name salt entries).stage ≡ Between
+after_all-stage p name salt [] = refl
+after_all-stage p name salt (entry ∷ entries) = after_all-stage (after p name salt entry) name salt entries
 
-after_all-name : (p : Progress) (name : List ℕ) (entries : List Entry) → 0 < length entries → (after_all p name entries).name ≡ Some name
-after_all-name p name [] some = absurd (omega (arith, some))
-after_all-name p name (entry ∷ entries) some = after_all-named (after p name entry) name entries refl
+after_all-named : (p : Progress) (name : List ℕ) (salt : Option (List ℕ)) (entries : List Entry) → p.name ≡ Some name → (after_all p name salt entries).name ≡ Some name
+after_all-named p name salt [] known = known
+after_all-named p name salt (entry ∷ entries) known = after_all-named (after p name salt entry) name salt entries refl
+
+after_all-name : (p : Progress) (name : List ℕ) (salt : Option (List ℕ)) (entries : List Entry) → 0 < length entries → (after_all p name salt entries).name ≡ Some name
+after_all-name p name salt [] some = absurd (omega (arith, some))
+after_all-name p name salt (entry ∷ entries) some = after_all-named (after p name salt entry) name salt entries refl
 
 -- the end
 ended-is : (p : Progress) (name : List ℕ) (ended : Bool) → p.name ≡ Some name → 0 < length p.entries → ended_by p ended ≡ Some (listing_of p ended name)
@@ -95,21 +129,68 @@ end-steps p name true at known some =
       ended-is q name true known some,
     )
 
+-- the line of an entry is none of a type
+not-type : (line : List ℕ) → (line ≡ codes "#EXT-X-PLAYLIST-TYPE:EVENT" → ⊥) → bytes_eq line (codes "#EXT-X-PLAYLIST-TYPE:EVENT") ≡ false
+not-type line other = not-true (bytes_eq line (codes "#EXT-X-PLAYLIST-TYPE:EVENT")) (λ same. other ((bytes_eq-Decides line (codes "#EXT-X-PLAYLIST-TYPE:EVENT")).0 same))
+
+-- without the line of a type
+untyped-steps : (t s d : ℕ) (name : List ℕ) (salt : Option (List ℕ)) (discontinuity : Bool) (key number : ℕ) (lines : List (List ℕ))
+    → steps (headed_with t s d) (discontinuity_lines discontinuity ++ key_line_under name salt number key ∷ lines)
+    ≡ steps (begun_with t s d false) (discontinuity_lines discontinuity ++ key_line_under name salt number key ∷ lines)
+unfolding discontinuity_lines key_line vector_key_line
+untyped-steps t s d name salt true key number lines =
+    untyped-line t s d (codes "#EXT-X-DISCONTINUITY") (key_line_under name salt number key ∷ lines) refl
+untyped-steps t s d name None false key number lines =
+    untyped-line t s d (key_line name key) lines (not-type (key_line name key) (λ same. omega (arith, ap (λ l. get_or l 7 0) same)))
+untyped-steps t s d name (Some salt) false key number lines =
+    untyped-line t s d (vector_key_line name (Some salt) key number) lines (not-type (vector_key_line name (Some salt) key number) (λ same. omega (arith, ap (λ l. get_or l 7 0) same)))
+
+untyped-entries : (t s d : ℕ) (name : List ℕ) (salt : Option (List ℕ)) (entries : List Entry) (lines : List (List ℕ)) → 0 < length entries
+    → steps (headed_with t s d) (entries_lines name salt None entries ++ lines) ≡ steps (begun_with t s d false) (entries_lines name salt None entries ++ lines)
+unfolding entries_lines entry_lines
+untyped-entries t s d name salt [] lines some = absurd (omega (arith, some))
+untyped-entries t s d name salt (entry ∷ entries) lines some =
+    let disc = discontinuity_lines entry.discontinuity in
+    let key = key_line_under name salt entry.number entry.key in
+    let rest = duration_line entry.micros ∷ segment_uri name entry.number ∷ [] in
+    let others = entries_lines name salt (Some entry.key) entries in
+    let keys = key-listed name salt None entry.key entry.number (inr (λ same. none-some entry.key same)) in
+    let same : ((disc ++ entry_key_lines name salt None entry.key entry.number ++ rest) ++ others) ++ lines ≡ disc ++ key ∷ ((rest ++ others) ++ lines)
+    = ap (λ x. ((disc ++ x ++ rest) ++ others) ++ lines) keys
+    ∙ ap (λ x. (x ++ others) ++ lines) (append_assoc disc (key ∷ []) rest)
+    ∙ ap (λ x. x ++ lines) (append_assoc disc (key ∷ rest) others)
+    ∙ append_assoc disc ((key ∷ rest) ++ others) lines in
+    ap (steps (headed_with t s d)) same
+    ∙ untyped-steps t s d name salt entry.discontinuity entry.key entry.number ((rest ++ others) ++ lines)
+    ∙ ap (steps (begun_with t s d false)) (sym same)
+
+-- with it or without
+typed-steps : (t s d : ℕ) (event : Bool) (name : List ℕ) (salt : Option (List ℕ)) (entries : List Entry) (lines : List (List ℕ)) → 0 < length entries
+    → (event ≡ true → (s ≡ 0) × (d ≡ 0))
+    → steps (headed_with t s d) (type_lines event ++ (entries_lines name salt None entries ++ lines)) ≡ steps (begun_with t s d event) (entries_lines name salt None entries ++ lines)
+unfolding type_lines
+typed-steps t s d true name salt entries lines some from =
+    type-steps t s d (entries_lines name salt None entries ++ lines) (from refl).0 (from refl).1
+typed-steps t s d false name salt entries lines some from = untyped-entries t s d name salt entries lines some
+
 -- the lines of a playlist are taken, and tell it
 pub listing-steps : (l : Listing) → IsListing l → (p : Progress) × (steps fresh (listing_lines l) ≡ Some p) × (listing_at p.stage p ≡ Some l)
 unfolding listing_lines
 listing-steps l sound =
-    let start = begun_with l.target l.sequence l.discontinuity_sequence in
+    let start = begun_with l.target l.sequence l.discontinuity_sequence l.event in
     let first = sequence-small l.target l.sequence l.entries sound.some sound.entries in
     let none : l.sequence ≡ l.sequence + 0 = omega arith in
-    let behind = after_all start l.name l.entries in
-    let told : listing_of behind l.ended l.name ≡ l = after_all-listing start l.name l.entries l.ended in
+    let behind = after_all start l.name l.salt l.entries in
+    let told : listing_of behind l.ended l.name ≡ l = after_all-listing start l.name l.salt l.entries l.ended sound.some in
     let some : 0 < length behind.entries = omega (arith, sound.some, ap (λ (m : Listing). length m.entries) told) in
-    let end = end-steps behind l.name l.ended (after_all-stage start l.name l.entries) (after_all-name start l.name l.entries sound.some) some in (
+    let end = end-steps behind l.name l.ended (after_all-stage start l.name l.salt l.entries) (after_all-name start l.name l.salt l.entries sound.some) some in
+    let head = head_lines l.target l.sequence l.discontinuity_sequence in
+    let entries = entries_lines l.name l.salt None l.entries in (
       end.0,
-      ap (steps fresh) (append_assoc (head_lines l.target l.sequence l.discontinuity_sequence) (entries_lines l.name None l.entries) (end_lines l.ended))
-          ∙ head-steps l.target l.sequence l.discontinuity_sequence (entries_lines l.name None l.entries ++ end_lines l.ended) sound.some_target sound.target first sound.discontinuity_sequence
-          ∙ entries-steps start l.name None l.entries (end_lines l.ended) (sound.name, sound.utf8) sound.target
+      ap (steps fresh) (append_assoc (head ++ type_lines l.event) entries (end_lines l.ended) ∙ append_assoc head (type_lines l.event) (entries ++ end_lines l.ended))
+          ∙ head-steps l.target l.sequence l.discontinuity_sequence (type_lines l.event ++ (entries ++ end_lines l.ended)) sound.some_target sound.target first sound.discontinuity_sequence
+          ∙ typed-steps l.target l.sequence l.discontinuity_sequence l.event l.name l.salt l.entries (end_lines l.ended) sound.some sound.event
+          ∙ entries-steps start l.name l.salt None l.entries (end_lines l.ended) (sound.name, sound.utf8) sound.salt sound.target
           (subst (λ n. AreListed l.target n l.entries) none sound.entries) refl
           ∙ end.1,
       end.2 ∙ ap Some told,

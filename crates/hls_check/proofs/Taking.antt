@@ -10,7 +10,7 @@ use Rattle.playlist_text.specs.MediaLines.{Listing, listing_lines, entries_lines
 use Rattle.std.proofs.lemmas.List.{take_all, length-append, take-append-drop}
 use Rattle.std.proofs.lemmas.Bool.{false≢true, ltb-true}
 use Rattle.hls_check.specs.declared.reading.Stage.{Stage}
-use Rattle.hls_check.specs.declared.reading.Stage.TheVariants.{Fresh, Tagged, Versioned, Targeted, Sequenced, Between, Broken, Keyed, Timed, Ended}
+use Rattle.hls_check.specs.declared.reading.Stage.TheVariants.{Fresh, Tagged, Versioned, Targeted, Sequenced, Headed, Between, Broken, Keyed, Timed, Ended}
 use Rattle.hls_check.specs.State.{Tells, Progress, fresh, step, steps, listing_at, listing_of}
 use Rattle.std.proofs.lemmas.List.Elements.{All-cons, All-append, All-nil}
 use Rattle.std.proofs.Math.Seq.{take-append_seam, take-append-add}
@@ -18,7 +18,7 @@ use Rattle.playlist_text.specs.Lines.{text_of}
 use Rattle.playlist_text.proofs.TextLines.{text_of-append}
 use Rattle.hls_check.specs.MediaTexts.{IsListing, AreFirst, IsLine, IsFirstWrong, listing_text}
 use Rattle.hls_check.proofs.Splitting.{steps-stop, steps-more, text-more, split-of, lines-same}
-use Rattle.hls_check.proofs.Going.{IsSound, lines_at, listed_lines, head_of, name_of}
+use Rattle.hls_check.proofs.Going.{IsSound, lines_at, listed_lines, front_of, name_of}
 use Rattle.hls_check.proofs.Stepping.{step-lines}
 use Rattle.hls_check.proofs.Completing.{sound-first}
 use Rattle.hls_check.proofs.Running.{listing-steps}
@@ -35,12 +35,14 @@ fresh-sound = record {
     target = omega arith;
     sequence = omega arith;
     discontinuity_sequence = omega arith;
+    event = λ is. absurd (false≢true is);
+    salt = _;
     key = omega arith;
     lasts = omega arith;
     short = omega arith;
     entries = _;
   };
-  stands = (refl, refl, refl);
+  stands = (refl, refl, refl, refl);
 }
 
 -- behind the first line
@@ -183,11 +185,13 @@ ended-from p ended l (Some name) is sound some told =
       some_target = sound.bounded.some_target;
       target = sound.bounded.target;
       discontinuity_sequence = sound.bounded.discontinuity_sequence;
+      event = sound.bounded.event;
+      salt = sound.bounded.salt;
       some = some;
       entries = sound.bounded.entries;
     } in
     let lines : listing_lines (listing_of p ended name) ≡ listed_lines p ++ end_lines ended
-    = ap (λ n. head_of p ++ entries_lines n None p.entries ++ end_lines ended) (sym same) in
+    = ap (λ n. front_of p ++ entries_lines n p.salt None p.entries ++ end_lines ended) (sym same) in
     subst (λ (m : Listing). IsListing m × (listing_lines m ≡ listed_lines p ++ end_lines ended)) (same_Some _ l told) (made, lines)
 
 ended-if : (p : Progress) (ended : Bool) (l : Listing) (b : Bool) → nat_lt 0 (length p.entries) ≡ b → IsSound p
@@ -207,6 +211,7 @@ told-lines Tagged p l sound told = absurd (none-some l told)
 told-lines Versioned p l sound told = absurd (none-some l told)
 told-lines Targeted p l sound told = absurd (none-some l told)
 told-lines Sequenced p l sound told = absurd (none-some l told)
+told-lines Headed p l sound told = absurd (none-some l told)
 told-lines Broken p l sound told = absurd (none-some l told)
 told-lines Keyed p l sound told = absurd (none-some l told)
 told-lines Timed p l sound told = absurd (none-some l told)

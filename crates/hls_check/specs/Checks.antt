@@ -23,14 +23,14 @@ pub record AreWhole (text : List ℕ) (segments keys : List (List ℕ)) (c : Che
   pub listing : Listing
   pub sound : IsListing listing
   pub is_text : text ≡ listing_text listing
-  pub unpacked : AreUnpacked (packed listing.entries segments keys) c
+  pub unpacked : AreUnpacked (packed listing.salt listing.entries segments keys) c
 
 -- the text is that of a playlist whose segments don't unpack
 pub record DontUnpack (text : List ℕ) (segments keys : List (List ℕ)) (fault : UnpackFault) : Type 0 where
   pub listing : Listing
   pub sound : IsListing listing
   pub is_text : text ≡ listing_text listing
-  pub told : IsTold (packed listing.entries segments keys) fault
+  pub told : IsTold (packed listing.salt listing.entries segments keys) fault
 
 -- why they aren't whole: the text comes first
 abbrev pub IsFaulty : List ℕ → List (List ℕ) → List (List ℕ) → CheckFault → Type 0

@@ -1,5 +1,5 @@
 -- Texts of media playlists, and texts that are none (RFC 8216, 4.3).
-use Rattle.std.specs.Prelude.{◌≡◌, ◌≢◌, ⊤, ℕ, ◌+◌, ◌-◌, ◌<◌, ◌≤◌, ◌^◌, ◌⊎◌, true, List, [], ◌∷◌, ◌++◌, length, take, All}
+use Rattle.std.specs.Prelude.{◌≡◌, ◌≢◌, ⊤, ℕ, ◌+◌, ◌-◌, ◌<◌, ◌≤◌, ◌^◌, ◌⊎◌, true, Option, Some, None, List, [], ◌∷◌, ◌++◌, length, take, All}
 use Rattle.std.specs.Str.{IsUtf8}
 use Rattle.playlist_text.specs.Names.{is_name}
 use Rattle.playlist_text.specs.Numbers.{rounded_seconds}
@@ -22,13 +22,20 @@ abbrev pub AreListed : ℕ → ℕ → List Entry → Type 0
 AreListed target number [] = ⊤
 AreListed target number (entry ∷ entries) = IsListed target number entry × AreListed target (number + 1) entries
 
--- a playlist within the bounds
+-- a salt has 16 bytes
+abbrev pub IsSalt : Option (List ℕ) → Type 0
+IsSalt None = ⊤
+IsSalt (Some salt) = (length salt ≡ 16) × All (λ b. b < 256) salt
+
+-- a playlist within the bounds; one of an event begins at 0
 pub record IsListing (l : Listing) : Type 0 where
   pub name : is_name l.name ≡ true
   pub utf8 : IsUtf8 l.name
   pub some_target : 0 < l.target
   pub target : l.target ≤ 3600
   pub discontinuity_sequence : l.discontinuity_sequence < 2 ^ 32
+  pub event : l.event ≡ true → (l.sequence ≡ 0) × (l.discontinuity_sequence ≡ 0)
+  pub salt : IsSalt l.salt
   pub some : 0 < length l.entries
   pub entries : AreListed l.target l.sequence l.entries
 

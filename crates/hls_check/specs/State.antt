@@ -1,18 +1,22 @@
 -- What is kept of the lines of a media playlist that were read, and what one line more makes of it.
-use Rattle.std.specs.Prelude.{◌≡◌, Bool, true, false, Option, Some, None, option_map, ℕ, zero, suc, ◌+◌, ◌-◌, ◌^◌, ◌==◌, ◌&&◌, nat_le, nat_lt, if◌then◌else◌, List, [], ◌∷◌, ◌++◌, length, drop, is_some, codes, not}
+use Rattle.std.specs.Prelude.{◌≡◌, Bool, true, false, Option, Some, None, option_map, ℕ, zero, suc, ◌+◌, ◌-◌, ◌^◌, ◌==◌, ◌&&◌, ◌||◌, nat_eq, nat_le, nat_lt, if◌then◌else◌, List, [], ◌∷◌, ◌++◌, length, drop, is_some, codes, not}
 use Rattle.std.specs.String.{string_bytes}
 use Rattle.hls_check.specs.declared.reading.Reading.{Reading}
 use Rattle.std.specs.Fmt.{decimal}
-use Rattle.std.specs.List.{before_first}
+use Rattle.std.specs.List.{before_first, ends_with}
 use Rattle.std.specs.Str.{bytes_eq, is_utf8}
 use Rattle.std.specs.Option.{option_and_then, option_or}
+use Rattle.std.specs.Result.{result_ok}
+use Rattle.hex.specs.Hex.{decode_sized}
+use Rattle.playlist_text.specs.Vectors.{salted_vector}
 use Rattle.percent_encoding.specs.Percent.{percent_decode}
 use Rattle.playlist_text.specs.Numbers.{rounded_seconds}
 use Rattle.playlist_text.specs.Names.{is_name}
+use Rattle.playlist_text.specs.Attributes.{hexadecimal}
 use Rattle.playlist_text.specs.Uris.{segment_uri}
-use Rattle.playlist_text.specs.MediaLines.{Entry, Listing, key_line, duration_line}
+use Rattle.playlist_text.specs.MediaLines.{Entry, Listing, key_line, vector_key_line, duration_line}
 use Rattle.hls_check.specs.declared.reading.Stage.{Stage}
-use Rattle.hls_check.specs.declared.reading.Stage.TheVariants.{Fresh, Tagged, Versioned, Targeted, Sequenced, Between, Broken, Keyed, Timed, Ended}
+use Rattle.hls_check.specs.declared.reading.Stage.TheVariants.{Fresh, Tagged, Versioned, Targeted, Sequenced, Headed, Between, Broken, Keyed, Timed, Ended}
 
 -- what the lines so far told: which line comes next, and the values of the playlist and of its next entry. A value that no
 -- line told yet is one that it may have.
@@ -21,6 +25,8 @@ pub record Progress : Type 0 where
   pub target : ℕ
   pub sequence : ℕ
   pub discontinuity_sequence : ℕ
+  pub event : Bool
+  pub salt : Option (List ℕ)
   pub name : Option (List ℕ)
   pub key : ℕ
   pub discontinuity : Bool
@@ -34,6 +40,8 @@ fresh = record {
   target = 1;
   sequence = 0;
   discontinuity_sequence = 0;
+  event = false;
+  salt = None;
   name = None;
   key = 0;
   discontinuity = false;
@@ -74,6 +82,29 @@ name_in line =
     let name = percent_decode (before_first (λ b. b == 46) (drop (length key_begin) line)) in
     if is_name name && is_utf8 name then Some name else None
 
+-- the line of the key of the entry of a number: under a salt it has the vector too
+abbrev pub key_line_under : List ℕ → Option (List ℕ) → ℕ → ℕ → List ℕ
+key_line_under name None n key = key_line name key
+key_line_under name (Some salt) n key = vector_key_line name (Some salt) key n
+
+-- what stands behind the index in the line of a key
+abbrev pub key_end : Option (List ℕ) → ℕ → List ℕ
+key_end None n = codes ".key\""
+key_end (Some salt) n = codes ".key\",IV=" ++ hexadecimal (salted_vector (Some salt) n)
+
+-- the line ends in a quote
+abbrev pub is_quoted : List ℕ → Bool
+is_quoted line = ends_with nat_eq line (codes "\"")
+
+-- the vector that the line may end in
+abbrev pub vector_in : List ℕ → Option (List ℕ)
+vector_in line = result_ok (decode_sized (drop (length line - 32) line) 16)
+
+-- the salt that the first line of a key may have, where the number is that of its entry: none behind a quote
+unfoldable pub salt_in : ℕ → List ℕ → Option (Option (List ℕ))
+salt_in n line =
+    if is_quoted line then Some None else option_map (λ iv. Some (salted_vector (Some iv) n)) (vector_in line)
+
 -- the next number
 abbrev pub next_number : Progress → ℕ
 next_number p = p.sequence + length p.entries
@@ -94,16 +125,25 @@ expect line wanted next = if bytes_eq line wanted then Some next else None
 abbrev pub is_duration : ℕ → ℕ → Bool
 is_duration target micros = nat_lt 0 micros && nat_le (rounded_seconds micros) target
 
-abbrev pub with_key : Progress → List ℕ → ℕ → Progress
-with_key p name key = record p { stage = Keyed; name = Some name; key = key }
+abbrev pub with_key : Progress → List ℕ → Option (List ℕ) → ℕ → Progress
+with_key p name salt key = record p { stage = Keyed; name = Some name; salt = salt; key = key }
 
-abbrev pub keyed_by : Option (List ℕ) → Progress → List ℕ → Option Progress
-keyed_by None p line = option_and_then (λ name. option_map (with_key p name) (number_in (key_line name) 4096 line)) (name_in line)
-keyed_by (Some name) p line = option_and_then (λ key. where_so (not (key == p.key)) (with_key p name key)) (number_in (key_line name) 4096 line)
+-- the index of the key that a line has, before the entry of a number
+abbrev pub key_in : List ℕ → Option (List ℕ) → ℕ → List ℕ → Option ℕ
+key_in name salt n line = number_in (key_line_under name salt n) 4096 line
 
--- behind the line of a key, another one than the entry before has
+abbrev pub keyed_first : Progress → ℕ → List ℕ → List ℕ → Option Progress
+keyed_first p n line name =
+    option_and_then (λ salt. option_map (with_key p name salt) (key_in name salt n line)) (salt_in n line)
+
+abbrev pub keyed_by : Option (List ℕ) → Progress → ℕ → List ℕ → Option Progress
+keyed_by None p n line = option_and_then (keyed_first p n line) (name_in line)
+keyed_by (Some name) p n line =
+    option_and_then (λ key. where_so (is_some p.salt || not (key == p.key)) (with_key p name p.salt key)) (key_in name p.salt n line)
+
+-- behind the line of a key: without a salt, another one than the entry before has
 unfoldable pub keyed : Progress → List ℕ → Option Progress
-keyed p line = keyed_by p.name p line
+keyed p line = option_and_then (λ n. keyed_by p.name p n line) (number_left p)
 
 -- behind the line of a duration, where there is a key
 unfoldable pub timed : Progress → List ℕ → Option Progress
@@ -112,9 +152,9 @@ timed p line =
     then option_and_then (λ micros. where_so (is_duration p.target micros) (record p { stage = Timed; micros = micros })) (number_in duration_line (2 ^ 64) line)
     else None
 
--- behind one of both
+-- behind one of both: under a salt each entry has its line of a key
 abbrev pub keyed_or_timed : Progress → List ℕ → Option Progress
-keyed_or_timed p line = option_or (keyed p line) (timed p line)
+keyed_or_timed p line = option_or (keyed p line) (if is_some p.salt then None else timed p line)
 
 -- behind the line of a segment
 abbrev pub with_entry : Progress → ℕ → Progress
@@ -138,13 +178,21 @@ begun p line =
     then where_so (nat_lt 0 (length p.entries)) (record p { stage = Ended })
     else option_and_then (λ n. entered p line) (number_left p)
 
+-- behind the line of the type, which an event that begins at 0 may have, or one that comes next without it
+unfoldable pub headed : Progress → List ℕ → Option Progress
+headed p line =
+    if bytes_eq line (codes "#EXT-X-PLAYLIST-TYPE:EVENT")
+    then where_so (p.sequence == 0 && p.discontinuity_sequence == 0) (record p { stage = Between; event = true })
+    else begun p line
+
 -- what a line more makes of it, if it may come next
 abbrev pub step_at : Stage → Progress → List ℕ → Option Progress
 step_at Fresh p line = expect line (codes "#EXTM3U") (record p { stage = Tagged })
 step_at Tagged p line = expect line (codes "#EXT-X-VERSION:4") (record p { stage = Versioned })
 step_at Versioned p line = option_and_then (λ n. where_so (nat_lt 0 n) (record p { stage = Targeted; target = n })) (number_in target_line 3601 line)
 step_at Targeted p line = option_map (λ n. record p { stage = Sequenced; sequence = n }) (number_in sequence_line (2 ^ 32 - 1) line)
-step_at Sequenced p line = option_map (λ n. record p { stage = Between; discontinuity_sequence = n }) (number_in discontinuity_sequence_line (2 ^ 32) line)
+step_at Sequenced p line = option_map (λ n. record p { stage = Headed; discontinuity_sequence = n }) (number_in discontinuity_sequence_line (2 ^ 32) line)
+step_at Headed p line = headed p line
 step_at Between p line = begun p line
 step_at Broken p line = keyed_or_timed p line
 step_at Keyed p line = timed p line
@@ -166,6 +214,8 @@ listing_of p ended name = record {
   target = p.target;
   sequence = p.sequence;
   discontinuity_sequence = p.discontinuity_sequence;
+  event = p.event;
+  salt = p.salt;
   entries = p.entries;
   ended = ended;
 }
@@ -187,6 +237,8 @@ progress_of r = record {
   target = r.target;
   sequence = r.sequence;
   discontinuity_sequence = r.discontinuity_sequence;
+  event = r.event;
+  salt = r.salt;
   name = option_map string_bytes r.name;
   key = r.key;
   discontinuity = r.discontinuity;

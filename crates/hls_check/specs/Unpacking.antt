@@ -1,32 +1,33 @@
 -- What the segments of a playlist unpack to.
-use Rattle.std.specs.Prelude.{◌≡◌, ℕ, ◌<◌, false, List, [], ◌++◌, length, slice_index_or}
+use Rattle.std.specs.Prelude.{◌≡◌, ℕ, ◌<◌, false, Option, List, [], ◌++◌, length, slice_index_or}
 use Rattle.aes_cbc.specs.Opening.{Seals}
 use Rattle.psi_tables.specs.InForce.{InForce}
 use Rattle.psi_tables.specs.Head.{head, IsSendable}
 use Rattle.playlist_text.specs.MediaLines.{Entry}
-use Rattle.playlist_text.specs.Vectors.{vector}
+use Rattle.playlist_text.specs.Vectors.{salted_vector}
 use Rattle.hls_check.specs.declared.fault.UnpackFault.{UnpackFault}
 use Rattle.hls_check.specs.declared.fault.UnpackFault.TheVariants.{Missing, Closed, NoHead, NoMemory}
 
--- the entries of a playlist, the bytes of their segments in the same order, and the keys by their indexes
+-- the salt of a playlist's vectors where there is one, its entries, the bytes of their segments in the same order, and the keys by their indexes
 pub record Packed : Type 0 where
+  pub salt : Option (List ℕ)
   pub entries : List Entry
   pub segments : List (List ℕ)
   pub keys : List (List ℕ)
 
-abbrev pub packed : List Entry → List (List ℕ) → List (List ℕ) → Packed
-packed entries segments keys = record { entries = entries; segments = segments; keys = keys }
+abbrev pub packed : Option (List ℕ) → List Entry → List (List ℕ) → List (List ℕ) → Packed
+packed salt entries segments keys = record { salt = salt; entries = entries; segments = segments; keys = keys }
 
 -- an entry
 abbrev pub entry_at : Packed → ℕ → Entry
 entry_at p i = slice_index_or p.entries i (record { number = 0; key = 0; micros = 0; discontinuity = false })
 
--- its key, the vector of its number (RFC 8216, 5.2), and its bytes
+-- its key, the vector of its number under the salt (RFC 8216, 5.2), and its bytes
 abbrev pub key_at : Packed → ℕ → List ℕ
 key_at p i = slice_index_or p.keys (entry_at p i).key []
 
 abbrev pub vector_at : Packed → ℕ → List ℕ
-vector_at p i = vector (entry_at p i).number
+vector_at p i = salted_vector p.salt (entry_at p i).number
 
 abbrev pub bytes_at : Packed → ℕ → List ℕ
 bytes_at p i = slice_index_or p.segments i []

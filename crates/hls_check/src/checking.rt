@@ -79,19 +79,19 @@ pub fn check_listing(
     segments: &[Vec<u8>],
     keys: &[[u8; 16]],
 ) -> Result<Checked, UnpackFault>
-    ensures ok { let p = packed listing.now.entries (map (λ s. s.items) segments.now) keys.now in
+    ensures ok { let p = packed listing.now.salt listing.now.entries (map (λ s. s.items) segments.now) keys.now in
         IfOk result (AreUnpacked p) }
 
     // Where all entries unpack, that is the answer, or there was no memory for it.
-    ensures unpacks { let p = packed listing.now.entries (map (λ s. s.items) segments.now) keys.now in
+    ensures unpacks { let p = packed listing.now.salt listing.now.entries (map (λ s. s.items) segments.now) keys.now in
         (c : TheChecked.Checked) → AreUnpacked p c
         → MatchResult result (λ found. found ≡ c) (λ fault. fault ≡ NoMemory) }
-    ensures err { let p = packed listing.now.entries (map (λ s. s.items) segments.now) keys.now in
+    ensures err { let p = packed listing.now.salt listing.now.entries (map (λ s. s.items) segments.now) keys.now in
         IfErr result (IsTold p) }
-    ensures missing { let p = packed listing.now.entries (map (λ s. s.items) segments.now) keys.now in
+    ensures missing { let p = packed listing.now.salt listing.now.entries (map (λ s. s.items) segments.now) keys.now in
         (i : ℕ) → IsErrOf result (UnpackFault.Missing i) ↔ IsTold p (UnpackFault.Missing i) }
 {
-    let bytes = count_bytes(alloc, &listing.entries, segments, keys)?;
+    let bytes = count_bytes(alloc, listing.salt, &listing.entries, segments, keys)?;
     Ok(Checked {
         segments: listing.entries.len(),
         bytes,

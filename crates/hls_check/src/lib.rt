@@ -15,6 +15,8 @@ mod reading;
 #[cfg(test)]
 mod reading_tests;
 #[cfg(test)]
+mod salted_tests;
+#[cfg(test)]
 mod tests;
 #[cfg(test)]
 mod text_tests;

@@ -23,13 +23,16 @@ impl Model for Entry {
 }
 
 /// A media playlist (RFC 8216, 4.3): the rendition's name, the target duration in seconds, the numbers of media and of
-/// discontinuities at its beginning, its segments, and whether it has ended.
+/// discontinuities at its beginning, whether it is one of an event (4.3.3.5), the salt of its vectors where it lists them
+/// (4.3.2.4), its segments, and whether it has ended.
 #[derive(Debug, Drop)]
 pub struct Listing {
     pub name: String,
     pub target: u64,
     pub sequence: u64,
     pub discontinuity_sequence: u64,
+    pub event: bool,
+    pub salt: Option<[u8; 16]>,
     pub entries: Vec<Entry>,
     pub ended: bool,
 }
@@ -45,6 +48,8 @@ impl Model for Listing {
       target = l.target;
       sequence = l.sequence;
       discontinuity_sequence = l.discontinuity_sequence;
+      event = l.event;
+      salt = l.salt;
       entries = l.entries.items;
       ended = l.ended;
     } };

@@ -12,7 +12,11 @@ use std::alloc::Global;
 
 /// The playlist of which this is the text, byte for byte, within the bounds: a target of 1 to 3,600 s, at least one
 /// entry, numbers that rise by one from the media sequence and are below 2^32 - 1, a discontinuity sequence below 2^32,
-/// indexes of keys below 4,096, and durations above 0 that round to at most the target.
+/// indexes of keys below 4,096, and durations above 0 that round to at most the target. A playlist of an event (4.3.3.5)
+/// has both sequences at 0.
+///
+/// Where the first line of a key lists a vector (4.3.2.4), each entry has a line of its key, and its vector is one salt xor
+/// its number, in upper-case digits.
 ///
 /// NotProfile tells the first line, counted from 1, that no such text goes on with; where the text ends too early, or in a
 /// line without its LF, the line behind its last LF at the latest.

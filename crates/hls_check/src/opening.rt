@@ -8,12 +8,17 @@ ghost use Rattle.hls_check.specs.Texts.{AreTexts, IsNoText, IsTheText, OpensAlon
 use crate::fault::UnpackFault;
 use crate::listing::Entry;
 use aes_cbc::{Key, OpenFault, open};
-use segment_job::vector;
+use playlist_text::salted_vector;
 use std::alloc::{AllocError, Global};
 
 /// The place of the first entry that has no bytes, or no key.
-pub fn first_missing(entries: &[Entry], segments: &[Vec<u8>], keys: &[[u8; 16]]) -> Option<usize>
-    ensures { let p = packed entries.now (map (λ s. s.items) segments.now) keys.now in
+pub fn first_missing(
+    entries: &[Entry],
+    segments: &[Vec<u8>],
+    keys: &[[u8; 16]],
+    _salt: Option<[u8; 16]>,
+) -> Option<usize>
+    ensures { let p = packed _salt entries.now (map (λ s. s.items) segments.now) keys.now in
         MatchOption result (OfAll p (IsThere p)) (IsFirstWithout p (IsThere p)) }
 {
     for (i, entry) in entries.iter().enumerate() {
@@ -27,20 +32,21 @@ pub fn first_missing(entries: &[Entry], segments: &[Vec<u8>], keys: &[[u8; 16]])
 /// The texts of the segments, in the order of the entries, up to the first that doesn't open.
 pub fn open_segments(
     alloc: Global,
+    salt: Option<[u8; 16]>,
     entries: &[Entry],
     segments: &[Vec<u8>],
     keys: &[[u8; 16]],
 ) -> Result<Vec<Vec<u8>>, UnpackFault>
-    requires { let p = packed entries.now (map (λ s. s.items) segments.now) keys.now in
+    requires { let p = packed salt entries.now (map (λ s. s.items) segments.now) keys.now in
         OfAll p (IsThere p) }
-    ensures ok { let p = packed entries.now (map (λ s. s.items) segments.now) keys.now in
+    ensures ok { let p = packed salt entries.now (map (λ s. s.items) segments.now) keys.now in
         IfOk result (λ texts. AreTexts p (map (λ t. t.items) texts.items)) }
-    ensures err { let p = packed entries.now (map (λ s. s.items) segments.now) keys.now in
+    ensures err { let p = packed salt entries.now (map (λ s. s.items) segments.now) keys.now in
         IfErr result (IsNoText p) }
 {
     let mut texts = Vec::new(alloc);
     for i in 0..entries.len() {
-        let Some(text) = open_entry(alloc, entries, segments, keys, i)? else {
+        let Some(text) = open_entry(alloc, salt, entries, segments, keys, i)? else {
             return Err(UnpackFault::Closed(i));
         };
         texts.push(text)?;
@@ -51,19 +57,25 @@ pub fn open_segments(
 /// The text of an entry's segment, if there is one.
 pub fn open_entry(
     alloc: Global,
+    salt: Option<[u8; 16]>,
     entries: &[Entry],
     segments: &[Vec<u8>],
     keys: &[[u8; 16]],
     i: usize,
 ) -> Result<Option<Vec<u8>>, AllocError>
     requires entry { i < length entries.now }
-    requires there { IsThere (packed entries.now (map (λ s. s.items) segments.now) keys.now) i }
-    ensures { let p = packed entries.now (map (λ s. s.items) segments.now) keys.now in
+    requires there { IsThere (packed salt entries.now (map (λ s. s.items) segments.now) keys.now) i }
+    ensures { let p = packed salt entries.now (map (λ s. s.items) segments.now) keys.now in
         IfOk result (λ found. MatchOption found (¬ IsOpen p i) (λ text. OpensAlone p i text.items)) }
 {
     let entry = entries[i];
     let key = keys[entry.key as usize];
-    open_segment(alloc, &key, &vector(entry.number), &segments[i])
+    open_segment(
+        alloc,
+        &key,
+        &salted_vector(salt, entry.number),
+        &segments[i],
+    )
 }
 
 /// The text of a sealed segment, if there is one. Only such a text wants memory.

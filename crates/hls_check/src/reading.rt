@@ -4,14 +4,17 @@ ghost use Rattle.std.specs.Prelude.{◌≡◌, ◌≢◌, ◌<◌, ℕ, Some, No
 ghost use Rattle.std.specs.String.{string_bytes};
 ghost use Rattle.std.specs.List.{before_first};
 ghost use Rattle.playlist_text.specs.Uris.{escaped};
-ghost use Rattle.playlist_text.specs.MediaLines.{key_line};
-ghost use Rattle.hls_check.specs.State.{step, step_at, fresh, expect, begun, keyed, keyed_or_timed, timed, listed, listing_at, name_in, number_in, number_left, entered, key_begin, listing_at, progress_of, Moves, Tells};
+ghost use Rattle.hls_check.specs.State;
+ghost use Rattle.hls_check.specs.State.{step, step_at, fresh, expect, begun, headed, key_in, salt_in, keyed, keyed_or_timed, timed, listed, listing_at, name_in, number_in, number_left, entered, key_begin, listing_at, progress_of, Moves, Tells};
 ghost use Rattle.hls_check.specs.declared.reading.Stage.TheVariants.{Versioned, Targeted, Sequenced};
 
 use crate::listing::{Entry, Listing};
 use crate::numbers::{read_between, read_duration, read_tagged};
+use hex::FromHex;
 use percent_encoding::{DecodeError, percent_decode};
-use playlist_text::{is_name, push_escaped, push_segment_uri, rounded_seconds};
+use playlist_text::{
+    is_name, push_escaped, push_hexadecimal, push_segment_uri, rounded_seconds, salted_vector,
+};
 use std::alloc::{AllocError, Global};
 
 /// The longest target duration, in seconds.
@@ -42,6 +45,8 @@ pub enum Stage {
     Targeted,
     /// That of the discontinuity sequence.
     Sequenced,
+    /// That of the type, or one with which an entry begins.
+    Headed,
     /// One with which an entry begins, or the last of all.
     Between,
     /// One behind a discontinuity.
@@ -61,6 +66,8 @@ pub struct Reading {
     target: u64,
     sequence: u64,
     discontinuity_sequence: u64,
+    event: bool,
+    salt: Option<[u8; 16]>,
     name: Option<String>,
     key: u64,
     discontinuity: bool,
@@ -78,6 +85,8 @@ impl Reading {
             target: 1,
             sequence: 0,
             discontinuity_sequence: 0,
+            event: false,
+            salt: None,
             name: None,
             key: 0,
             discontinuity: false,
@@ -97,6 +106,7 @@ impl Reading {
             Stage::Versioned => Ok(self.take_target(line)),
             Stage::Targeted => Ok(self.take_sequence(line)),
             Stage::Sequenced => Ok(self.take_discontinuity_sequence(line)),
+            Stage::Headed => self.take_type(line),
             Stage::Between => self.take_first(line),
             Stage::Broken => self.take_key_or_duration(line),
             Stage::Keyed => Ok(self.take_duration(line)),
@@ -148,8 +158,24 @@ impl Reading {
             return false;
         };
         self.discontinuity_sequence = number;
-        self.stage = Stage::Between;
+        self.stage = Stage::Headed;
         true
+    }
+
+    /// A playlist of an event begins at 0 (RFC 8216, 4.3.3.5).
+    #[tactic(auto, unfolding(crate::specs::State::headed))]
+    fn take_type(&mut self, line: &[u8]) -> Result<bool, AllocError>
+        ensures { IfOk result (λ taken. Tells taken (headed (progress_of self.old) line.now) (progress_of self.new)) }
+    {
+        if line != b"#EXT-X-PLAYLIST-TYPE:EVENT".as_slice() {
+            return self.take_first(line);
+        }
+        if self.sequence != 0 || self.discontinuity_sequence != 0 {
+            return Ok(false);
+        }
+        self.event = true;
+        self.stage = Stage::Between;
+        Ok(true)
     }
 
     /// The number of the next entry, where one is left.
@@ -198,6 +224,9 @@ impl Reading {
         if self.take_key(line)? {
             return Ok(true);
         }
+        if self.salt.is_some() {
+            return Ok(false);
+        }
         Ok(self.take_duration(line))
     }
 
@@ -206,13 +235,16 @@ impl Reading {
         ensures { IfOk result (λ taken. Moves taken (keyed (progress_of self.old) line.now) (progress_of self.old) (progress_of self.new)) }
     {
         let alloc = *self.entries.allocator();
-        let Some(name) = &self.name else {
-            return self.take_first_key(line);
-        };
-        let Some(key) = read_key(alloc, line, name)? else {
+        let Some(number) = self.next_number() else {
             return Ok(false);
         };
-        if key == self.key {
+        let Some(name) = &self.name else {
+            return self.take_first_key(number, line);
+        };
+        let Some(key) = read_key(alloc, line, name, self.salt, number)? else {
+            return Ok(false);
+        };
+        if self.salt.is_none() && key == self.key {
             return Ok(false);
         }
         self.key = key;
@@ -221,18 +253,23 @@ impl Reading {
     }
 
     #[tactic(auto, unfolding(crate::specs::State::keyed))]
-    fn take_first_key(&mut self, line: &[u8]) -> Result<bool, AllocError>
-        requires { self.old.name ≡ None }
+    fn take_first_key(&mut self, number: u64, line: &[u8]) -> Result<bool, AllocError>
+        requires first { self.old.name ≡ None }
+        requires number { number_left (progress_of self.old) ≡ Some number }
         ensures { IfOk result (λ taken. Moves taken (keyed (progress_of self.old) line.now) (progress_of self.old) (progress_of self.new)) }
     {
         let alloc = *self.entries.allocator();
         let Some(name) = read_name(alloc, line)? else {
             return Ok(false);
         };
-        let Some(key) = read_key(alloc, line, &name)? else {
+        let Some(salt) = read_salt(line, number) else {
+            return Ok(false);
+        };
+        let Some(key) = read_key(alloc, line, &name, salt, number)? else {
             return Ok(false);
         };
         self.name = Some(name);
+        self.salt = salt;
         self.key = key;
         self.stage = Stage::Keyed;
         Ok(true)
@@ -291,6 +328,8 @@ impl Reading {
             target,
             sequence,
             discontinuity_sequence,
+            event,
+            salt,
             name,
             entries,
             ..
@@ -308,18 +347,27 @@ impl Reading {
             target,
             sequence,
             discontinuity_sequence,
+            event,
+            salt,
             entries,
             ended,
         })
     }
 }
 
-/// The index of the key in the line of a key of a rendition, below 4,096.
-fn read_key(alloc: Global, line: &[u8], name: &str) -> Result<Option<u64>, AllocError>
-    ensures { IfOk result (λ key. key ≡ number_in (key_line name.now) 4096 line.now) }
+/// The index of the key in the line of a key of a rendition, below 4,096. The number is that of the entry behind it.
+fn read_key(
+    alloc: Global,
+    line: &[u8],
+    name: &str,
+    salt: Option<[u8; 16]>,
+    number: u64,
+) -> Result<Option<u64>, AllocError>
+    ensures { IfOk result (λ key. key ≡ key_in name.now salt number line.now) }
 {
     let front = key_front(alloc, name)?;
-    let Some(key) = read_between(line, front.as_bytes(), b".key\"") else {
+    let end = key_end(alloc, salt, number)?;
+    let Some(key) = read_between(line, front.as_bytes(), end.as_bytes()) else {
         return Ok(None);
     };
     if key >= MOST_KEYS {
@@ -336,6 +384,31 @@ fn key_front(alloc: Global, name: &str) -> Result<String, AllocError>
     push_escaped(&mut front, name)?;
     front.push_str(".")?;
     Ok(front)
+}
+
+/// What stands behind the index in the line of a key: under a salt the vector of the entry's number too.
+fn key_end(alloc: Global, salt: Option<[u8; 16]>, number: u64) -> Result<String, AllocError>
+    ensures { IfOk result (λ end. string_bytes end ≡ State.key_end salt number) }
+{
+    let Some(salt) = salt else {
+        return String::from_str(alloc, ".key\"");
+    };
+    let mut end = String::from_str(alloc, ".key\",IV=")?;
+    push_hexadecimal(&mut end, &salted_vector(Some(salt), number))?;
+    Ok(end)
+}
+
+/// The salt that the first line of a key may have, by the number of its entry: none where the line ends in a quote.
+#[tactic(auto, unfolding(crate::specs::State::salt_in))]
+fn read_salt(line: &[u8], number: u64) -> Option<Option<[u8; 16]>>
+    ensures { result ≡ salt_in number line.now }
+{
+    if line.ends_with(b"\"") {
+        return Some(None);
+    }
+    let (_, digits) = line.split_at(line.len().saturating_sub(32));
+    let vector = <[u8; 16]>::from_hex(digits).ok()?;
+    Some(Some(salted_vector(Some(vector), number)))
 }
 
 /// The name in the line of a key: that of the escaped text up to the first point.

@@ -42,6 +42,8 @@ fn the_standard_text(rt: HostRuntime) -> Result<(), Fail> {
         target,
         sequence,
         discontinuity_sequence,
+        event,
+        salt,
         entries,
         ended,
     } = read_media(rt.alloc(), MEDIA)?;
@@ -50,6 +52,7 @@ fn the_standard_text(rt: HostRuntime) -> Result<(), Fail> {
         (target, sequence, discontinuity_sequence, ended),
         (6, 0, 0, true)
     );
+    assert!(rt; !event && salt.is_none());
     let mut told = entries
         .iter()
         .map(|e| (e.number, e.key, e.micros, e.discontinuity));

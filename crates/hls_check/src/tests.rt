@@ -1,8 +1,10 @@
 use crate::reading_tests::MEDIA;
+use crate::salted_tests::{SALT, SALTED};
 use crate::{
     CheckFault, Checked, Entry, ListFault, Listing, UnpackFault, check, check_listing, unpack,
 };
 use aes_cbc::{Key, seal};
+use playlist_text::salted_vector;
 use segment_job::vector;
 use std::alloc::{AllocError, Global};
 use std::test::Fail;
@@ -63,10 +65,21 @@ fn segment(
     head: [&[u8]; 2],
     body: [&[u8]; 2],
 ) -> Result<Vec<u8>, AllocError> {
+    segment_under(alloc, key, &vector(number), head, body)
+}
+
+/// The segment of such packets, sealed under a vector.
+fn segment_under(
+    alloc: Global,
+    key: &[u8; 16],
+    vector: &[u8; 16],
+    head: [&[u8]; 2],
+    body: [&[u8]; 2],
+) -> Result<Vec<u8>, AllocError> {
     let mut text = Vec::new(alloc);
     append(&mut text, &head)?;
     append(&mut text, &body)?;
-    seal(alloc, &Key::new(*key), &vector(number), &text)
+    seal(alloc, &Key::new(*key), vector, &text)
 }
 
 /// The segments of the standard stream.
@@ -98,6 +111,8 @@ fn listing(alloc: Global, second_key: u64) -> Result<Listing, AllocError> {
         target: 6,
         sequence: 0,
         discontinuity_sequence: 0,
+        event: false,
+        salt: None,
         entries,
         ended: true,
     })
@@ -120,6 +135,31 @@ fn the_standard_stream(rt: HostRuntime) -> Result<(), Fail> {
     append(&mut wanted, &SECOND)?;
     assert_eq!(rt; bytes.len(), 752);
     assert!(rt; bytes == wanted);
+    Ok(())
+}
+
+#[test]
+fn the_salted_stream(rt: HostRuntime) -> Result<(), Fail> {
+    let alloc = rt.alloc();
+    let first = salted_vector(Some(SALT), 0);
+    let second = salted_vector(Some(SALT), 1);
+    let mut segments = Vec::new(alloc);
+    segments.push(segment_under(alloc, &KEYS[0], &first, [PAT, PMT], FIRST)?)?;
+    segments.push(segment_under(alloc, &KEYS[0], &second, [NEXT_PAT, NEXT_PMT], SECOND)?)?;
+    let mut salted = listing(alloc, 0)?;
+    salted.salt = Some(SALT);
+    let bytes = unpack(alloc, &salted, &segments, &KEYS)?;
+    let mut wanted = Vec::new(alloc);
+    append(&mut wanted, &FIRST)?;
+    append(&mut wanted, &SECOND)?;
+    assert!(rt; bytes == wanted);
+    let whole = Checked {
+        segments: 2,
+        bytes: 752,
+    };
+    assert_eq!(rt; check(alloc, SALTED, &segments, &KEYS)?, whole);
+    let told = unpack(alloc, &listing(alloc, 0)?, &segments, &KEYS).err();
+    assert_eq!(rt; told, Some(UnpackFault::NoHead(0)));
     Ok(())
 }
 

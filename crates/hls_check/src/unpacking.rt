@@ -17,7 +17,7 @@ use std::alloc::Global;
 /// the order of the entries, `keys` the keys of the rendition by their indexes. Segments behind the last entry aren't looked
 /// at.
 ///
-/// An entry's bytes open under its key and the vector of its number (RFC 8216, 5.2), and begin with the packets of its
+/// An entry's bytes open under its key and the vector of its number under the listing's salt (RFC 8216, 5.2), and begin with the packets of its
 /// tables (3.2).
 pub fn unpack(
     alloc: Global,
@@ -25,42 +25,43 @@ pub fn unpack(
     segments: &[Vec<u8>],
     keys: &[[u8; 16]],
 ) -> Result<Vec<u8>, UnpackFault>
-    ensures ok { let p = packed listing.now.entries (map (λ s. s.items) segments.now) keys.now in
+    ensures ok { let p = packed listing.now.salt listing.now.entries (map (λ s. s.items) segments.now) keys.now in
         IfOk result (λ bytes. (rests : List (List ℕ)) × AllUnpack p rests × (bytes.items ≡ concat rests)) }
 
     // Where all entries unpack, what they unpack to is the answer, or there was no memory for it.
-    ensures unpacks { let p = packed listing.now.entries (map (λ s. s.items) segments.now) keys.now in
+    ensures unpacks { let p = packed listing.now.salt listing.now.entries (map (λ s. s.items) segments.now) keys.now in
         (rests : List (List ℕ)) → AllUnpack p rests
         → MatchResult result (λ bytes. bytes.items ≡ concat rests) (λ fault. fault ≡ NoMemory) }
-    ensures err { let p = packed listing.now.entries (map (λ s. s.items) segments.now) keys.now in
+    ensures err { let p = packed listing.now.salt listing.now.entries (map (λ s. s.items) segments.now) keys.now in
         IfErr result (IsTold p) }
-    ensures missing { let p = packed listing.now.entries (map (λ s. s.items) segments.now) keys.now in
+    ensures missing { let p = packed listing.now.salt listing.now.entries (map (λ s. s.items) segments.now) keys.now in
         (i : ℕ) → IsErrOf result (UnpackFault.Missing i) ↔ IsTold p (UnpackFault.Missing i) }
 {
-    unpack_entries(alloc, &listing.entries, segments, keys)
+    unpack_entries(alloc, listing.salt, &listing.entries, segments, keys)
 }
 
 /// The packets of entries.
 fn unpack_entries(
     alloc: Global,
+    salt: Option<[u8; 16]>,
     entries: &[Entry],
     segments: &[Vec<u8>],
     keys: &[[u8; 16]],
 ) -> Result<Vec<u8>, UnpackFault>
-    ensures ok { let p = packed entries.now (map (λ s. s.items) segments.now) keys.now in
+    ensures ok { let p = packed salt entries.now (map (λ s. s.items) segments.now) keys.now in
         IfOk result (λ bytes. (rests : List (List ℕ)) × AllUnpack p rests × (bytes.items ≡ concat rests)) }
-    ensures unpacks { let p = packed entries.now (map (λ s. s.items) segments.now) keys.now in
+    ensures unpacks { let p = packed salt entries.now (map (λ s. s.items) segments.now) keys.now in
         (rests : List (List ℕ)) → AllUnpack p rests
         → MatchResult result (λ bytes. bytes.items ≡ concat rests) (λ fault. fault ≡ NoMemory) }
-    ensures err { let p = packed entries.now (map (λ s. s.items) segments.now) keys.now in
+    ensures err { let p = packed salt entries.now (map (λ s. s.items) segments.now) keys.now in
         IfErr result (IsTold p) }
-    ensures missing { let p = packed entries.now (map (λ s. s.items) segments.now) keys.now in
+    ensures missing { let p = packed salt entries.now (map (λ s. s.items) segments.now) keys.now in
         (i : ℕ) → IsErrOf result (UnpackFault.Missing i) ↔ IsTold p (UnpackFault.Missing i) }
 {
-    if let Some(i) = first_missing(entries, segments, keys) {
+    if let Some(i) = first_missing(entries, segments, keys, salt) {
         return Err(UnpackFault::Missing(i));
     }
-    let texts = open_segments(alloc, entries, segments, keys)?;
+    let texts = open_segments(alloc, salt, entries, segments, keys)?;
     one_head_begins_bytes();
     join_rests(alloc, &texts)
 }

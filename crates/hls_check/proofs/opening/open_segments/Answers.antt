@@ -14,7 +14,7 @@ returns-in_default-clause-err c = record {
 
 pub loop-i-preserved : goal.loop-i-preserved
 loop-i-preserved c =
-    let p = packed c.args.entries.now (map (λ s. s.items) c.args.segments.now) c.args.keys.now in
+    let p = packed c.args.salt c.args.entries.now (map (λ s. s.items) c.args.segments.now) c.args.keys.now in
     record {
       each_one = search (rules, c.in_ok-push.ensures.items, c.loop-i.invariant.each_one);
       opens = each-pushed (OpensAlone p) c.loop-i.texts.items c.push.new.self.items c.in-Some.text c.loop-i.i c.in_ok-push.ensures.items c.loop-i.invariant.each_one

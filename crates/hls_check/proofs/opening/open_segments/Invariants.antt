@@ -6,5 +6,5 @@ use Rattle.hls_check.proofs.opening.open_segments.Given as goal
 abbrev pub invariant-loop-i : goal.invariant-loop-i
 invariant-loop-i l = record {
   each_one : length l.texts.items ≡ l.i;
-  opens : (j : ℕ) → j < l.i → OpensAlone (packed l.entries (map (λ s. s.items) l.segments) l.keys) j (get_or (map (λ t. t.items) l.texts.items) j []);
+  opens : (j : ℕ) → j < l.i → OpensAlone (packed l.salt l.entries (map (λ s. s.items) l.segments) l.keys) j (get_or (map (λ t. t.items) l.texts.items) j []);
 }
