@@ -98,7 +98,7 @@ const QUEUE: u64 = 1;
 /// Keys that take turns by the period. TooMany is told before ZeroPeriod.
 fn rotation(keys: Vec<[u8; 16]>, period: u64) -> Result<Keys, SettingsFault>
     requires some { 0 < length keys.items }
-    ensures ok { IfOk result (λ made. made ≡ record { keys = keys.items; period = period }) }
+    ensures ok { IfOk result (λ made. made ≡ record { keys = keys.items; period = period; salt = None }) }
     ensures turns { OnOk result (TakeTurns keys.items period) }
     ensures too_many { IsErrOf result SettingsFault.TooMany ↔ (4096 < length keys.items) }
     ensures zero_period { IsErrOf result SettingsFault.ZeroPeriod ↔ ((length keys.items ≤ 4096) × (period ≡ 0)) }

@@ -21,7 +21,7 @@ pub record Ladder : Type 0 where
   pub queue : ℕ
 
 abbrev pub no_rendition : RenditionValue
-no_rendition = record { name = []; codecs = []; width = 0; height = 0; keys = record { keys = []; period = 0 } }
+no_rendition = record { name = []; codecs = []; width = 0; height = 0; keys = record { keys = []; period = 0; salt = None } }
 
 abbrev pub rendition_at : Ladder → ℕ → RenditionValue
 rendition_at ladder r = get_or ladder.renditions r no_rendition

@@ -1,10 +1,13 @@
--- Which key a segment is sealed under: the keys of a rendition take turns (RFC 8216, 4.3.2.4).
-use Rattle.std.specs.Prelude.{ℕ, ◌/◌, ◌%◌, ◌≤◌, ◌<◌, List, [], length, slice_index_or}
+-- Which key and vector a segment is sealed under: the keys of a rendition take turns, and a vector is the segment's number,
+-- salted where there is a salt (RFC 8216, 4.3.2.4 and 5.2).
+use Rattle.std.specs.Prelude.{ℕ, ◌/◌, ◌%◌, ◌≤◌, ◌<◌, List, [], Option, length, slice_index_or}
+use Rattle.playlist_text.specs.Vectors.{salted_vector}
 
--- the keys of a rendition in their order, and how many segments in a row each of them seals
+-- the keys of a rendition in their order, how many segments in a row each of them seals, and the salt of the vectors
 pub record KeyRotation : Type 0 where
   pub keys : List (List ℕ)
   pub period : ℕ
+  pub salt : Option (List ℕ)
 
 -- at least one key and at most 4,096, of which each seals at least one segment in its turn
 pub record IsRotation (r : KeyRotation) : Type 0 where
@@ -19,3 +22,7 @@ key_index r n = n / r.period % length r.keys
 -- the key of segment n
 abbrev pub key_of : KeyRotation → ℕ → List ℕ
 key_of r n = slice_index_or r.keys (key_index r n) []
+
+-- the vector of segment n
+abbrev pub vector_of : KeyRotation → ℕ → List ℕ
+vector_of r n = salted_vector r.salt n

@@ -1,9 +1,10 @@
 //! The keys of a rendition.
 
-ghost use Rattle.std.specs.Prelude.{◌≡◌, ◌<◌, ◌≤◌, ◌↔◌, length, IfOk, IsErrOf};
-ghost use Rattle.segment_job.specs.Rotation.{key_index, key_of, IsRotation};
+ghost use Rattle.std.specs.Prelude.{◌≡◌, ◌<◌, ◌≤◌, ◌↔◌, length, Some, None, IfOk, IsErrOf};
+ghost use Rattle.segment_job.specs.Rotation.{key_index, key_of, vector_of, IsRotation};
 
 use crate::fault::KeyFault;
+use playlist_text::salted_vector;
 use std::alloc::{AllocError, Global};
 use std::fmt::{self, Debug, Formatter, Write};
 use std::marker::Model;
@@ -12,13 +13,14 @@ use std::marker::Model;
 const MOST_KEYS: usize = 4096;
 
 /// The keys of a rendition, which take turns: each seals as many segments in a row as the period says, and behind the
-/// last one the first has its turn again.
+/// last one the first has its turn again. With them stands the salt of the rendition's vectors, where it has one.
 ///
-/// Clauses see the list of the keys, of 16 bytes each, and the period.
+/// Clauses see the list of the keys, of 16 bytes each, the period and the salt.
 #[derive(Drop)]
 pub struct Keys {
     keys: Vec<[u8; 16]>,
     period: u64,
+    salt: Option<[u8; 16]>,
 }
 
 impl Model for Keys {
@@ -26,9 +28,9 @@ impl Model for Keys {
 
     ghost Value = { KeyRotation };
 
-    ghost view = { λ k. record { keys = k.keys.items; period = k.period } };
+    ghost view = { λ k. record { keys = k.keys.items; period = k.period; salt = k.salt } };
 
-    ghost invariant = { λ k. IsRotation (record { keys = k.keys.items; period = k.period }) };
+    ghost invariant = { λ k. IsRotation (record { keys = k.keys.items; period = k.period; salt = k.salt }) };
 }
 
 impl Debug for Keys {
@@ -46,9 +48,33 @@ impl Debug for Keys {
 }
 
 impl Keys {
-    /// Keys in the order in which they take turns: 1 to 4,096, and a period of at least one segment.
+    /// Keys in the order in which they take turns: 1 to 4,096, and a period of at least one segment. A segment's vector is
+    /// its number.
     pub fn new(keys: Vec<[u8; 16]>, period: u64) -> Result<Keys, KeyFault>
-        ensures ok { IfOk result (λ made. made ≡ record { keys = keys.items; period = period }) }
+        ensures ok { IfOk result (λ made. made ≡ record { keys = keys.items; period = period; salt = None }) }
+        ensures no_keys { IsErrOf result KeyFault.NoKeys ↔ (length keys.items ≡ 0) }
+        ensures too_many { IsErrOf result KeyFault.TooMany ↔ (4096 < length keys.items) }
+        ensures zero_period { IsErrOf result KeyFault.ZeroPeriod
+            ↔ ((0 < length keys.items) × (length keys.items ≤ 4096) × (period ≡ 0)) }
+    {
+        Keys::with(keys, period, None)
+    }
+
+    /// The same with a salt: a segment's vector is the salt xor its number. So a run that begins at segment 0 again, under
+    /// the same keys and another salt, does not meet the vectors of the run before.
+    pub fn salted(keys: Vec<[u8; 16]>, period: u64, salt: [u8; 16]) -> Result<Keys, KeyFault>
+        ensures ok { IfOk result (λ made. made ≡ record { keys = keys.items; period = period; salt = Some salt }) }
+        ensures no_keys { IsErrOf result KeyFault.NoKeys ↔ (length keys.items ≡ 0) }
+        ensures too_many { IsErrOf result KeyFault.TooMany ↔ (4096 < length keys.items) }
+        ensures zero_period { IsErrOf result KeyFault.ZeroPeriod
+            ↔ ((0 < length keys.items) × (length keys.items ≤ 4096) × (period ≡ 0)) }
+    {
+        Keys::with(keys, period, Some(salt))
+    }
+
+    /// The keys, with a salt where there is one.
+    fn with(keys: Vec<[u8; 16]>, period: u64, salt: Option<[u8; 16]>) -> Result<Keys, KeyFault>
+        ensures ok { IfOk result (λ made. made ≡ record { keys = keys.items; period = period; salt = salt }) }
         ensures no_keys { IsErrOf result KeyFault.NoKeys ↔ (length keys.items ≡ 0) }
         ensures too_many { IsErrOf result KeyFault.TooMany ↔ (4096 < length keys.items) }
         ensures zero_period { IsErrOf result KeyFault.ZeroPeriod
@@ -63,7 +89,7 @@ impl Keys {
         if period == 0 {
             return Err(KeyFault::ZeroPeriod);
         }
-        Ok(Keys { keys, period })
+        Ok(Keys { keys, period, salt })
     }
 
     /// The index of the key of segment `n`, from 0 on.
@@ -82,6 +108,21 @@ impl Keys {
         self.keys[self.index(n) as usize]
     }
 
+    /// The initialization vector of segment `n`: the salt xor its number, or the number alone where there is no salt (RFC
+    /// 8216, 5.2).
+    pub fn vector(&self, n: u64) -> [u8; 16]
+        ensures { result ≡ vector_of self.now n }
+    {
+        salted_vector(self.salt, n)
+    }
+
+    /// The salt of the vectors, where there is one.
+    pub fn salt(&self) -> Option<[u8; 16]>
+        ensures { result ≡ self.now.salt }
+    {
+        self.salt
+    }
+
     /// The same keys once more.
     pub fn copy(&self) -> Result<Keys, AllocError>
         ensures { IfOk result (λ copy. copy ≡ self.now) }
@@ -90,6 +131,7 @@ impl Keys {
         Ok(Keys {
             keys,
             period: self.period,
+            salt: self.salt,
         })
     }
 }

@@ -1,26 +1,27 @@
 //! What the words of the contracts mean.
-ghost use Rattle.std.specs.Prelude.{◌≡◌, ◌≢◌, ◌<◌, ◌≤◌, ◌+◌, ◌*◌, ◌/◌, ◌%◌, ◌^◌, ℕ, List, length, slice_range};
+ghost use Rattle.std.specs.Prelude.{◌≡◌, ◌≢◌, ◌<◌, ◌≤◌, ◌+◌, ◌*◌, ◌/◌, ◌%◌, ◌^◌, ℕ, List, Option, length, slice_range};
 ghost use Rattle.aes_cbc.specs.Block.{IsBlock};
 ghost use Rattle.aes_cbc.specs.Padding.{padded_text};
 ghost use Rattle.psi_tables.specs.InForce.{InForce};
 ghost use Rattle.psi_tables.specs.Head.{IsSameHead};
-ghost use Rattle.playlist_text.specs.Vectors.{vector};
-ghost use Rattle.segment_job.specs.Rotation.{KeyRotation, IsRotation, key_index, key_of};
+ghost use Rattle.playlist_text.specs.Vectors.{salted_vector};
+ghost use Rattle.segment_job.specs.Rotation.{KeyRotation, IsRotation, key_index, key_of, vector_of};
 ghost use Rattle.segment_job.specs.Segments.{plain, plan_head, sealed_segment, OpensTo, SealedSegment, IsSealed};
 ghost use Rattle.segment_job.specs.Ranges.{widened, range_text};
 
 use aes_cbc::laws::{one_text_is_sealed, sealed_length};
 use psi_tables::{length_of_a_head, one_head_begins_bytes};
 
-/// No two segments have the same vector.
+/// No two segments have the same vector, under any salt.
 pub fn two_numbers_have_two_vectors()
-    ensures { (m n : ℕ) → m < 2 ^ 64 → n < 2 ^ 64 → vector m ≡ vector n → m ≡ n }
+    ensures { (salt : Option (List ℕ)) (m n : ℕ) → m < 2 ^ 64 → n < 2 ^ 64 →
+        salted_vector salt m ≡ salted_vector salt n → m ≡ n }
 {}
 
 /// No two segments of a rendition are sealed under the same key and vector.
 pub fn no_key_and_vector_come_twice()
     ensures { (r : KeyRotation) (m n : ℕ) → m < 2 ^ 64 → n < 2 ^ 64 → m ≢ n →
-        ¬ ((key_of r m ≡ key_of r n) × (vector m ≡ vector n)) }
+        ¬ ((key_of r m ≡ key_of r n) × (vector_of r m ≡ vector_of r n)) }
 {}
 
 /// Keys take turns: the first period of segments is the first key's, and a period behind a segment the next key has its
@@ -44,7 +45,7 @@ pub fn bytes_open_to_one_segment()
 /// its number. It is as long as its padded segment.
 pub fn key_and_vector_make_one_segment()
     ensures one { (r : KeyRotation) (s : SealedSegment) → IsSealed s → s.key ≡ key_of r s.plan.number →
-        s.vector ≡ vector s.plan.number → s ≡ sealed_segment r s.plan }
+        s.vector ≡ vector_of r s.plan.number → s ≡ sealed_segment r s.plan }
     ensures len { (s : SealedSegment) → IsSealed s → length s.bytes ≡ 16 * (length (plain s.plan) / 16 + 1) }
 {
     sealed_length();

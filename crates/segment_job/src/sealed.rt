@@ -10,7 +10,6 @@ use crate::keys::Keys;
 use crate::plain::plain_text;
 use aes_cbc::{Key, seal_in_place};
 use cutter::Plan;
-use playlist_text::vector;
 use psi_tables::{length_of_a_head, pmt_packets};
 use std::alloc::{AllocError, Global};
 use std::fmt::{self, Debug, Formatter, Write};
@@ -103,7 +102,7 @@ impl Sealed {
         ensures { IsTrue result ↔ (self.now ≡ sealed_segment keys.now self.now.plan) }
     {
         let number = self.plan.number;
-        self.key == keys.key(number) && self.vector == vector(number)
+        self.key == keys.key(number) && self.vector == keys.vector(number)
     }
 
     /// Its plan and its bytes.
@@ -124,7 +123,7 @@ pub fn seal_plan(alloc: Global, plan: Arc<Plan, Global>, keys: &Keys) -> Result<
     ensures { IfOk result (λ sealed. sealed ≡ sealed_segment keys.now (arc_value plan)) }
 {
     let key = keys.key(plan.number);
-    let vector = vector(plan.number);
+    let vector = keys.vector(plan.number);
     let mut bytes = plain_text(alloc, &plan)?;
     seal_text(&key, &vector, &mut bytes)?;
     Ok(Sealed {

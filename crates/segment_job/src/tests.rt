@@ -54,6 +54,53 @@ fn two_keys_take_turns(rt: HostRuntime) -> Result<(), Fail> {
     Ok(())
 }
 
+/// A salt of the bytes F0 to FF.
+const SALT: &[u8; 16] = b"\xf0\xf1\xf2\xf3\xf4\xf5\xf6\xf7\xf8\xf9\xfa\xfb\xfc\xfd\xfe\xff";
+
+/// One key, with that salt.
+fn salted_key(alloc: Global) -> Result<Keys, Fail> {
+    Ok(Keys::salted(Vec::from_array(alloc, [[7; 16]])?, 1, *SALT)?)
+}
+
+#[test]
+fn salted_vectors(rt: HostRuntime) -> Result<(), Fail> {
+    let keys = salted_key(rt.alloc())?.copy()?;
+    assert_eq!(rt; keys.salt(), Some(*SALT));
+    let table = [
+        (0, *SALT),
+        (
+            1,
+            *b"\xf0\xf1\xf2\xf3\xf4\xf5\xf6\xf7\xf8\xf9\xfa\xfb\xfc\xfd\xfe\xfe",
+        ),
+        (
+            256,
+            *b"\xf0\xf1\xf2\xf3\xf4\xf5\xf6\xf7\xf8\xf9\xfa\xfb\xfc\xfd\xff\xff",
+        ),
+    ];
+    for (n, wanted) in table {
+        assert_eq!(rt; keys.vector(n), wanted, "{n}");
+    }
+    let plain = two_keys(rt.alloc())?;
+    assert_eq!(rt; plain.salt(), None);
+    assert_eq!(rt; plain.vector(258), vector(258));
+    Ok(())
+}
+
+#[test]
+fn segments_under_a_salt(rt: HostRuntime) -> Result<(), Fail> {
+    let keys = salted_key(rt.alloc())?;
+    let unsalted = Keys::new(Vec::from_array(rt.alloc(), [[7; 16]])?, 1)?;
+    let all = seal_stream(rt.alloc(), &TWO_KEY_FRAMES, &keys)?;
+    assert_eq!(rt; sizes(rt.alloc(), &all)?.as_slice(), [768, 768].as_slice());
+    for sealed in &all {
+        assert_eq!(rt; sealed.vector(), keys.vector(sealed.plan().number));
+        assert!(rt; sealed.is_by(&keys));
+        assert!(rt; !sealed.is_by(&unsalted));
+        assert_eq!(rt; opened(rt.alloc(), sealed)?.len(), 752);
+    }
+    Ok(())
+}
+
 /// A value as it comes back from another place that may be another thread.
 fn sent<T: Send>(value: T) -> T {
     value
