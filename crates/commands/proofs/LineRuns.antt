@@ -1,12 +1,12 @@
 -- A run of one rendition whose outlet writes lines.
-use Rattle.std.proofs.Common.{◌≡◌, refl, sym, ap, ◌∙◌, ℕ, ◌+◌, ◌^◌, zero, suc, List, [], ◌∷◌, ◌++◌, inr, length, replicate, get_or}
+use Rattle.std.proofs.Common.{◌≡◌, refl, sym, ap, subst, ◌∙◌, ℕ, ◌+◌, ◌^◌, zero, suc, List, [], ◌∷◌, ◌++◌, inr, length, replicate, get_or}
 use Rattle.std.specs.Prelude.{Option, Some, None, slice_get}
 use Rattle.std.specs.Io.KnownBytes.{Consumes, Appends}
 use Rattle.std.proofs.KnownBytes.{Appends-nil}
 use Rattle.cutter.specs.declared.fault.CutFault.{CutFault}
 use Rattle.item_io.specs.Items.{ItemValue}
-use Rattle.item_io.specs.Outlets.{Held as HeldItems, Grows}
-use Rattle.item_io.specs.ItemLines.{HoldsLines, WritesLines, lines_of}
+use Rattle.item_io.specs.Outlets.{Grows, BreaksOff}
+use Rattle.item_io.specs.ItemLines.{LineState, HoldsLines, HoldsBeginning, WritesUpTo, lines_of}
 use Rattle.ladder_items.specs.declared.fault.PackFault.{PackFault}
 use Rattle.ladder_items.specs.declared.fault.PackFault.TheVariants.{Settings, Read, ReadLimit, NoProgram, NoStart, LongSegment, BigSegment, Limit, Outlet, NoMemory, Held}
 use Rattle.ingest.specs.declared.lane.Stop.{Stop}
@@ -16,6 +16,7 @@ use Rattle.ladder_items.specs.Ladder.{Ladder}
 use Rattle.ladder_items.specs.Items.{Part, no_part, part_at}
 use Rattle.ladder_items.specs.Weave.{none_of, AreLegal, after_all, blocks}
 use Rattle.ingest.specs.Streams.{closed_of}
+use Rattle.ladder_items.specs.Putting.{OutletView, PutAll, outlet_of}
 use Rattle.ladder_items.specs.Sources.{SourceSays}
 use Rattle.ladder_items.specs.World.{stream_at}
 use Rattle.ladder_items.specs.Packed.{IsPacked, IsCutShort, HasHalted, IsRefused, IsLeft, FaultSays}
@@ -39,10 +40,10 @@ pub nothing-packed : (ladder : Ladder) (left held : Option (List ℕ)) → Wants
 unfolding AreLegal after_all blocks
 nothing-packed ladder left held = record {
   given = [];
+  rest = [];
   cut = record {
     stream = [];
     parts = none_of ladder;
-    rest = [];
     consumed = none-consumed left;
     begun = inr (record { plans = (_, ap (λ (part : Part). part.plans ++ closed_of 0 ladder.cut []) (sym (none-at (length ladder.renditions)))); ended = ap (λ (part : Part). part.ended) (none-at (length ladder.renditions)) });
     weave = record { events = []; legal = tt; parts_are = refl; items_are = refl };
@@ -51,20 +52,39 @@ nothing-packed ladder left held = record {
 }
 
 -- the one rendition of a run that halted
-left-alone : {X : Type 0} (left : X → Option (List ℕ)) (fails reads : X → ℕ) (ladder : Ladder) (a b : X) (old new : HeldItems → Type 0) (r : ℕ) (stop : Option Stop)
-    → (h : HasHalted left fails reads ladder (a ∷ []) (b ∷ []) old new r stop)
+left-alone : {X Y : Type 0} (left : X → Option (List ℕ)) (fails reads : X → ℕ) (out : OutletView Y) (ladder : Ladder) (a b : X) (x y : Y) (r : ℕ) (stop : Option Stop)
+    → (h : HasHalted left fails reads out ladder (a ∷ []) (b ∷ []) x y r stop)
     → (r ≡ 0) × IsLeft left fails reads ladder 0 a b stop (stream_at h.streams 0) (part_at h.parts 0)
-left-alone left fails reads ladder a b old new r stop h =
+left-alone left fails reads out ladder a b x y r stop h =
     let first : r ≡ 0 = only-at a h.within.0 r h.within.1 in
     let at : h.stops 0 ≡ stop = ap h.stops (sym first) ∙ h.at_r in
     (first, rw at at (h.each 0 a b refl refl))
 
-module _ {X : Type 0} (left : X → Option (List ℕ)) (fails reads : X → ℕ) (ladder : Ladder) (a b : X) (held held_then : Option (List ℕ)) (failures : ℕ)
-    (whole : (given : List ItemValue) → Grows (HoldsLines held 0) (HoldsLines held_then failures) given → failures ≡ 0 → Appends held held_then (lines_of given))
-    (cut_short : (given : List ItemValue) → Grows (HoldsLines held 0) (HoldsLines held_then failures) given → WritesLines held held_then given) where
-  pub packed : (report : Report) → IsPacked left fails reads ladder (a ∷ []) (b ∷ []) (HoldsLines held 0) (HoldsLines held_then failures) report → failures ≡ 0
-      → WritesPacked ladder (left a) (left b) held held_then
-  packed report p none =
+-- an outlet of lines, whose writer got these bytes
+abbrev pub lines_out : {W : Type 0} → (W → Option (List ℕ)) → OutletView (LineState W)
+lines_out got = outlet_of (λ o. HoldsLines (got o.writer) o.failures) (λ o. HoldsBeginning (got o.writer)) (λ o. o.failures)
+
+module _ {X W : Type 0} (left : X → Option (List ℕ)) (fails reads : X → ℕ) (got : W → Option (List ℕ)) (ladder : Ladder) (a b : X) (x y : LineState W)
+    (none_failed : x.failures ≡ 0)
+    (whole : (held held_then : Option (List ℕ)) (failures : ℕ) (given : List ItemValue) → Grows (HoldsLines held 0) (HoldsLines held_then failures) given → failures ≡ 0
+    → Appends held held_then (lines_of given))
+    (broken_off : (held held_then : Option (List ℕ)) (given : List ItemValue) (item : ItemValue) → BreaksOff (HoldsLines held 0) (HoldsBeginning held_then) given item
+    → WritesUpTo held held_then given item) where
+  written : (given : List ItemValue) → Grows (HoldsLines (got x.writer) x.failures) (HoldsLines (got y.writer) y.failures) given → y.failures ≡ 0
+      → Appends (got x.writer) (got y.writer) (lines_of given)
+  written given grows none =
+      whole (got x.writer) (got y.writer) y.failures given (subst (λ (n : ℕ). Grows (HoldsLines (got x.writer) n) (HoldsLines (got y.writer) y.failures) given) none_failed grows) none
+
+  written-up-to : (given : List ItemValue) (item : ItemValue) → BreaksOff (HoldsLines (got x.writer) x.failures) (HoldsBeginning (got y.writer)) given item
+      → WritesUpTo (got x.writer) (got y.writer) given item
+  written-up-to given item breaks =
+      broken_off (got x.writer) (got y.writer) given item (subst (λ (n : ℕ). BreaksOff (HoldsLines (got x.writer) n) (HoldsBeginning (got y.writer)) given item) none_failed breaks)
+
+  all-written : (given : List ItemValue) → PutAll (lines_out got) x y given → Appends (got x.writer) (got y.writer) (lines_of given)
+  all-written given p = written given p.grows (p.unfailed ∙ none_failed)
+
+  pub packed : (report : Report) → IsPacked left fails reads (lines_out got) ladder (a ∷ []) (b ∷ []) x y report → WritesPacked ladder (left a) (left b) (got x.writer) (got y.writer)
+  packed report p =
       let here = p.each 0 a b refl refl in
       record {
         stream = stream_at p.streams 0;
@@ -73,26 +93,38 @@ module _ {X : Type 0} (left : X → Option (List ℕ)) (fails reads : X → ℕ)
         read = record { consumed = here.2; at_end = here.3 };
         whole = here.0;
         weave = p.weave;
-        written = whole p.items p.grows none;
+        written = all-written p.items p.puts;
       }
 
-  cut-off : (p : IsCutShort left fails reads ladder (a ∷ []) (b ∷ []) (HoldsLines held 0) (HoldsLines held_then failures)) → CutsPackingOff ladder (left a) (left b) p.some.given
-  cut-off p =
+  cut-off : (p : IsCutShort left fails reads (lines_out got) ladder (a ∷ []) (b ∷ []) x y) (rest : List ItemValue) → p.some.rest ≡ rest → CutsPackingOff ladder (left a) (left b) p.some.given rest
+  cut-off p rest is =
       let here = p.each 0 a b refl refl in
       record {
         stream = stream_at p.streams 0;
         parts = p.parts;
-        rest = p.some.rest;
         consumed = here.2;
         begun = here.0;
-        weave = rw (← p.some.all) p.weave;
+        weave = rw (p.some.all ∙ ap (λ items. p.some.given ++ items) is) at p.weave;
       }
 
-  wants-memory : IsCutShort left fails reads ladder (a ∷ []) (b ∷ []) (HoldsLines held 0) (HoldsLines held_then failures) → failures ≡ 0 → WantsMemory ladder (left a) (left b) held held_then
-  wants-memory p none = record { given = p.some.given; cut = cut-off p; written = whole p.some.given p.some.grows none }
+  wants-memory : IsCutShort left fails reads (lines_out got) ladder (a ∷ []) (b ∷ []) x y → y.failures ≡ x.failures → WantsMemory ladder (left a) (left b) (got x.writer) (got y.writer)
+  wants-memory p same = record {
+    given = p.some.given;
+    rest = p.some.rest;
+    cut = cut-off p p.some.rest refl;
+    written = written p.some.given p.some.grows (same ∙ none_failed);
+  }
 
-  fails-to-put : IsCutShort left fails reads ladder (a ∷ []) (b ∷ []) (HoldsLines held 0) (HoldsLines held_then failures) → FailsToPut ladder (left a) (left b) held held_then
-  fails-to-put p = record { given = p.some.given; cut = cut-off p; written = cut_short p.some.given p.some.grows }
+  fails-to-put : IsCutShort left fails reads (lines_out got) ladder (a ∷ []) (b ∷ []) x y → y.failures ≡ x.failures + 1 → FailsToPut ladder (left a) (left b) (got x.writer) (got y.writer)
+  fails-to-put p one =
+      let s = p.some.stops none_failed (one ∙ ap (λ n. n + 1) none_failed) in
+      record {
+        given = p.some.given;
+        next = s.item;
+        more = s.more;
+        cut = cut-off p (s.item ∷ s.more) s.next;
+        written = written-up-to p.some.given s.item s.refused;
+      }
 
   stands : (stop : Option Stop) (stream : List ℕ) → SourceSays left fails 0 ladder.cut stream stop a b → FaultStands stop ladder stream (left b)
   stands None stream says = tt
@@ -100,10 +132,10 @@ module _ {X : Type 0} (left : X → Option (List ℕ)) (fails reads : X → ℕ)
   stands (Some (Cut told)) stream says = says.1
   stands (Some ReadFailed) stream says = tt
 
-  stopped : (r : ℕ) (stop : Option Stop) → HasHalted left fails reads ladder (a ∷ []) (b ∷ []) (HoldsLines held 0) (HoldsLines held_then failures) r stop → failures ≡ 0
-      → (r ≡ 0) × StopsPacking ladder (left a) (left b) held held_then stop
-  stopped r stop h none =
-      let alone = left-alone left fails reads ladder a b _ _ r stop h in
+  stopped : (r : ℕ) (stop : Option Stop) → HasHalted left fails reads (lines_out got) ladder (a ∷ []) (b ∷ []) x y r stop
+      → (r ≡ 0) × StopsPacking ladder (left a) (left b) (got x.writer) (got y.writer) stop
+  stopped r stop h =
+      let alone = left-alone left fails reads (lines_out got) ladder a b x y r stop h in
       let here = alone.1 in (
         alone.0,
         record {
@@ -114,62 +146,62 @@ module _ {X : Type 0} (left : X → Option (List ℕ)) (fails reads : X → ℕ)
           stands = stands stop (stream_at h.streams 0) here.says;
           given = here.given;
           weave = h.weave;
-          written = whole h.items h.grows none;
+          written = all-written h.items h.puts;
         },
       )
 
-  refused : IsRefused ladder (a ∷ []) (b ∷ []) (HoldsLines held 0) (HoldsLines held_then failures) → failures ≡ 0 → RefusesSettings ladder (left a) (left b) held held_then
-  refused p none = record {
+  refused : IsRefused (lines_out got) ladder (a ∷ []) (b ∷ []) x y → RefusesSettings ladder (left a) (left b) (got x.writer) (got y.writer)
+  refused p = record {
     refused = λ so. p.refused (so.0, sym so.1);
     unread = ap (λ (xs : List X). left (get_or xs 0 a)) p.unread;
-    unwritten = whole [] p.unput none;
+    unwritten = all-written [] p.unput;
   }
 
-  pub says : (fault : PackFault) → FaultSays left fails reads ladder (a ∷ []) (b ∷ []) (HoldsLines held 0) (HoldsLines held_then failures) 0 failures fault
-      → PackingSays ladder (left a) (left b) held held_then fault
-  says Settings s = refused s.0 s.1
-  says (Read r) s = stopped r _ s.0 s.1
-  says (ReadLimit r) s = stopped r _ s.0 s.1
-  says (NoProgram r) s = stopped r _ s.0 s.1
-  says (NoStart r) s = stopped r _ s.0 s.1
-  says (LongSegment r n) s = stopped r _ s.0 s.1
-  says (BigSegment r n) s = stopped r _ s.0 s.1
-  says (Limit r) s = stopped r _ s.0 s.1
-  says Outlet s = fails-to-put s.0
+  pub says : (fault : PackFault) → FaultSays left fails reads (lines_out got) ladder (a ∷ []) (b ∷ []) x y fault
+      → PackingSays ladder (left a) (left b) (got x.writer) (got y.writer) fault
+  says Settings s = refused s
+  says (Read r) s = stopped r _ s
+  says (ReadLimit r) s = stopped r _ s
+  says (NoProgram r) s = stopped r _ s
+  says (NoStart r) s = stopped r _ s
+  says (LongSegment r n) s = stopped r _ s
+  says (BigSegment r n) s = stopped r _ s
+  says (Limit r) s = stopped r _ s
+  says Outlet s = fails-to-put s.0 s.1
   says NoMemory s = wants-memory s.0 s.1
   says (Held r n) s = absurd s
 
-module _ {X : Type 0} (left : X → Option (List ℕ)) (fails reads : X → ℕ) (ladder : Ladder) (a b : X) (old new : HeldItems → Type 0) (failures : ℕ)
-    (unread : reads a ≡ 0) (unfailed : fails a ≡ 0) where
-  pub packed-counts : (report : Report) → IsPacked left fails reads ladder (a ∷ []) (b ∷ []) old new report → failures ≡ 0 → NoneFailed (fails b) failures
-  packed-counts report p none = record { reads = (p.each 0 a b refl refl).4 ∙ unfailed; puts = none }
+module _ {X Y : Type 0} (left : X → Option (List ℕ)) (fails reads : X → ℕ) (out : OutletView Y) (ladder : Ladder) (a b : X) (x y : Y)
+    (unread : reads a ≡ 0) (unfailed : fails a ≡ 0) (none_failed : out.failures x ≡ 0) where
+  pub packed-counts : (report : Report) → IsPacked left fails reads out ladder (a ∷ []) (b ∷ []) x y report → NoneFailed (fails b) (out.failures y)
+  packed-counts report p = record { reads = (p.each 0 a b refl refl).4 ∙ unfailed; puts = p.puts.unfailed ∙ none_failed }
 
-  failed-read : (r : ℕ) → HasHalted left fails reads ladder (a ∷ []) (b ∷ []) old new r (Some ReadFailed) → fails b ≡ 1
-  failed-read r h = (left-alone left fails reads ladder a b old new r _ h).1.says ∙ ap (λ n. n + 1) unfailed
+  failed-read : (r : ℕ) → HasHalted left fails reads out ladder (a ∷ []) (b ∷ []) x y r (Some ReadFailed) → fails b ≡ 1
+  failed-read r h = (left-alone left fails reads out ladder a b x y r _ h).1.says ∙ ap (λ n. n + 1) unfailed
 
-  all-reads : (r : ℕ) → HasHalted left fails reads ladder (a ∷ []) (b ∷ []) old new r None → failures ≡ 0 → (reads b ≡ 2 ^ 40) × NoneFailed (fails b) failures
-  all-reads r h none =
-      let here = (left-alone left fails reads ladder a b old new r _ h).1 in
-      (here.limit refl ∙ ap (λ n. n + 2 ^ 40) unread, record { reads = here.says ∙ unfailed; puts = none })
+  all-reads : (r : ℕ) → HasHalted left fails reads out ladder (a ∷ []) (b ∷ []) x y r None → (reads b ≡ 2 ^ 40) × NoneFailed (fails b) (out.failures y)
+  all-reads r h =
+      let here = (left-alone left fails reads out ladder a b x y r _ h).1 in
+      (here.limit refl ∙ ap (λ n. n + 2 ^ 40) unread, record { reads = here.says ∙ unfailed; puts = h.puts.unfailed ∙ none_failed })
 
-  faulty : (r : ℕ) (told : CutFault) → HasHalted left fails reads ladder (a ∷ []) (b ∷ []) old new r (Some (Cut told)) → failures ≡ 0 → NoneFailed (fails b) failures
-  faulty r told h none =
-      record { reads = (left-alone left fails reads ladder a b old new r _ h).1.says.0 ∙ unfailed; puts = none }
+  faulty : (r : ℕ) (told : CutFault) → HasHalted left fails reads out ladder (a ∷ []) (b ∷ []) x y r (Some (Cut told)) → NoneFailed (fails b) (out.failures y)
+  faulty r told h =
+      record { reads = (left-alone left fails reads out ladder a b x y r _ h).1.says.0 ∙ unfailed; puts = h.puts.unfailed ∙ none_failed }
 
-  untouched : IsRefused ladder (a ∷ []) (b ∷ []) old new → failures ≡ 0 → (reads b ≡ 0) × NoneFailed (fails b) failures
-  untouched p none =
+  untouched : IsRefused out ladder (a ∷ []) (b ∷ []) x y → (reads b ≡ 0) × NoneFailed (fails b) (out.failures y)
+  untouched p =
       let same : b ≡ a = ap (λ (xs : List X). get_or xs 0 a) p.unread in
-      (ap reads same ∙ unread, record { reads = ap fails same ∙ unfailed; puts = none })
+      (ap reads same ∙ unread, record { reads = ap fails same ∙ unfailed; puts = p.unput.unfailed ∙ none_failed })
 
-  pub counts : (fault : PackFault) → FaultSays left fails reads ladder (a ∷ []) (b ∷ []) old new 0 failures fault → CountsSay (reads b) (fails b) failures fault
-  counts Settings s = untouched s.0 s.1
-  counts (Read r) s = (failed-read r s.0, s.1)
-  counts (ReadLimit r) s = all-reads r s.0 s.1
-  counts (NoProgram r) s = faulty r _ s.0 s.1
-  counts (NoStart r) s = faulty r _ s.0 s.1
-  counts (LongSegment r n) s = faulty r _ s.0 s.1
-  counts (BigSegment r n) s = faulty r _ s.0 s.1
-  counts (Limit r) s = faulty r _ s.0 s.1
-  counts Outlet s = s.1
-  counts NoMemory s = s.1
+  pub counts : (fault : PackFault) → FaultSays left fails reads out ladder (a ∷ []) (b ∷ []) x y fault → CountsSay (reads b) (fails b) (out.failures y) fault
+  counts Settings s = untouched s
+  counts (Read r) s = (failed-read r s, s.puts.unfailed ∙ none_failed)
+  counts (ReadLimit r) s = all-reads r s
+  counts (NoProgram r) s = faulty r _ s
+  counts (NoStart r) s = faulty r _ s
+  counts (LongSegment r n) s = faulty r _ s
+  counts (BigSegment r n) s = faulty r _ s
+  counts (Limit r) s = faulty r _ s
+  counts Outlet s = s.1 ∙ ap (λ n. n + 1) none_failed
+  counts NoMemory s = s.1 ∙ none_failed
   counts (Held r n) s = absurd s

@@ -1,9 +1,9 @@
 -- What `one` read and wrote.
-use Rattle.std.specs.Prelude.{◌≡◌, ℕ, ◌^◌, List, [], ◌++◌, ◌⊎◌, length, Option, Some, None}
+use Rattle.std.specs.Prelude.{◌≡◌, ℕ, ◌^◌, List, [], ◌∷◌, ◌++◌, ◌⊎◌, length, Option, Some, None}
 use Rattle.std.specs.Io.KnownBytes.{Consumes, IsAtEnd, Appends}
 use Rattle.cutter.specs.declared.fault.CutFault.TheVariants.{NoProgram as HasNoProgram, NoStart as HasNoStart, LongSegment as IsLong, BigSegment as IsBig, Limit as PassesLimit}
 use Rattle.item_io.specs.Items.{ItemValue}
-use Rattle.item_io.specs.ItemLines.{lines_of, WritesLines}
+use Rattle.item_io.specs.ItemLines.{lines_of, WritesUpTo}
 use Rattle.ladder_items.specs.declared.fault.PackFault.{PackFault}
 use Rattle.ladder_items.specs.declared.fault.PackFault.TheVariants.{Settings, Read, ReadLimit, NoProgram, NoStart, LongSegment, BigSegment, Limit, Outlet, NoMemory, Held}
 use Rattle.ingest.specs.declared.lane.Stop.{Stop}
@@ -45,11 +45,10 @@ pub record StopsPacking (ladder : Ladder) (left left_then held held_then : Optio
   pub weave : Weaves ladder parts items
   pub written : Appends held held_then (lines_of items)
 
--- The work was cut off behind these items: with the rest they are what a beginning of the stream gives.
-pub record CutsPackingOff (ladder : Ladder) (left left_then : Option (List ℕ)) (given : List ItemValue) : Type 0 where
+-- The work was cut off behind the items given: with the rest they are what a beginning of the stream gives.
+pub record CutsPackingOff (ladder : Ladder) (left left_then : Option (List ℕ)) (given rest : List ItemValue) : Type 0 where
   pub stream : List ℕ
   pub parts : List Part
-  pub rest : List ItemValue
   pub consumed : Consumes left left_then stream
   pub begun : HasBegun ladder 0 left_then stream (part_at parts 0)
   pub weave : Weaves ladder parts (given ++ rest)
@@ -57,14 +56,17 @@ pub record CutsPackingOff (ladder : Ladder) (left left_then : Option (List ℕ))
 -- For want of memory: the writer got the lines of these items, and nothing else.
 pub record WantsMemory (ladder : Ladder) (left left_then held held_then : Option (List ℕ)) : Type 0 where
   pub given : List ItemValue
-  pub cut : CutsPackingOff ladder left left_then given
+  pub rest : List ItemValue
+  pub cut : CutsPackingOff ladder left left_then given rest
   pub written : Appends held held_then (lines_of given)
 
--- At a put that failed: the writer got the lines of these items, and a beginning of one more item's lines besides.
+-- At a put that failed: the writer got the lines of these items, and a beginning of the lines of the next one.
 pub record FailsToPut (ladder : Ladder) (left left_then held held_then : Option (List ℕ)) : Type 0 where
   pub given : List ItemValue
-  pub cut : CutsPackingOff ladder left left_then given
-  pub written : WritesLines held held_then given
+  pub next : ItemValue
+  pub more : List ItemValue
+  pub cut : CutsPackingOff ladder left left_then given (next ∷ more)
+  pub written : WritesUpTo held held_then given next
 
 -- Nothing was read or written, since the settings aren't allowed or aren't those of one rendition.
 pub record RefusesSettings (ladder : Ladder) (left left_then held held_then : Option (List ℕ)) : Type 0 where

@@ -5,15 +5,14 @@ use Rattle.std.proofs.lemmas.List.{get_or_default, get_or-set_same, length-set}
 use Rattle.cutter.specs.Plans.{SegmentPlan}
 use Rattle.segment_job.specs.Segments.{SealedSegment, sealed_segment}
 use Rattle.item_io.specs.Items.{ItemValue, MasterItem}
-use Rattle.item_io.specs.Outlets.{Held, Grows}
 use Rattle.ladder_items.specs.Ladder.{Ladder, RenditionValue, rendition_at}
 use Rattle.ladder_items.specs.Shown.{Shown}
 use Rattle.ladder_items.specs.Masters.{master_of}
 use Rattle.ladder_items.specs.Items.{Part, no_part, part_at, shown_of, shown_all, segment_of, media_of, frames_of}
 use Rattle.ladder_items.specs.Weave.{Row, End, grown, after, block}
 use Rattle.ladder_items.specs.Giving.{IsGoing, no_shown, block_of}
-use Rattle.ladder_items.specs.Putting.{PutSome}
-use Rattle.ladder_items.proofs.Puts.{grows-more, put-more, put-front, put-first}
+use Rattle.ladder_items.specs.Putting.{OutletView, PutAll, PutSome}
+use Rattle.ladder_items.proofs.Puts.{all-more, put-more, put-front}
 use Rattle.ladder_items.proofs.Nexts.{shown-at, shown-long, here}
 
 abbrev block_by : ℕ → RenditionValue → SealedSegment → Shown → List ℕ → List ItemValue
@@ -24,27 +23,34 @@ block_by r rendition s mine text =
 pub mine-at : (shown : List Shown) (r : ℕ) (mine : Shown) → r < length shown → mine ≡ get_or shown r mine → mine ≡ get_or shown r no_shown
 mine-at shown r mine below at = at ∙ get_or_default shown r mine no_shown below
 
-pub some-of-block : (a b c : Held → Type 0) (ladder : Ladder) (r : ℕ) (s : SealedSegment) (shown : List Shown) (rendition : RenditionValue) (mine : Shown)
-    → rendition ≡ rendition_at ladder r → mine ≡ get_or shown r no_shown
-    → Grows a b (segment_of r rendition s ∷ []) → PutSome b c (media_of r rendition mine false ∷ frames_of r rendition mine false ∷ [])
-    → PutSome a c (block_of ladder r s shown)
-some-of-block a b c ladder r s shown rendition mine e f g p =
-    let text = master_of ladder.renditions shown in
-    subst (λ q. PutSome a c (block_by r q s (get_or shown r no_shown) text)) e
-    (subst (λ m. PutSome a c (block_by r rendition s m text)) f
-    (put-front a c (segment_of r rendition s ∷ media_of r rendition mine false ∷ frames_of r rendition mine false ∷ []) (MasterItem text ∷ [])
-    (put-more a b c (segment_of r rendition s ∷ []) (media_of r rendition mine false ∷ frames_of r rendition mine false ∷ []) g p)))
+pub first-of-block : {Y : Type 0} (out : OutletView Y) (a b : Y) (ladder : Ladder) (r : ℕ) (s : SealedSegment) (shown : List Shown) (rendition : RenditionValue)
+    → rendition ≡ rendition_at ladder r → PutSome out a b (segment_of r rendition s ∷ []) → PutSome out a b (block_of ladder r s shown)
+first-of-block out a b ladder r s shown rendition e p =
+    put-front out a b (segment_of r (rendition_at ladder r) s ∷ []) (media_of r (rendition_at ladder r) (get_or shown r no_shown) false ∷ frames_of r (rendition_at ladder r) (get_or shown r no_shown) false
+    ∷ MasterItem (master_of ladder.renditions shown) ∷ []) (subst (λ (q : RenditionValue). PutSome out a b (segment_of r q s ∷ [])) e p)
 
-pub all-but-master : (a b c d : Held → Type 0) (ladder : Ladder) (r : ℕ) (s : SealedSegment) (shown : List Shown) (rendition : RenditionValue) (mine : Shown)
+pub some-of-block : {Y : Type 0} (out : OutletView Y) (a b c : Y) (ladder : Ladder) (r : ℕ) (s : SealedSegment) (shown : List Shown) (rendition : RenditionValue) (mine : Shown)
     → rendition ≡ rendition_at ladder r → mine ≡ get_or shown r no_shown
-    → Grows a b (segment_of r rendition s ∷ []) → Grows b c (media_of r rendition mine false ∷ frames_of r rendition mine false ∷ []) → Grows c d []
-    → PutSome a d (block_of ladder r s shown)
-all-but-master a b c d ladder r s shown rendition mine e f g h k =
+    → PutAll out a b (segment_of r rendition s ∷ []) → PutSome out b c (media_of r rendition mine false ∷ frames_of r rendition mine false ∷ [])
+    → PutSome out a c (block_of ladder r s shown)
+some-of-block out a b c ladder r s shown rendition mine e f g p =
     let text = master_of ladder.renditions shown in
-    subst (λ q. PutSome a d (block_by r q s (get_or shown r no_shown) text)) e
-    (subst (λ m. PutSome a d (block_by r rendition s m text)) f
-    (put-first a c d (segment_of r rendition s ∷ media_of r rendition mine false ∷ frames_of r rendition mine false ∷ []) (MasterItem text ∷ [])
-    (grows-more a b c (segment_of r rendition s ∷ []) (media_of r rendition mine false ∷ frames_of r rendition mine false ∷ []) g h) k))
+    subst (λ q. PutSome out a c (block_by r q s (get_or shown r no_shown) text)) e
+    (subst (λ m. PutSome out a c (block_by r rendition s m text)) f
+    (put-front out a c (segment_of r rendition s ∷ media_of r rendition mine false ∷ frames_of r rendition mine false ∷ []) (MasterItem text ∷ [])
+    (put-more out a b c (segment_of r rendition s ∷ []) (media_of r rendition mine false ∷ frames_of r rendition mine false ∷ []) g p)))
+
+pub all-but-master : {Y : Type 0} (out : OutletView Y) (a b c d : Y) (ladder : Ladder) (r : ℕ) (s : SealedSegment) (shown : List Shown) (rendition : RenditionValue) (mine : Shown)
+    (renditions : List RenditionValue) → rendition ≡ rendition_at ladder r → mine ≡ get_or shown r no_shown → renditions ≡ ladder.renditions
+    → PutAll out a b (segment_of r rendition s ∷ []) → PutAll out b c (media_of r rendition mine false ∷ frames_of r rendition mine false ∷ [])
+    → PutSome out c d (MasterItem (master_of renditions shown) ∷ []) → PutSome out a d (block_of ladder r s shown)
+all-but-master out a b c d ladder r s shown rendition mine renditions e f all g h k =
+    let text = master_of ladder.renditions shown in
+    subst (λ q. PutSome out a d (block_by r q s (get_or shown r no_shown) text)) e
+    (subst (λ m. PutSome out a d (block_by r rendition s m text)) f
+    (put-more out a c d (segment_of r rendition s ∷ media_of r rendition mine false ∷ frames_of r rendition mine false ∷ []) (MasterItem text ∷ [])
+    (all-more out a b c (segment_of r rendition s ∷ []) (media_of r rendition mine false ∷ frames_of r rendition mine false ∷ []) g h)
+    (subst (λ (l : List RenditionValue). PutSome out c d (MasterItem (master_of l shown) ∷ [])) all k)))
 
 -- the part of r with the plan
 pub grown-at : (parts : List Part) (r : ℕ) (plan : SegmentPlan) → r < length parts → part_at (after parts (Row r plan)) r ≡ grown (part_at parts r) plan

@@ -7,7 +7,6 @@ use Rattle.std.proofs.lemmas.List.{length-map}
 use Rattle.aes_cbc.specs.Block.{AreBytes}
 use Rattle.ts_packet.specs.Packets.{skipped}
 use Rattle.cutter.specs.declared.fault.CutFault.TheVariants.{NoProgram as HasNoProgram, NoStart as HasNoStart, LongSegment as IsLong, BigSegment as IsBig, Limit as PassesLimit, NoMemory as WantsMemory, Ended}
-use Rattle.item_io.specs.Outlets.{Held}
 use Rattle.ladder_items.specs.declared.fault.PackFault.{PackFault}
 use Rattle.ladder_items.specs.declared.fault.PackFault.TheVariants.{Settings, Read, ReadLimit, NoProgram, NoStart, LongSegment, BigSegment, Limit, Outlet, NoMemory, Held as HeldBack}
 use Rattle.ingest.specs.declared.lane.Stop.{Stop}
@@ -21,7 +20,7 @@ use Rattle.ladder_items.specs.Weave.{blocks, none_of}
 use Rattle.ingest.specs.Streams.{Taken}
 use Rattle.ladder_items.specs.Lanes.{IsWhole, InStage}
 use Rattle.ladder_items.specs.Sources.{SourceSays}
-use Rattle.ladder_items.specs.Putting.{SaysFailures}
+use Rattle.ladder_items.specs.Putting.{OutletView, SaysFailures}
 use Rattle.ladder_items.specs.World.{World, stream_at, turns_of}
 use Rattle.ladder_items.specs.Packed.{IsReport, IsPacked, IsCutShort, IsLeft, HasHalted, told_of, gone_of, FaultSays}
 use Rattle.ladder_items.proofs.Elsewhere.{some-at}
@@ -59,7 +58,7 @@ good-part left fails ladder k (Some (Good n)) gone intake stream part a b is sta
 good-part left fails ladder k (Some (Cut told)) gone intake stream part a b is stage says = cc
 good-part left fails ladder k (Some ReadFailed) gone intake stream part a b is stage says = cc
 
-module _ (X : Type 0) (left : X → Option (List ℕ)) (fails reads : X → ℕ) (ladder : Ladder) where
+module _ (X Y : Type 0) (left : X → Option (List ℕ)) (fails reads : X → ℕ) (out : OutletView Y) (ladder : Ladder) where
   -- how the lanes ended
   abbrev pub stop_at : List Lane → ℕ → Option Stop
   stop_at lanes k = get_or (map (λ (l : Lane). l.stop) lanes) k None
@@ -70,11 +69,11 @@ module _ (X : Type 0) (left : X → Option (List ℕ)) (fails reads : X → ℕ)
   stop-of (l ∷ lanes) (suc k) lane e = stop-of lanes k lane e
 
   -- each rendition came to its end, or had all its reads
-  pub world-halted : (rounds : ℕ) (before now : List X) (lanes : List Lane) (shown : List Shown) (x y : Held → Type 0) (r : ℕ) (lane : Lane)
+  pub world-halted : (rounds : ℕ) (before now : List X) (lanes : List Lane) (shown : List Shown) (x y : Y) (r : ℕ) (lane : Lane)
       → slice_get lanes r ≡ Some lane
       → ((k : ℕ) (earlier : Lane) → k < r → slice_get lanes k ≡ Some earlier → told_of k earlier.stop ≡ None)
       → ((k : ℕ) (lane : Lane) → slice_get lanes k ≡ Some lane → lane.stop ≡ None → rounds ≡ 2 ^ 40)
-      → rounds ≤ 2 ^ 40 → IsAllowed ladder → World left fails reads ladder rounds 0 before now lanes shown x y → HasHalted left fails reads ladder before now x y r lane.stop
+      → rounds ≤ 2 ^ 40 → IsAllowed ladder → World left fails reads out ladder rounds 0 before now lanes shown x y → HasHalted left fails reads out ladder before now x y r lane.stop
   world-halted rounds before now lanes shown x y r lane f good limit few allowed w = record {
     streams = w.streams;
     parts = parts-of ladder w.events;
@@ -83,7 +82,7 @@ module _ (X : Type 0) (left : X → Option (List ℕ)) (fails reads : X → ℕ)
     allowed = allowed;
     same_now = w.same_now ∙ sym w.same_before;
     weave = record { events = w.events; legal = w.legal; parts_are = refl; items_are = refl };
-    grows = w.grows;
+    puts = w.puts;
     each = λ k a d e h.
         let within : k < length lanes = omega (arith, slice_get_within before k a e, w.same_before, w.same_lanes) in
         let m = some-at lanes k within in
@@ -102,10 +101,10 @@ module _ (X : Type 0) (left : X → Option (List ℕ)) (fails reads : X → ℕ)
   }
 
   -- each rendition came to its good end
-  pub world-packed : (rounds : ℕ) (before now : List X) (lanes : List Lane) (shown : List Shown) (x y : Held → Type 0) (report : Report)
+  pub world-packed : (rounds : ℕ) (before now : List X) (lanes : List Lane) (shown : List Shown) (x y : Y) (report : Report)
       → ((k : ℕ) (lane : Lane) → slice_get lanes k ≡ Some lane → told_of k lane.stop ≡ None)
       → IsReport shown (map (λ (l : Lane). gone_of l.stop) lanes) report
-      → rounds ≤ 2 ^ 40 → World left fails reads ladder rounds 0 before now lanes shown x y → IsPacked left fails reads ladder before now x y report
+      → rounds ≤ 2 ^ 40 → World left fails reads out ladder rounds 0 before now lanes shown x y → IsPacked left fails reads out ladder before now x y report
   world-packed rounds before now lanes shown x y report good is few w =
       let all : (k : ℕ) (a d : X) → slice_get before k ≡ Some a → slice_get now k ≡ Some d → (m : Lane) × (slice_get lanes k ≡ Some m)
       × (IsWhole ladder k (stream_at w.streams k) (part_at (parts-of ladder w.events) k) × (gone_of m.stop ≡ skipped (stream_at w.streams k)))
@@ -124,7 +123,7 @@ module _ (X : Type 0) (left : X → Option (List ℕ)) (fails reads : X → ℕ)
         parts = parts-of ladder w.events;
         items = blocks ladder (none_of ladder) w.events;
         weave = record { events = w.events; legal = w.legal; parts_are = refl; items_are = refl };
-        grows = w.grows;
+        puts = w.puts;
         same_streams = w.same_streams;
         same_now = w.same_now ∙ sym w.same_before;
         each = λ k a d e h. let u = all k a d e h in (u.2.0, u.3, u.4, u.5, u.6, u.7);
@@ -140,31 +139,31 @@ module _ (X : Type 0) (left : X → Option (List ℕ)) (fails reads : X → ℕ)
       }
 
   -- a fault that a rendition's end is told by
-  pub halted-says : (before now : List X) (x y : Held → Type 0) (f g r : ℕ) (stop : Option Stop) (e : PackFault) → told_of r stop ≡ Some e
-      → HasHalted left fails reads ladder before now x y r stop → IsCutShort left fails reads ladder before now x y → g ≡ f
-      → FaultSays left fails reads ladder before now x y f g e
-  halted-says before now x y f g r None e t h cut same = subst (FaultSays left fails reads ladder before now x y f g) (same_Some _ _ t) (h, same)
-  halted-says before now x y f g r (Some (Good n)) e t h cut same = cc
-  halted-says before now x y f g r (Some ReadFailed) e t h cut same = subst (FaultSays left fails reads ladder before now x y f g) (same_Some _ _ t) (h, same)
-  halted-says before now x y f g r (Some (Cut HasNoProgram)) e t h cut same = subst (FaultSays left fails reads ladder before now x y f g) (same_Some _ _ t) (h, same)
-  halted-says before now x y f g r (Some (Cut HasNoStart)) e t h cut same = subst (FaultSays left fails reads ladder before now x y f g) (same_Some _ _ t) (h, same)
-  halted-says before now x y f g r (Some (Cut (IsLong n))) e t h cut same = subst (FaultSays left fails reads ladder before now x y f g) (same_Some _ _ t) (h, same)
-  halted-says before now x y f g r (Some (Cut (IsBig n))) e t h cut same = subst (FaultSays left fails reads ladder before now x y f g) (same_Some _ _ t) (h, same)
-  halted-says before now x y f g r (Some (Cut PassesLimit)) e t h cut same = subst (FaultSays left fails reads ladder before now x y f g) (same_Some _ _ t) (h, same)
-  halted-says before now x y f g r (Some (Cut WantsMemory)) e t h cut same = subst (FaultSays left fails reads ladder before now x y f g) (same_Some _ _ t) (cut, same)
-  halted-says before now x y f g r (Some (Cut Ended)) e t h cut same = subst (FaultSays left fails reads ladder before now x y f g) (same_Some _ _ t) (cut, same)
+  pub halted-says : (before now : List X) (x y : Y) (r : ℕ) (stop : Option Stop) (e : PackFault) → told_of r stop ≡ Some e
+      → HasHalted left fails reads out ladder before now x y r stop → IsCutShort left fails reads out ladder before now x y → out.failures y ≡ out.failures x
+      → FaultSays left fails reads out ladder before now x y e
+  halted-says before now x y r None e t h cut same = subst (FaultSays left fails reads out ladder before now x y) (same_Some _ _ t) h
+  halted-says before now x y r (Some (Good n)) e t h cut same = cc
+  halted-says before now x y r (Some ReadFailed) e t h cut same = subst (FaultSays left fails reads out ladder before now x y) (same_Some _ _ t) h
+  halted-says before now x y r (Some (Cut HasNoProgram)) e t h cut same = subst (FaultSays left fails reads out ladder before now x y) (same_Some _ _ t) h
+  halted-says before now x y r (Some (Cut HasNoStart)) e t h cut same = subst (FaultSays left fails reads out ladder before now x y) (same_Some _ _ t) h
+  halted-says before now x y r (Some (Cut (IsLong n))) e t h cut same = subst (FaultSays left fails reads out ladder before now x y) (same_Some _ _ t) h
+  halted-says before now x y r (Some (Cut (IsBig n))) e t h cut same = subst (FaultSays left fails reads out ladder before now x y) (same_Some _ _ t) h
+  halted-says before now x y r (Some (Cut PassesLimit)) e t h cut same = subst (FaultSays left fails reads out ladder before now x y) (same_Some _ _ t) h
+  halted-says before now x y r (Some (Cut WantsMemory)) e t h cut same = subst (FaultSays left fails reads out ladder before now x y) (same_Some _ _ t) (cut, same)
+  halted-says before now x y r (Some (Cut Ended)) e t h cut same = subst (FaultSays left fails reads out ladder before now x y) (same_Some _ _ t) (cut, same)
 
   -- a fault that stopped the run at once
-  pub at-once : (before now : List X) (x y : Held → Type 0) (f g : ℕ) (e : PackFault) → SaysFailures e f g → IsCutShort left fails reads ladder before now x y
-      → FaultSays left fails reads ladder before now x y f g e
-  at-once before now x y f g Settings says cut = absurd says
-  at-once before now x y f g (Read r) says cut = absurd says
-  at-once before now x y f g (ReadLimit r) says cut = absurd says
-  at-once before now x y f g (NoProgram r) says cut = absurd says
-  at-once before now x y f g (NoStart r) says cut = absurd says
-  at-once before now x y f g (LongSegment r n) says cut = absurd says
-  at-once before now x y f g (BigSegment r n) says cut = absurd says
-  at-once before now x y f g (Limit r) says cut = absurd says
-  at-once before now x y f g Outlet says cut = (cut, says)
-  at-once before now x y f g NoMemory says cut = (cut, says)
-  at-once before now x y f g (HeldBack r n) says cut = absurd says
+  pub at-once : (before now : List X) (x y : Y) (e : PackFault) → SaysFailures e (out.failures x) (out.failures y) → IsCutShort left fails reads out ladder before now x y
+      → FaultSays left fails reads out ladder before now x y e
+  at-once before now x y Settings says cut = absurd says
+  at-once before now x y (Read r) says cut = absurd says
+  at-once before now x y (ReadLimit r) says cut = absurd says
+  at-once before now x y (NoProgram r) says cut = absurd says
+  at-once before now x y (NoStart r) says cut = absurd says
+  at-once before now x y (LongSegment r n) says cut = absurd says
+  at-once before now x y (BigSegment r n) says cut = absurd says
+  at-once before now x y (Limit r) says cut = absurd says
+  at-once before now x y Outlet says cut = (cut, says)
+  at-once before now x y NoMemory says cut = (cut, says)
+  at-once before now x y (HeldBack r n) says cut = absurd says

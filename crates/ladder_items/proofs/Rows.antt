@@ -4,14 +4,13 @@ use Rattle.std.proofs.lemmas.List.{append-nil, map-append}
 use Rattle.cutter.specs.declared.settings.CutSettings.{CutSettings}
 use Rattle.cutter.specs.Plans.{SegmentPlan}
 use Rattle.cutter.specs.Ordered.{IsPlan}
-use Rattle.item_io.specs.Outlets.{Held, Grows}
 use Rattle.ladder_items.specs.Ladder.{Ladder}
 use Rattle.ladder_items.specs.Shown.{Shown}
 use Rattle.ladder_items.specs.Items.{Part, part_at, count, shown_all}
 use Rattle.ladder_items.specs.Weave.{Event, Row, AreLegal, after, after_all, block, blocks}
 use Rattle.ingest.specs.Streams.{AreNext}
 use Rattle.ladder_items.specs.Giving.{IsNext, AreNextPlans, rows}
-use Rattle.ladder_items.specs.Putting.{PutSome}
+use Rattle.ladder_items.specs.Putting.{OutletView, PutAll, PutSome}
 use Rattle.ladder_items.proofs.Puts.{put-more, put-front}
 use Rattle.ladder_items.proofs.Blocks.{grown-at, after-each}
 
@@ -85,14 +84,14 @@ blocks-all ladder r parts plans before behind all =
     ∙ (ap (blocks ladder parts) (map-append (Row r) before behind) ∙ blocks-append ladder parts (rows r before) (rows r behind))
 
 -- some of the blocks, up to one that was cut off
-pub some-blocks : (a b c : Held → Type 0) (ladder : Ladder) (r : ℕ) (parts : List Part) (plans before : List SegmentPlan) (p : SegmentPlan) (behind : List SegmentPlan)
-    → plans ≡ before ++ p ∷ behind → Grows a b (blocks ladder parts (rows r before)) → PutSome b c (block ladder (after_all parts (rows r before)) (Row r p))
-    → PutSome a c (blocks ladder parts (rows r plans))
+pub some-blocks : {Y : Type 0} (out : OutletView Y) (a b c : Y) (ladder : Ladder) (r : ℕ) (parts : List Part) (plans before : List SegmentPlan) (p : SegmentPlan) (behind : List SegmentPlan)
+    → plans ≡ before ++ p ∷ behind → PutAll out a b (blocks ladder parts (rows r before)) → PutSome out b c (block ladder (after_all parts (rows r before)) (Row r p))
+    → PutSome out a c (blocks ladder parts (rows r plans))
 unfolding blocks
-some-blocks a b c ladder r parts plans before p behind all g h =
-    subst (PutSome a c) (sym (blocks-all ladder r parts plans before (p ∷ behind) all))
-    (put-more a b c (blocks ladder parts (rows r before)) (blocks ladder (after_all parts (rows r before)) (Row r p ∷ rows r behind)) g
-    (put-front b c (block ladder (after_all parts (rows r before)) (Row r p)) _ h))
+some-blocks out a b c ladder r parts plans before p behind all g h =
+    subst (PutSome out a c) (sym (blocks-all ladder r parts plans before (p ∷ behind) all))
+    (put-more out a b c (blocks ladder parts (rows r before)) (blocks ladder (after_all parts (rows r before)) (Row r p ∷ rows r behind)) g
+    (put-front out b c (block ladder (after_all parts (rows r before)) (Row r p)) _ h))
 
 pub legal-append : (parts : List Part) (xs ys : List Event) → AreLegal parts xs → AreLegal (after_all parts xs) ys → AreLegal parts (xs ++ ys)
 unfolding AreLegal after_all

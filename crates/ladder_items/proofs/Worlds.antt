@@ -4,22 +4,22 @@ use Rattle.std.specs.List.{slice_get}
 use Rattle.std.specs.Io.KnownBytes.{Consumes}
 use Rattle.std.proofs.Math.ListN.{set}
 use Rattle.std.proofs.KnownBytes.{Consumes-nil}
-use Rattle.std.proofs.lemmas.List.{append-nil, length-set, length-replicate, get_or-set_same, get_or-set_other, get_or-replicate, set-get_or}
+use Rattle.std.proofs.lemmas.List.{length-set, length-replicate, get_or-set_same, get_or-set_other, get_or-replicate, set-get_or}
 use Rattle.std.proofs.lemmas.Option.{slice_get_within, get_or_from_slice_get, same_Some}
 use Rattle.std.proofs.lemmas.Bool.{cases_eq}
 use Rattle.aes_cbc.specs.Block.{AreBytes}
-use Rattle.item_io.specs.Outlets.{Held, Grows}
 use Rattle.ingest.specs.declared.lane.Lane.{Lane}
 use Rattle.ladder_items.specs.Ladder.{Ladder, IsAllowed}
 use Rattle.ingest.specs.Streams.{closed_of}
 use Rattle.ladder_items.specs.Shown.{Shown}
 use Rattle.ladder_items.specs.Items.{Part, no_part, part_at, shown_all}
 use Rattle.ladder_items.specs.Weave.{Event, AreLegal, after_all, blocks, none_of}
+use Rattle.ladder_items.specs.Putting.{OutletView, PutAll}
 use Rattle.ladder_items.specs.Lanes.{Before, Reaches}
 use Rattle.ladder_items.specs.Sources.{SourceSays, HasBegun}
 use Rattle.ladder_items.specs.World.{IsFirst, Stage, HasRoom, HaveRoom, World, stream_at, turns_of}
 use Rattle.ladder_items.specs.Packed.{IsCutShort}
-use Rattle.ladder_items.proofs.Puts.{grows-none, grows-more}
+use Rattle.ladder_items.proofs.Puts.{all_none, all-more, put_none, put-all}
 use Rattle.ladder_items.proofs.Rows.{after_all-append, blocks-append, legal-append}
 use Rattle.ladder_items.proofs.Elsewhere.{set-here, set-elsewhere, some-at, all-length, all-other}
 use Rattle.ladder_items.proofs.Stages.{says-one, turns-now, turns-then, turns-other, turns-all, turns-none, turns-more, stage-begins, stage-moved, stage-stopped, open-stage, same-fails, stage-turned, stage-first}
@@ -41,10 +41,10 @@ at-default zero k x = refl
 at-default (suc n) zero x = refl
 at-default (suc n) (suc k) x = at-default n k x
 
-module _ (X : Type 0) (left : X → Option (List ℕ)) (fails reads : X → ℕ) (ladder : Ladder) where
+module _ (X Y : Type 0) (left : X → Option (List ℕ)) (fails reads : X → ℕ) (out : OutletView Y) (ladder : Ladder) where
   -- the stage of rendition r
-  pub stage-at : (rounds next : ℕ) (before now : List X) (lanes : List Lane) (shown : List Shown) (x y : Held → Type 0)
-      (w : World left fails reads ladder rounds next before now lanes shown x y) (r : ℕ) (b : X) (lane : Lane) → slice_get now r ≡ Some b → slice_get lanes r ≡ Some lane
+  pub stage-at : (rounds next : ℕ) (before now : List X) (lanes : List Lane) (shown : List Shown) (x y : Y)
+      (w : World left fails reads out ladder rounds next before now lanes shown x y) (r : ℕ) (b : X) (lane : Lane) → slice_get now r ≡ Some b → slice_get lanes r ≡ Some lane
       → (a : X) × (slice_get before r ≡ Some a) × Stage left fails reads ladder r (turns_of rounds next r) a b lane (stream_at w.streams r) (part_at (parts-of ladder w.events) r)
   stage-at rounds next before now lanes shown x y w r b lane f g =
       let below : r < length before = omega (arith, slice_get_within now r b f, w.same_now, w.same_before) in
@@ -52,8 +52,8 @@ module _ (X : Type 0) (left : X → Option (List ℕ)) (fails reads : X → ℕ)
       (s.0, s.1, w.each r s.0 b lane s.1 f g)
 
   -- rendition r goes on
-  pub before-of : (rounds next : ℕ) (before now : List X) (lanes : List Lane) (shown : List Shown) (x y : Held → Type 0)
-      (w : World left fails reads ladder rounds next before now lanes shown x y) (r : ℕ) (b : X) (lane : Lane) → slice_get now r ≡ Some b → slice_get lanes r ≡ Some lane → lane.stop ≡ None
+  pub before-of : (rounds next : ℕ) (before now : List X) (lanes : List Lane) (shown : List Shown) (x y : Y)
+      (w : World left fails reads out ladder rounds next before now lanes shown x y) (r : ℕ) (b : X) (lane : Lane) → slice_get now r ≡ Some b → slice_get lanes r ≡ Some lane → lane.stop ≡ None
       → Before ladder r (parts-of ladder w.events) shown lane.intake
   before-of rounds next before now lanes shown x y w r b lane f g goes_on =
       let s = stage-at rounds next before now lanes shown x y w r b lane f g in
@@ -65,8 +65,8 @@ module _ (X : Type 0) (left : X → Option (List ℕ)) (fails reads : X → ℕ)
       }
 
   -- what a turn asks of the counts
-  pub reads-fit : (rounds next : ℕ) (before now : List X) (lanes : List Lane) (shown : List Shown) (x y : Held → Type 0)
-      (w : World left fails reads ladder rounds next before now lanes shown x y) (r : ℕ) (b : X) (lane : Lane) → slice_get now r ≡ Some b → slice_get lanes r ≡ Some lane → lane.stop ≡ None
+  pub reads-fit : (rounds next : ℕ) (before now : List X) (lanes : List Lane) (shown : List Shown) (x y : Y)
+      (w : World left fails reads out ladder rounds next before now lanes shown x y) (r : ℕ) (b : X) (lane : Lane) → slice_get now r ≡ Some b → slice_get lanes r ≡ Some lane → lane.stop ≡ None
       → next ≡ r → rounds < 2 ^ 40 → HaveRoom fails reads before
       → (reads b < 2 ^ 63) × (fails b < 2 ^ 63) × (length lane.intake.stream + 18800 < 2 ^ 63)
   reads-fit rounds next before now lanes shown x y w r b lane f g goes_on here below room =
@@ -81,13 +81,13 @@ module _ (X : Type 0) (left : X → Option (List ℕ)) (fails reads : X → ℕ)
       (omega (arith, space.for_reads, taken, turns, below), omega (arith, space.for_a_failure, failed), omega (arith, small, same, turns, below))
 
   -- a turn of rendition r
-  pub world-step : (rounds r : ℕ) (before now : List X) (lanes : List Lane) (shown then : List Shown) (x y z : Held → Type 0) (b c : X) (lane moved : Lane)
+  pub world-step : (rounds r : ℕ) (before now : List X) (lanes : List Lane) (shown then : List Shown) (x y z : Y) (b c : X) (lane moved : Lane)
       → slice_get now r ≡ Some b → slice_get lanes r ≡ Some lane → lane.stop ≡ None
       → ((parts : List Part) → Before ladder r parts shown lane.intake → (more : List ℕ) × Consumes (left b) (left c) more × (length more ≤ 18800) × AreBytes more
-      × Reaches ladder r parts y z then moved.stop (lane.intake.stream ++ more) moved.intake
+      × Reaches out ladder r parts y z then moved.stop (lane.intake.stream ++ more) moved.intake
       × SourceSays left fails r ladder.cut (lane.intake.stream ++ more) moved.stop b c)
       → (moved.stop ≡ None → reads c ≡ reads b + 1) → reads c ≤ reads b + 1
-      → World left fails reads ladder rounds r before now lanes shown x y → World left fails reads ladder rounds (r + 1) before (set now r c) (set lanes r moved) then x z
+      → World left fails reads out ladder rounds r before now lanes shown x y → World left fails reads out ladder rounds (r + 1) before (set now r c) (set lanes r moved) then x z
   world-step rounds r before now lanes shown then x y z b c lane moved f g goes_on turn one few w =
       let s = stage-at rounds r before now lanes shown x y w r b lane f g in
       let t = turn (parts-of ladder w.events) (before-of rounds r before now lanes shown x y w r b lane f g goes_on) in
@@ -105,7 +105,7 @@ module _ (X : Type 0) (left : X → Option (List ℕ)) (fails reads : X → ℕ)
         same_now = length-set _ _ _ ∙ w.same_now;
         same_lanes = length-set _ _ _ ∙ w.same_lanes;
         legal = legal-append (none_of ladder) w.events reach.events w.legal reach.are_of.legal;
-        grows = subst (Grows x z) (sym (blocks-append ladder (none_of ladder) w.events reach.events)) (grows-more x y z _ _ w.grows reach.grows);
+        puts = subst (PutAll out x z) (sym (blocks-append ladder (none_of ladder) w.events reach.events)) (all-more out x y z _ _ w.puts reach.puts);
         shown_are = reach.shown_are ∙ ap (shown_all ladder) (sym all);
         each = λ k a d m e h i.
             elim (cases_eq k r) as (λ _. Stage left fails reads ladder k (turns_of rounds (r + 1) k) a d m (stream_at (set w.streams r stream) k) (part_at (parts-of ladder (w.events ++ reach.events)) k)) [
@@ -121,9 +121,9 @@ module _ (X : Type 0) (left : X → Option (List ℕ)) (fails reads : X → ℕ)
       }
 
   -- rendition r had stopped
-  pub world-skip : (rounds r : ℕ) (before now : List X) (lanes : List Lane) (shown : List Shown) (x y : Held → Type 0) (lane : Lane)
+  pub world-skip : (rounds r : ℕ) (before now : List X) (lanes : List Lane) (shown : List Shown) (x y : Y) (lane : Lane)
       → slice_get lanes r ≡ Some lane → (lane.stop ≡ None → ⊥)
-      → World left fails reads ladder rounds r before now lanes shown x y → World left fails reads ladder rounds (r + 1) before now lanes shown x y
+      → World left fails reads out ladder rounds r before now lanes shown x y → World left fails reads out ladder rounds (r + 1) before now lanes shown x y
   world-skip rounds r before now lanes shown x y lane g stopped w = record {
     streams = w.streams;
     events = w.events;
@@ -132,7 +132,7 @@ module _ (X : Type 0) (left : X → Option (List ℕ)) (fails reads : X → ℕ)
     same_now = w.same_now;
     same_lanes = w.same_lanes;
     legal = w.legal;
-    grows = w.grows;
+    puts = w.puts;
     shown_are = w.shown_are;
     each = λ k a d m e h i.
         elim (cases_eq k r) as (λ _. Stage left fails reads ladder k (turns_of rounds (r + 1) k) a d m (stream_at w.streams k) (part_at (parts-of ladder w.events) k)) [
@@ -144,8 +144,8 @@ module _ (X : Type 0) (left : X → Option (List ℕ)) (fails reads : X → ℕ)
   }
 
   -- each rendition had its turn
-  pub world-round : (rounds n : ℕ) (before now : List X) (lanes : List Lane) (shown : List Shown) (x y : Held → Type 0) → length ladder.renditions ≤ n
-      → World left fails reads ladder rounds n before now lanes shown x y → World left fails reads ladder (rounds + 1) 0 before now lanes shown x y
+  pub world-round : (rounds n : ℕ) (before now : List X) (lanes : List Lane) (shown : List Shown) (x y : Y) → length ladder.renditions ≤ n
+      → World left fails reads out ladder rounds n before now lanes shown x y → World left fails reads out ladder (rounds + 1) 0 before now lanes shown x y
   world-round rounds n before now lanes shown x y all w = record {
     streams = w.streams;
     events = w.events;
@@ -154,7 +154,7 @@ module _ (X : Type 0) (left : X → Option (List ℕ)) (fails reads : X → ℕ)
     same_now = w.same_now;
     same_lanes = w.same_lanes;
     legal = w.legal;
-    grows = w.grows;
+    puts = w.puts;
     shown_are = w.shown_are;
     each = λ k a d m e h i.
         let below : k < n = omega (arith, slice_get_within before k a e, w.same_before, all) in
@@ -162,10 +162,10 @@ module _ (X : Type 0) (left : X → Option (List ℕ)) (fails reads : X → ℕ)
   }
 
   -- the first state
-  pub world-first : (before : List X) (lanes : List Lane) (shown : List Shown) (x : Held → Type 0) → length before ≡ length ladder.renditions → length lanes ≡ length ladder.renditions
+  pub world-first : (before : List X) (lanes : List Lane) (shown : List Shown) (x : Y) → length before ≡ length ladder.renditions → length lanes ≡ length ladder.renditions
       → ((k : ℕ) (lane : Lane) → slice_get lanes k ≡ Some lane → IsFirst ladder k lane) → shown ≡ shown_all ladder (none_of ladder)
       → ((k : ℕ) → closed_of k ladder.cut [] ≡ [])
-      → World left fails reads ladder 0 0 before before lanes shown x x
+      → World left fails reads out ladder 0 0 before before lanes shown x x
   unfolding after_all blocks AreLegal
   world-first before lanes shown x same each first is none =
       let n = length ladder.renditions in
@@ -177,7 +177,7 @@ module _ (X : Type 0) (left : X → Option (List ℕ)) (fails reads : X → ℕ)
         same_now = same;
         same_lanes = each;
         legal = tt;
-        grows = grows-none x;
+        puts = all_none out x;
         shown_are = is;
         each = λ k a b lane e f g.
             let below : k < n = omega (arith, slice_get_within before k a e, same) in
@@ -186,14 +186,14 @@ module _ (X : Type 0) (left : X → Option (List ℕ)) (fails reads : X → ℕ)
       }
 
   -- the run was stopped between two turns
-  unfoldable pub world-stop : (rounds : ℕ) (before now : List X) (lanes : List Lane) (shown : List Shown) (x y : Held → Type 0) → rounds ≤ 2 ^ 40
-      → IsAllowed ladder → World left fails reads ladder rounds 0 before now lanes shown x y → IsCutShort left fails reads ladder before now x y
+  unfoldable pub world-stop : (rounds : ℕ) (before now : List X) (lanes : List Lane) (shown : List Shown) (x y : Y) → rounds ≤ 2 ^ 40
+      → IsAllowed ladder → World left fails reads out ladder rounds 0 before now lanes shown x y → IsCutShort left fails reads out ladder before now x y
   world-stop rounds before now lanes shown x y few allowed w = record {
     streams = w.streams;
     parts = parts-of ladder w.events;
     items = blocks ladder (none_of ladder) w.events;
     weave = record { events = w.events; legal = w.legal; parts_are = refl; items_are = refl };
-    some = record { given = blocks ladder (none_of ladder) w.events; rest = []; all = sym (append-nil _); grows = w.grows };
+    some = put-all out x y _ w.puts;
     allowed = inr allowed;
     same_now = w.same_now ∙ sym w.same_before;
     each = λ k a d e h.
@@ -209,7 +209,7 @@ module _ (X : Type 0) (left : X → Option (List ℕ)) (fails reads : X → ℕ)
   }
 
   -- nothing was read or given
-  unfoldable pub nothing-given : (before : List X) (x : Held → Type 0) → ((k : ℕ) → closed_of k ladder.cut [] ≡ []) → IsCutShort left fails reads ladder before before x x
+  unfoldable pub nothing-given : (before : List X) (x : Y) → ((k : ℕ) → closed_of k ladder.cut [] ≡ []) → IsCutShort left fails reads out ladder before before x x
   unfolding after_all blocks AreLegal
   nothing-given before x none =
       let n = length ladder.renditions in
@@ -218,7 +218,7 @@ module _ (X : Type 0) (left : X → Option (List ℕ)) (fails reads : X → ℕ)
         parts = none_of ladder;
         items = [];
         weave = record { events = []; legal = tt; parts_are = refl; items_are = refl };
-        some = record { given = []; rest = []; all = refl; grows = grows-none x };
+        some = put_none out x [];
         allowed = inl refl;
         same_now = refl;
         each = λ k a d e h.

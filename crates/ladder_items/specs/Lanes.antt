@@ -4,7 +4,6 @@ use Rattle.ghost_list.specs.Lists.{IsBeginning}
 use Rattle.ts_packet.specs.Packets.{skipped}
 use Rattle.cutter.specs.declared.fault.CutFault.{CutFault}
 use Rattle.cutter.specs.declared.settings.CutSettings.{CutSettings}
-use Rattle.item_io.specs.Outlets.{Held, Grows}
 use Rattle.ingest.specs.declared.lane.Stop.{Stop}
 use Rattle.ingest.specs.declared.lane.Stop.TheVariants.{Good, Cut, Read}
 use Rattle.ladder_items.specs.Ladder.{Ladder}
@@ -13,7 +12,7 @@ use Rattle.ladder_items.specs.Shown.{Shown}
 use Rattle.ladder_items.specs.Items.{Part, part_at, shown_all}
 use Rattle.ladder_items.specs.Weave.{Event, rendition_of, AreLegal, after_all, blocks}
 use Rattle.ladder_items.specs.Giving.{IsGoing}
-use Rattle.ladder_items.specs.Putting.{PutSome}
+use Rattle.ladder_items.specs.Putting.{OutletView, PutAll, PutSome}
 
 -- the rendition goes on: it has given just the segments that its bytes close
 pub record IsOpen (ladder : Ladder) (r : ℕ) (intake : Taken) (part : Part) : Type 0 where
@@ -85,16 +84,16 @@ pub record AreOf (r : ℕ) (parts : List Part) (events : List Event) : Type 0 wh
   pub legal : AreLegal parts events
 
 -- a step of rendition r was given whole, up to these bytes
-pub record Reaches (ladder : Ladder) (r : ℕ) (parts : List Part) (old new : Held → Type 0) (shown : List Shown) (stop : Option Stop) (stream : List ℕ) (intake : Taken) : Type 0 where
+pub record Reaches {Y : Type 0} (out : OutletView Y) (ladder : Ladder) (r : ℕ) (parts : List Part) (old new : Y) (shown : List Shown) (stop : Option Stop) (stream : List ℕ) (intake : Taken) : Type 0 where
   pub events : List Event
   pub are_of : AreOf r parts events
-  pub grows : Grows old new (blocks ladder parts events)
+  pub puts : PutAll out old new (blocks ladder parts events)
   pub shown_are : shown ≡ shown_all ladder (after_all parts events)
   pub stage : InStage stop ladder r stream intake (part_at (after_all parts events) r)
 
 -- a step of rendition r was cut off, and what it was to give is such a beginning
-pub record IsCutOff (ladder : Ladder) (r : ℕ) (parts : List Part) (old new : Held → Type 0) (IsBegun : Part → Type 0) : Type 0 where
+pub record IsCutOff {Y : Type 0} (out : OutletView Y) (ladder : Ladder) (r : ℕ) (parts : List Part) (old new : Y) (IsBegun : Part → Type 0) : Type 0 where
   pub events : List Event
   pub are_of : AreOf r parts events
-  pub some : PutSome old new (blocks ladder parts events)
+  pub some : PutSome out old new (blocks ladder parts events)
   pub begins : IsBegun (part_at (after_all parts events) r)

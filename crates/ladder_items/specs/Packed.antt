@@ -7,7 +7,6 @@ use Rattle.bandwidth.specs.Peaks.{peak_of, average_of}
 use Rattle.cutter.specs.declared.fault.CutFault.{CutFault}
 use Rattle.cutter.specs.declared.fault.CutFault.TheVariants.{NoProgram as HasNoProgram, NoStart as HasNoStart, LongSegment as IsLong, BigSegment as IsBig, Limit as PassesLimit, NoMemory as WantsMemory, Ended}
 use Rattle.item_io.specs.Items.{ItemValue}
-use Rattle.item_io.specs.Outlets.{Held, Grows}
 use Rattle.ts_packet.specs.Packets.{skipped}
 use Rattle.ladder_items.specs.declared.fault.PackFault.{PackFault}
 use Rattle.ladder_items.specs.declared.fault.PackFault.TheVariants.{Settings, Read, ReadLimit, NoProgram, NoStart, LongSegment, BigSegment, Limit, Outlet, NoMemory, Held as HeldBack}
@@ -19,7 +18,7 @@ use Rattle.ladder_items.specs.Shown.{Shown, segment_rates, lasting}
 use Rattle.ladder_items.specs.Masters.{peak_rate}
 use Rattle.ladder_items.specs.Items.{Part, part_at, shown_all}
 use Rattle.ladder_items.specs.Weave.{Weaves}
-use Rattle.ladder_items.specs.Putting.{PutSome}
+use Rattle.ladder_items.specs.Putting.{OutletView, PutAll, PutSome}
 use Rattle.ladder_items.specs.Lanes.{IsWhole, IsClosed, HasStopped}
 use Rattle.ladder_items.specs.Sources.{SourceSays, HasBegun}
 use Rattle.ladder_items.specs.World.{stream_at}
@@ -40,12 +39,12 @@ pub record IsAlone (report : Report) : Type 0 where
 
 -- The run ended well: each input came to its end, the items put are a weave of the whole lists of all renditions, and the
 -- report tells their numbers.
-pub record IsPacked {X : Type 0} (left : X → Option (List ℕ)) (fails reads : X → ℕ) (ladder : Ladder) (before now : List X) (old new : Held → Type 0) (report : Report) : Type 0 where
+pub record IsPacked {X Y : Type 0} (left : X → Option (List ℕ)) (fails reads : X → ℕ) (out : OutletView Y) (ladder : Ladder) (before now : List X) (old new : Y) (report : Report) : Type 0 where
   pub streams : List (List ℕ)
   pub parts : List Part
   pub items : List ItemValue
   pub weave : Weaves ladder parts items
-  pub grows : Grows old new items
+  pub puts : PutAll out old new items
   pub same_streams : length streams ≡ length ladder.renditions
   pub same_now : length now ≡ length before
   pub each : (k : ℕ) (a b : X) → slice_get before k ≡ Some a → slice_get now k ≡ Some b →
@@ -58,12 +57,12 @@ HasGiven None ladder r stream part = IsClosed ladder r stream part
 HasGiven (Some stop) ladder r stream part = HasStopped stop ladder r stream part
 
 -- The run was stopped: the items put are a beginning of a weave of beginnings.
-pub record IsCutShort {X : Type 0} (left : X → Option (List ℕ)) (fails reads : X → ℕ) (ladder : Ladder) (before now : List X) (old new : Held → Type 0) : Type 0 where
+pub record IsCutShort {X Y : Type 0} (left : X → Option (List ℕ)) (fails reads : X → ℕ) (out : OutletView Y) (ladder : Ladder) (before now : List X) (old new : Y) : Type 0 where
   pub streams : List (List ℕ)
   pub parts : List Part
   pub items : List ItemValue
   pub weave : Weaves ladder parts items
-  pub some : PutSome old new items
+  pub some : PutSome out old new items
   pub allowed : (items ≡ []) ⊎ IsAllowed ladder
   pub same_now : length now ≡ length before
   pub each : (k : ℕ) (a b : X) → slice_get before k ≡ Some a → slice_get now k ≡ Some b →
@@ -98,14 +97,14 @@ told_of r (Some ReadFailed) = Some (Read r)
 
 -- Each rendition went to its end, rendition r to this one, and each before it to a good end: the items put are a weave of
 -- what each gives by its end.
-pub record HasHalted {X : Type 0} (left : X → Option (List ℕ)) (fails reads : X → ℕ) (ladder : Ladder) (before now : List X) (old new : Held → Type 0) (r : ℕ) (stop : Option Stop) : Type 0 where
+pub record HasHalted {X Y : Type 0} (left : X → Option (List ℕ)) (fails reads : X → ℕ) (out : OutletView Y) (ladder : Ladder) (before now : List X) (old new : Y) (r : ℕ) (stop : Option Stop) : Type 0 where
   pub streams : List (List ℕ)
   pub parts : List Part
   pub items : List ItemValue
   pub stops : ℕ → Option Stop
   pub allowed : IsAllowed ladder
   pub weave : Weaves ladder parts items
-  pub grows : Grows old new items
+  pub puts : PutAll out old new items
   pub same_now : length now ≡ length before
   pub each : (k : ℕ) (a b : X) → slice_get before k ≡ Some a → slice_get now k ≡ Some b →
       IsLeft left fails reads ladder k a b (stops k) (stream_at streams k) (part_at parts k)
@@ -114,10 +113,10 @@ pub record HasHalted {X : Type 0} (left : X → Option (List ℕ)) (fails reads 
   pub first : (k : ℕ) → k < r → told_of k (stops k) ≡ None
 
 -- nothing was read or put, since the settings aren't allowed or the inputs aren't as many
-pub record IsRefused {X : Type 0} (ladder : Ladder) (before now : List X) (old new : Held → Type 0) : Type 0 where
+pub record IsRefused {X Y : Type 0} (out : OutletView Y) (ladder : Ladder) (before now : List X) (old new : Y) : Type 0 where
   pub refused : (IsAllowed ladder × (length before ≡ length ladder.renditions)) → ⊥
   pub unread : now ≡ before
-  pub unput : Grows old new []
+  pub unput : PutAll out old new []
 
 -- how many bytes lay in no packet, where a rendition came to its good end
 abbrev pub gone_of : Option Stop → ℕ
@@ -127,15 +126,15 @@ gone_of (Some (Cut told)) = 0
 gone_of (Some ReadFailed) = 0
 
 -- what each fault says
-abbrev pub FaultSays : {X : Type 0} → (X → Option (List ℕ)) → (X → ℕ) → (X → ℕ) → Ladder → List X → List X → (Held → Type 0) → (Held → Type 0) → ℕ → ℕ → PackFault → Type 0
-FaultSays left fails reads ladder before now old new put_fails put_fails_now Settings = IsRefused ladder before now old new × (put_fails_now ≡ put_fails)
-FaultSays left fails reads ladder before now old new put_fails put_fails_now (Read r) = HasHalted left fails reads ladder before now old new r (Some ReadFailed) × (put_fails_now ≡ put_fails)
-FaultSays left fails reads ladder before now old new put_fails put_fails_now (ReadLimit r) = HasHalted left fails reads ladder before now old new r None × (put_fails_now ≡ put_fails)
-FaultSays left fails reads ladder before now old new put_fails put_fails_now (NoProgram r) = HasHalted left fails reads ladder before now old new r (Some (Cut HasNoProgram)) × (put_fails_now ≡ put_fails)
-FaultSays left fails reads ladder before now old new put_fails put_fails_now (NoStart r) = HasHalted left fails reads ladder before now old new r (Some (Cut HasNoStart)) × (put_fails_now ≡ put_fails)
-FaultSays left fails reads ladder before now old new put_fails put_fails_now (LongSegment r n) = HasHalted left fails reads ladder before now old new r (Some (Cut (IsLong n))) × (put_fails_now ≡ put_fails)
-FaultSays left fails reads ladder before now old new put_fails put_fails_now (BigSegment r n) = HasHalted left fails reads ladder before now old new r (Some (Cut (IsBig n))) × (put_fails_now ≡ put_fails)
-FaultSays left fails reads ladder before now old new put_fails put_fails_now (Limit r) = HasHalted left fails reads ladder before now old new r (Some (Cut PassesLimit)) × (put_fails_now ≡ put_fails)
-FaultSays left fails reads ladder before now old new put_fails put_fails_now Outlet = IsCutShort left fails reads ladder before now old new × (put_fails_now ≡ put_fails + 1)
-FaultSays left fails reads ladder before now old new put_fails put_fails_now NoMemory = IsCutShort left fails reads ladder before now old new × (put_fails_now ≡ put_fails)
-FaultSays left fails reads ladder before now old new put_fails put_fails_now (HeldBack r n) = ⊥
+abbrev pub FaultSays : {X Y : Type 0} → (X → Option (List ℕ)) → (X → ℕ) → (X → ℕ) → OutletView Y → Ladder → List X → List X → Y → Y → PackFault → Type 0
+FaultSays left fails reads out ladder before now old new Settings = IsRefused out ladder before now old new
+FaultSays left fails reads out ladder before now old new (Read r) = HasHalted left fails reads out ladder before now old new r (Some ReadFailed)
+FaultSays left fails reads out ladder before now old new (ReadLimit r) = HasHalted left fails reads out ladder before now old new r None
+FaultSays left fails reads out ladder before now old new (NoProgram r) = HasHalted left fails reads out ladder before now old new r (Some (Cut HasNoProgram))
+FaultSays left fails reads out ladder before now old new (NoStart r) = HasHalted left fails reads out ladder before now old new r (Some (Cut HasNoStart))
+FaultSays left fails reads out ladder before now old new (LongSegment r n) = HasHalted left fails reads out ladder before now old new r (Some (Cut (IsLong n)))
+FaultSays left fails reads out ladder before now old new (BigSegment r n) = HasHalted left fails reads out ladder before now old new r (Some (Cut (IsBig n)))
+FaultSays left fails reads out ladder before now old new (Limit r) = HasHalted left fails reads out ladder before now old new r (Some (Cut PassesLimit))
+FaultSays left fails reads out ladder before now old new Outlet = IsCutShort left fails reads out ladder before now old new × (out.failures new ≡ out.failures old + 1)
+FaultSays left fails reads out ladder before now old new NoMemory = IsCutShort left fails reads out ladder before now old new × (out.failures new ≡ out.failures old)
+FaultSays left fails reads out ladder before now old new (HeldBack r n) = ⊥

@@ -2,12 +2,12 @@
 use Rattle.std.specs.Prelude.{◌≡◌, ℕ, ◌+◌, ◌*◌, ◌<◌, ◌≤◌, ◌^◌, nat_lt, if◌then◌else◌, List, [], length, Option, Some, None, get_or, All, slice_get, false}
 use Rattle.std.specs.Io.KnownBytes.{Consumes}
 use Rattle.aes_cbc.specs.Block.{AreBytes}
-use Rattle.item_io.specs.Outlets.{Held, Grows}
 use Rattle.ingest.specs.declared.lane.Lane.{Lane}
 use Rattle.ladder_items.specs.Ladder.{Ladder}
 use Rattle.ladder_items.specs.Shown.{Shown}
 use Rattle.ladder_items.specs.Items.{Part, part_at, shown_all}
 use Rattle.ladder_items.specs.Weave.{Event, AreLegal, after_all, blocks, none_of}
+use Rattle.ladder_items.specs.Putting.{OutletView, PutAll}
 use Rattle.ladder_items.specs.Lanes.{InStage}
 use Rattle.ladder_items.specs.Sources.{SourceSays}
 
@@ -42,7 +42,7 @@ abbrev pub HaveRoom : {X : Type 0} → (X → ℕ) → (X → ℕ) → List X �
 HaveRoom fails reads inputs = All (HasRoom fails reads) inputs
 
 -- The inputs were `before` and are `now`; each rendition had as many turns as `rounds`, those before `next` one more.
-pub record World {X : Type 0} (left : X → Option (List ℕ)) (fails reads : X → ℕ) (ladder : Ladder) (rounds next : ℕ) (before now : List X) (lanes : List Lane) (shown : List Shown) (old new : Held → Type 0) : Type 0 where
+pub record World {X Y : Type 0} (left : X → Option (List ℕ)) (fails reads : X → ℕ) (out : OutletView Y) (ladder : Ladder) (rounds next : ℕ) (before now : List X) (lanes : List Lane) (shown : List Shown) (old new : Y) : Type 0 where
   pub streams : List (List ℕ)
   pub events : List Event
   pub same_streams : length streams ≡ length ladder.renditions
@@ -50,7 +50,7 @@ pub record World {X : Type 0} (left : X → Option (List ℕ)) (fails reads : X 
   pub same_now : length now ≡ length ladder.renditions
   pub same_lanes : length lanes ≡ length ladder.renditions
   pub legal : AreLegal (none_of ladder) events
-  pub grows : Grows old new (blocks ladder (none_of ladder) events)
+  pub puts : PutAll out old new (blocks ladder (none_of ladder) events)
   pub shown_are : shown ≡ shown_all ladder (after_all (none_of ladder) events)
   pub each : (k : ℕ) (a b : X) (lane : Lane) → slice_get before k ≡ Some a → slice_get now k ≡ Some b → slice_get lanes k ≡ Some lane →
       Stage left fails reads ladder k (turns_of rounds next k) a b lane (stream_at streams k) (part_at (after_all (none_of ladder) events) k)

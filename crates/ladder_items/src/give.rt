@@ -2,13 +2,12 @@ ghost use Rattle.std.specs.Prelude.{◌≡◌, ◌+◌, ◌<◌, ◌^◌, [], �
 ghost use Rattle.std.specs.Arc.{arc_value};
 ghost use Rattle.segment_job.specs.Segments.{sealed_segment};
 ghost use Rattle.master_playlist.specs.Faults.{fault_of};
-ghost use Rattle.item_io.specs.Outlets.{Grows};
 ghost use Rattle.ladder_items.specs.declared.fault.PackFault.TheVariants.{NoMemory};
 ghost use Rattle.ladder_items.specs.Ladder.{rendition_at, unmeasured, IsAllowed};
 ghost use Rattle.ladder_items.specs.Items.{Part, shown_all};
 ghost use Rattle.ladder_items.specs.Weave.{Row, End, after, after_all, block, blocks};
 ghost use Rattle.ladder_items.specs.Giving.{IsGoing, IsNext, AreNextPlans, rows, block_of};
-ghost use Rattle.ladder_items.specs.Putting.{PutSome, SaysFailures};
+ghost use Rattle.ladder_items.specs.Putting.{PutAll, PutSome, SaysFailures, outlet_of};
 
 use crate::fault::PackFault;
 use crate::playlists::Playlists;
@@ -34,10 +33,10 @@ pub fn give_segments<O: Outlet>(
     requires allowed { IsAllowed settings.now }
     requires next { (parts : List Part) × AreNextPlans settings.now r parts playlists.old.items plans.items }
     ensures ok { OnOk result ((parts : List Part) → AreNextPlans settings.now r parts playlists.old.items plans.items →
-        Grows (O.holds outlet.old) (O.holds outlet.new) (blocks settings.now parts (rows r plans.items))
+        PutAll (outlet_of O.holds O.broken O.failures) outlet.old outlet.new (blocks settings.now parts (rows r plans.items))
         × (playlists.new.items ≡ shown_all settings.now (after_all parts (rows r plans.items)))) }
     ensures err { OnErr result ((parts : List Part) → AreNextPlans settings.now r parts playlists.old.items plans.items →
-        PutSome (O.holds outlet.old) (O.holds outlet.new) (blocks settings.now parts (rows r plans.items))) }
+        PutSome (outlet_of O.holds O.broken O.failures) outlet.old outlet.new (blocks settings.now parts (rows r plans.items))) }
     ensures failures { OnOk result (O.failures outlet.new ≡ O.failures outlet.old) }
     ensures fault { IfErr result (λ fault. SaysFailures fault (O.failures outlet.old) (O.failures outlet.new)) }
 {
@@ -58,9 +57,9 @@ pub fn give_end<O: Outlet>(
     requires rendition { r < length settings.now.renditions }
     requires within { r < length playlists.now }
     ensures ok { OnOk result ((parts : List Part) → IsGoing settings.now r parts playlists.now →
-        Grows (O.holds outlet.old) (O.holds outlet.new) (block settings.now parts (End r))) }
+        PutAll (outlet_of O.holds O.broken O.failures) outlet.old outlet.new (block settings.now parts (End r))) }
     ensures err { OnErr result ((parts : List Part) → IsGoing settings.now r parts playlists.now →
-        PutSome (O.holds outlet.old) (O.holds outlet.new) (block settings.now parts (End r))) }
+        PutSome (outlet_of O.holds O.broken O.failures) outlet.old outlet.new (block settings.now parts (End r))) }
     ensures failures { OnOk result (O.failures outlet.new ≡ O.failures outlet.old) }
     ensures fault { IfErr result (λ fault. SaysFailures fault (O.failures outlet.old) (O.failures outlet.new)) }
 {
@@ -82,10 +81,10 @@ fn give_segment<O: Outlet>(
     requires allowed { IsAllowed settings.now }
     requires next { (parts : List Part) × IsNext settings.now r parts playlists.old.items plan }
     ensures ok { OnOk result ((parts : List Part) → IsNext settings.now r parts playlists.old.items plan →
-        Grows (O.holds outlet.old) (O.holds outlet.new) (block settings.now parts (Row r plan))
+        PutAll (outlet_of O.holds O.broken O.failures) outlet.old outlet.new (block settings.now parts (Row r plan))
         × (playlists.new.items ≡ shown_all settings.now (after parts (Row r plan)))) }
     ensures err { OnErr result ((parts : List Part) → IsNext settings.now r parts playlists.old.items plan →
-        PutSome (O.holds outlet.old) (O.holds outlet.new) (block settings.now parts (Row r plan))) }
+        PutSome (outlet_of O.holds O.broken O.failures) outlet.old outlet.new (block settings.now parts (Row r plan))) }
     ensures failures { OnOk result (O.failures outlet.new ≡ O.failures outlet.old) }
     ensures fault { IfErr result (λ fault. SaysFailures fault (O.failures outlet.old) (O.failures outlet.new)) }
 {
@@ -118,10 +117,10 @@ pub fn give_sealed<O: Outlet>(
     requires next { (parts : List Part) × IsNext settings.now r parts playlists.old.items sealed.plan }
     requires sealed { sealed ≡ sealed_segment (rendition_at settings.now r).keys sealed.plan }
     ensures ok { OnOk result ((parts : List Part) → IsNext settings.now r parts playlists.old.items sealed.plan →
-        Grows (O.holds outlet.old) (O.holds outlet.new) (block settings.now parts (Row r sealed.plan))
+        PutAll (outlet_of O.holds O.broken O.failures) outlet.old outlet.new (block settings.now parts (Row r sealed.plan))
         × (playlists.new.items ≡ shown_all settings.now (after parts (Row r sealed.plan)))) }
     ensures err { OnErr result ((parts : List Part) → IsNext settings.now r parts playlists.old.items sealed.plan →
-        PutSome (O.holds outlet.old) (O.holds outlet.new) (block settings.now parts (Row r sealed.plan))) }
+        PutSome (outlet_of O.holds O.broken O.failures) outlet.old outlet.new (block settings.now parts (Row r sealed.plan))) }
     ensures failures { OnOk result (O.failures outlet.new ≡ O.failures outlet.old) }
     ensures fault { IfErr result (λ fault. SaysFailures fault (O.failures outlet.old) (O.failures outlet.new)) }
 {
@@ -144,9 +143,8 @@ fn put_block<O: Outlet>(
     requires each { length playlists.now ≡ length settings.now.renditions }
     requires within { r < length playlists.now }
     requires going { All (λ shown. shown.ended ≡ false) playlists.now }
-    ensures ok { OnOk result (Grows (O.holds outlet.old) (O.holds outlet.new) (block_of settings.now r sealed playlists.now)) }
-    ensures err { OnErr result (PutSome (O.holds outlet.old) (O.holds outlet.new) (block_of settings.now r sealed playlists.now)) }
-    ensures failures { OnOk result (O.failures outlet.new ≡ O.failures outlet.old) }
+    ensures ok { OnOk result (PutAll (outlet_of O.holds O.broken O.failures) outlet.old outlet.new (block_of settings.now r sealed playlists.now)) }
+    ensures err { OnErr result (PutSome (outlet_of O.holds O.broken O.failures) outlet.old outlet.new (block_of settings.now r sealed playlists.now)) }
     ensures fault { IfErr result (λ fault. SaysFailures fault (O.failures outlet.old) (O.failures outlet.new)) }
 {
     let rendition = rendition_of(settings, r);

@@ -1,11 +1,10 @@
 ghost use Rattle.std.specs.Prelude.{◌≡◌, ◌+◌, ◌<◌, ◌^◌, [], ◌∷◌, ℕ, List, All, false, None, length, map, IfErr, OnOk, OnErr};
 ghost use Rattle.std.specs.String.{string_bytes};
 ghost use Rattle.item_io.specs.Items.{item_value, MasterItem};
-ghost use Rattle.item_io.specs.Outlets.{Grows};
 ghost use Rattle.master_playlist.specs.Faults.{fault_of};
 ghost use Rattle.ladder_items.specs.Ladder.{unmeasured};
 ghost use Rattle.ladder_items.specs.Masters.{master_of};
-ghost use Rattle.ladder_items.specs.Putting.{PutSome, SaysFailures};
+ghost use Rattle.ladder_items.specs.Putting.{PutAll, PutSome, SaysFailures, outlet_of};
 ghost use Rattle.ladder_items.specs.Items.{segment_of, media_of, frames_of};
 
 use crate::fault::PackFault;
@@ -19,9 +18,8 @@ use std::alloc::Global;
 /// Puts an item.
 fn put<O: Outlet>(outlet: &mut O, item: &Item) -> Result<(), PackFault>
     requires { O.failures outlet.old < 2 ^ 63 }
-    ensures ok { OnOk result (Grows (O.holds outlet.old) (O.holds outlet.new) (item_value item.now ∷ [])) }
-    ensures err { OnErr result (Grows (O.holds outlet.old) (O.holds outlet.new) []) }
-    ensures failures { OnOk result (O.failures outlet.new ≡ O.failures outlet.old) }
+    ensures ok { OnOk result (PutAll (outlet_of O.holds O.broken O.failures) outlet.old outlet.new (item_value item.now ∷ [])) }
+    ensures err { OnErr result (PutSome (outlet_of O.holds O.broken O.failures) outlet.old outlet.new (item_value item.now ∷ [])) }
     ensures fault { IfErr result (λ fault. SaysFailures fault (O.failures outlet.old) (O.failures outlet.new)) }
 {
     match outlet.put(item) {
@@ -38,9 +36,8 @@ pub fn put_segment<O: Outlet>(
     sealed: Sealed,
 ) -> Result<(), PackFault>
     requires { O.failures outlet.old < 2 ^ 63 }
-    ensures ok { OnOk result (Grows (O.holds outlet.old) (O.holds outlet.new) (segment_of r rendition.now sealed ∷ [])) }
-    ensures err { OnErr result (Grows (O.holds outlet.old) (O.holds outlet.new) []) }
-    ensures failures { OnOk result (O.failures outlet.new ≡ O.failures outlet.old) }
+    ensures ok { OnOk result (PutAll (outlet_of O.holds O.broken O.failures) outlet.old outlet.new (segment_of r rendition.now sealed ∷ [])) }
+    ensures err { OnErr result (PutSome (outlet_of O.holds O.broken O.failures) outlet.old outlet.new (segment_of r rendition.now sealed ∷ [])) }
     ensures fault { IfErr result (λ fault. SaysFailures fault (O.failures outlet.old) (O.failures outlet.new)) }
 {
     let name = rendition.name.clone()?;
@@ -65,9 +62,8 @@ fn put_media<O: Outlet>(
     ended: bool,
 ) -> Result<(), PackFault>
     requires { O.failures outlet.old < 2 ^ 63 }
-    ensures ok { OnOk result (Grows (O.holds outlet.old) (O.holds outlet.new) (media_of r rendition.now playlists.now ended ∷ [])) }
-    ensures err { OnErr result (Grows (O.holds outlet.old) (O.holds outlet.new) []) }
-    ensures failures { OnOk result (O.failures outlet.new ≡ O.failures outlet.old) }
+    ensures ok { OnOk result (PutAll (outlet_of O.holds O.broken O.failures) outlet.old outlet.new (media_of r rendition.now playlists.now ended ∷ [])) }
+    ensures err { OnErr result (PutSome (outlet_of O.holds O.broken O.failures) outlet.old outlet.new (media_of r rendition.now playlists.now ended ∷ [])) }
     ensures fault { IfErr result (λ fault. SaysFailures fault (O.failures outlet.old) (O.failures outlet.new)) }
 {
     let item = Item::Media {
@@ -89,9 +85,8 @@ fn put_frames<O: Outlet>(
     ended: bool,
 ) -> Result<(), PackFault>
     requires { O.failures outlet.old < 2 ^ 63 }
-    ensures ok { OnOk result (Grows (O.holds outlet.old) (O.holds outlet.new) (frames_of r rendition.now playlists.now ended ∷ [])) }
-    ensures err { OnErr result (Grows (O.holds outlet.old) (O.holds outlet.new) []) }
-    ensures failures { OnOk result (O.failures outlet.new ≡ O.failures outlet.old) }
+    ensures ok { OnOk result (PutAll (outlet_of O.holds O.broken O.failures) outlet.old outlet.new (frames_of r rendition.now playlists.now ended ∷ [])) }
+    ensures err { OnErr result (PutSome (outlet_of O.holds O.broken O.failures) outlet.old outlet.new (frames_of r rendition.now playlists.now ended ∷ [])) }
     ensures fault { IfErr result (λ fault. SaysFailures fault (O.failures outlet.old) (O.failures outlet.new)) }
 {
     let item = Item::Frames {
@@ -113,11 +108,10 @@ pub fn put_playlists<O: Outlet>(
     ended: bool,
 ) -> Result<(), PackFault>
     requires { O.failures outlet.old < 2 ^ 63 }
-    ensures ok { OnOk result (Grows (O.holds outlet.old) (O.holds outlet.new)
+    ensures ok { OnOk result (PutAll (outlet_of O.holds O.broken O.failures) outlet.old outlet.new
         (media_of r rendition.now playlists.now ended ∷ frames_of r rendition.now playlists.now ended ∷ [])) }
-    ensures err { OnErr result (PutSome (O.holds outlet.old) (O.holds outlet.new)
+    ensures err { OnErr result (PutSome (outlet_of O.holds O.broken O.failures) outlet.old outlet.new
         (media_of r rendition.now playlists.now ended ∷ frames_of r rendition.now playlists.now ended ∷ [])) }
-    ensures failures { OnOk result (O.failures outlet.new ≡ O.failures outlet.old) }
     ensures fault { IfErr result (λ fault. SaysFailures fault (O.failures outlet.old) (O.failures outlet.new)) }
 {
     put_media(outlet, r, rendition, playlists, ended)?;
@@ -136,9 +130,8 @@ pub fn put_master<O: Outlet>(
     requires going { All (λ shown. shown.ended ≡ false) playlists.now }
     requires each { length playlists.now ≡ length renditions.now }
     requires listable { fault_of (map unmeasured renditions.now) ≡ None }
-    ensures ok { OnOk result (Grows (O.holds outlet.old) (O.holds outlet.new) (MasterItem (master_of renditions.now playlists.now) ∷ [])) }
-    ensures err { OnErr result (Grows (O.holds outlet.old) (O.holds outlet.new) []) }
-    ensures failures { OnOk result (O.failures outlet.new ≡ O.failures outlet.old) }
+    ensures ok { OnOk result (PutAll (outlet_of O.holds O.broken O.failures) outlet.old outlet.new (MasterItem (master_of renditions.now playlists.now) ∷ [])) }
+    ensures err { OnErr result (PutSome (outlet_of O.holds O.broken O.failures) outlet.old outlet.new (MasterItem (master_of renditions.now playlists.now) ∷ [])) }
     ensures fault { IfErr result (λ fault. SaysFailures fault (O.failures outlet.old) (O.failures outlet.new)) }
 {
     let item = Item::Master {

@@ -4,12 +4,11 @@ use Rattle.std.specs.List.{slice_get}
 use Rattle.std.specs.Io.KnownBytes.{Consumes}
 use Rattle.std.proofs.Math.ListN.{set}
 use Rattle.std.proofs.KnownBytes.{Consumes-trans}
-use Rattle.std.proofs.lemmas.List.{append-nil, length-set, get_or-set_same, get_or-set_other, append_assoc}
+use Rattle.std.proofs.lemmas.List.{append-nil, length-set, get_or-set_same, get_or-set_other}
 use Rattle.std.proofs.lemmas.Option.{slice_get_within, same_Some}
 use Rattle.std.proofs.lemmas.Bool.{cases_eq}
 use Rattle.std.proofs.lemmas.List.Elements.{All-append}
 use Rattle.aes_cbc.specs.Block.{AreBytes}
-use Rattle.item_io.specs.Outlets.{Held}
 use Rattle.ingest.specs.declared.lane.Lane.{Lane}
 use Rattle.ingest.specs.declared.lane.Stop.{Stop}
 use Rattle.ingest.specs.declared.lane.Stop.TheVariants.{Good, Cut, Read as ReadFailed}
@@ -21,12 +20,12 @@ use Rattle.ladder_items.specs.Ladder.{Ladder, IsAllowed}
 use Rattle.ladder_items.specs.Shown.{Shown}
 use Rattle.ladder_items.specs.Items.{Part, no_part, part_at}
 use Rattle.ladder_items.specs.Weave.{AreLegal, after_all, blocks, none_of}
-use Rattle.ladder_items.specs.Putting.{SaysFailures}
+use Rattle.ladder_items.specs.Putting.{OutletView, SaysFailures}
 use Rattle.ladder_items.specs.Lanes.{Before, IsClosed, IsCutOff}
 use Rattle.ladder_items.specs.Sources.{HasBegun}
 use Rattle.ladder_items.specs.World.{World, stream_at, turns_of}
 use Rattle.ladder_items.specs.Packed.{HasGiven, told_of}
-use Rattle.ladder_items.proofs.Puts.{grows-more}
+use Rattle.ladder_items.proofs.Puts.{put-all, put_none, put-more}
 use Rattle.ladder_items.proofs.Rows.{after_all-append, blocks-append, legal-append}
 use Rattle.ladder_items.proofs.Elsewhere.{set-here, set-elsewhere, some-at, all-other}
 use Rattle.ladder_items.proofs.Stages.{says-one, stage-ended, turns-most, turns-now, stage-begins, open-stage, same-fails}
@@ -50,10 +49,10 @@ told-unheld k (Some (Cut PassesLimit)) e r n told is = cc
 told-unheld k (Some (Cut WantsMemory)) e r n told is = cc
 told-unheld k (Some (Cut Ended)) e r n told is = cc
 
-module _ (X : Type 0) (left : X → Option (List ℕ)) (fails reads : X → ℕ) (ladder : Ladder) where
+module _ (X Y : Type 0) (left : X → Option (List ℕ)) (fails reads : X → ℕ) (out : OutletView Y) (ladder : Ladder) where
   -- what a rendition had given
-  given-at : (rounds next : ℕ) (before now : List X) (lanes : List Lane) (shown : List Shown) (x y : Held → Type 0)
-      (w : World left fails reads ladder rounds next before now lanes shown x y) (k : ℕ) → k < length ladder.renditions
+  given-at : (rounds next : ℕ) (before now : List X) (lanes : List Lane) (shown : List Shown) (x y : Y)
+      (w : World left fails reads out ladder rounds next before now lanes shown x y) (k : ℕ) → k < length ladder.renditions
       → (stop : Option Stop) × HasGiven stop ladder k (stream_at w.streams k) (part_at (parts-of ladder w.events) k)
   given-at rounds next before now lanes shown x y w k within =
       let a = some-at before k (omega (arith, within, w.same_before)) in
@@ -62,20 +61,22 @@ module _ (X : Type 0) (left : X → Option (List ℕ)) (fails reads : X → ℕ)
       (m.0.stop, stage-ended ladder k m.0.stop m.0.intake _ _ (w.each k a.0 b.0 m.0 a.1 b.1 m.1).stage)
 
   -- a turn was cut off
-  pub world-cut : (rounds next r : ℕ) (before now : List X) (lanes : List Lane) (shown : List Shown) (x y z : Held → Type 0) (b c : X) (lane : Lane)
+  pub world-cut : (rounds next r : ℕ) (before now : List X) (lanes : List Lane) (shown : List Shown) (x y z : Y) (b c : X) (lane : Lane)
       → slice_get now r ≡ Some b → slice_get lanes r ≡ Some lane → lane.stop ≡ None
       → ((parts : List Part) → Before ladder r parts shown lane.intake → (more : List ℕ) × Consumes (left b) (left c) more × (length more ≤ 18800) × AreBytes more
-      × IsCutOff ladder r parts y z (HasBegun ladder r (left c) (lane.intake.stream ++ more)))
+      × IsCutOff out ladder r parts y z (HasBegun ladder r (left c) (lane.intake.stream ++ more)))
       → fails c ≡ fails b → reads c ≤ reads b + 1 → next ≡ r → rounds < 2 ^ 40
-      → IsAllowed ladder → World left fails reads ladder rounds next before now lanes shown x y → IsCutAtOnce left fails reads ladder before (set now r c) x z
+      → IsAllowed ladder → World left fails reads out ladder rounds next before now lanes shown x y → IsCutAtOnce left fails reads out ladder before (set now r c) x z
+  unfolding put-more
   world-cut rounds next r before now lanes shown x y z b c lane f g goes_on turn same_fails one_read mine_next below allowed w =
-      let s = world-stage X left fails reads ladder rounds next before now lanes shown x y w r b lane f g in
+      let s = world-stage X Y left fails reads out ladder rounds next before now lanes shown x y w r b lane f g in
       let now_turns : turns_of rounds next r ≡ rounds = ap (λ n. turns_of rounds n r) mine_next ∙ turns-now rounds r in
       let o = open-stage X left fails reads ladder r _ s.0 b lane _ _ goes_on s.2 in
-      let t = turn (parts-of ladder w.events) (world-before X left fails reads ladder rounds next before now lanes shown x y w r b lane f g goes_on) in
+      let t = turn (parts-of ladder w.events) (world-before X Y left fails reads out ladder rounds next before now lanes shown x y w r b lane f g goes_on) in
       let cut = t.4 in
       let bytes : AreBytes (lane.intake.stream ++ t.0) = All-append (λ (v : ℕ). v < 256) lane.intake.stream t.0 (subst AreBytes (sym o.1) s.2.bytes) t.3 in
       let stream = lane.intake.stream ++ t.0 in
+      let some = put-more out x y z (blocks ladder (none_of ladder) w.events) (blocks ladder (parts-of ladder w.events) cut.events) w.puts cut.some in
       let all = after_all-append (none_of ladder) w.events cut.events in
       let here : r < length w.streams = omega (arith, slice_get_within now r b f, w.same_now, w.same_streams) in
       let mine : stream_at (set w.streams r stream) r ≡ stream = get_or-set_same w.streams r stream [] here in
@@ -92,11 +93,11 @@ module _ (X : Type 0) (left : X → Option (List ℕ)) (fails reads : X → ℕ)
           items = blocks ladder (none_of ladder) (w.events ++ cut.events);
           weave = record { events = w.events ++ cut.events; legal = legal-append (none_of ladder) w.events cut.events w.legal cut.are_of.legal; parts_are = refl; items_are = refl };
           some = record {
-            given = blocks ladder (none_of ladder) w.events ++ cut.some.given;
-            rest = cut.some.rest;
-            all = blocks-append ladder (none_of ladder) w.events cut.events
-                ∙ (ap (λ items. blocks ladder (none_of ladder) w.events ++ items) cut.some.all ∙ sym (append_assoc (blocks ladder (none_of ladder) w.events) cut.some.given cut.some.rest));
-            grows = grows-more x y z (blocks ladder (none_of ladder) w.events) cut.some.given w.grows cut.some.grows;
+            given = some.given;
+            rest = some.rest;
+            all = blocks-append ladder (none_of ladder) w.events cut.events ∙ some.all;
+            grows = some.grows;
+            stops = some.stops;
           };
           allowed = inr allowed;
           same_now = length-set _ _ _ ∙ (w.same_now ∙ sym w.same_before);
@@ -139,11 +140,11 @@ module _ (X : Type 0) (left : X → Option (List ℕ)) (fails reads : X → ℕ)
       }
 
   -- the run was stopped between two turns
-  pub stop-at-once : (rounds : ℕ) (before now : List X) (lanes : List Lane) (shown : List Shown) (x y : Held → Type 0) → rounds ≤ 2 ^ 40
-      → IsAllowed ladder → World left fails reads ladder rounds 0 before now lanes shown x y → IsCutAtOnce left fails reads ladder before now x y
-  unfolding world-stop
+  pub stop-at-once : (rounds : ℕ) (before now : List X) (lanes : List Lane) (shown : List Shown) (x y : Y) → rounds ≤ 2 ^ 40
+      → IsAllowed ladder → World left fails reads out ladder rounds 0 before now lanes shown x y → IsCutAtOnce left fails reads out ladder before now x y
+  unfolding world-stop put-all
   stop-at-once rounds before now lanes shown x y few allowed w = record {
-    cut = world-stop X left fails reads ladder rounds before now lanes shown x y few allowed w;
+    cut = world-stop X Y left fails reads out ladder rounds before now lanes shown x y few allowed w;
     in_turn = 0;
     at_once = record {
       earlier = w.streams;
@@ -157,12 +158,12 @@ module _ (X : Type 0) (left : X → Option (List ℕ)) (fails reads : X → ℕ)
   }
 
   -- nothing was read or given
-  pub none-at-once : (before : List X) (x : Held → Type 0) → ((k : ℕ) → closed_of k ladder.cut [] ≡ []) → IsCutAtOnce left fails reads ladder before before x x
-  unfolding nothing-given after_all blocks AreLegal
+  pub none-at-once : (before : List X) (x : Y) → ((k : ℕ) → closed_of k ladder.cut [] ≡ []) → IsCutAtOnce left fails reads out ladder before before x x
+  unfolding nothing-given put_none after_all blocks AreLegal
   none-at-once before x none =
       let n = length ladder.renditions in
       record {
-        cut = nothing-given X left fails reads ladder before x none;
+        cut = nothing-given X Y left fails reads out ladder before x none;
         in_turn = 0;
         at_once = record {
           earlier = replicate n [];

@@ -6,7 +6,6 @@ use Rattle.std.proofs.lemmas.List.{append-nil, get_or-set_same, set-get_or}
 use Rattle.std.proofs.lemmas.List.Elements.{All-cons, All-append}
 use Rattle.ts_packet.specs.Packets.{skipped}
 use Rattle.cutter.specs.Plans.{SegmentPlan}
-use Rattle.item_io.specs.Outlets.{Held, Grows}
 use Rattle.ingest.specs.declared.lane.Stop.TheVariants.{Good}
 use Rattle.ladder_items.specs.Ladder.{Ladder}
 use Rattle.ingest.specs.Streams.{Taken, plans_of, fault_of}
@@ -15,8 +14,8 @@ use Rattle.ladder_items.specs.Items.{Part, no_part, part_at, shown_all}
 use Rattle.ladder_items.specs.Weave.{Event, End, rendition_of, AreLegal, closed_part, after, after_all, block, blocks}
 use Rattle.ladder_items.specs.Giving.{IsGoing, rows, no_shown}
 use Rattle.ladder_items.specs.Lanes.{IsWhole, Begins, Before, AreOf, Reaches, IsCutOff}
-use Rattle.ladder_items.specs.Putting.{PutSome}
-use Rattle.ladder_items.proofs.Puts.{grows-more, put-more}
+use Rattle.ladder_items.specs.Putting.{OutletView, PutAll, PutSome}
+use Rattle.ladder_items.proofs.Puts.{all-more, put-more}
 use Rattle.ladder_items.proofs.Nexts.{shown-at, shown-set}
 use Rattle.ladder_items.proofs.Rows.{rows-each, rows-part, after_all-append, blocks-append, legal-append}
 use Rattle.pipeline.proofs.Feeding.{Gave, rows-of-r, rows-legal, part-behind, plans-in, fault-in}
@@ -85,35 +84,35 @@ whole-part ladder r parts shown intake ps b sound g =
     }
 
 -- the rendition came to its good end
-pub reaches-end : (ladder : Ladder) (r : ℕ) (parts : List Part) (a b c : Held → Type 0) (shown now : List Shown) (intake then : Taken) (gone : ℕ) (ps : List SegmentPlan)
+pub reaches-end : {Y : Type 0} (out : OutletView Y) (ladder : Ladder) (r : ℕ) (parts : List Part) (a b c : Y) (shown now : List Shown) (intake then : Taken) (gone : ℕ) (ps : List SegmentPlan)
     → Before ladder r parts shown intake → fault_of intake.rendition intake.settings intake.stream ≡ None → gone ≡ skipped intake.stream
     → Gave ladder r parts shown (plans_of intake.rendition intake.settings intake.stream) ps
-    → Grows a b (blocks ladder parts (rows r ps)) × (now ≡ shown_all ladder (after_all parts (rows r ps)))
-    → Grows b c (block ladder (after_all parts (rows r ps)) (End r))
-    → Reaches ladder r parts a c now (Some (Good gone)) intake.stream then
-reaches-end ladder r parts a b c shown now intake then gone ps before sound counted g given end =
+    → PutAll out a b (blocks ladder parts (rows r ps)) × (now ≡ shown_all ladder (after_all parts (rows r ps)))
+    → PutAll out b c (block ladder (after_all parts (rows r ps)) (End r))
+    → Reaches out ladder r parts a c now (Some (Good gone)) intake.stream then
+reaches-end out ladder r parts a b c shown now intake then gone ps before sound counted g given end =
     let h = going-on ladder r parts shown now ps before.goes_on given.1 in
     record {
       events = ended_rows r ps;
       are_of = ended-are-of ladder r parts shown now ps before.goes_on h;
-      grows = subst (Grows a c) (sym (ended-blocks ladder r parts ps)) (grows-more a b c _ _ given.0 end);
+      puts = subst (PutAll out a c) (sym (ended-blocks ladder r parts ps)) (all-more out a b c _ _ given.0 end);
       shown_are = given.1 ∙ (sym (shown-end ladder (after_all parts (rows r ps)) r h.within h.each) ∙ ap (shown_all ladder) (sym (ended-parts r parts ps)));
       stage = (whole-part ladder r parts shown intake ps before sound g, counted);
     }
 
 -- the end was cut off
-pub cut-off-end : (ladder : Ladder) (r : ℕ) (parts : List Part) (a b c : Held → Type 0) (shown now : List Shown) (intake : Taken) (ps : List SegmentPlan)
+pub cut-off-end : {Y : Type 0} (out : OutletView Y) (ladder : Ladder) (r : ℕ) (parts : List Part) (a b c : Y) (shown now : List Shown) (intake : Taken) (ps : List SegmentPlan)
     → Before ladder r parts shown intake → fault_of intake.rendition intake.settings intake.stream ≡ None
     → Gave ladder r parts shown (plans_of intake.rendition intake.settings intake.stream) ps
-    → Grows a b (blocks ladder parts (rows r ps)) × (now ≡ shown_all ladder (after_all parts (rows r ps)))
-    → PutSome b c (block ladder (after_all parts (rows r ps)) (End r))
-    → IsCutOff ladder r parts a c (Begins ladder r intake.stream)
-cut-off-end ladder r parts a b c shown now intake ps before sound g given end =
+    → PutAll out a b (blocks ladder parts (rows r ps)) × (now ≡ shown_all ladder (after_all parts (rows r ps)))
+    → PutSome out b c (block ladder (after_all parts (rows r ps)) (End r))
+    → IsCutOff out ladder r parts a c (Begins ladder r intake.stream)
+cut-off-end out ladder r parts a b c shown now intake ps before sound g given end =
     let h = going-on ladder r parts shown now ps before.goes_on given.1 in
     let whole = whole-part ladder r parts shown intake ps before sound g in
     record {
       events = ended_rows r ps;
       are_of = ended-are-of ladder r parts shown now ps before.goes_on h;
-      some = subst (PutSome a c) (sym (ended-blocks ladder r parts ps)) (put-more a b c _ _ given.0 end);
+      some = subst (PutSome out a c) (sym (ended-blocks ladder r parts ps)) (put-more out a b c _ _ given.0 end);
       begins = record { plans = ([], sym (append-nil _ ∙ whole.plans)); ended = λ t. whole };
     }

@@ -8,7 +8,6 @@ use Rattle.cutter.specs.declared.settings.CutSettings.{CutSettings}
 use Rattle.cutter.specs.declared.fault.CutFault.{CutFault}
 use Rattle.cutter.specs.declared.fault.CutFault.TheVariants.{NoMemory}
 use Rattle.cutter.specs.Plans.{SegmentPlan}
-use Rattle.item_io.specs.Outlets.{Held, Grows}
 use Rattle.ingest.specs.declared.lane.Stop.TheVariants.{Cut}
 use Rattle.ladder_items.specs.Ladder.{Ladder}
 use Rattle.ingest.specs.Streams.{Taken, AreNext, GrowsAlike, Stays, closed_of, plans_of, fault_of}
@@ -17,8 +16,8 @@ use Rattle.ladder_items.specs.Items.{Part, part_at, count, shown_all}
 use Rattle.ladder_items.specs.Weave.{Event, Row, rendition_of, AreLegal, after, after_all, blocks}
 use Rattle.ladder_items.specs.Giving.{IsGoing, AreNextPlans, rows}
 use Rattle.ladder_items.specs.Lanes.{IsOpen, Begins, BeginsClosed, Before, AreOf, Reaches, IsCutOff}
-use Rattle.ladder_items.specs.Putting.{PutSome}
-use Rattle.ladder_items.proofs.Puts.{grows-none, put-none}
+use Rattle.ladder_items.specs.Putting.{OutletView, PutAll, PutSome}
+use Rattle.ladder_items.proofs.Puts.{put_none}
 use Rattle.ladder_items.proofs.Blocks.{grown-at, after-each}
 use Rattle.ladder_items.proofs.Rows.{rows-part}
 
@@ -78,18 +77,18 @@ not_ended : true ≡ false → ⊥
 not_ended e = cc
 
 -- the rendition goes on with these bytes
-pub reaches-on : (ladder : Ladder) (r : ℕ) (parts : List Part) (old new : Held → Type 0) (shown now : List Shown) (intake then : Taken) (stream : List ℕ) (ps : List SegmentPlan)
+pub reaches-on : {Y : Type 0} (out : OutletView Y) (ladder : Ladder) (r : ℕ) (parts : List Part) (old new : Y) (shown now : List Shown) (intake then : Taken) (stream : List ℕ) (ps : List SegmentPlan)
     → Before ladder r parts shown intake → then ≡ record intake { stream = stream }
     → Gave ladder r parts shown (closed_of intake.rendition intake.settings stream) ps
-    → Grows old new (blocks ladder parts (rows r ps)) × (now ≡ shown_all ladder (after_all parts (rows r ps)))
-    → Reaches ladder r parts old new now None stream then
-reaches-on ladder r parts old new shown now intake then stream ps b is g given =
+    → PutAll out old new (blocks ladder parts (rows r ps)) × (now ≡ shown_all ladder (after_all parts (rows r ps)))
+    → Reaches out ladder r parts old new now None stream then
+reaches-on out ladder r parts old new shown now intake then stream ps b is g given =
     let o = b.is_open in
     let part = part-behind ladder r parts shown (closed_of intake.rendition intake.settings stream) ps g in
     record {
       events = rows r ps;
       are_of = rows-are-of ladder r parts shown ps b.goes_on;
-      grows = given.0;
+      puts = given.0;
       shown_are = given.1;
       stage = (
         record {
@@ -105,10 +104,10 @@ reaches-on ladder r parts old new shown now intake then stream ps b is g given =
     }
 
 -- a step that was cut off behind some segments
-pub cut-off : (ladder : Ladder) (r : ℕ) (parts : List Part) (old new : Held → Type 0) (shown : List Shown) (whole ps : List SegmentPlan) (P : Part → Type 0)
+pub cut-off : {Y : Type 0} (out : OutletView Y) (ladder : Ladder) (r : ℕ) (parts : List Part) (old new : Y) (shown : List Shown) (whole ps : List SegmentPlan) (P : Part → Type 0)
     → Gave ladder r parts shown whole ps → P (record { plans = whole; ended = false })
-    → PutSome old new (blocks ladder parts (rows r ps)) → IsCutOff ladder r parts old new P
-cut-off ladder r parts old new shown whole ps P g begins some = record {
+    → PutSome out old new (blocks ladder parts (rows r ps)) → IsCutOff out ladder r parts old new P
+cut-off out ladder r parts old new shown whole ps P g begins some = record {
   events = rows r ps;
   are_of = rows-are-of ladder r parts shown ps g.next.goes_on;
   some = some;
@@ -156,18 +155,18 @@ pub all-of-them : (ladder : Ladder) (r : ℕ) (intake : Taken) (part : Part) (st
 all-of-them ladder r intake part stream o = ([], sym (append-nil _ ∙ plans-in ladder r intake part stream o))
 
 -- the rendition stops at its stream's fault
-pub reaches-fault : (ladder : Ladder) (r : ℕ) (parts : List Part) (old new : Held → Type 0) (shown now : List Shown) (intake then : Taken) (stream : List ℕ) (told : CutFault) (ps : List SegmentPlan)
+pub reaches-fault : {Y : Type 0} (out : OutletView Y) (ladder : Ladder) (r : ℕ) (parts : List Part) (old new : Y) (shown now : List Shown) (intake then : Taken) (stream : List ℕ) (told : CutFault) (ps : List SegmentPlan)
     → Before ladder r parts shown intake → fault_of intake.rendition intake.settings stream ≡ Some told
     → Gave ladder r parts shown (plans_of intake.rendition intake.settings stream) ps
-    → Grows old new (blocks ladder parts (rows r ps)) × (now ≡ shown_all ladder (after_all parts (rows r ps)))
-    → Reaches ladder r parts old new now (Some (Cut told)) stream then
-reaches-fault ladder r parts old new shown now intake then stream told ps b fault g given =
+    → PutAll out old new (blocks ladder parts (rows r ps)) × (now ≡ shown_all ladder (after_all parts (rows r ps)))
+    → Reaches out ladder r parts old new now (Some (Cut told)) stream then
+reaches-fault out ladder r parts old new shown now intake then stream told ps b fault g given =
     let o = b.is_open in
     let part = part-behind ladder r parts shown (plans_of intake.rendition intake.settings stream) ps g in
     record {
       events = rows r ps;
       are_of = rows-are-of ladder r parts shown ps b.goes_on;
-      grows = given.0;
+      puts = given.0;
       shown_are = given.1;
       stage = record {
         fault = sym (fault-in ladder r intake (part_at parts r) stream o) ∙ fault;
@@ -177,13 +176,13 @@ reaches-fault ladder r parts old new shown now intake then stream told ps b faul
     }
 
 -- nothing was given of these bytes
-pub cut-off-first : (ladder : Ladder) (r : ℕ) (parts : List Part) (a : Held → Type 0) (shown : List Shown) (intake : Taken) (P : Part → Type 0)
-    → Before ladder r parts shown intake → P (record { plans = closed_of r ladder.cut intake.stream; ended = false }) → IsCutOff ladder r parts a a P
+pub cut-off-first : {Y : Type 0} (out : OutletView Y) (ladder : Ladder) (r : ℕ) (parts : List Part) (a : Y) (shown : List Shown) (intake : Taken) (P : Part → Type 0)
+    → Before ladder r parts shown intake → P (record { plans = closed_of r ladder.cut intake.stream; ended = false }) → IsCutOff out ladder r parts a a P
 unfolding after_all blocks AreLegal
-cut-off-first ladder r parts a shown intake P b begins = record {
+cut-off-first out ladder r parts a shown intake P b begins = record {
   events = [];
   are_of = record { of_r = none-of-r r; legal = tt };
-  some = put-none a a [] (grows-none a);
+  some = put_none out a [];
   begins = subst P
       (ap (λ (l : List SegmentPlan). record { plans = l; ended = false }) (sym b.is_open.plans) ∙ ap (λ (e : Bool). record { plans = (part_at parts r).plans; ended = e }) (sym b.is_open.ended))
       begins;

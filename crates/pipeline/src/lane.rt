@@ -3,7 +3,7 @@ ghost use Rattle.cutter.specs.declared.fault.CutFault.TheVariants.{NoMemory};
 ghost use Rattle.ladder_items.specs.Ladder.{IsAllowed};
 ghost use Rattle.ladder_items.specs.Items.{Part};
 ghost use Rattle.ladder_items.specs.Lanes.{Before, Begins, BeginsClosed, IsOfPiece, IsOfEnd, Reaches, IsCutOff};
-ghost use Rattle.ladder_items.specs.Putting.{SaysFailures};
+ghost use Rattle.ladder_items.specs.Putting.{SaysFailures, outlet_of};
 
 use cutter::CutFault;
 use ingest::{Intake, Stop, closed_plans_begin_all};
@@ -26,9 +26,9 @@ pub fn feed<O: Outlet>(
     requires few { length intake.old.stream + length piece.now < 2 ^ 63 }
     requires going { (parts : List Part) × Before settings.now r parts playlists.old.items intake.old }
     ensures ok { IfOk result (λ stop. (parts : List Part) → Before settings.now r parts playlists.old.items intake.old →
-        Reaches settings.now r parts (O.holds outlet.old) (O.holds outlet.new) playlists.new.items stop (intake.old.stream ++ piece.now) intake.new) }
+        Reaches (outlet_of O.holds O.broken O.failures) settings.now r parts outlet.old outlet.new playlists.new.items stop (intake.old.stream ++ piece.now) intake.new) }
     ensures err { OnErr result ((parts : List Part) → Before settings.now r parts playlists.old.items intake.old →
-        IsCutOff settings.now r parts (O.holds outlet.old) (O.holds outlet.new) (BeginsClosed settings.now r (intake.old.stream ++ piece.now))) }
+        IsCutOff (outlet_of O.holds O.broken O.failures) settings.now r parts outlet.old outlet.new (BeginsClosed settings.now r (intake.old.stream ++ piece.now))) }
     ensures stop { IfOk result (λ stop. IsOfPiece stop intake.old.rendition intake.old.settings (intake.old.stream ++ piece.now)) }
     ensures failures { OnOk result (O.failures outlet.new ≡ O.failures outlet.old) }
     ensures fault { IfErr result (λ fault. SaysFailures fault (O.failures outlet.old) (O.failures outlet.new)) }
@@ -64,9 +64,9 @@ pub fn close<O: Outlet>(
     requires few { length intake.old.stream < 2 ^ 63 }
     requires going { (parts : List Part) × Before settings.now r parts playlists.old.items intake.old }
     ensures ok { IfOk result (λ stop. (parts : List Part) → Before settings.now r parts playlists.old.items intake.old →
-        Reaches settings.now r parts (O.holds outlet.old) (O.holds outlet.new) playlists.new.items (Some stop) intake.old.stream intake.new) }
+        Reaches (outlet_of O.holds O.broken O.failures) settings.now r parts outlet.old outlet.new playlists.new.items (Some stop) intake.old.stream intake.new) }
     ensures err { OnErr result ((parts : List Part) → Before settings.now r parts playlists.old.items intake.old →
-        IsCutOff settings.now r parts (O.holds outlet.old) (O.holds outlet.new) (Begins settings.now r intake.old.stream)) }
+        IsCutOff (outlet_of O.holds O.broken O.failures) settings.now r parts outlet.old outlet.new (Begins settings.now r intake.old.stream)) }
     ensures stop { IfOk result IsOfEnd }
     ensures failures { OnOk result (O.failures outlet.new ≡ O.failures outlet.old) }
     ensures fault { IfErr result (λ fault. SaysFailures fault (O.failures outlet.old) (O.failures outlet.new)) }

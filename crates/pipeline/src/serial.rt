@@ -1,9 +1,8 @@
 ghost use Rattle.std.specs.Prelude.{◌≡◌, ◌≢◌, ◌<◌, ◌≤◌, ◌^◌, ◌⊎◌, ℕ, [], Some, None, length, slice_get, IfOk, IfErr, OnOk, OnErr};
 ghost use Rattle.ladder_items.specs.declared.fault.PackFault.TheVariants.{Settings as SettingsFault, Outlet as OutletFault, NoMemory, Held};
-ghost use Rattle.item_io.specs.Outlets.{Grows};
 ghost use Rattle.ingest.specs.declared.lane.Lane.{Lane};
 ghost use Rattle.ladder_items.specs.Ladder.{IsAllowed};
-ghost use Rattle.ladder_items.specs.Putting.{SaysFailures};
+ghost use Rattle.ladder_items.specs.Putting.{PutAll, SaysFailures, outlet_of};
 ghost use Rattle.ladder_items.specs.World.{HaveRoom, World};
 ghost use Rattle.ladder_items.specs.Packed.{IsPacked, IsAlone, FaultSays};
 ghost use Rattle.pipeline.specs.OneThread.{IsCutAtOnce};
@@ -35,18 +34,17 @@ pub fn pack_serial<S: Source, O: Outlet>(
 ) -> Result<Report, PackFault>
     requires reads { HaveRoom S.failures S.reads sources.old.items }
     requires failures { O.failures outlet.old < 2 ^ 63 }
-    ensures ok { IfOk result (IsPacked S.remaining S.failures S.reads settings.now sources.old.items sources.new.items (O.holds outlet.old) (O.holds outlet.new)) }
+    ensures ok { IfOk result (IsPacked S.remaining S.failures S.reads (outlet_of O.holds O.broken O.failures) settings.now sources.old.items sources.new.items outlet.old outlet.new) }
     ensures failures { OnOk result (O.failures outlet.new ≡ O.failures outlet.old) }
     ensures count { length sources.new.items ≡ length sources.old.items }
-    ensures fault { IfErr result (FaultSays S.remaining S.failures S.reads settings.now sources.old.items sources.new.items
-        (O.holds outlet.old) (O.holds outlet.new) (O.failures outlet.old) (O.failures outlet.new)) }
+    ensures fault { IfErr result (FaultSays S.remaining S.failures S.reads (outlet_of O.holds O.broken O.failures) settings.now sources.old.items sources.new.items outlet.old outlet.new) }
     ensures at_once { IfErr result (λ fault. (fault ≡ OutletFault) ⊎ (fault ≡ NoMemory) →
-        IsCutAtOnce S.remaining S.failures S.reads settings.now sources.old.items sources.new.items (O.holds outlet.old) (O.holds outlet.new)) }
+        IsCutAtOnce S.remaining S.failures S.reads (outlet_of O.holds O.broken O.failures) settings.now sources.old.items sources.new.items outlet.old outlet.new) }
     ensures never_held { IfErr result (λ fault. (r n : ℕ) → fault ≢ Held r n) }
     ensures alone { IfOk result IsAlone }
     ensures allowed { OnOk result (IsAllowed settings.now × (length sources.old.items ≡ length settings.now.renditions)) }
     ensures breach { IfErr result (λ fault. ((IsAllowed settings.now × (length sources.old.items ≡ length settings.now.renditions)) → ⊥) →
-        ((fault ≡ SettingsFault) ⊎ (fault ≡ NoMemory)) × (sources.new.items ≡ sources.old.items) × Grows (O.holds outlet.old) (O.holds outlet.new) []) }
+        ((fault ≡ SettingsFault) ⊎ (fault ≡ NoMemory)) × (sources.new.items ≡ sources.old.items) × PutAll (outlet_of O.holds O.broken O.failures) outlet.old outlet.new []) }
 {
     closed_plans_begin_all();
     if !is_allowed(alloc, settings, sources.len())? {
@@ -73,10 +71,10 @@ fn turns<S: Source, O: Outlet>(
     requires failures { O.failures outlet.old < 2 ^ 63 }
     requires allowed { IsAllowed settings.now }
     requires reads { HaveRoom S.failures S.reads sources.old.items }
-    requires start { World S.remaining S.failures S.reads settings.now 0 0 sources.old.items sources.old.items lanes.old.items playlists.old.items (O.holds outlet.old) (O.holds outlet.old) }
-    ensures ok { OnOk result ((rounds : ℕ) × (rounds ≤ 2 ^ 40) × World S.remaining S.failures S.reads settings.now rounds 0 sources.old.items sources.new.items lanes.new.items playlists.new.items (O.holds outlet.old) (O.holds outlet.new)
+    requires start { World S.remaining S.failures S.reads (outlet_of O.holds O.broken O.failures) settings.now 0 0 sources.old.items sources.old.items lanes.old.items playlists.old.items outlet.old outlet.old }
+    ensures ok { OnOk result ((rounds : ℕ) × (rounds ≤ 2 ^ 40) × World S.remaining S.failures S.reads (outlet_of O.holds O.broken O.failures) settings.now rounds 0 sources.old.items sources.new.items lanes.new.items playlists.new.items outlet.old outlet.new
         × ((k : ℕ) (lane : Lane) → slice_get lanes.new.items k ≡ Some lane → lane.stop ≡ None → rounds ≡ 2 ^ 40)) }
-    ensures err { OnErr result (IsCutAtOnce S.remaining S.failures S.reads settings.now sources.old.items sources.new.items (O.holds outlet.old) (O.holds outlet.new)) }
+    ensures err { OnErr result (IsCutAtOnce S.remaining S.failures S.reads (outlet_of O.holds O.broken O.failures) settings.now sources.old.items sources.new.items outlet.old outlet.new) }
     ensures failures { OnOk result (O.failures outlet.new ≡ O.failures outlet.old) }
     ensures fault { IfErr result (λ fault. SaysFailures fault (O.failures outlet.old) (O.failures outlet.new)) }
 {

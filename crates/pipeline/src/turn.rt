@@ -5,7 +5,7 @@ ghost use Rattle.ladder_items.specs.Ladder.{IsAllowed};
 ghost use Rattle.ladder_items.specs.Items.{Part};
 ghost use Rattle.ladder_items.specs.Lanes.{Before, Reaches, IsCutOff};
 ghost use Rattle.ladder_items.specs.Sources.{SourceSays, HasBegun};
-ghost use Rattle.ladder_items.specs.Putting.{SaysFailures};
+ghost use Rattle.ladder_items.specs.Putting.{SaysFailures, outlet_of};
 
 use crate::lane::{close, feed};
 use ingest::{Lane, Stop};
@@ -35,11 +35,11 @@ pub fn turn<S: Source, O: Outlet>(
     requires going { (parts : List Part) × Before settings.now r parts playlists.old.items lane.old.intake }
     ensures ok { OnOk result ((parts : List Part) → Before settings.now r parts playlists.old.items lane.old.intake →
         (more : List ℕ) × Consumes (S.remaining source.old) (S.remaining source.new) more × (length more ≤ 18800) × AreBytes more
-        × Reaches settings.now r parts (O.holds outlet.old) (O.holds outlet.new) playlists.new.items lane.new.stop (lane.old.intake.stream ++ more) lane.new.intake
+        × Reaches (outlet_of O.holds O.broken O.failures) settings.now r parts outlet.old outlet.new playlists.new.items lane.new.stop (lane.old.intake.stream ++ more) lane.new.intake
         × SourceSays S.remaining S.failures r settings.now.cut (lane.old.intake.stream ++ more) lane.new.stop source.old source.new) }
     ensures err { OnErr result ((parts : List Part) → Before settings.now r parts playlists.old.items lane.old.intake →
         (more : List ℕ) × Consumes (S.remaining source.old) (S.remaining source.new) more × (length more ≤ 18800) × AreBytes more
-        × IsCutOff settings.now r parts (O.holds outlet.old) (O.holds outlet.new) (HasBegun settings.now r (S.remaining source.new) (lane.old.intake.stream ++ more))) }
+        × IsCutOff (outlet_of O.holds O.broken O.failures) settings.now r parts outlet.old outlet.new (HasBegun settings.now r (S.remaining source.new) (lane.old.intake.stream ++ more))) }
     ensures failures { OnOk result (O.failures outlet.new ≡ O.failures outlet.old) }
     ensures fault { IfErr result (λ fault. SaysFailures fault (O.failures outlet.old) (O.failures outlet.new)) }
     ensures reads { OnOk result (lane.new.stop ≡ None → S.reads source.new ≡ S.reads source.old + 1) }

@@ -20,7 +20,7 @@ returns-in_err-give_segments-in-Ok-clause-err g c =
     let stream = c.args.intake.now.stream in
     rw told.1 (λ parts b.
     let given = gave c.args.settings.now c.args.r parts c.args.playlists.now.items c.args.intake.now _ _ c.finish.new.plans.items b c.in-Ok.ensures.plans c.new-plans.ensures.items in
-    cut-off c.args.settings.now c.args.r parts _ _ c.args.playlists.now.items _ c.finish.new.plans.items (Begins c.args.settings.now c.args.r stream) given
+    cut-off _ c.args.settings.now c.args.r parts _ _ c.args.playlists.now.items _ c.finish.new.plans.items (Begins c.args.settings.now c.args.r stream) given
     (begun c.args.settings.now c.args.r stream _ (all-of-them c.args.settings.now c.args.r c.args.intake.now (part_at parts c.args.r) stream b.is_open)) (c.in_err-give_segments-in-Ok.ensures.err parts given.next))
 
 pub give_end-requires-clause-within : goal.give_end-requires-clause-within
@@ -40,7 +40,7 @@ returns-in_err-give_end-in-Ok-clause-err g c =
     let given = gave c.args.settings.now c.args.r parts c.args.playlists.now.items c.args.intake.now _ _ c.finish.new.plans.items b c.in-Ok.ensures.plans c.new-plans.ensures.items in
     let now = c.in_ok-give_segments-in-Ok.ensures.ok parts given.next in
     let h = going-on c.args.settings.now c.args.r parts c.args.playlists.now.items c.deref.result.now c.finish.new.plans.items b.goes_on (c.deref.ensures.value ∙ now.1) in
-    cut-off-end c.args.settings.now c.args.r parts _ _ _ c.args.playlists.now.items _ c.args.intake.now c.finish.new.plans.items b c.in-Ok.ensures.sound given now
+    cut-off-end _ c.args.settings.now c.args.r parts _ _ _ c.args.playlists.now.items _ c.args.intake.now c.finish.new.plans.items b c.in-Ok.ensures.sound given now
     (c.in_err-give_end-in-Ok.ensures.err (after_all parts (rows c.args.r c.finish.new.plans.items)) h))
 
 pub returns-then-is_memory-clause-err : goal.returns-then-is_memory-clause-err
@@ -48,7 +48,7 @@ returns-then-is_memory-clause-err g c parts b =
     let stream = c.args.intake.now.stream in
     let begin = subst (λ (s : List ℕ). IsBeginning (closed_of c.args.r c.args.settings.now.cut stream) (plans_of c.args.r c.args.settings.now.cut s)) (append-nil stream)
     (c.closed_plans_begin_all.ensures.begin c.args.r c.args.settings.now.cut stream []) in
-    cut-off-first c.args.settings.now c.args.r parts _ c.args.playlists.now.items c.args.intake.now (Begins c.args.settings.now c.args.r stream) b (begun c.args.settings.now c.args.r stream _ begin)
+    cut-off-first _ c.args.settings.now c.args.r parts _ c.args.playlists.now.items c.args.intake.now (Begins c.args.settings.now c.args.r stream) b (begun c.args.settings.now c.args.r stream _ begin)
 
 pub returns-in_err-give_segments-in-Err-clause-err :
     goal.returns-in_err-give_segments-in-Err-clause-err
@@ -59,7 +59,7 @@ returns-in_err-give_segments-in-Err-clause-err g c =
     let fault = told-fault c.in-Err.fault c.in-Err.ensures.fault other in
     rw told.1 (λ parts b.
     let given = gave c.args.settings.now c.args.r parts c.args.playlists.now.items c.args.intake.now _ _ c.finish.new.plans.items b fault.plans c.new-plans.ensures.items in
-    cut-off c.args.settings.now c.args.r parts _ _ c.args.playlists.now.items _ c.finish.new.plans.items (Begins c.args.settings.now c.args.r stream) given
+    cut-off _ c.args.settings.now c.args.r parts _ _ c.args.playlists.now.items _ c.finish.new.plans.items (Begins c.args.settings.now c.args.r stream) given
     (begun c.args.settings.now c.args.r stream _ (all-of-them c.args.settings.now c.args.r c.args.intake.now (part_at parts c.args.r) stream b.is_open)) (c.in_err-give_segments-in-Err.ensures.err parts given.next))
 
 pub returns-in_ok-give_end-in-Ok-clause-ok : goal.returns-in_ok-give_end-in-Ok-clause-ok
@@ -67,7 +67,7 @@ returns-in_ok-give_end-in-Ok-clause-ok g c parts b =
     let given = gave c.args.settings.now c.args.r parts c.args.playlists.now.items c.args.intake.now _ _ c.finish.new.plans.items b c.in-Ok.ensures.plans c.new-plans.ensures.items in
     let now = c.in_ok-give_segments-in-Ok.ensures.ok parts given.next in
     let h = going-on c.args.settings.now c.args.r parts c.args.playlists.now.items c.deref.result.now c.finish.new.plans.items b.goes_on (c.deref.ensures.value ∙ now.1) in
-    reaches-end c.args.settings.now c.args.r parts _ _ _ c.args.playlists.now.items _ c.args.intake.now c.finish.new.self c.in-Ok.skipped.bytes c.finish.new.plans.items b c.in-Ok.ensures.sound c.in-Ok.ensures.skipped given now
+    reaches-end _ c.args.settings.now c.args.r parts _ _ _ c.args.playlists.now.items _ c.args.intake.now c.finish.new.self c.in-Ok.skipped.bytes c.finish.new.plans.items b c.in-Ok.ensures.sound c.in-Ok.ensures.skipped given now
     (c.in_ok-give_end-in-Ok.ensures.ok (after_all parts (rows c.args.r c.finish.new.plans.items)) h)
 
 pub returns-in_ok-give_segments-in-Err-clause-ok :
@@ -77,5 +77,5 @@ returns-in_ok-give_segments-in-Err-clause-ok g c parts b =
     let other : c.in-Err.fault ≢ NoMemory = search rules in
     let fault = told-fault c.in-Err.fault c.in-Err.ensures.fault other in
     let given = gave c.args.settings.now c.args.r parts c.args.playlists.now.items c.args.intake.now _ _ c.finish.new.plans.items b fault.plans c.new-plans.ensures.items in
-    reaches-fault c.args.settings.now c.args.r parts _ _ c.args.playlists.now.items _ c.args.intake.now c.finish.new.self stream c.in-Err.fault c.finish.new.plans.items b fault.fault given
+    reaches-fault _ c.args.settings.now c.args.r parts _ _ c.args.playlists.now.items _ c.args.intake.now c.finish.new.self stream c.in-Err.fault c.finish.new.plans.items b fault.fault given
     (c.in_ok-give_segments-in-Err.ensures.ok parts given.next)
