@@ -3,12 +3,11 @@ use Rattle.std.proofs.Common.{◌≡◌, refl, sym, ap, subst, ◌∙◌, ℕ, �
 use Rattle.std.specs.Prelude.{Option, Some, None, slice_get}
 use Rattle.std.specs.Io.KnownBytes.{Consumes, Appends}
 use Rattle.std.proofs.KnownBytes.{Appends-nil}
-use Rattle.cutter.specs.declared.fault.CutFault.{CutFault}
 use Rattle.item_io.specs.Items.{ItemValue}
 use Rattle.item_io.specs.Outlets.{Grows, BreaksOff}
 use Rattle.item_io.specs.ItemLines.{LineState, HoldsLines, HoldsBeginning, WritesUpTo, lines_of}
 use Rattle.ladder_items.specs.declared.fault.PackFault.{PackFault}
-use Rattle.ladder_items.specs.declared.fault.PackFault.TheVariants.{Settings, Read, ReadLimit, NoProgram, NoStart, LongSegment, BigSegment, Limit, Outlet, NoMemory, Held}
+use Rattle.ladder_items.specs.declared.fault.PackFault.TheVariants.{Held}
 use Rattle.ingest.specs.declared.lane.Stop.{Stop}
 use Rattle.ingest.specs.declared.lane.Stop.TheVariants.{Good, Cut, Read as ReadFailed}
 use Rattle.ladder_items.specs.declared.report.Report.{Report}
@@ -16,11 +15,13 @@ use Rattle.ladder_items.specs.Ladder.{Ladder}
 use Rattle.ladder_items.specs.Items.{Part, no_part, part_at}
 use Rattle.ladder_items.specs.Weave.{none_of, AreLegal, after_all, blocks}
 use Rattle.ingest.specs.Streams.{closed_of}
-use Rattle.ladder_items.specs.Putting.{OutletView, PutAll, outlet_of}
+use Rattle.ladder_items.specs.Runs.{InputView, OutletView, outlet_of, run_of}
+use Rattle.ladder_items.specs.Putting.{PutAll}
 use Rattle.ladder_items.specs.Sources.{SourceSays}
 use Rattle.ladder_items.specs.World.{stream_at}
-use Rattle.ladder_items.specs.Packed.{IsPacked, IsCutShort, HasHalted, IsRefused, IsLeft, FaultSays}
-use Rattle.commands.specs.Packing.{WritesPacked, FaultStands, StopsPacking, CutsPackingOff, WantsMemory, FailsToPut, RefusesSettings, PackingSays, NoneFailed, CountsSay}
+use Rattle.ladder_items.specs.Packed.{IsPacked, IsCutShort, HasHalted, IsRefused, IsLeft, of_run, FaultSays}
+use Rattle.ladder_items.proofs.Endings.{says-as}
+use Rattle.commands.specs.Packing.{WritesPacked, FaultStands, StopsPacking, CutsPackingOff, WantsMemory, FailsToPut, RefusesSettings, of_one, PackingSays, NoneFailed, StopCounts, of_counts, CountsSay}
 
 -- the only element of a list is at its front
 only-at : {X : Type 0} (a x : X) (r : ℕ) → slice_get (a ∷ []) r ≡ Some x → r ≡ 0
@@ -52,10 +53,10 @@ nothing-packed ladder left held = record {
 }
 
 -- the one rendition of a run that halted
-left-alone : {X Y : Type 0} (left : X → Option (List ℕ)) (fails reads : X → ℕ) (out : OutletView Y) (ladder : Ladder) (a b : X) (x y : Y) (r : ℕ) (stop : Option Stop)
-    → (h : HasHalted left fails reads out ladder (a ∷ []) (b ∷ []) x y r stop)
-    → (r ≡ 0) × IsLeft left fails reads ladder 0 a b stop (stream_at h.streams 0) (part_at h.parts 0)
-left-alone left fails reads out ladder a b x y r stop h =
+left-alone : {X Y : Type 0} (input : InputView X) (out : OutletView Y) (ladder : Ladder) (a b : X) (x y : Y) (r : ℕ) (stop : Option Stop)
+    → (h : HasHalted (run_of input out (2 ^ 40) (a ∷ []) (b ∷ []) x y) ladder r stop)
+    → (r ≡ 0) × IsLeft input (2 ^ 40) ladder 0 a b stop (stream_at h.streams 0) (part_at h.parts 0)
+left-alone input out ladder a b x y r stop h =
     let first : r ≡ 0 = only-at a h.within.0 r h.within.1 in
     let at : h.stops 0 ≡ stop = ap h.stops (sym first) ∙ h.at_r in
     (first, rw at at (h.each 0 a b refl refl))
@@ -64,7 +65,7 @@ left-alone left fails reads out ladder a b x y r stop h =
 abbrev pub lines_out : {W : Type 0} → (W → Option (List ℕ)) → OutletView (LineState W)
 lines_out got = outlet_of (λ o. HoldsLines (got o.writer) o.failures) (λ o. HoldsBeginning (got o.writer)) (λ o. o.failures)
 
-module _ {X W : Type 0} (left : X → Option (List ℕ)) (fails reads : X → ℕ) (got : W → Option (List ℕ)) (ladder : Ladder) (a b : X) (x y : LineState W)
+module _ {X W : Type 0} (input : InputView X) (got : W → Option (List ℕ)) (ladder : Ladder) (a b : X) (x y : LineState W)
     (none_failed : x.failures ≡ 0)
     (whole : (held held_then : Option (List ℕ)) (failures : ℕ) (given : List ItemValue) → Grows (HoldsLines held 0) (HoldsLines held_then failures) given → failures ≡ 0
     → Appends held held_then (lines_of given))
@@ -83,7 +84,7 @@ module _ {X W : Type 0} (left : X → Option (List ℕ)) (fails reads : X → �
   all-written : (given : List ItemValue) → PutAll (lines_out got) x y given → Appends (got x.writer) (got y.writer) (lines_of given)
   all-written given p = written given p.grows (p.unfailed ∙ none_failed)
 
-  pub packed : (report : Report) → IsPacked left fails reads (lines_out got) ladder (a ∷ []) (b ∷ []) x y report → WritesPacked ladder (left a) (left b) (got x.writer) (got y.writer)
+  pub packed : (report : Report) → IsPacked (run_of input (lines_out got) (2 ^ 40) (a ∷ []) (b ∷ []) x y) ladder report → WritesPacked ladder (input.left a) (input.left b) (got x.writer) (got y.writer)
   packed report p =
       let here = p.each 0 a b refl refl in
       record {
@@ -96,7 +97,7 @@ module _ {X W : Type 0} (left : X → Option (List ℕ)) (fails reads : X → �
         written = all-written p.items p.puts;
       }
 
-  cut-off : (p : IsCutShort left fails reads (lines_out got) ladder (a ∷ []) (b ∷ []) x y) (rest : List ItemValue) → p.some.rest ≡ rest → CutsPackingOff ladder (left a) (left b) p.some.given rest
+  cut-off : (p : IsCutShort (run_of input (lines_out got) (2 ^ 40) (a ∷ []) (b ∷ []) x y) ladder) (rest : List ItemValue) → p.some.rest ≡ rest → CutsPackingOff ladder (input.left a) (input.left b) p.some.given rest
   cut-off p rest is =
       let here = p.each 0 a b refl refl in
       record {
@@ -107,7 +108,7 @@ module _ {X W : Type 0} (left : X → Option (List ℕ)) (fails reads : X → �
         weave = rw (p.some.all ∙ ap (λ items. p.some.given ++ items) is) at p.weave;
       }
 
-  wants-memory : IsCutShort left fails reads (lines_out got) ladder (a ∷ []) (b ∷ []) x y → y.failures ≡ x.failures → WantsMemory ladder (left a) (left b) (got x.writer) (got y.writer)
+  wants-memory : IsCutShort (run_of input (lines_out got) (2 ^ 40) (a ∷ []) (b ∷ []) x y) ladder → y.failures ≡ x.failures → WantsMemory ladder (input.left a) (input.left b) (got x.writer) (got y.writer)
   wants-memory p same = record {
     given = p.some.given;
     rest = p.some.rest;
@@ -115,7 +116,7 @@ module _ {X W : Type 0} (left : X → Option (List ℕ)) (fails reads : X → �
     written = written p.some.given p.some.grows (same ∙ none_failed);
   }
 
-  fails-to-put : IsCutShort left fails reads (lines_out got) ladder (a ∷ []) (b ∷ []) x y → y.failures ≡ x.failures + 1 → FailsToPut ladder (left a) (left b) (got x.writer) (got y.writer)
+  fails-to-put : IsCutShort (run_of input (lines_out got) (2 ^ 40) (a ∷ []) (b ∷ []) x y) ladder → y.failures ≡ x.failures + 1 → FailsToPut ladder (input.left a) (input.left b) (got x.writer) (got y.writer)
   fails-to-put p one =
       let s = p.some.stops none_failed (one ∙ ap (λ n. n + 1) none_failed) in
       record {
@@ -126,16 +127,16 @@ module _ {X W : Type 0} (left : X → Option (List ℕ)) (fails reads : X → �
         written = written-up-to p.some.given s.item s.refused;
       }
 
-  stands : (stop : Option Stop) (stream : List ℕ) → SourceSays left fails 0 ladder.cut stream stop a b → FaultStands stop ladder stream (left b)
+  stands : (stop : Option Stop) (stream : List ℕ) → SourceSays input 0 ladder.cut stream stop a b → FaultStands stop ladder stream (input.left b)
   stands None stream says = tt
   stands (Some (Good gone)) stream says = says.1
   stands (Some (Cut told)) stream says = says.1
   stands (Some ReadFailed) stream says = tt
 
-  stopped : (r : ℕ) (stop : Option Stop) → HasHalted left fails reads (lines_out got) ladder (a ∷ []) (b ∷ []) x y r stop
-      → (r ≡ 0) × StopsPacking ladder (left a) (left b) (got x.writer) (got y.writer) stop
+  stopped : (r : ℕ) (stop : Option Stop) → HasHalted (run_of input (lines_out got) (2 ^ 40) (a ∷ []) (b ∷ []) x y) ladder r stop
+      → (r ≡ 0) × StopsPacking ladder (input.left a) (input.left b) (got x.writer) (got y.writer) stop
   stopped r stop h =
-      let alone = left-alone left fails reads (lines_out got) ladder a b x y r stop h in
+      let alone = left-alone input (lines_out got) ladder a b x y r stop h in
       let here = alone.1 in (
         alone.0,
         record {
@@ -150,58 +151,43 @@ module _ {X W : Type 0} (left : X → Option (List ℕ)) (fails reads : X → �
         },
       )
 
-  refused : IsRefused (lines_out got) ladder (a ∷ []) (b ∷ []) x y → RefusesSettings ladder (left a) (left b) (got x.writer) (got y.writer)
+  refused : IsRefused (run_of input (lines_out got) (2 ^ 40) (a ∷ []) (b ∷ []) x y) ladder → RefusesSettings ladder (input.left a) (input.left b) (got x.writer) (got y.writer)
   refused p = record {
     refused = λ so. p.refused (so.0, sym so.1);
-    unread = ap (λ (xs : List X). left (get_or xs 0 a)) p.unread;
+    unread = ap (λ (xs : List X). input.left (get_or xs 0 a)) p.unread;
     unwritten = all-written [] p.unput;
   }
 
-  pub says : (fault : PackFault) → FaultSays left fails reads (lines_out got) ladder (a ∷ []) (b ∷ []) x y fault
-      → PackingSays ladder (left a) (left b) (got x.writer) (got y.writer) fault
-  says Settings s = refused s
-  says (Read r) s = stopped r _ s
-  says (ReadLimit r) s = stopped r _ s
-  says (NoProgram r) s = stopped r _ s
-  says (NoStart r) s = stopped r _ s
-  says (LongSegment r n) s = stopped r _ s
-  says (BigSegment r n) s = stopped r _ s
-  says (Limit r) s = stopped r _ s
-  says Outlet s = fails-to-put s.0 s.1
-  says NoMemory s = wants-memory s.0 s.1
-  says (Held r n) s = absurd s
+  pub says : (fault : PackFault) → ((r n : ℕ) → fault ≡ Held r n → ⊥) → FaultSays (run_of input (lines_out got) (2 ^ 40) (a ∷ []) (b ∷ []) x y) ladder fault
+      → PackingSays ladder (input.left a) (input.left b) (got x.writer) (got y.writer) fault
+  says fault never_held s =
+      says-as (of_run (run_of input (lines_out got) (2 ^ 40) (a ∷ []) (b ∷ []) x y) ladder) (of_one ladder (input.left a) (input.left b) (got x.writer) (got y.writer)) fault
+      refused stopped (λ p. fails-to-put p.0 p.1) (λ p. wants-memory p.0 p.1) (λ r n is p. never_held r n is) s
 
-module _ {X Y : Type 0} (left : X → Option (List ℕ)) (fails reads : X → ℕ) (out : OutletView Y) (ladder : Ladder) (a b : X) (x y : Y)
-    (unread : reads a ≡ 0) (unfailed : fails a ≡ 0) (none_failed : out.failures x ≡ 0) where
-  pub packed-counts : (report : Report) → IsPacked left fails reads out ladder (a ∷ []) (b ∷ []) x y report → NoneFailed (fails b) (out.failures y)
+module _ {X Y : Type 0} (input : InputView X) (out : OutletView Y) (ladder : Ladder) (a b : X) (x y : Y)
+    (unread : input.reads a ≡ 0) (unfailed : input.failures a ≡ 0) (none_failed : out.failures x ≡ 0) where
+  pub packed-counts : (report : Report) → IsPacked (run_of input out (2 ^ 40) (a ∷ []) (b ∷ []) x y) ladder report → NoneFailed (input.failures b) (out.failures y)
   packed-counts report p = record { reads = (p.each 0 a b refl refl).4 ∙ unfailed; puts = p.puts.unfailed ∙ none_failed }
 
-  failed-read : (r : ℕ) → HasHalted left fails reads out ladder (a ∷ []) (b ∷ []) x y r (Some ReadFailed) → fails b ≡ 1
-  failed-read r h = (left-alone left fails reads out ladder a b x y r _ h).1.says ∙ ap (λ n. n + 1) unfailed
-
-  all-reads : (r : ℕ) → HasHalted left fails reads out ladder (a ∷ []) (b ∷ []) x y r None → (reads b ≡ 2 ^ 40) × NoneFailed (fails b) (out.failures y)
-  all-reads r h =
-      let here = (left-alone left fails reads out ladder a b x y r _ h).1 in
+  -- the counts where the rendition stopped this way
+  halted : (r : ℕ) (stop : Option Stop) → HasHalted (run_of input out (2 ^ 40) (a ∷ []) (b ∷ []) x y) ladder r stop → StopCounts stop (input.reads b) (input.failures b) (out.failures y)
+  halted r None h =
+      let here = (left-alone input out ladder a b x y r None h).1 in
       (here.limit refl ∙ ap (λ n. n + 2 ^ 40) unread, record { reads = here.says ∙ unfailed; puts = h.puts.unfailed ∙ none_failed })
+  halted r (Some (Good gone)) h =
+      record { reads = (left-alone input out ladder a b x y r _ h).1.says.0 ∙ unfailed; puts = h.puts.unfailed ∙ none_failed }
+  halted r (Some (Cut told)) h =
+      record { reads = (left-alone input out ladder a b x y r _ h).1.says.0 ∙ unfailed; puts = h.puts.unfailed ∙ none_failed }
+  halted r (Some ReadFailed) h =
+      ((left-alone input out ladder a b x y r _ h).1.says ∙ ap (λ n. n + 1) unfailed, h.puts.unfailed ∙ none_failed)
 
-  faulty : (r : ℕ) (told : CutFault) → HasHalted left fails reads out ladder (a ∷ []) (b ∷ []) x y r (Some (Cut told)) → NoneFailed (fails b) (out.failures y)
-  faulty r told h =
-      record { reads = (left-alone left fails reads out ladder a b x y r _ h).1.says.0 ∙ unfailed; puts = h.puts.unfailed ∙ none_failed }
-
-  untouched : IsRefused out ladder (a ∷ []) (b ∷ []) x y → (reads b ≡ 0) × NoneFailed (fails b) (out.failures y)
+  untouched : IsRefused (run_of input out (2 ^ 40) (a ∷ []) (b ∷ []) x y) ladder → (input.reads b ≡ 0) × NoneFailed (input.failures b) (out.failures y)
   untouched p =
       let same : b ≡ a = ap (λ (xs : List X). get_or xs 0 a) p.unread in
-      (ap reads same ∙ unread, record { reads = ap fails same ∙ unfailed; puts = p.unput.unfailed ∙ none_failed })
+      (ap input.reads same ∙ unread, record { reads = ap input.failures same ∙ unfailed; puts = p.unput.unfailed ∙ none_failed })
 
-  pub counts : (fault : PackFault) → FaultSays left fails reads out ladder (a ∷ []) (b ∷ []) x y fault → CountsSay (reads b) (fails b) (out.failures y) fault
-  counts Settings s = untouched s
-  counts (Read r) s = (failed-read r s, s.puts.unfailed ∙ none_failed)
-  counts (ReadLimit r) s = all-reads r s
-  counts (NoProgram r) s = faulty r _ s
-  counts (NoStart r) s = faulty r _ s
-  counts (LongSegment r n) s = faulty r _ s
-  counts (BigSegment r n) s = faulty r _ s
-  counts (Limit r) s = faulty r _ s
-  counts Outlet s = s.1 ∙ ap (λ n. n + 1) none_failed
-  counts NoMemory s = s.1 ∙ none_failed
-  counts (Held r n) s = absurd s
+  pub counts : (fault : PackFault) → ((r n : ℕ) → fault ≡ Held r n → ⊥) → FaultSays (run_of input out (2 ^ 40) (a ∷ []) (b ∷ []) x y) ladder fault
+      → CountsSay (input.reads b) (input.failures b) (out.failures y) fault
+  counts fault never_held s =
+      says-as (of_run (run_of input out (2 ^ 40) (a ∷ []) (b ∷ []) x y) ladder) (of_counts (input.reads b) (input.failures b) (out.failures y)) fault
+      untouched halted (λ p. p.1 ∙ ap (λ n. n + 1) none_failed) (λ p. p.1 ∙ none_failed) (λ r n is p. never_held r n is) s

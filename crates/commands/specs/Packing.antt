@@ -1,17 +1,16 @@
 -- What `one` read and wrote.
 use Rattle.std.specs.Prelude.{◌≡◌, ℕ, ◌^◌, List, [], ◌∷◌, ◌++◌, ◌⊎◌, length, Option, Some, None}
 use Rattle.std.specs.Io.KnownBytes.{Consumes, IsAtEnd, Appends}
-use Rattle.cutter.specs.declared.fault.CutFault.TheVariants.{NoProgram as HasNoProgram, NoStart as HasNoStart, LongSegment as IsLong, BigSegment as IsBig, Limit as PassesLimit}
 use Rattle.item_io.specs.Items.{ItemValue}
 use Rattle.item_io.specs.ItemLines.{lines_of, WritesUpTo}
 use Rattle.ladder_items.specs.declared.fault.PackFault.{PackFault}
-use Rattle.ladder_items.specs.declared.fault.PackFault.TheVariants.{Settings, Read, ReadLimit, NoProgram, NoStart, LongSegment, BigSegment, Limit, Outlet, NoMemory, Held}
 use Rattle.ingest.specs.declared.lane.Stop.{Stop}
 use Rattle.ingest.specs.declared.lane.Stop.TheVariants.{Good, Cut, Read as ReadFailed}
 use Rattle.ladder_items.specs.Ladder.{Ladder, IsAllowed}
 use Rattle.ladder_items.specs.Items.{Part, part_at}
 use Rattle.ladder_items.specs.Weave.{Weaves}
 use Rattle.ladder_items.specs.Lanes.{IsWhole}
+use Rattle.ladder_items.specs.Faults.{Sayings, Says}
 use Rattle.ladder_items.specs.Sources.{HasBegun}
 use Rattle.ingest.specs.Streams.{Stays}
 use Rattle.ladder_items.specs.Packed.{HasGiven}
@@ -75,34 +74,39 @@ pub record RefusesSettings (ladder : Ladder) (left left_then held held_then : Op
   pub unwritten : Appends held held_then []
 
 -- what each fault of the one rendition says
+abbrev pub of_one : Ladder → Option (List ℕ) → Option (List ℕ) → Option (List ℕ) → Option (List ℕ) → Sayings
+of_one ladder left left_then held held_then = record {
+  refused = RefusesSettings ladder left left_then held held_then;
+  halted = λ r stop. (r ≡ 0) × StopsPacking ladder left left_then held held_then stop;
+  unput = FailsToPut ladder left left_then held held_then;
+  wanting = WantsMemory ladder left left_then held held_then;
+  held = λ r n. ⊥;
+}
+
 abbrev pub PackingSays : Ladder → Option (List ℕ) → Option (List ℕ) → Option (List ℕ) → Option (List ℕ) → PackFault → Type 0
-PackingSays ladder left left_then held held_then Settings = RefusesSettings ladder left left_then held held_then
-PackingSays ladder left left_then held held_then (Read r) = (r ≡ 0) × StopsPacking ladder left left_then held held_then (Some ReadFailed)
-PackingSays ladder left left_then held held_then (ReadLimit r) = (r ≡ 0) × StopsPacking ladder left left_then held held_then None
-PackingSays ladder left left_then held held_then (NoProgram r) = (r ≡ 0) × StopsPacking ladder left left_then held held_then (Some (Cut HasNoProgram))
-PackingSays ladder left left_then held held_then (NoStart r) = (r ≡ 0) × StopsPacking ladder left left_then held held_then (Some (Cut HasNoStart))
-PackingSays ladder left left_then held held_then (LongSegment r n) = (r ≡ 0) × StopsPacking ladder left left_then held held_then (Some (Cut (IsLong n)))
-PackingSays ladder left left_then held held_then (BigSegment r n) = (r ≡ 0) × StopsPacking ladder left left_then held held_then (Some (Cut (IsBig n)))
-PackingSays ladder left left_then held held_then (Limit r) = (r ≡ 0) × StopsPacking ladder left left_then held held_then (Some (Cut PassesLimit))
-PackingSays ladder left left_then held held_then Outlet = FailsToPut ladder left left_then held held_then
-PackingSays ladder left left_then held held_then NoMemory = WantsMemory ladder left left_then held held_then
-PackingSays ladder left left_then held held_then (Held r n) = ⊥
+PackingSays ladder left left_then held held_then fault = Says (of_one ladder left left_then held held_then) fault
 
 -- no read failed, and no put
 pub record NoneFailed (failed_reads failed_puts : ℕ) : Type 0 where
   pub reads : failed_reads ≡ 0
   pub puts : failed_puts ≡ 0
 
--- what each fault says of how many reads gave bytes, and how many reads and puts failed
+-- what the way in which a stream stopped says of how many reads gave bytes, and how many reads and puts failed
+abbrev pub StopCounts : Option Stop → ℕ → ℕ → ℕ → Type 0
+StopCounts None reads failed_reads failed_puts = (reads ≡ 2 ^ 40) × NoneFailed failed_reads failed_puts
+StopCounts (Some (Good gone)) reads failed_reads failed_puts = NoneFailed failed_reads failed_puts
+StopCounts (Some (Cut told)) reads failed_reads failed_puts = NoneFailed failed_reads failed_puts
+StopCounts (Some ReadFailed) reads failed_reads failed_puts = (failed_reads ≡ 1) × (failed_puts ≡ 0)
+
+-- what each fault says of them
+abbrev pub of_counts : ℕ → ℕ → ℕ → Sayings
+of_counts reads failed_reads failed_puts = record {
+  refused = (reads ≡ 0) × NoneFailed failed_reads failed_puts;
+  halted = λ r stop. StopCounts stop reads failed_reads failed_puts;
+  unput = failed_puts ≡ 1;
+  wanting = failed_puts ≡ 0;
+  held = λ r n. ⊥;
+}
+
 abbrev pub CountsSay : ℕ → ℕ → ℕ → PackFault → Type 0
-CountsSay reads failed_reads failed_puts Settings = (reads ≡ 0) × NoneFailed failed_reads failed_puts
-CountsSay reads failed_reads failed_puts (Read r) = (failed_reads ≡ 1) × (failed_puts ≡ 0)
-CountsSay reads failed_reads failed_puts (ReadLimit r) = (reads ≡ 2 ^ 40) × NoneFailed failed_reads failed_puts
-CountsSay reads failed_reads failed_puts (NoProgram r) = NoneFailed failed_reads failed_puts
-CountsSay reads failed_reads failed_puts (NoStart r) = NoneFailed failed_reads failed_puts
-CountsSay reads failed_reads failed_puts (LongSegment r n) = NoneFailed failed_reads failed_puts
-CountsSay reads failed_reads failed_puts (BigSegment r n) = NoneFailed failed_reads failed_puts
-CountsSay reads failed_reads failed_puts (Limit r) = NoneFailed failed_reads failed_puts
-CountsSay reads failed_reads failed_puts Outlet = failed_puts ≡ 1
-CountsSay reads failed_reads failed_puts NoMemory = failed_puts ≡ 0
-CountsSay reads failed_reads failed_puts (Held r n) = ⊥
+CountsSay reads failed_reads failed_puts fault = Says (of_counts reads failed_reads failed_puts) fault

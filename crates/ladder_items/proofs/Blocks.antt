@@ -11,7 +11,8 @@ use Rattle.ladder_items.specs.Masters.{master_of}
 use Rattle.ladder_items.specs.Items.{Part, no_part, part_at, shown_of, shown_all, segment_of, media_of, frames_of}
 use Rattle.ladder_items.specs.Weave.{Row, End, grown, after, block}
 use Rattle.ladder_items.specs.Giving.{IsGoing, no_shown, block_of}
-use Rattle.ladder_items.specs.Putting.{OutletView, PutAll, PutSome}
+use Rattle.ladder_items.specs.Runs.{OutletView}
+use Rattle.ladder_items.specs.Putting.{PutAll, PutSome}
 use Rattle.ladder_items.proofs.Puts.{all-more, put-more, put-front}
 use Rattle.ladder_items.proofs.Nexts.{shown-at, shown-long, here}
 

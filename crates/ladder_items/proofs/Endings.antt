@@ -20,9 +20,11 @@ use Rattle.ladder_items.specs.Weave.{blocks, none_of}
 use Rattle.ingest.specs.Streams.{Taken}
 use Rattle.ladder_items.specs.Lanes.{IsWhole, InStage}
 use Rattle.ladder_items.specs.Sources.{SourceSays}
-use Rattle.ladder_items.specs.Putting.{OutletView, SaysFailures}
+use Rattle.ladder_items.specs.Runs.{InputView, OutletView, run_of}
+use Rattle.ladder_items.specs.Faults.{Sayings, Says}
+use Rattle.ladder_items.specs.Putting.{SaysFailures, of_failures}
 use Rattle.ladder_items.specs.World.{World, stream_at, turns_of}
-use Rattle.ladder_items.specs.Packed.{IsReport, IsPacked, IsCutShort, IsLeft, HasHalted, told_of, gone_of, FaultSays}
+use Rattle.ladder_items.specs.Packed.{IsReport, IsPacked, IsCutShort, IsLeft, HasHalted, told_of, gone_of, of_run, FaultSays}
 use Rattle.ladder_items.proofs.Elsewhere.{some-at}
 use Rattle.ladder_items.proofs.Stages.{stage-left, turns-none}
 use Rattle.ladder_items.proofs.Worlds.{parts-of}
@@ -50,15 +52,30 @@ map-at f (x ∷ xs) zero y e = (x, refl, cc)
 map-at f (x ∷ xs) (suc k) y e = map-at f xs k y e
 
 -- at a good end all was given, and no byte is left
-good-part : {X : Type 0} (left : X → Option (List ℕ)) (fails : X → ℕ) (ladder : Ladder) (k : ℕ) (stop : Option Stop) (gone : ℕ) (intake : Taken) (stream : List ℕ) (part : Part) (a b : X) → stop ≡ Some (Good gone)
-    → InStage stop ladder k stream intake part → SourceSays left fails k ladder.cut stream stop a b
-    → (IsWhole ladder k stream part × (gone_of stop ≡ skipped stream)) × IsAtEnd (left b) × (fails b ≡ fails a)
-good-part left fails ladder k None gone intake stream part a b is stage says = cc
-good-part left fails ladder k (Some (Good n)) gone intake stream part a b is stage says = (stage, says.1, says.0)
-good-part left fails ladder k (Some (Cut told)) gone intake stream part a b is stage says = cc
-good-part left fails ladder k (Some ReadFailed) gone intake stream part a b is stage says = cc
+good-part : {X : Type 0} (input : InputView X) (ladder : Ladder) (k : ℕ) (stop : Option Stop) (gone : ℕ) (intake : Taken) (stream : List ℕ) (part : Part) (a b : X) → stop ≡ Some (Good gone)
+    → InStage stop ladder k stream intake part → SourceSays input k ladder.cut stream stop a b
+    → (IsWhole ladder k stream part × (gone_of stop ≡ skipped stream)) × IsAtEnd (input.left b) × (input.failures b ≡ input.failures a)
+good-part input ladder k None gone intake stream part a b is stage says = cc
+good-part input ladder k (Some (Good n)) gone intake stream part a b is stage says = (stage, says.1, says.0)
+good-part input ladder k (Some (Cut told)) gone intake stream part a b is stage says = cc
+good-part input ladder k (Some ReadFailed) gone intake stream part a b is stage says = cc
 
-module _ (X Y : Type 0) (left : X → Option (List ℕ)) (fails reads : X → ℕ) (out : OutletView Y) (ladder : Ladder) where
+-- what a fault says, in other words
+pub says-as : (s t : Sayings) (e : PackFault) → (s.refused → t.refused) → ((r : ℕ) (stop : Option Stop) → s.halted r stop → t.halted r stop) → (s.unput → t.unput) → (s.wanting → t.wanting)
+    → ((r n : ℕ) → e ≡ HeldBack r n → s.held r n → t.held r n) → Says s e → Says t e
+says-as s t Settings refused halted unput wanting held says = refused says
+says-as s t (Read r) refused halted unput wanting held says = halted r _ says
+says-as s t (ReadLimit r) refused halted unput wanting held says = halted r _ says
+says-as s t (NoProgram r) refused halted unput wanting held says = halted r _ says
+says-as s t (NoStart r) refused halted unput wanting held says = halted r _ says
+says-as s t (LongSegment r n) refused halted unput wanting held says = halted r _ says
+says-as s t (BigSegment r n) refused halted unput wanting held says = halted r _ says
+says-as s t (Limit r) refused halted unput wanting held says = halted r _ says
+says-as s t Outlet refused halted unput wanting held says = unput says
+says-as s t NoMemory refused halted unput wanting held says = wanting says
+says-as s t (HeldBack r n) refused halted unput wanting held says = held r n refl says
+
+module _ (X Y : Type 0) (input : InputView X) (out : OutletView Y) (most_reads : ℕ) (ladder : Ladder) where
   -- how the lanes ended
   abbrev pub stop_at : List Lane → ℕ → Option Stop
   stop_at lanes k = get_or (map (λ (l : Lane). l.stop) lanes) k None
@@ -72,8 +89,8 @@ module _ (X Y : Type 0) (left : X → Option (List ℕ)) (fails reads : X → �
   pub world-halted : (rounds : ℕ) (before now : List X) (lanes : List Lane) (shown : List Shown) (x y : Y) (r : ℕ) (lane : Lane)
       → slice_get lanes r ≡ Some lane
       → ((k : ℕ) (earlier : Lane) → k < r → slice_get lanes k ≡ Some earlier → told_of k earlier.stop ≡ None)
-      → ((k : ℕ) (lane : Lane) → slice_get lanes k ≡ Some lane → lane.stop ≡ None → rounds ≡ 2 ^ 40)
-      → rounds ≤ 2 ^ 40 → IsAllowed ladder → World left fails reads out ladder rounds 0 before now lanes shown x y → HasHalted left fails reads out ladder before now x y r lane.stop
+      → ((k : ℕ) (lane : Lane) → slice_get lanes k ≡ Some lane → lane.stop ≡ None → rounds ≡ most_reads)
+      → rounds ≤ most_reads → IsAllowed ladder → World (run_of input out most_reads before now x y) ladder rounds 0 lanes shown → HasHalted (run_of input out most_reads before now x y) ladder r lane.stop
   world-halted rounds before now lanes shown x y r lane f good limit few allowed w = record {
     streams = w.streams;
     parts = parts-of ladder w.events;
@@ -87,8 +104,8 @@ module _ (X Y : Type 0) (left : X → Option (List ℕ)) (fails reads : X → �
         let within : k < length lanes = omega (arith, slice_get_within before k a e, w.same_before, w.same_lanes) in
         let m = some-at lanes k within in
         let u = w.each k a d m.0 e h m.1 in
-        subst (λ (q : Option Stop). IsLeft left fails reads ladder k a d q (stream_at w.streams k) (part_at (parts-of ladder w.events) k)) (sym (stop-of lanes k m.0 m.1))
-        (stage-left X left fails reads ladder k (turns_of rounds 0 k) a d m.0 _ _ (λ none.
+        subst (λ (q : Option Stop). IsLeft input most_reads ladder k a d q (stream_at w.streams k) (part_at (parts-of ladder w.events) k)) (sym (stop-of lanes k m.0 m.1))
+        (stage-left X input ladder most_reads k (turns_of rounds 0 k) a d m.0 _ _ (λ none.
         let taken = u.reads_are none in
         let turns = turns-none rounds k in
         let all = limit k m.0 m.1 none in
@@ -104,17 +121,17 @@ module _ (X Y : Type 0) (left : X → Option (List ℕ)) (fails reads : X → �
   pub world-packed : (rounds : ℕ) (before now : List X) (lanes : List Lane) (shown : List Shown) (x y : Y) (report : Report)
       → ((k : ℕ) (lane : Lane) → slice_get lanes k ≡ Some lane → told_of k lane.stop ≡ None)
       → IsReport shown (map (λ (l : Lane). gone_of l.stop) lanes) report
-      → rounds ≤ 2 ^ 40 → World left fails reads out ladder rounds 0 before now lanes shown x y → IsPacked left fails reads out ladder before now x y report
+      → rounds ≤ most_reads → World (run_of input out most_reads before now x y) ladder rounds 0 lanes shown → IsPacked (run_of input out most_reads before now x y) ladder report
   world-packed rounds before now lanes shown x y report good is few w =
       let all : (k : ℕ) (a d : X) → slice_get before k ≡ Some a → slice_get now k ≡ Some d → (m : Lane) × (slice_get lanes k ≡ Some m)
       × (IsWhole ladder k (stream_at w.streams k) (part_at (parts-of ladder w.events) k) × (gone_of m.stop ≡ skipped (stream_at w.streams k)))
-      × AreBytes (stream_at w.streams k) × Consumes (left a) (left d) (stream_at w.streams k) × IsAtEnd (left d) × (fails d ≡ fails a) × (reads d ≤ reads a + 2 ^ 40) =
+      × AreBytes (stream_at w.streams k) × Consumes (input.left a) (input.left d) (stream_at w.streams k) × IsAtEnd (input.left d) × (input.failures d ≡ input.failures a) × (input.reads d ≤ input.reads a + most_reads) =
       λ k a d e h.
       let within : k < length lanes = omega (arith, slice_get_within before k a e, w.same_before, w.same_lanes) in
       let m = some-at lanes k within in
       let u = w.each k a d m.0 e h m.1 in
       let end = good-end k m.0.stop (good k m.0 m.1) in
-      let part = good-part left fails ladder k m.0.stop end.0 m.0.intake (stream_at w.streams k) (part_at (parts-of ladder w.events) k) a d end.1 u.stage u.says in
+      let part = good-part input ladder k m.0.stop end.0 m.0.intake (stream_at w.streams k) (part_at (parts-of ladder w.events) k) a d end.1 u.stage u.says in
       let taken = u.few_reads in
       let turns = turns-none rounds k in
       (m.0, m.1, part.0, u.bytes, u.read, part.1, part.2, omega (arith, taken, turns, few)) in
@@ -140,30 +157,22 @@ module _ (X Y : Type 0) (left : X → Option (List ℕ)) (fails reads : X → �
 
   -- a fault that a rendition's end is told by
   pub halted-says : (before now : List X) (x y : Y) (r : ℕ) (stop : Option Stop) (e : PackFault) → told_of r stop ≡ Some e
-      → HasHalted left fails reads out ladder before now x y r stop → IsCutShort left fails reads out ladder before now x y → out.failures y ≡ out.failures x
-      → FaultSays left fails reads out ladder before now x y e
-  halted-says before now x y r None e t h cut same = subst (FaultSays left fails reads out ladder before now x y) (same_Some _ _ t) h
+      → HasHalted (run_of input out most_reads before now x y) ladder r stop → IsCutShort (run_of input out most_reads before now x y) ladder → out.failures y ≡ out.failures x
+      → FaultSays (run_of input out most_reads before now x y) ladder e
+  halted-says before now x y r None e t h cut same = subst (FaultSays (run_of input out most_reads before now x y) ladder) (same_Some _ _ t) h
   halted-says before now x y r (Some (Good n)) e t h cut same = cc
-  halted-says before now x y r (Some ReadFailed) e t h cut same = subst (FaultSays left fails reads out ladder before now x y) (same_Some _ _ t) h
-  halted-says before now x y r (Some (Cut HasNoProgram)) e t h cut same = subst (FaultSays left fails reads out ladder before now x y) (same_Some _ _ t) h
-  halted-says before now x y r (Some (Cut HasNoStart)) e t h cut same = subst (FaultSays left fails reads out ladder before now x y) (same_Some _ _ t) h
-  halted-says before now x y r (Some (Cut (IsLong n))) e t h cut same = subst (FaultSays left fails reads out ladder before now x y) (same_Some _ _ t) h
-  halted-says before now x y r (Some (Cut (IsBig n))) e t h cut same = subst (FaultSays left fails reads out ladder before now x y) (same_Some _ _ t) h
-  halted-says before now x y r (Some (Cut PassesLimit)) e t h cut same = subst (FaultSays left fails reads out ladder before now x y) (same_Some _ _ t) h
-  halted-says before now x y r (Some (Cut WantsMemory)) e t h cut same = subst (FaultSays left fails reads out ladder before now x y) (same_Some _ _ t) (cut, same)
-  halted-says before now x y r (Some (Cut Ended)) e t h cut same = subst (FaultSays left fails reads out ladder before now x y) (same_Some _ _ t) (cut, same)
+  halted-says before now x y r (Some ReadFailed) e t h cut same = subst (FaultSays (run_of input out most_reads before now x y) ladder) (same_Some _ _ t) h
+  halted-says before now x y r (Some (Cut HasNoProgram)) e t h cut same = subst (FaultSays (run_of input out most_reads before now x y) ladder) (same_Some _ _ t) h
+  halted-says before now x y r (Some (Cut HasNoStart)) e t h cut same = subst (FaultSays (run_of input out most_reads before now x y) ladder) (same_Some _ _ t) h
+  halted-says before now x y r (Some (Cut (IsLong n))) e t h cut same = subst (FaultSays (run_of input out most_reads before now x y) ladder) (same_Some _ _ t) h
+  halted-says before now x y r (Some (Cut (IsBig n))) e t h cut same = subst (FaultSays (run_of input out most_reads before now x y) ladder) (same_Some _ _ t) h
+  halted-says before now x y r (Some (Cut PassesLimit)) e t h cut same = subst (FaultSays (run_of input out most_reads before now x y) ladder) (same_Some _ _ t) h
+  halted-says before now x y r (Some (Cut WantsMemory)) e t h cut same = subst (FaultSays (run_of input out most_reads before now x y) ladder) (same_Some _ _ t) (cut, same)
+  halted-says before now x y r (Some (Cut Ended)) e t h cut same = subst (FaultSays (run_of input out most_reads before now x y) ladder) (same_Some _ _ t) (cut, same)
 
   -- a fault that stopped the run at once
-  pub at-once : (before now : List X) (x y : Y) (e : PackFault) → SaysFailures e (out.failures x) (out.failures y) → IsCutShort left fails reads out ladder before now x y
-      → FaultSays left fails reads out ladder before now x y e
-  at-once before now x y Settings says cut = absurd says
-  at-once before now x y (Read r) says cut = absurd says
-  at-once before now x y (ReadLimit r) says cut = absurd says
-  at-once before now x y (NoProgram r) says cut = absurd says
-  at-once before now x y (NoStart r) says cut = absurd says
-  at-once before now x y (LongSegment r n) says cut = absurd says
-  at-once before now x y (BigSegment r n) says cut = absurd says
-  at-once before now x y (Limit r) says cut = absurd says
-  at-once before now x y Outlet says cut = (cut, says)
-  at-once before now x y NoMemory says cut = (cut, says)
-  at-once before now x y (HeldBack r n) says cut = absurd says
+  pub at-once : (before now : List X) (x y : Y) (e : PackFault) → SaysFailures e (out.failures x) (out.failures y) → IsCutShort (run_of input out most_reads before now x y) ladder
+      → FaultSays (run_of input out most_reads before now x y) ladder e
+  at-once before now x y e says cut =
+      says-as (of_failures (out.failures x) (out.failures y)) (of_run (run_of input out most_reads before now x y) ladder) e
+      (λ no. absurd no) (λ r stop no. absurd no) (λ one. (cut, one)) (λ same. (cut, same)) (λ r n is no. absurd no) says

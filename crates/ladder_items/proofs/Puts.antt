@@ -3,7 +3,8 @@ use Rattle.std.proofs.Common.{◌≡◌, ◌∙◌, List, [], ◌∷◌, ◌++�
 use Rattle.std.proofs.lemmas.List.{append-nil}
 use Rattle.item_io.specs.Items.{ItemValue}
 use Rattle.item_io.specs.Outlets.{Held, with_items, Grows, BreaksOff}
-use Rattle.ladder_items.specs.Putting.{OutletView, PutAll, PutSome}
+use Rattle.ladder_items.specs.Runs.{OutletView}
+use Rattle.ladder_items.specs.Putting.{PutAll, PutSome}
 
 pub grows-more : (a b c : Held → Type 0) (xs ys : List ItemValue) → Grows a b xs → Grows b c ys → Grows a c (xs ++ ys)
 grows-more a b c xs ys g h = record {

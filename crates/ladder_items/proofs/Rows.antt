@@ -10,7 +10,8 @@ use Rattle.ladder_items.specs.Items.{Part, part_at, count, shown_all}
 use Rattle.ladder_items.specs.Weave.{Event, Row, AreLegal, after, after_all, block, blocks}
 use Rattle.ingest.specs.Streams.{AreNext}
 use Rattle.ladder_items.specs.Giving.{IsNext, AreNextPlans, rows}
-use Rattle.ladder_items.specs.Putting.{OutletView, PutAll, PutSome}
+use Rattle.ladder_items.specs.Runs.{OutletView}
+use Rattle.ladder_items.specs.Putting.{PutAll, PutSome}
 use Rattle.ladder_items.proofs.Puts.{put-more, put-front}
 use Rattle.ladder_items.proofs.Blocks.{grown-at, after-each}
 

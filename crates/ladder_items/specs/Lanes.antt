@@ -12,7 +12,8 @@ use Rattle.ladder_items.specs.Shown.{Shown}
 use Rattle.ladder_items.specs.Items.{Part, part_at, shown_all}
 use Rattle.ladder_items.specs.Weave.{Event, rendition_of, AreLegal, after_all, blocks}
 use Rattle.ladder_items.specs.Giving.{IsGoing}
-use Rattle.ladder_items.specs.Putting.{OutletView, PutAll, PutSome}
+use Rattle.ladder_items.specs.Runs.{OutletView}
+use Rattle.ladder_items.specs.Putting.{PutAll, PutSome}
 
 -- the rendition goes on: it has given just the segments that its bytes close
 pub record IsOpen (ladder : Ladder) (r : ℕ) (intake : Taken) (part : Part) : Type 0 where

@@ -5,6 +5,8 @@ pub mod State
 pub mod Rows
 pub mod Items
 pub mod Weave
+pub mod Runs
+pub mod Faults
 pub mod Putting
 pub mod Giving
 pub mod Lanes

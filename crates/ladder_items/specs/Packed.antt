@@ -18,7 +18,9 @@ use Rattle.ladder_items.specs.Shown.{Shown, segment_rates, lasting}
 use Rattle.ladder_items.specs.Masters.{peak_rate}
 use Rattle.ladder_items.specs.Items.{Part, part_at, shown_all}
 use Rattle.ladder_items.specs.Weave.{Weaves}
-use Rattle.ladder_items.specs.Putting.{OutletView, PutAll, PutSome}
+use Rattle.ladder_items.specs.Runs.{InputView, Run}
+use Rattle.ladder_items.specs.Faults.{Sayings, Says}
+use Rattle.ladder_items.specs.Putting.{PutAll, PutSome}
 use Rattle.ladder_items.specs.Lanes.{IsWhole, IsClosed, HasStopped}
 use Rattle.ladder_items.specs.Sources.{SourceSays, HasBegun}
 use Rattle.ladder_items.specs.World.{stream_at}
@@ -39,16 +41,16 @@ pub record IsAlone (report : Report) : Type 0 where
 
 -- The run ended well: each input came to its end, the items put are a weave of the whole lists of all renditions, and the
 -- report tells their numbers.
-pub record IsPacked {X Y : Type 0} (left : X → Option (List ℕ)) (fails reads : X → ℕ) (out : OutletView Y) (ladder : Ladder) (before now : List X) (old new : Y) (report : Report) : Type 0 where
+pub record IsPacked {X Y : Type 0} (run : Run X Y) (ladder : Ladder) (report : Report) : Type 0 where
   pub streams : List (List ℕ)
   pub parts : List Part
   pub items : List ItemValue
   pub weave : Weaves ladder parts items
-  pub puts : PutAll out old new items
+  pub puts : PutAll run.out run.outlet run.outlet_now items
   pub same_streams : length streams ≡ length ladder.renditions
-  pub same_now : length now ≡ length before
-  pub each : (k : ℕ) (a b : X) → slice_get before k ≡ Some a → slice_get now k ≡ Some b →
-      IsWhole ladder k (stream_at streams k) (part_at parts k) × AreBytes (stream_at streams k) × Consumes (left a) (left b) (stream_at streams k) × IsAtEnd (left b) × (fails b ≡ fails a) × (reads b ≤ reads a + 2 ^ 40)
+  pub same_now : length run.now ≡ length run.before
+  pub each : (k : ℕ) (a b : X) → slice_get run.before k ≡ Some a → slice_get run.now k ≡ Some b →
+      IsWhole ladder k (stream_at streams k) (part_at parts k) × AreBytes (stream_at streams k) × Consumes (run.input.left a) (run.input.left b) (stream_at streams k) × IsAtEnd (run.input.left b) × (run.input.failures b ≡ run.input.failures a) × (run.input.reads b ≤ run.input.reads a + run.most_reads)
   pub report_is : IsReport (shown_all ladder parts) (map skipped streams) report
 
 -- what a rendition has given that stopped, or that goes on
@@ -57,26 +59,26 @@ HasGiven None ladder r stream part = IsClosed ladder r stream part
 HasGiven (Some stop) ladder r stream part = HasStopped stop ladder r stream part
 
 -- The run was stopped: the items put are a beginning of a weave of beginnings.
-pub record IsCutShort {X Y : Type 0} (left : X → Option (List ℕ)) (fails reads : X → ℕ) (out : OutletView Y) (ladder : Ladder) (before now : List X) (old new : Y) : Type 0 where
+pub record IsCutShort {X Y : Type 0} (run : Run X Y) (ladder : Ladder) : Type 0 where
   pub streams : List (List ℕ)
   pub parts : List Part
   pub items : List ItemValue
   pub weave : Weaves ladder parts items
-  pub some : PutSome out old new items
+  pub some : PutSome run.out run.outlet run.outlet_now items
   pub allowed : (items ≡ []) ⊎ IsAllowed ladder
-  pub same_now : length now ≡ length before
-  pub each : (k : ℕ) (a b : X) → slice_get before k ≡ Some a → slice_get now k ≡ Some b →
-      HasBegun ladder k (left b) (stream_at streams k) (part_at parts k) × AreBytes (stream_at streams k) × Consumes (left a) (left b) (stream_at streams k)
-  pub counts : (k : ℕ) (a b : X) → slice_get before k ≡ Some a → slice_get now k ≡ Some b → (fails b ≤ fails a + 1) × (reads b ≤ reads a + 2 ^ 40)
+  pub same_now : length run.now ≡ length run.before
+  pub each : (k : ℕ) (a b : X) → slice_get run.before k ≡ Some a → slice_get run.now k ≡ Some b →
+      HasBegun ladder k (run.input.left b) (stream_at streams k) (part_at parts k) × AreBytes (stream_at streams k) × Consumes (run.input.left a) (run.input.left b) (stream_at streams k)
+  pub counts : (k : ℕ) (a b : X) → slice_get run.before k ≡ Some a → slice_get run.now k ≡ Some b → (run.input.failures b ≤ run.input.failures a + 1) × (run.input.reads b ≤ run.input.reads a + run.most_reads)
 
 -- one rendition as the run left it
-pub record IsLeft {X : Type 0} (left : X → Option (List ℕ)) (fails reads : X → ℕ) (ladder : Ladder) (k : ℕ) (a b : X) (stop : Option Stop) (stream : List ℕ) (part : Part) : Type 0 where
+pub record IsLeft {X : Type 0} (input : InputView X) (most_reads : ℕ) (ladder : Ladder) (k : ℕ) (a b : X) (stop : Option Stop) (stream : List ℕ) (part : Part) : Type 0 where
   pub given : HasGiven stop ladder k stream part
-  pub read : Consumes (left a) (left b) stream
+  pub read : Consumes (input.left a) (input.left b) stream
   pub bytes : AreBytes stream
-  pub says : SourceSays left fails k ladder.cut stream stop a b
-  pub limit : stop ≡ None → reads b ≡ reads a + 2 ^ 40
-  pub few_reads : reads b ≤ reads a + 2 ^ 40
+  pub says : SourceSays input k ladder.cut stream stop a b
+  pub limit : stop ≡ None → input.reads b ≡ input.reads a + most_reads
+  pub few_reads : input.reads b ≤ input.reads a + most_reads
 
 -- the fault that a stream's fault is told by
 abbrev pub told_of_cut : ℕ → CutFault → PackFault
@@ -97,26 +99,26 @@ told_of r (Some ReadFailed) = Some (Read r)
 
 -- Each rendition went to its end, rendition r to this one, and each before it to a good end: the items put are a weave of
 -- what each gives by its end.
-pub record HasHalted {X Y : Type 0} (left : X → Option (List ℕ)) (fails reads : X → ℕ) (out : OutletView Y) (ladder : Ladder) (before now : List X) (old new : Y) (r : ℕ) (stop : Option Stop) : Type 0 where
+pub record HasHalted {X Y : Type 0} (run : Run X Y) (ladder : Ladder) (r : ℕ) (stop : Option Stop) : Type 0 where
   pub streams : List (List ℕ)
   pub parts : List Part
   pub items : List ItemValue
   pub stops : ℕ → Option Stop
   pub allowed : IsAllowed ladder
   pub weave : Weaves ladder parts items
-  pub puts : PutAll out old new items
-  pub same_now : length now ≡ length before
-  pub each : (k : ℕ) (a b : X) → slice_get before k ≡ Some a → slice_get now k ≡ Some b →
-      IsLeft left fails reads ladder k a b (stops k) (stream_at streams k) (part_at parts k)
-  pub within : (a : X) × (slice_get before r ≡ Some a)
+  pub puts : PutAll run.out run.outlet run.outlet_now items
+  pub same_now : length run.now ≡ length run.before
+  pub each : (k : ℕ) (a b : X) → slice_get run.before k ≡ Some a → slice_get run.now k ≡ Some b →
+      IsLeft run.input run.most_reads ladder k a b (stops k) (stream_at streams k) (part_at parts k)
+  pub within : (a : X) × (slice_get run.before r ≡ Some a)
   pub at_r : stops r ≡ stop
   pub first : (k : ℕ) → k < r → told_of k (stops k) ≡ None
 
 -- nothing was read or put, since the settings aren't allowed or the inputs aren't as many
-pub record IsRefused {X Y : Type 0} (out : OutletView Y) (ladder : Ladder) (before now : List X) (old new : Y) : Type 0 where
-  pub refused : (IsAllowed ladder × (length before ≡ length ladder.renditions)) → ⊥
-  pub unread : now ≡ before
-  pub unput : PutAll out old new []
+pub record IsRefused {X Y : Type 0} (run : Run X Y) (ladder : Ladder) : Type 0 where
+  pub refused : (IsAllowed ladder × (length run.before ≡ length ladder.renditions)) → ⊥
+  pub unread : run.now ≡ run.before
+  pub unput : PutAll run.out run.outlet run.outlet_now []
 
 -- how many bytes lay in no packet, where a rendition came to its good end
 abbrev pub gone_of : Option Stop → ℕ
@@ -125,16 +127,15 @@ gone_of (Some (Good gone)) = gone
 gone_of (Some (Cut told)) = 0
 gone_of (Some ReadFailed) = 0
 
--- what each fault says
-abbrev pub FaultSays : {X Y : Type 0} → (X → Option (List ℕ)) → (X → ℕ) → (X → ℕ) → OutletView Y → Ladder → List X → List X → Y → Y → PackFault → Type 0
-FaultSays left fails reads out ladder before now old new Settings = IsRefused out ladder before now old new
-FaultSays left fails reads out ladder before now old new (Read r) = HasHalted left fails reads out ladder before now old new r (Some ReadFailed)
-FaultSays left fails reads out ladder before now old new (ReadLimit r) = HasHalted left fails reads out ladder before now old new r None
-FaultSays left fails reads out ladder before now old new (NoProgram r) = HasHalted left fails reads out ladder before now old new r (Some (Cut HasNoProgram))
-FaultSays left fails reads out ladder before now old new (NoStart r) = HasHalted left fails reads out ladder before now old new r (Some (Cut HasNoStart))
-FaultSays left fails reads out ladder before now old new (LongSegment r n) = HasHalted left fails reads out ladder before now old new r (Some (Cut (IsLong n)))
-FaultSays left fails reads out ladder before now old new (BigSegment r n) = HasHalted left fails reads out ladder before now old new r (Some (Cut (IsBig n)))
-FaultSays left fails reads out ladder before now old new (Limit r) = HasHalted left fails reads out ladder before now old new r (Some (Cut PassesLimit))
-FaultSays left fails reads out ladder before now old new Outlet = IsCutShort left fails reads out ladder before now old new × (out.failures new ≡ out.failures old + 1)
-FaultSays left fails reads out ladder before now old new NoMemory = IsCutShort left fails reads out ladder before now old new × (out.failures new ≡ out.failures old)
-FaultSays left fails reads out ladder before now old new (HeldBack r n) = ⊥
+-- what each fault says of a run
+abbrev pub of_run : {X Y : Type 0} → Run X Y → Ladder → Sayings
+of_run run ladder = record {
+  refused = IsRefused run ladder;
+  halted = HasHalted run ladder;
+  unput = IsCutShort run ladder × (run.out.failures run.outlet_now ≡ run.out.failures run.outlet + 1);
+  wanting = IsCutShort run ladder × (run.out.failures run.outlet_now ≡ run.out.failures run.outlet);
+  held = λ r n. IsCutShort run ladder × (run.out.failures run.outlet_now ≡ run.out.failures run.outlet);
+}
+
+abbrev pub FaultSays : {X Y : Type 0} → Run X Y → Ladder → PackFault → Type 0
+FaultSays run ladder fault = Says (of_run run ladder) fault

@@ -7,7 +7,8 @@ use Rattle.ladder_items.specs.Ladder.{Ladder}
 use Rattle.ladder_items.specs.Shown.{Shown}
 use Rattle.ladder_items.specs.Items.{Part, part_at, shown_all}
 use Rattle.ladder_items.specs.Weave.{Event, AreLegal, after_all, blocks, none_of}
-use Rattle.ladder_items.specs.Putting.{OutletView, PutAll}
+use Rattle.ladder_items.specs.Runs.{InputView, Run}
+use Rattle.ladder_items.specs.Putting.{PutAll}
 use Rattle.ladder_items.specs.Lanes.{InStage}
 use Rattle.ladder_items.specs.Sources.{SourceSays}
 
@@ -19,13 +20,13 @@ abbrev pub turns_of : ℕ → ℕ → ℕ → ℕ
 turns_of rounds next k = if nat_lt k next then rounds + 1 else rounds
 
 -- rendition k, whose input was a and is b, after so many turns
-pub record Stage {X : Type 0} (left : X → Option (List ℕ)) (fails reads : X → ℕ) (ladder : Ladder) (k turns : ℕ) (a b : X) (lane : Lane) (stream : List ℕ) (part : Part) : Type 0 where
+pub record Stage {X : Type 0} (input : InputView X) (ladder : Ladder) (k turns : ℕ) (a b : X) (lane : Lane) (stream : List ℕ) (part : Part) : Type 0 where
   pub stage : InStage lane.stop ladder k stream lane.intake part
-  pub read : Consumes (left a) (left b) stream
+  pub read : Consumes (input.left a) (input.left b) stream
   pub bytes : AreBytes stream
-  pub says : SourceSays left fails k ladder.cut stream lane.stop a b
-  pub reads_are : lane.stop ≡ None → reads b ≡ reads a + turns
-  pub few_reads : reads b ≤ reads a + turns
+  pub says : SourceSays input k ladder.cut stream lane.stop a b
+  pub reads_are : lane.stop ≡ None → input.reads b ≡ input.reads a + turns
+  pub few_reads : input.reads b ≤ input.reads a + turns
   pub small : lane.stop ≡ None → length stream ≤ 18800 * turns
 
 -- rendition k before its first turn
@@ -34,23 +35,23 @@ pub record IsFirst (ladder : Ladder) (k : ℕ) (lane : Lane) : Type 0 where
   pub intake : lane.intake ≡ record { rendition = k; settings = ladder.cut; stream = []; ended = false }
 
 -- the counts of an input leave room for all reads of a run
-pub record HasRoom {X : Type 0} (fails reads : X → ℕ) (input : X) : Type 0 where
-  pub for_reads : reads input + 2 ^ 40 ≤ 2 ^ 63
-  pub for_a_failure : fails input < 2 ^ 63
+pub record HasRoom {X : Type 0} (input : InputView X) (most_reads : ℕ) (one : X) : Type 0 where
+  pub for_reads : input.reads one + most_reads ≤ 2 ^ 63
+  pub for_a_failure : input.failures one < 2 ^ 63
 
-abbrev pub HaveRoom : {X : Type 0} → (X → ℕ) → (X → ℕ) → List X → Type 0
-HaveRoom fails reads inputs = All (HasRoom fails reads) inputs
+abbrev pub HaveRoom : {X : Type 0} → InputView X → ℕ → List X → Type 0
+HaveRoom input most_reads inputs = All (HasRoom input most_reads) inputs
 
--- The inputs were `before` and are `now`; each rendition had as many turns as `rounds`, those before `next` one more.
-pub record World {X Y : Type 0} (left : X → Option (List ℕ)) (fails reads : X → ℕ) (out : OutletView Y) (ladder : Ladder) (rounds next : ℕ) (before now : List X) (lanes : List Lane) (shown : List Shown) (old new : Y) : Type 0 where
+-- Each rendition had as many turns as `rounds`, those before `next` one more.
+pub record World {X Y : Type 0} (run : Run X Y) (ladder : Ladder) (rounds next : ℕ) (lanes : List Lane) (shown : List Shown) : Type 0 where
   pub streams : List (List ℕ)
   pub events : List Event
   pub same_streams : length streams ≡ length ladder.renditions
-  pub same_before : length before ≡ length ladder.renditions
-  pub same_now : length now ≡ length ladder.renditions
+  pub same_before : length run.before ≡ length ladder.renditions
+  pub same_now : length run.now ≡ length ladder.renditions
   pub same_lanes : length lanes ≡ length ladder.renditions
   pub legal : AreLegal (none_of ladder) events
-  pub puts : PutAll out old new (blocks ladder (none_of ladder) events)
+  pub puts : PutAll run.out run.outlet run.outlet_now (blocks ladder (none_of ladder) events)
   pub shown_are : shown ≡ shown_all ladder (after_all (none_of ladder) events)
-  pub each : (k : ℕ) (a b : X) (lane : Lane) → slice_get before k ≡ Some a → slice_get now k ≡ Some b → slice_get lanes k ≡ Some lane →
-      Stage left fails reads ladder k (turns_of rounds next k) a b lane (stream_at streams k) (part_at (after_all (none_of ladder) events) k)
+  pub each : (k : ℕ) (a b : X) (lane : Lane) → slice_get run.before k ≡ Some a → slice_get run.now k ≡ Some b → slice_get lanes k ≡ Some lane →
+      Stage run.input ladder k (turns_of rounds next k) a b lane (stream_at streams k) (part_at (after_all (none_of ladder) events) k)

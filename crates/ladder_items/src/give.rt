@@ -7,7 +7,8 @@ ghost use Rattle.ladder_items.specs.Ladder.{rendition_at, unmeasured, IsAllowed}
 ghost use Rattle.ladder_items.specs.Items.{Part, shown_all};
 ghost use Rattle.ladder_items.specs.Weave.{Row, End, after, after_all, block, blocks};
 ghost use Rattle.ladder_items.specs.Giving.{IsGoing, IsNext, AreNextPlans, rows, block_of};
-ghost use Rattle.ladder_items.specs.Putting.{PutAll, PutSome, SaysFailures, outlet_of};
+ghost use Rattle.ladder_items.specs.Runs.{outlet_of};
+ghost use Rattle.ladder_items.specs.Putting.{PutAll, PutSome, SaysFailures};
 
 use crate::fault::PackFault;
 use crate::playlists::Playlists;

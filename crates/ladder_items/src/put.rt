@@ -4,7 +4,8 @@ ghost use Rattle.item_io.specs.Items.{item_value, MasterItem};
 ghost use Rattle.master_playlist.specs.Faults.{fault_of};
 ghost use Rattle.ladder_items.specs.Ladder.{unmeasured};
 ghost use Rattle.ladder_items.specs.Masters.{master_of};
-ghost use Rattle.ladder_items.specs.Putting.{PutAll, PutSome, SaysFailures, outlet_of};
+ghost use Rattle.ladder_items.specs.Runs.{outlet_of};
+ghost use Rattle.ladder_items.specs.Putting.{PutAll, PutSome, SaysFailures};
 ghost use Rattle.ladder_items.specs.Items.{segment_of, media_of, frames_of};
 
 use crate::fault::PackFault;

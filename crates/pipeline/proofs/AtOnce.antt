@@ -20,7 +20,8 @@ use Rattle.ladder_items.specs.Ladder.{Ladder, IsAllowed}
 use Rattle.ladder_items.specs.Shown.{Shown}
 use Rattle.ladder_items.specs.Items.{Part, no_part, part_at}
 use Rattle.ladder_items.specs.Weave.{AreLegal, after_all, blocks, none_of}
-use Rattle.ladder_items.specs.Putting.{OutletView, SaysFailures}
+use Rattle.ladder_items.specs.Runs.{InputView, OutletView, run_of}
+use Rattle.ladder_items.specs.Putting.{SaysFailures}
 use Rattle.ladder_items.specs.Lanes.{Before, IsClosed, IsCutOff}
 use Rattle.ladder_items.specs.Sources.{HasBegun}
 use Rattle.ladder_items.specs.World.{World, stream_at, turns_of}
@@ -49,10 +50,10 @@ told-unheld k (Some (Cut PassesLimit)) e r n told is = cc
 told-unheld k (Some (Cut WantsMemory)) e r n told is = cc
 told-unheld k (Some (Cut Ended)) e r n told is = cc
 
-module _ (X Y : Type 0) (left : X → Option (List ℕ)) (fails reads : X → ℕ) (out : OutletView Y) (ladder : Ladder) where
+module _ (X Y : Type 0) (input : InputView X) (out : OutletView Y) (most_reads : ℕ) (ladder : Ladder) where
   -- what a rendition had given
   given-at : (rounds next : ℕ) (before now : List X) (lanes : List Lane) (shown : List Shown) (x y : Y)
-      (w : World left fails reads out ladder rounds next before now lanes shown x y) (k : ℕ) → k < length ladder.renditions
+      (w : World (run_of input out most_reads before now x y) ladder rounds next lanes shown) (k : ℕ) → k < length ladder.renditions
       → (stop : Option Stop) × HasGiven stop ladder k (stream_at w.streams k) (part_at (parts-of ladder w.events) k)
   given-at rounds next before now lanes shown x y w k within =
       let a = some-at before k (omega (arith, within, w.same_before)) in
@@ -63,16 +64,16 @@ module _ (X Y : Type 0) (left : X → Option (List ℕ)) (fails reads : X → �
   -- a turn was cut off
   pub world-cut : (rounds next r : ℕ) (before now : List X) (lanes : List Lane) (shown : List Shown) (x y z : Y) (b c : X) (lane : Lane)
       → slice_get now r ≡ Some b → slice_get lanes r ≡ Some lane → lane.stop ≡ None
-      → ((parts : List Part) → Before ladder r parts shown lane.intake → (more : List ℕ) × Consumes (left b) (left c) more × (length more ≤ 18800) × AreBytes more
-      × IsCutOff out ladder r parts y z (HasBegun ladder r (left c) (lane.intake.stream ++ more)))
-      → fails c ≡ fails b → reads c ≤ reads b + 1 → next ≡ r → rounds < 2 ^ 40
-      → IsAllowed ladder → World left fails reads out ladder rounds next before now lanes shown x y → IsCutAtOnce left fails reads out ladder before (set now r c) x z
+      → ((parts : List Part) → Before ladder r parts shown lane.intake → (more : List ℕ) × Consumes (input.left b) (input.left c) more × (length more ≤ 18800) × AreBytes more
+      × IsCutOff out ladder r parts y z (HasBegun ladder r (input.left c) (lane.intake.stream ++ more)))
+      → input.failures c ≡ input.failures b → input.reads c ≤ input.reads b + 1 → next ≡ r → rounds < most_reads
+      → IsAllowed ladder → World (run_of input out most_reads before now x y) ladder rounds next lanes shown → IsCutAtOnce (run_of input out most_reads before (set now r c) x z) ladder
   unfolding put-more
   world-cut rounds next r before now lanes shown x y z b c lane f g goes_on turn same_fails one_read mine_next below allowed w =
-      let s = world-stage X Y left fails reads out ladder rounds next before now lanes shown x y w r b lane f g in
+      let s = world-stage X Y input out most_reads ladder rounds next before now lanes shown x y w r b lane f g in
       let now_turns : turns_of rounds next r ≡ rounds = ap (λ n. turns_of rounds n r) mine_next ∙ turns-now rounds r in
-      let o = open-stage X left fails reads ladder r _ s.0 b lane _ _ goes_on s.2 in
-      let t = turn (parts-of ladder w.events) (world-before X Y left fails reads out ladder rounds next before now lanes shown x y w r b lane f g goes_on) in
+      let o = open-stage X input ladder r _ s.0 b lane _ _ goes_on s.2 in
+      let t = turn (parts-of ladder w.events) (world-before X Y input out most_reads ladder rounds next before now lanes shown x y w r b lane f g goes_on) in
       let cut = t.4 in
       let bytes : AreBytes (lane.intake.stream ++ t.0) = All-append (λ (v : ℕ). v < 256) lane.intake.stream t.0 (subst AreBytes (sym o.1) s.2.bytes) t.3 in
       let stream = lane.intake.stream ++ t.0 in
@@ -80,12 +81,12 @@ module _ (X Y : Type 0) (left : X → Option (List ℕ)) (fails reads : X → �
       let all = after_all-append (none_of ladder) w.events cut.events in
       let here : r < length w.streams = omega (arith, slice_get_within now r b f, w.same_now, w.same_streams) in
       let mine : stream_at (set w.streams r stream) r ≡ stream = get_or-set_same w.streams r stream [] here in
-      let read : Consumes (left s.0) (left c) stream =
-      subst (λ (l : List ℕ). Consumes (left s.0) (left c) (l ++ t.0)) (sym o.1) (Consumes-trans (left s.0) (left b) (left c) _ t.0 s.2.read t.1) in
-      let begun = subst (λ (ps : List Part). HasBegun ladder r (left c) stream (part_at ps r)) (sym all) cut.begins in
-      let counted : (fails c ≤ fails s.0 + 1) × (reads c ≤ reads s.0 + 2 ^ 40) =
-      (omega (arith, same_fails, same-fails X left fails reads ladder r _ s.0 b lane _ _ goes_on s.2), omega (arith, one_read, s.2.few_reads, now_turns, below)) in
-      let both = subst (λ (l : List ℕ). HasBegun ladder r (left c) l (part_at (parts-of ladder (w.events ++ cut.events)) r) × AreBytes l × Consumes (left s.0) (left c) l) (sym mine) (begun, bytes, read) in
+      let read : Consumes (input.left s.0) (input.left c) stream =
+      subst (λ (l : List ℕ). Consumes (input.left s.0) (input.left c) (l ++ t.0)) (sym o.1) (Consumes-trans (input.left s.0) (input.left b) (input.left c) _ t.0 s.2.read t.1) in
+      let begun = subst (λ (ps : List Part). HasBegun ladder r (input.left c) stream (part_at ps r)) (sym all) cut.begins in
+      let counted : (input.failures c ≤ input.failures s.0 + 1) × (input.reads c ≤ input.reads s.0 + most_reads) =
+      (omega (arith, same_fails, same-fails X input ladder r _ s.0 b lane _ _ goes_on s.2), omega (arith, one_read, s.2.few_reads, now_turns, below)) in
+      let both = subst (λ (l : List ℕ). HasBegun ladder r (input.left c) l (part_at (parts-of ladder (w.events ++ cut.events)) r) × AreBytes l × Consumes (input.left s.0) (input.left c) l) (sym mine) (begun, bytes, read) in
       record {
         cut = record {
           streams = set w.streams r stream;
@@ -102,29 +103,29 @@ module _ (X Y : Type 0) (left : X → Option (List ℕ)) (fails reads : X → �
           allowed = inr allowed;
           same_now = length-set _ _ _ ∙ (w.same_now ∙ sym w.same_before);
           each = λ k a d e h.
-              elim (cases_eq k r) as (λ _. HasBegun ladder k (left d) (stream_at (set w.streams r stream) k) (part_at (parts-of ladder (w.events ++ cut.events)) k) × AreBytes (stream_at (set w.streams r stream) k) × Consumes (left a) (left d) (stream_at (set w.streams r stream) k)) [
+              elim (cases_eq k r) as (λ _. HasBegun ladder k (input.left d) (stream_at (set w.streams r stream) k) (part_at (parts-of ladder (w.events ++ cut.events)) k) × AreBytes (stream_at (set w.streams r stream) k) × Consumes (input.left a) (input.left d) (stream_at (set w.streams r stream) k)) [
                 | inl q ↦ subst (λ (j : ℕ). slice_get before j ≡ Some a → slice_get (set now r c) j ≡ Some d
-                    → HasBegun ladder j (left d) (stream_at (set w.streams r stream) j) (part_at (parts-of ladder (w.events ++ cut.events)) j) × AreBytes (stream_at (set w.streams r stream) j) × Consumes (left a) (left d) (stream_at (set w.streams r stream) j)) (sym q)
-                    (λ e h. subst (λ (v : X). HasBegun ladder r (left d) (stream_at (set w.streams r stream) r) (part_at (parts-of ladder (w.events ++ cut.events)) r) × AreBytes (stream_at (set w.streams r stream) r) × Consumes (left v) (left d) (stream_at (set w.streams r stream) r)) (same_Some _ _ (sym s.1 ∙ e))
-                    (subst (λ (v : X). HasBegun ladder r (left v) (stream_at (set w.streams r stream) r) (part_at (parts-of ladder (w.events ++ cut.events)) r) × AreBytes (stream_at (set w.streams r stream) r) × Consumes (left s.0) (left v) (stream_at (set w.streams r stream) r)) (set-here now r c d h) both)) e h
+                    → HasBegun ladder j (input.left d) (stream_at (set w.streams r stream) j) (part_at (parts-of ladder (w.events ++ cut.events)) j) × AreBytes (stream_at (set w.streams r stream) j) × Consumes (input.left a) (input.left d) (stream_at (set w.streams r stream) j)) (sym q)
+                    (λ e h. subst (λ (v : X). HasBegun ladder r (input.left d) (stream_at (set w.streams r stream) r) (part_at (parts-of ladder (w.events ++ cut.events)) r) × AreBytes (stream_at (set w.streams r stream) r) × Consumes (input.left v) (input.left d) (stream_at (set w.streams r stream) r)) (same_Some _ _ (sym s.1 ∙ e))
+                    (subst (λ (v : X). HasBegun ladder r (input.left v) (stream_at (set w.streams r stream) r) (part_at (parts-of ladder (w.events ++ cut.events)) r) × AreBytes (stream_at (set w.streams r stream) r) × Consumes (input.left s.0) (input.left v) (stream_at (set w.streams r stream) r)) (set-here now r c d h) both)) e h
                 | inr q ↦
                     let within : k < length lanes = omega (arith, slice_get_within before k a e, w.same_before, w.same_lanes) in
                     let m = some-at lanes k within in
                     let u = w.each k a d m.0 e (sym (set-elsewhere now r k c q) ∙ h) m.1 in
                     let part = ap (λ (ps : List Part). part_at ps k) all ∙ all-other r k (parts-of ladder w.events) cut.events cut.are_of.of_r q in
-                    subst (λ (l : List ℕ). HasBegun ladder k (left d) l (part_at (parts-of ladder (w.events ++ cut.events)) k) × AreBytes l × Consumes (left a) (left d) l) (sym (get_or-set_other w.streams r k stream [] q))
-                    (subst (λ (p : Part). HasBegun ladder k (left d) (stream_at w.streams k) p) (sym part) (stage-begins left fails ladder k m.0.stop m.0.intake _ _ a d u.stage u.says), u.bytes, u.read)
+                    subst (λ (l : List ℕ). HasBegun ladder k (input.left d) l (part_at (parts-of ladder (w.events ++ cut.events)) k) × AreBytes l × Consumes (input.left a) (input.left d) l) (sym (get_or-set_other w.streams r k stream [] q))
+                    (subst (λ (p : Part). HasBegun ladder k (input.left d) (stream_at w.streams k) p) (sym part) (stage-begins input ladder k m.0.stop m.0.intake _ _ a d u.stage u.says), u.bytes, u.read)
               ];
           counts = λ k a d e h.
-              elim (cases_eq k r) as (λ _. (fails d ≤ fails a + 1) × (reads d ≤ reads a + 2 ^ 40)) [
-                | inl q ↦ subst (λ (j : ℕ). slice_get before j ≡ Some a → slice_get (set now r c) j ≡ Some d → (fails d ≤ fails a + 1) × (reads d ≤ reads a + 2 ^ 40)) (sym q)
-                    (λ e h. subst (λ (v : X). (fails d ≤ fails v + 1) × (reads d ≤ reads v + 2 ^ 40)) (same_Some _ _ (sym s.1 ∙ e))
-                    (subst (λ (v : X). (fails v ≤ fails s.0 + 1) × (reads v ≤ reads s.0 + 2 ^ 40)) (set-here now r c d h) counted)) e h
+              elim (cases_eq k r) as (λ _. (input.failures d ≤ input.failures a + 1) × (input.reads d ≤ input.reads a + most_reads)) [
+                | inl q ↦ subst (λ (j : ℕ). slice_get before j ≡ Some a → slice_get (set now r c) j ≡ Some d → (input.failures d ≤ input.failures a + 1) × (input.reads d ≤ input.reads a + most_reads)) (sym q)
+                    (λ e h. subst (λ (v : X). (input.failures d ≤ input.failures v + 1) × (input.reads d ≤ input.reads v + most_reads)) (same_Some _ _ (sym s.1 ∙ e))
+                    (subst (λ (v : X). (input.failures v ≤ input.failures s.0 + 1) × (input.reads v ≤ input.reads s.0 + most_reads)) (set-here now r c d h) counted)) e h
                 | inr q ↦
                     let within : k < length lanes = omega (arith, slice_get_within before k a e, w.same_before, w.same_lanes) in
                     let m = some-at lanes k within in
                     let u = w.each k a d m.0 e (sym (set-elsewhere now r k c q) ∙ h) m.1 in
-                    (says-one left fails k ladder.cut _ m.0.stop a d u.says, omega (arith, u.few_reads, turns-most rounds next k, below))
+                    (says-one input k ladder.cut _ m.0.stop a d u.says, omega (arith, u.few_reads, turns-most rounds next k, below))
               ];
         };
         in_turn = r;
@@ -140,11 +141,11 @@ module _ (X Y : Type 0) (left : X → Option (List ℕ)) (fails reads : X → �
       }
 
   -- the run was stopped between two turns
-  pub stop-at-once : (rounds : ℕ) (before now : List X) (lanes : List Lane) (shown : List Shown) (x y : Y) → rounds ≤ 2 ^ 40
-      → IsAllowed ladder → World left fails reads out ladder rounds 0 before now lanes shown x y → IsCutAtOnce left fails reads out ladder before now x y
+  pub stop-at-once : (rounds : ℕ) (before now : List X) (lanes : List Lane) (shown : List Shown) (x y : Y) → rounds ≤ most_reads
+      → IsAllowed ladder → World (run_of input out most_reads before now x y) ladder rounds 0 lanes shown → IsCutAtOnce (run_of input out most_reads before now x y) ladder
   unfolding world-stop put-all
   stop-at-once rounds before now lanes shown x y few allowed w = record {
-    cut = world-stop X Y left fails reads out ladder rounds before now lanes shown x y few allowed w;
+    cut = world-stop X Y input out most_reads ladder rounds before now lanes shown x y few allowed w;
     in_turn = 0;
     at_once = record {
       earlier = w.streams;
@@ -158,12 +159,12 @@ module _ (X Y : Type 0) (left : X → Option (List ℕ)) (fails reads : X → �
   }
 
   -- nothing was read or given
-  pub none-at-once : (before : List X) (x : Y) → ((k : ℕ) → closed_of k ladder.cut [] ≡ []) → IsCutAtOnce left fails reads out ladder before before x x
+  pub none-at-once : (before : List X) (x : Y) → ((k : ℕ) → closed_of k ladder.cut [] ≡ []) → IsCutAtOnce (run_of input out most_reads before before x x) ladder
   unfolding nothing-given put_none after_all blocks AreLegal
   none-at-once before x none =
       let n = length ladder.renditions in
       record {
-        cut = nothing-given X Y left fails reads out ladder before x none;
+        cut = nothing-given X Y input out most_reads ladder before x none;
         in_turn = 0;
         at_once = record {
           earlier = replicate n [];

@@ -14,7 +14,8 @@ use Rattle.ladder_items.specs.Items.{Part, no_part, part_at, shown_all}
 use Rattle.ladder_items.specs.Weave.{Event, End, rendition_of, AreLegal, closed_part, after, after_all, block, blocks}
 use Rattle.ladder_items.specs.Giving.{IsGoing, rows, no_shown}
 use Rattle.ladder_items.specs.Lanes.{IsWhole, Begins, Before, AreOf, Reaches, IsCutOff}
-use Rattle.ladder_items.specs.Putting.{OutletView, PutAll, PutSome}
+use Rattle.ladder_items.specs.Runs.{OutletView}
+use Rattle.ladder_items.specs.Putting.{PutAll, PutSome}
 use Rattle.ladder_items.proofs.Puts.{all-more, put-more}
 use Rattle.ladder_items.proofs.Nexts.{shown-at, shown-set}
 use Rattle.ladder_items.proofs.Rows.{rows-each, rows-part, after_all-append, blocks-append, legal-append}

@@ -16,7 +16,8 @@ use Rattle.ladder_items.specs.Items.{Part, part_at, count, shown_all}
 use Rattle.ladder_items.specs.Weave.{Event, Row, rendition_of, AreLegal, after, after_all, blocks}
 use Rattle.ladder_items.specs.Giving.{IsGoing, AreNextPlans, rows}
 use Rattle.ladder_items.specs.Lanes.{IsOpen, Begins, BeginsClosed, Before, AreOf, Reaches, IsCutOff}
-use Rattle.ladder_items.specs.Putting.{OutletView, PutAll, PutSome}
+use Rattle.ladder_items.specs.Runs.{OutletView}
+use Rattle.ladder_items.specs.Putting.{PutAll, PutSome}
 use Rattle.ladder_items.proofs.Puts.{put_none}
 use Rattle.ladder_items.proofs.Blocks.{grown-at, after-each}
 use Rattle.ladder_items.proofs.Rows.{rows-part}

@@ -10,7 +10,7 @@ use Rattle.ingest.specs.Streams.{Taken, closed_of}
 use Rattle.ladder_items.specs.Shown.{Shown}
 use Rattle.ladder_items.specs.Items.{Part}
 use Rattle.ladder_items.specs.Weave.{AreLegal, after_all, blocks}
-use Rattle.ladder_items.specs.Putting.{OutletView}
+use Rattle.ladder_items.specs.Runs.{OutletView}
 use Rattle.ladder_items.specs.Lanes.{Before, Reaches}
 use Rattle.ladder_items.proofs.Puts.{all_none}
 use Rattle.pipeline.proofs.Feeding.{none-of-r}

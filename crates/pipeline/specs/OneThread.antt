@@ -5,7 +5,7 @@ use Rattle.ingest.specs.declared.lane.Stop.{Stop}
 use Rattle.ladder_items.specs.Ladder.{Ladder}
 use Rattle.ladder_items.specs.Items.{part_at}
 use Rattle.ladder_items.specs.Weave.{Event, AreLegal, after_all, blocks, none_of}
-use Rattle.ladder_items.specs.Putting.{OutletView}
+use Rattle.ladder_items.specs.Runs.{Run}
 use Rattle.ladder_items.specs.World.{stream_at}
 use Rattle.ladder_items.specs.Packed.{HasGiven, IsCutShort}
 
@@ -21,7 +21,7 @@ pub record StopsAtOnce (ladder : Ladder) (r : ℕ) (streams : List (List ℕ)) (
   pub others : (k : ℕ) → (k ≡ r → ⊥) → stream_at streams k ≡ stream_at earlier k
 
 -- The run was stopped at once: the items put are a beginning of a weave of beginnings, and nothing was read behind them.
-pub record IsCutAtOnce {X Y : Type 0} (left : X → Option (List ℕ)) (fails reads : X → ℕ) (out : OutletView Y) (ladder : Ladder) (before now : List X) (old new : Y) : Type 0 where
-  pub cut : IsCutShort left fails reads out ladder before now old new
+pub record IsCutAtOnce {X Y : Type 0} (run : Run X Y) (ladder : Ladder) : Type 0 where
+  pub cut : IsCutShort run ladder
   pub in_turn : ℕ
   pub at_once : StopsAtOnce ladder in_turn cut.streams cut.some.given

@@ -3,7 +3,8 @@ ghost use Rattle.cutter.specs.declared.fault.CutFault.TheVariants.{NoMemory};
 ghost use Rattle.ladder_items.specs.Ladder.{IsAllowed};
 ghost use Rattle.ladder_items.specs.Items.{Part};
 ghost use Rattle.ladder_items.specs.Lanes.{Before, Begins, BeginsClosed, IsOfPiece, IsOfEnd, Reaches, IsCutOff};
-ghost use Rattle.ladder_items.specs.Putting.{SaysFailures, outlet_of};
+ghost use Rattle.ladder_items.specs.Runs.{outlet_of};
+ghost use Rattle.ladder_items.specs.Putting.{SaysFailures};
 
 use cutter::CutFault;
 use ingest::{Intake, Stop, closed_plans_begin_all};

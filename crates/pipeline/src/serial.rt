@@ -2,7 +2,8 @@ ghost use Rattle.std.specs.Prelude.{◌≡◌, ◌≢◌, ◌<◌, ◌≤◌, �
 ghost use Rattle.ladder_items.specs.declared.fault.PackFault.TheVariants.{Settings as SettingsFault, Outlet as OutletFault, NoMemory, Held};
 ghost use Rattle.ingest.specs.declared.lane.Lane.{Lane};
 ghost use Rattle.ladder_items.specs.Ladder.{IsAllowed};
-ghost use Rattle.ladder_items.specs.Putting.{PutAll, SaysFailures, outlet_of};
+ghost use Rattle.ladder_items.specs.Runs.{input_of, outlet_of, run_of};
+ghost use Rattle.ladder_items.specs.Putting.{PutAll, SaysFailures};
 ghost use Rattle.ladder_items.specs.World.{HaveRoom, World};
 ghost use Rattle.ladder_items.specs.Packed.{IsPacked, IsAlone, FaultSays};
 ghost use Rattle.pipeline.specs.OneThread.{IsCutAtOnce};
@@ -32,14 +33,14 @@ pub fn pack_serial<S: Source, O: Outlet>(
     settings: &Settings,
     outlet: &mut O,
 ) -> Result<Report, PackFault>
-    requires reads { HaveRoom S.failures S.reads sources.old.items }
+    requires reads { HaveRoom (input_of S.remaining S.reads S.failures) (2 ^ 40) sources.old.items }
     requires failures { O.failures outlet.old < 2 ^ 63 }
-    ensures ok { IfOk result (IsPacked S.remaining S.failures S.reads (outlet_of O.holds O.broken O.failures) settings.now sources.old.items sources.new.items outlet.old outlet.new) }
+    ensures ok { IfOk result (IsPacked (run_of (input_of S.remaining S.reads S.failures) (outlet_of O.holds O.broken O.failures) (2 ^ 40) sources.old.items sources.new.items outlet.old outlet.new) settings.now) }
     ensures failures { OnOk result (O.failures outlet.new ≡ O.failures outlet.old) }
     ensures count { length sources.new.items ≡ length sources.old.items }
-    ensures fault { IfErr result (FaultSays S.remaining S.failures S.reads (outlet_of O.holds O.broken O.failures) settings.now sources.old.items sources.new.items outlet.old outlet.new) }
+    ensures fault { IfErr result (FaultSays (run_of (input_of S.remaining S.reads S.failures) (outlet_of O.holds O.broken O.failures) (2 ^ 40) sources.old.items sources.new.items outlet.old outlet.new) settings.now) }
     ensures at_once { IfErr result (λ fault. (fault ≡ OutletFault) ⊎ (fault ≡ NoMemory) →
-        IsCutAtOnce S.remaining S.failures S.reads (outlet_of O.holds O.broken O.failures) settings.now sources.old.items sources.new.items outlet.old outlet.new) }
+        IsCutAtOnce (run_of (input_of S.remaining S.reads S.failures) (outlet_of O.holds O.broken O.failures) (2 ^ 40) sources.old.items sources.new.items outlet.old outlet.new) settings.now) }
     ensures never_held { IfErr result (λ fault. (r n : ℕ) → fault ≢ Held r n) }
     ensures alone { IfOk result IsAlone }
     ensures allowed { OnOk result (IsAllowed settings.now × (length sources.old.items ≡ length settings.now.renditions)) }
@@ -70,11 +71,11 @@ fn turns<S: Source, O: Outlet>(
 ) -> Result<(), PackFault>
     requires failures { O.failures outlet.old < 2 ^ 63 }
     requires allowed { IsAllowed settings.now }
-    requires reads { HaveRoom S.failures S.reads sources.old.items }
-    requires start { World S.remaining S.failures S.reads (outlet_of O.holds O.broken O.failures) settings.now 0 0 sources.old.items sources.old.items lanes.old.items playlists.old.items outlet.old outlet.old }
-    ensures ok { OnOk result ((rounds : ℕ) × (rounds ≤ 2 ^ 40) × World S.remaining S.failures S.reads (outlet_of O.holds O.broken O.failures) settings.now rounds 0 sources.old.items sources.new.items lanes.new.items playlists.new.items outlet.old outlet.new
+    requires reads { HaveRoom (input_of S.remaining S.reads S.failures) (2 ^ 40) sources.old.items }
+    requires start { World (run_of (input_of S.remaining S.reads S.failures) (outlet_of O.holds O.broken O.failures) (2 ^ 40) sources.old.items sources.old.items outlet.old outlet.old) settings.now 0 0 lanes.old.items playlists.old.items }
+    ensures ok { OnOk result ((rounds : ℕ) × (rounds ≤ 2 ^ 40) × World (run_of (input_of S.remaining S.reads S.failures) (outlet_of O.holds O.broken O.failures) (2 ^ 40) sources.old.items sources.new.items outlet.old outlet.new) settings.now rounds 0 lanes.new.items playlists.new.items
         × ((k : ℕ) (lane : Lane) → slice_get lanes.new.items k ≡ Some lane → lane.stop ≡ None → rounds ≡ 2 ^ 40)) }
-    ensures err { OnErr result (IsCutAtOnce S.remaining S.failures S.reads (outlet_of O.holds O.broken O.failures) settings.now sources.old.items sources.new.items outlet.old outlet.new) }
+    ensures err { OnErr result (IsCutAtOnce (run_of (input_of S.remaining S.reads S.failures) (outlet_of O.holds O.broken O.failures) (2 ^ 40) sources.old.items sources.new.items outlet.old outlet.new) settings.now) }
     ensures failures { OnOk result (O.failures outlet.new ≡ O.failures outlet.old) }
     ensures fault { IfErr result (λ fault. SaysFailures fault (O.failures outlet.old) (O.failures outlet.new)) }
 {

@@ -5,7 +5,8 @@ ghost use Rattle.ladder_items.specs.Ladder.{IsAllowed};
 ghost use Rattle.ladder_items.specs.Items.{Part};
 ghost use Rattle.ladder_items.specs.Lanes.{Before, Reaches, IsCutOff};
 ghost use Rattle.ladder_items.specs.Sources.{SourceSays, HasBegun};
-ghost use Rattle.ladder_items.specs.Putting.{SaysFailures, outlet_of};
+ghost use Rattle.ladder_items.specs.Runs.{input_of, outlet_of};
+ghost use Rattle.ladder_items.specs.Putting.{SaysFailures};
 
 use crate::lane::{close, feed};
 use ingest::{Lane, Stop};
@@ -36,7 +37,7 @@ pub fn turn<S: Source, O: Outlet>(
     ensures ok { OnOk result ((parts : List Part) → Before settings.now r parts playlists.old.items lane.old.intake →
         (more : List ℕ) × Consumes (S.remaining source.old) (S.remaining source.new) more × (length more ≤ 18800) × AreBytes more
         × Reaches (outlet_of O.holds O.broken O.failures) settings.now r parts outlet.old outlet.new playlists.new.items lane.new.stop (lane.old.intake.stream ++ more) lane.new.intake
-        × SourceSays S.remaining S.failures r settings.now.cut (lane.old.intake.stream ++ more) lane.new.stop source.old source.new) }
+        × SourceSays (input_of S.remaining S.reads S.failures) r settings.now.cut (lane.old.intake.stream ++ more) lane.new.stop source.old source.new) }
     ensures err { OnErr result ((parts : List Part) → Before settings.now r parts playlists.old.items lane.old.intake →
         (more : List ℕ) × Consumes (S.remaining source.old) (S.remaining source.new) more × (length more ≤ 18800) × AreBytes more
         × IsCutOff (outlet_of O.holds O.broken O.failures) settings.now r parts outlet.old outlet.new (HasBegun settings.now r (S.remaining source.new) (lane.old.intake.stream ++ more))) }

@@ -5,7 +5,8 @@ use Rattle.std.proofs.lemmas.Result.{err_from_is_err_and}
 use Rattle.ladder_items.specs.Items.{shown_all}
 use Rattle.ladder_items.specs.Weave.{after_all, blocks}
 use Rattle.ladder_items.specs.Giving.{rows}
-use Rattle.ladder_items.specs.Putting.{PutAll, outlet_of}
+use Rattle.ladder_items.specs.Runs.{outlet_of}
+use Rattle.ladder_items.specs.Putting.{PutAll}
 use Rattle.ladder_items.proofs.Puts.{all_none, all-more}
 use Rattle.ladder_items.proofs.Rows.{is-next, blocks-more, after-more, some-blocks}
 use Rattle.ladder_items.proofs.give.give_segments.Goals as goal

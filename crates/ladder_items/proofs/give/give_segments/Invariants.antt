@@ -3,7 +3,8 @@ use Rattle.std.specs.Vec.Iter.{into_iter_items}
 use Rattle.ladder_items.specs.Items.{Part, shown_all}
 use Rattle.ladder_items.specs.Weave.{after_all, blocks}
 use Rattle.ladder_items.specs.Giving.{AreNextPlans, rows}
-use Rattle.ladder_items.specs.Putting.{PutAll, outlet_of}
+use Rattle.ladder_items.specs.Runs.{outlet_of}
+use Rattle.ladder_items.specs.Putting.{PutAll}
 use Rattle.ladder_items.proofs.give.give_segments.Given as goal
 
 abbrev pub invariant-loop-plan : goal.invariant-loop-plan

@@ -10,23 +10,23 @@ use Rattle.pipeline.proofs.serial.pack_serial.Goals as goal
 pub returns-in_err-is_allowed-clause-fault : goal.returns-in_err-is_allowed-clause-fault
 returns-in_err-is_allowed-clause-fault g c =
     let told = err_from_is_err_and c.from_residual.result c.from_residual.ensures.1 in
-    rw (told.1, told.2) (nothing-given _ _ _ g.S.Source.failures g.S.Source.reads _ _ _ _ (λ k. c.closed_plans_begin_all.ensures.none k c.args.settings.now.cut), refl)
+    rw (told.1, told.2) (nothing-given _ _ _ _ _ _ _ _ (λ k. c.closed_plans_begin_all.ensures.none k c.args.settings.now.cut), refl)
 
 pub returns-in_err-lanes-clause-fault : goal.returns-in_err-lanes-clause-fault
 returns-in_err-lanes-clause-fault g c =
     let told = err_from_is_err_and c.from_residual-in_err-lanes.result c.from_residual-in_err-lanes.ensures.1 in
-    rw (told.1, told.2) (nothing-given _ _ _ g.S.Source.failures g.S.Source.reads _ _ _ _ (λ k. c.closed_plans_begin_all.ensures.none k c.args.settings.now.cut), refl)
+    rw (told.1, told.2) (nothing-given _ _ _ _ _ _ _ _ (λ k. c.closed_plans_begin_all.ensures.none k c.args.settings.now.cut), refl)
 
 pub returns-in_err-playlists-clause-fault : goal.returns-in_err-playlists-clause-fault
 returns-in_err-playlists-clause-fault g c =
     let told = err_from_is_err_and c.from_residual-in_err-playlists.result c.from_residual-in_err-playlists.ensures.1 in
-    rw (told.1, told.2) (nothing-given _ _ _ g.S.Source.failures g.S.Source.reads _ _ _ _ (λ k. c.closed_plans_begin_all.ensures.none k c.args.settings.now.cut), refl)
+    rw (told.1, told.2) (nothing-given _ _ _ _ _ _ _ _ (λ k. c.closed_plans_begin_all.ensures.none k c.args.settings.now.cut), refl)
 
 pub turns-requires-clause-start : goal.turns-requires-clause-start
 turns-requires-clause-start g c =
     let allowed : IsAllowed c.args.settings.now × (c.len.result ≡ length c.args.settings.now.renditions) = search rules in
     let whole : c.len.result ≡ length c.args.sources.now.items = search rules in
-    world-first _ _ _ g.S.Source.failures g.S.Source.reads _ _ _ _ _ _ (sym whole ∙ allowed.1) c.in_ok-lanes.ensures.each c.in_ok-lanes.ensures.first c.in_ok-playlists.ensures
+    world-first _ _ _ _ _ _ _ _ _ _ (sym whole ∙ allowed.1) c.in_ok-lanes.ensures.each c.in_ok-lanes.ensures.first c.in_ok-playlists.ensures
     (λ k. c.closed_plans_begin_all.ensures.none k c.args.settings.now.cut)
 
 pub returns-in-Some-clause-fault : goal.returns-in-Some-clause-fault
@@ -34,10 +34,10 @@ returns-in-Some-clause-fault g c =
     let allowed : IsAllowed c.args.settings.now × (c.len.result ≡ length c.args.settings.now.renditions) = search rules in
     let ok = c.in_ok-turns.ensures.ok in
     let some = c.in-Some.ensures.some in
-    halted-says _ _ _ g.S.Source.failures g.S.Source.reads _ _ _ _ _ _ some.0 some.1.stop c.in-Some.fault some.3
-    (world-halted _ _ _ _ _ _ _ ok.0 _ _ _ _ _ _ some.0 some.1 (ap (λ lanes. slice_get lanes some.0) (sym c.deref.ensures.value) ∙ some.2)
+    halted-says _ _ _ _ _ _ _ _ _ _ some.0 some.1.stop c.in-Some.fault some.3
+    (world-halted _ _ _ _ _ _ ok.0 _ _ _ _ _ _ some.0 some.1 (ap (λ lanes. slice_get lanes some.0) (sym c.deref.ensures.value) ∙ some.2)
     (λ k earlier below at. some.4 k earlier below (ap (λ lanes. slice_get lanes k) c.deref.ensures.value ∙ at)) ok.3 ok.1 allowed.0 ok.2)
-    (world-stop _ _ _ _ _ _ _ _ _ _ _ _ _ _ ok.1 allowed.0 ok.2) c.in_ok-turns.ensures.failures
+    (world-stop _ _ _ _ _ _ _ _ _ _ _ _ _ ok.1 allowed.0 ok.2) c.in_ok-turns.ensures.failures
 
 pub report_of-requires-clause-each : goal.report_of-requires-clause-each
 report_of-requires-clause-each g c =
@@ -62,46 +62,46 @@ pub returns-in_err-report_of-clause-fault : goal.returns-in_err-report_of-clause
 returns-in_err-report_of-clause-fault g c =
     let allowed : IsAllowed c.args.settings.now × (c.len.result ≡ length c.args.settings.now.renditions) = search rules in
     let told = err_from_is_err_and c.from_residual-in_err-report_of.result c.from_residual-in_err-report_of.ensures.1 in
-    rw (told.1, told.2) (world-stop _ _ _ _ _ _ _ _ _ _ _ _ _ _ c.in_ok-turns.ensures.ok.1 allowed.0 c.in_ok-turns.ensures.ok.2, c.in_ok-turns.ensures.failures)
+    rw (told.1, told.2) (world-stop _ _ _ _ _ _ _ _ _ _ _ _ _ c.in_ok-turns.ensures.ok.1 allowed.0 c.in_ok-turns.ensures.ok.2, c.in_ok-turns.ensures.failures)
 
 pub returns-clause-ok : goal.returns-clause-ok
 returns-clause-ok g c =
     let ok = c.in_ok-turns.ensures.ok in
-    world-packed _ _ _ g.S.Source.failures g.S.Source.reads _ _ ok.0 _ _ _ _ _ _ c.in_ok-report_of.field-0
+    world-packed _ _ _ _ _ _ ok.0 _ _ _ _ _ _ c.in_ok-report_of.field-0
     (λ k lane at. c.in_default.ensures.none refl k lane (ap (λ lanes. slice_get lanes k) c.deref.ensures.value ∙ at))
     (rw (c.deref-3.ensures.value, c.deref-2.ensures.value) at c.in_ok-report_of.ensures.numbers) ok.1 ok.2
 
 pub returns-in_err-is_allowed-clause-at_once : goal.returns-in_err-is_allowed-clause-at_once
 returns-in_err-is_allowed-clause-at_once g c =
     let told = err_from_is_err_and c.from_residual.result c.from_residual.ensures.1 in
-    rw told.1 (λ sudden. none-at-once _ _ _ g.S.Source.failures g.S.Source.reads _ _ _ _ (λ k. c.closed_plans_begin_all.ensures.none k c.args.settings.now.cut))
+    rw told.1 (λ sudden. none-at-once _ _ _ _ _ _ _ _ (λ k. c.closed_plans_begin_all.ensures.none k c.args.settings.now.cut))
 
 pub returns-in_err-lanes-clause-at_once : goal.returns-in_err-lanes-clause-at_once
 returns-in_err-lanes-clause-at_once g c =
     let told = err_from_is_err_and c.from_residual-in_err-lanes.result c.from_residual-in_err-lanes.ensures.1 in
-    rw told.1 (λ sudden. none-at-once _ _ _ g.S.Source.failures g.S.Source.reads _ _ _ _ (λ k. c.closed_plans_begin_all.ensures.none k c.args.settings.now.cut))
+    rw told.1 (λ sudden. none-at-once _ _ _ _ _ _ _ _ (λ k. c.closed_plans_begin_all.ensures.none k c.args.settings.now.cut))
 
 pub returns-in_err-playlists-clause-at_once : goal.returns-in_err-playlists-clause-at_once
 returns-in_err-playlists-clause-at_once g c =
     let told = err_from_is_err_and c.from_residual-in_err-playlists.result c.from_residual-in_err-playlists.ensures.1 in
-    rw told.1 (λ sudden. none-at-once _ _ _ g.S.Source.failures g.S.Source.reads _ _ _ _ (λ k. c.closed_plans_begin_all.ensures.none k c.args.settings.now.cut))
+    rw told.1 (λ sudden. none-at-once _ _ _ _ _ _ _ _ (λ k. c.closed_plans_begin_all.ensures.none k c.args.settings.now.cut))
 
 pub returns-in-Some-clause-at_once : goal.returns-in-Some-clause-at_once
 returns-in-Some-clause-at_once g c sudden =
     let allowed : IsAllowed c.args.settings.now × (c.len.result ≡ length c.args.settings.now.renditions) = search rules in
     let ok = c.in_ok-turns.ensures.ok in
-    stop-at-once _ _ _ _ _ _ _ _ _ _ _ _ _ _ ok.1 allowed.0 ok.2
+    stop-at-once _ _ _ _ _ _ _ _ _ _ _ _ _ ok.1 allowed.0 ok.2
 
 pub returns-in_err-report_of-clause-at_once : goal.returns-in_err-report_of-clause-at_once
 returns-in_err-report_of-clause-at_once g c =
     let allowed : IsAllowed c.args.settings.now × (c.len.result ≡ length c.args.settings.now.renditions) = search rules in
     let told = err_from_is_err_and c.from_residual-in_err-report_of.result c.from_residual-in_err-report_of.ensures.1 in
-    rw told.1 (λ sudden. stop-at-once _ _ _ _ _ _ _ _ _ _ _ _ _ _ c.in_ok-turns.ensures.ok.1 allowed.0 c.in_ok-turns.ensures.ok.2)
+    rw told.1 (λ sudden. stop-at-once _ _ _ _ _ _ _ _ _ _ _ _ _ c.in_ok-turns.ensures.ok.1 allowed.0 c.in_ok-turns.ensures.ok.2)
 
 pub returns-in_err-turns-clause-fault : goal.returns-in_err-turns-clause-fault
 returns-in_err-turns-clause-fault g c =
     let told = err_from_is_err_and c.from_residual-in_err-turns.result c.from_residual-in_err-turns.ensures.1 in
-    rw (told.1, told.2) (at-once _ _ _ g.S.Source.failures g.S.Source.reads _ _ _ _ _ _ _ c.in_err-turns.ensures.fault c.in_err-turns.ensures.err.cut)
+    rw (told.1, told.2) (at-once _ _ _ _ _ _ _ _ _ _ _ c.in_err-turns.ensures.fault c.in_err-turns.ensures.err.cut)
 
 pub returns-in_err-turns-clause-at_once : goal.returns-in_err-turns-clause-at_once
 returns-in_err-turns-clause-at_once g c =

@@ -14,35 +14,35 @@ pub turn-requires-clause-reads : goal.turn-requires-clause-reads
 turn-requires-clause-reads g c =
     let w = c.loop-r.invariant.world in
     let below : c.loop-r.r < length c.args.settings.now.renditions = omega (arith, c.loop-r-test.true, c.len-r-end.ensures, c.loop.invariant.world.same_lanes) in
-    (reads-fit _ _ _ _ _ _ _ _ _ _ _ _ _ _ _ w c.loop-r.r c.index_mut.result.now c.index_mut-lane.result.now
+    (reads-fit _ _ _ _ _ _ _ _ _ _ _ _ _ _ w c.loop-r.r c.index_mut.result.now c.index_mut-lane.result.now
     (slice_get_read c.loop-r.sources.items _ c.loop-r.r c.index_mut.result.now (sym w.same_now) below c.index_mut.ensures.value)
     (slice_get_read c.loop-r.lanes.items _ c.loop-r.r c.index_mut-lane.result.now (sym w.same_lanes) below c.index_mut-lane.ensures.value)
-    (none-there _ (sym c.if-is_some.ensures)) refl c.loop-test.true c.requires.reads).0
+    (none-there _ (sym c.if-is_some.ensures)) refl c.loop-test.true (omega arith) c.requires.reads).0
 
 pub turn-requires-clause-read_failures : goal.turn-requires-clause-read_failures
 turn-requires-clause-read_failures g c =
     let w = c.loop-r.invariant.world in
     let below : c.loop-r.r < length c.args.settings.now.renditions = omega (arith, c.loop-r-test.true, c.len-r-end.ensures, c.loop.invariant.world.same_lanes) in
-    (reads-fit _ _ _ _ _ _ _ _ _ _ _ _ _ _ _ w c.loop-r.r c.index_mut.result.now c.index_mut-lane.result.now
+    (reads-fit _ _ _ _ _ _ _ _ _ _ _ _ _ _ w c.loop-r.r c.index_mut.result.now c.index_mut-lane.result.now
     (slice_get_read c.loop-r.sources.items _ c.loop-r.r c.index_mut.result.now (sym w.same_now) below c.index_mut.ensures.value)
     (slice_get_read c.loop-r.lanes.items _ c.loop-r.r c.index_mut-lane.result.now (sym w.same_lanes) below c.index_mut-lane.ensures.value)
-    (none-there _ (sym c.if-is_some.ensures)) refl c.loop-test.true c.requires.reads).1
+    (none-there _ (sym c.if-is_some.ensures)) refl c.loop-test.true (omega arith) c.requires.reads).1
 
 pub turn-requires-clause-few : goal.turn-requires-clause-few
 turn-requires-clause-few g c =
     let w = c.loop-r.invariant.world in
     let below : c.loop-r.r < length c.args.settings.now.renditions = omega (arith, c.loop-r-test.true, c.len-r-end.ensures, c.loop.invariant.world.same_lanes) in
-    (reads-fit _ _ _ _ _ _ _ _ _ _ _ _ _ _ _ w c.loop-r.r c.index_mut.result.now c.index_mut-lane.result.now
+    (reads-fit _ _ _ _ _ _ _ _ _ _ _ _ _ _ w c.loop-r.r c.index_mut.result.now c.index_mut-lane.result.now
     (slice_get_read c.loop-r.sources.items _ c.loop-r.r c.index_mut.result.now (sym w.same_now) below c.index_mut.ensures.value)
     (slice_get_read c.loop-r.lanes.items _ c.loop-r.r c.index_mut-lane.result.now (sym w.same_lanes) below c.index_mut-lane.ensures.value)
-    (none-there _ (sym c.if-is_some.ensures)) refl c.loop-test.true c.requires.reads).2
+    (none-there _ (sym c.if-is_some.ensures)) refl c.loop-test.true (omega arith) c.requires.reads).2
 
 pub turn-requires-clause-going : goal.turn-requires-clause-going
 turn-requires-clause-going g c =
     let w = c.loop-r.invariant.world in
     let below : c.loop-r.r < length c.args.settings.now.renditions = omega (arith, c.loop-r-test.true, c.len-r-end.ensures, c.loop.invariant.world.same_lanes) in (
       parts-of c.args.settings.now w.events,
-      before-of _ _ _ _ _ _ _ _ _ _ _ _ _ _ _ w c.loop-r.r c.index_mut.result.now c.index_mut-lane.result.now
+      before-of _ _ _ _ _ _ _ _ _ _ _ _ _ _ w c.loop-r.r c.index_mut.result.now c.index_mut-lane.result.now
           (slice_get_read c.loop-r.sources.items _ c.loop-r.r c.index_mut.result.now (sym w.same_now) below c.index_mut.ensures.value)
           (slice_get_read c.loop-r.lanes.items _ c.loop-r.r c.index_mut-lane.result.now (sym w.same_lanes) below c.index_mut-lane.ensures.value)
           (none-there _ (sym c.if-is_some.ensures)),
@@ -53,7 +53,7 @@ returns-in_err-turn-clause-err g c =
     let told = err_from_is_err_and c.from_residual.result c.from_residual.ensures.1 in
     let w = c.loop-r.invariant.world in
     let below : c.loop-r.r < length c.args.settings.now.renditions = omega (arith, c.loop-r-test.true, c.len-r-end.ensures, c.loop.invariant.world.same_lanes) in
-    rw told.1 (world-cut _ _ _ _ _ _ _ _ _ c.loop-r.r _ _ _ _ _ _ _ c.index_mut.result.now c.turn.new.source c.index_mut-lane.result.now
+    rw told.1 (world-cut _ _ _ _ _ _ _ _ c.loop-r.r _ _ _ _ _ _ _ c.index_mut.result.now c.turn.new.source c.index_mut-lane.result.now
     (slice_get_read c.loop-r.sources.items _ c.loop-r.r c.index_mut.result.now (sym w.same_now) below c.index_mut.ensures.value)
     (slice_get_read c.loop-r.lanes.items _ c.loop-r.r c.index_mut-lane.result.now (sym w.same_lanes) below c.index_mut-lane.ensures.value)
     (none-there _ (sym c.if-is_some.ensures)) c.in_err-turn.ensures.err c.in_err-turn.ensures.no_read_failed c.in_err-turn.ensures.few_reads refl c.loop-test.true c.requires.allowed w)
@@ -64,7 +64,7 @@ loop-r-preserved-then-is_some g c =
     let below : c.loop-r.r < length c.args.settings.now.renditions = omega (arith, c.loop-r-test.true, c.len-r-end.ensures, c.loop.invariant.world.same_lanes) in
     record {
       failures = c.loop-r.invariant.failures;
-      world = rw (put-back c.loop-r.lanes.items c.loop-r.r c.index_mut-lane.result.now c.index_mut-lane.ensures.value) (world-skip _ _ _ _ _ _ _ _ c.loop-r.r _ _ _ _ _ _ c.index_mut-lane.result.now
+      world = rw (put-back c.loop-r.lanes.items c.loop-r.r c.index_mut-lane.result.now c.index_mut-lane.ensures.value) (world-skip _ _ _ _ _ _ _ c.loop-r.r _ _ _ _ _ _ c.index_mut-lane.result.now
           (slice_get_read c.loop-r.lanes.items _ c.loop-r.r c.index_mut-lane.result.now (sym w.same_lanes) below c.index_mut-lane.ensures.value) (some-there _ (sym c.if-is_some.ensures)) w);
     }
 
@@ -74,7 +74,7 @@ loop-r-preserved g c =
     let below : c.loop-r.r < length c.args.settings.now.renditions = omega (arith, c.loop-r-test.true, c.len-r-end.ensures, c.loop.invariant.world.same_lanes) in
     record {
       failures = c.in_ok-turn.ensures.failures ∙ c.loop-r.invariant.failures;
-      world = world-step _ _ _ _ _ _ _ _ c.loop-r.r _ _ _ _ _ _ _ _ c.index_mut.result.now c.turn.new.source c.index_mut-lane.result.now c.turn.new.lane
+      world = world-step _ _ _ _ _ _ _ c.loop-r.r _ _ _ _ _ _ _ _ c.index_mut.result.now c.turn.new.source c.index_mut-lane.result.now c.turn.new.lane
           (slice_get_read c.loop-r.sources.items _ c.loop-r.r c.index_mut.result.now (sym w.same_now) below c.index_mut.ensures.value)
           (slice_get_read c.loop-r.lanes.items _ c.loop-r.r c.index_mut-lane.result.now (sym w.same_lanes) below c.index_mut-lane.ensures.value)
           (none-there _ (sym c.if-is_some.ensures)) c.in_ok-turn.ensures.ok c.in_ok-turn.ensures.reads c.in_ok-turn.ensures.few_reads w;
@@ -84,5 +84,5 @@ pub loop-preserved : goal.loop-preserved
 loop-preserved g c =
     let w = c.loop-r.invariant.world in record {
       failures = c.loop-r.invariant.failures;
-      world = world-round _ _ _ _ _ _ _ _ c.loop-r.r _ _ _ _ _ _ (omega (arith, c.loop-r-test.false, c.len-r-end.ensures, c.loop.invariant.world.same_lanes)) w;
+      world = world-round _ _ _ _ _ _ _ c.loop-r.r _ _ _ _ _ _ (omega (arith, c.loop-r-test.false, c.len-r-end.ensures, c.loop.invariant.world.same_lanes)) w;
     }
