@@ -1,5 +1,5 @@
 -- How a run ends, and what it has given then.
-use Rattle.std.specs.Prelude.{◌≡◌, ℕ, ◌+◌, ◌^◌, ◌<◌, ◌≤◌, ◌⊎◌, List, [], length, map, sum, Option, Some, None, slice_get}
+use Rattle.std.specs.Prelude.{◌≡◌, ℕ, ◌+◌, ◌<◌, ◌≤◌, ◌⊎◌, List, [], length, map, sum, Option, Some, None, slice_get}
 use Rattle.std.specs.Option.{unwrap_or}
 use Rattle.std.specs.Io.KnownBytes.{Consumes, IsAtEnd}
 use Rattle.aes_cbc.specs.Block.{AreBytes}
@@ -9,7 +9,7 @@ use Rattle.cutter.specs.declared.fault.CutFault.TheVariants.{NoProgram as HasNoP
 use Rattle.item_io.specs.Items.{ItemValue}
 use Rattle.ts_packet.specs.Packets.{skipped}
 use Rattle.ladder_items.specs.declared.fault.PackFault.{PackFault}
-use Rattle.ladder_items.specs.declared.fault.PackFault.TheVariants.{Settings, Read, ReadLimit, NoProgram, NoStart, LongSegment, BigSegment, Limit, Outlet, NoMemory, Held as HeldBack}
+use Rattle.ladder_items.specs.declared.fault.PackFault.TheVariants.{Read, ReadLimit, NoProgram, NoStart, LongSegment, BigSegment, Limit, NoMemory}
 use Rattle.ingest.specs.declared.lane.Stop.{Stop}
 use Rattle.ingest.specs.declared.lane.Stop.TheVariants.{Good, Cut, Read as ReadFailed}
 use Rattle.ladder_items.specs.declared.report.Report.{Report}

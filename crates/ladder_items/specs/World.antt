@@ -1,5 +1,5 @@
 -- A run on its way: what all renditions have given, by the bytes that their inputs gave.
-use Rattle.std.specs.Prelude.{◌≡◌, ℕ, ◌+◌, ◌*◌, ◌<◌, ◌≤◌, ◌^◌, nat_lt, if◌then◌else◌, List, [], length, Option, Some, None, get_or, All, slice_get, false}
+use Rattle.std.specs.Prelude.{◌≡◌, ℕ, ◌+◌, ◌*◌, ◌<◌, ◌≤◌, ◌^◌, nat_lt, if◌then◌else◌, List, [], length, Some, None, get_or, All, slice_get, false}
 use Rattle.std.specs.Io.KnownBytes.{Consumes}
 use Rattle.aes_cbc.specs.Block.{AreBytes}
 use Rattle.ingest.specs.declared.lane.Lane.{Lane}

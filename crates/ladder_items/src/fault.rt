@@ -14,7 +14,7 @@ pub enum PackFault {
     /// A read of this rendition's input failed.
     #[error("input {0} can't be read")]
     Read(usize),
-    /// This rendition's input gave a byte in 2^40 reads.
+    /// This rendition's input gave a byte in as many reads as are allowed, 2^40 if nothing else is asked for.
     #[error("input {0} takes too many reads")]
     ReadLimit(usize),
     /// No tables were ever in force.

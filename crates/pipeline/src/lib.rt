@@ -6,4 +6,4 @@ mod serial;
 mod turn;
 
 pub use ladder_items::{PackFault, Rendition, Report, Settings};
-pub use serial::pack_serial;
+pub use serial::{pack_serial, pack_serial_reads};

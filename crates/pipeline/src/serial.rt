@@ -10,15 +10,12 @@ ghost use Rattle.pipeline.specs.OneThread.{IsCutAtOnce};
 
 use crate::turn::turn;
 use ingest::{Lane, closed_plans_begin_all};
-use item_io::{Outlet, Source};
+use item_io::{Outlet, READS, Source};
 use ladder_items::{
     PackFault, Playlists, Report, Settings, first_lanes, first_playlists, have_stopped, is_allowed,
     report_of, standing,
 };
 use std::alloc::Global;
-
-/// The most reads of an input that give a byte.
-const READS: u64 = 1 << 40;
 
 /// Packs the streams of all inputs, one for each rendition, on one thread.
 ///
@@ -27,13 +24,15 @@ const READS: u64 = 1 << 40;
 /// at a rendition's good end both playlists with an end. A fault of an input ends its rendition alone; the others go on
 /// to their ends, and then the fault is told, of several that of the first rendition. After a failed put, and for want
 /// of memory, the run stops at once.
+///
+/// An input of which 2^40 reads gave a byte is read no further: where its end hasn't come by then, ReadLimit is told.
 pub fn pack_serial<S: Source, O: Outlet>(
     alloc: Global,
     sources: &mut Vec<S>,
     settings: &Settings,
     outlet: &mut O,
 ) -> Result<Report, PackFault>
-    requires reads { HaveRoom (input_of S.remaining S.reads S.failures) (2 ^ 40) sources.old.items }
+    requires room { HaveRoom (input_of S.remaining S.reads S.failures) (2 ^ 40) sources.old.items }
     requires failures { O.failures outlet.old < 2 ^ 63 }
     ensures ok { IfOk result (IsPacked (run_of (input_of S.remaining S.reads S.failures) (outlet_of O.holds O.broken O.failures) (2 ^ 40) sources.old.items sources.new.items outlet.old outlet.new) settings.now) }
     ensures failures { OnOk result (O.failures outlet.new ≡ O.failures outlet.old) }
@@ -47,13 +46,50 @@ pub fn pack_serial<S: Source, O: Outlet>(
     ensures breach { IfErr result (λ fault. ((IsAllowed settings.now × (length sources.old.items ≡ length settings.now.renditions)) → ⊥) →
         ((fault ≡ SettingsFault) ⊎ (fault ≡ NoMemory)) × (sources.new.items ≡ sources.old.items) × PutAll (outlet_of O.holds O.broken O.failures) outlet.old outlet.new []) }
 {
+    pack_serial_reads(alloc, sources, settings, outlet, READS)
+}
+
+/// Packs as `pack_serial` does, with another limit of reads.
+///
+/// An input of which `reads` reads gave a byte is read no further: where its end hasn't come by then, ReadLimit is told.
+pub fn pack_serial_reads<S: Source, O: Outlet>(
+    alloc: Global,
+    sources: &mut Vec<S>,
+    settings: &Settings,
+    outlet: &mut O,
+    reads: u64,
+) -> Result<Report, PackFault>
+    requires least { 1 ≤ reads }
+    requires most { reads ≤ 2 ^ 40 }
+    requires room { HaveRoom (input_of S.remaining S.reads S.failures) reads sources.old.items }
+    requires failures { O.failures outlet.old < 2 ^ 63 }
+    ensures ok { IfOk result (IsPacked (run_of (input_of S.remaining S.reads S.failures) (outlet_of O.holds O.broken O.failures) reads sources.old.items sources.new.items outlet.old outlet.new) settings.now) }
+    ensures failures { OnOk result (O.failures outlet.new ≡ O.failures outlet.old) }
+    ensures count { length sources.new.items ≡ length sources.old.items }
+    ensures fault { IfErr result (FaultSays (run_of (input_of S.remaining S.reads S.failures) (outlet_of O.holds O.broken O.failures) reads sources.old.items sources.new.items outlet.old outlet.new) settings.now) }
+    ensures at_once { IfErr result (λ fault. (fault ≡ OutletFault) ⊎ (fault ≡ NoMemory) →
+        IsCutAtOnce (run_of (input_of S.remaining S.reads S.failures) (outlet_of O.holds O.broken O.failures) reads sources.old.items sources.new.items outlet.old outlet.new) settings.now) }
+    ensures never_held { IfErr result (λ fault. (r n : ℕ) → fault ≢ Held r n) }
+    ensures alone { IfOk result IsAlone }
+    ensures allowed { OnOk result (IsAllowed settings.now × (length sources.old.items ≡ length settings.now.renditions)) }
+    ensures breach { IfErr result (λ fault. ((IsAllowed settings.now × (length sources.old.items ≡ length settings.now.renditions)) → ⊥) →
+        ((fault ≡ SettingsFault) ⊎ (fault ≡ NoMemory)) × (sources.new.items ≡ sources.old.items) × PutAll (outlet_of O.holds O.broken O.failures) outlet.old outlet.new []) }
+{
     closed_plans_begin_all();
     if !is_allowed(alloc, settings, sources.len())? {
         return Err(PackFault::Settings);
     }
     let mut lanes = first_lanes(alloc, settings)?;
     let mut playlists = first_playlists(alloc, settings)?;
-    turns(alloc, sources, outlet, settings, &mut lanes, &mut playlists)?;
+    turns(
+        alloc,
+        sources,
+        outlet,
+        settings,
+        reads,
+        &mut lanes,
+        &mut playlists,
+    )?;
     if let Some(fault) = standing(&lanes) {
         return Err(fault);
     }
@@ -66,21 +102,23 @@ fn turns<S: Source, O: Outlet>(
     sources: &mut Vec<S>,
     outlet: &mut O,
     settings: &Settings,
+    reads: u64,
     lanes: &mut Vec<Lane>,
     playlists: &mut Vec<Playlists>,
 ) -> Result<(), PackFault>
     requires failures { O.failures outlet.old < 2 ^ 63 }
     requires allowed { IsAllowed settings.now }
-    requires reads { HaveRoom (input_of S.remaining S.reads S.failures) (2 ^ 40) sources.old.items }
-    requires start { World (run_of (input_of S.remaining S.reads S.failures) (outlet_of O.holds O.broken O.failures) (2 ^ 40) sources.old.items sources.old.items outlet.old outlet.old) settings.now 0 0 lanes.old.items playlists.old.items }
-    ensures ok { OnOk result ((rounds : ℕ) × (rounds ≤ 2 ^ 40) × World (run_of (input_of S.remaining S.reads S.failures) (outlet_of O.holds O.broken O.failures) (2 ^ 40) sources.old.items sources.new.items outlet.old outlet.new) settings.now rounds 0 lanes.new.items playlists.new.items
-        × ((k : ℕ) (lane : Lane) → slice_get lanes.new.items k ≡ Some lane → lane.stop ≡ None → rounds ≡ 2 ^ 40)) }
-    ensures err { OnErr result (IsCutAtOnce (run_of (input_of S.remaining S.reads S.failures) (outlet_of O.holds O.broken O.failures) (2 ^ 40) sources.old.items sources.new.items outlet.old outlet.new) settings.now) }
+    requires most { reads ≤ 2 ^ 40 }
+    requires room { HaveRoom (input_of S.remaining S.reads S.failures) reads sources.old.items }
+    requires start { World (run_of (input_of S.remaining S.reads S.failures) (outlet_of O.holds O.broken O.failures) reads sources.old.items sources.old.items outlet.old outlet.old) settings.now 0 0 lanes.old.items playlists.old.items }
+    ensures ok { OnOk result ((rounds : ℕ) × (rounds ≤ reads) × World (run_of (input_of S.remaining S.reads S.failures) (outlet_of O.holds O.broken O.failures) reads sources.old.items sources.new.items outlet.old outlet.new) settings.now rounds 0 lanes.new.items playlists.new.items
+        × ((k : ℕ) (lane : Lane) → slice_get lanes.new.items k ≡ Some lane → lane.stop ≡ None → rounds ≡ reads)) }
+    ensures err { OnErr result (IsCutAtOnce (run_of (input_of S.remaining S.reads S.failures) (outlet_of O.holds O.broken O.failures) reads sources.old.items sources.new.items outlet.old outlet.new) settings.now) }
     ensures failures { OnOk result (O.failures outlet.new ≡ O.failures outlet.old) }
     ensures fault { IfErr result (λ fault. SaysFailures fault (O.failures outlet.old) (O.failures outlet.new)) }
 {
     closed_plans_begin_all();
-    for _ in 0..READS {
+    for _ in 0..reads {
         if have_stopped(lanes) {
             return Ok(());
         }

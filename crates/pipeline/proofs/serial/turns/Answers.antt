@@ -17,7 +17,7 @@ turn-requires-clause-reads g c =
     (reads-fit _ _ _ _ _ _ _ _ _ _ _ _ _ _ w c.loop-r.r c.index_mut.result.now c.index_mut-lane.result.now
     (slice_get_read c.loop-r.sources.items _ c.loop-r.r c.index_mut.result.now (sym w.same_now) below c.index_mut.ensures.value)
     (slice_get_read c.loop-r.lanes.items _ c.loop-r.r c.index_mut-lane.result.now (sym w.same_lanes) below c.index_mut-lane.ensures.value)
-    (none-there _ (sym c.if-is_some.ensures)) refl c.loop-test.true (omega arith) c.requires.reads).0
+    (none-there _ (sym c.if-is_some.ensures)) refl c.loop-test.true c.requires.most c.requires.room).0
 
 pub turn-requires-clause-read_failures : goal.turn-requires-clause-read_failures
 turn-requires-clause-read_failures g c =
@@ -26,7 +26,7 @@ turn-requires-clause-read_failures g c =
     (reads-fit _ _ _ _ _ _ _ _ _ _ _ _ _ _ w c.loop-r.r c.index_mut.result.now c.index_mut-lane.result.now
     (slice_get_read c.loop-r.sources.items _ c.loop-r.r c.index_mut.result.now (sym w.same_now) below c.index_mut.ensures.value)
     (slice_get_read c.loop-r.lanes.items _ c.loop-r.r c.index_mut-lane.result.now (sym w.same_lanes) below c.index_mut-lane.ensures.value)
-    (none-there _ (sym c.if-is_some.ensures)) refl c.loop-test.true (omega arith) c.requires.reads).1
+    (none-there _ (sym c.if-is_some.ensures)) refl c.loop-test.true c.requires.most c.requires.room).1
 
 pub turn-requires-clause-few : goal.turn-requires-clause-few
 turn-requires-clause-few g c =
@@ -35,7 +35,7 @@ turn-requires-clause-few g c =
     (reads-fit _ _ _ _ _ _ _ _ _ _ _ _ _ _ w c.loop-r.r c.index_mut.result.now c.index_mut-lane.result.now
     (slice_get_read c.loop-r.sources.items _ c.loop-r.r c.index_mut.result.now (sym w.same_now) below c.index_mut.ensures.value)
     (slice_get_read c.loop-r.lanes.items _ c.loop-r.r c.index_mut-lane.result.now (sym w.same_lanes) below c.index_mut-lane.ensures.value)
-    (none-there _ (sym c.if-is_some.ensures)) refl c.loop-test.true (omega arith) c.requires.reads).2
+    (none-there _ (sym c.if-is_some.ensures)) refl c.loop-test.true c.requires.most c.requires.room).2
 
 pub turn-requires-clause-going : goal.turn-requires-clause-going
 turn-requires-clause-going g c =

@@ -5,7 +5,7 @@ use Rattle.ladder_items.proofs.Blocks.{shown-going, shown-each}
 use Rattle.ladder_items.proofs.Worlds.{world-first, world-stop, nothing-given, parts-of, parts-length}
 use Rattle.ladder_items.proofs.Endings.{world-halted, world-packed, halted-says, at-once}
 use Rattle.pipeline.proofs.AtOnce.{sudden-unheld, told-unheld, none-at-once, stop-at-once}
-use Rattle.pipeline.proofs.serial.pack_serial.Goals as goal
+use Rattle.pipeline.proofs.serial.pack_serial_reads.Goals as goal
 
 pub returns-in_err-is_allowed-clause-fault : goal.returns-in_err-is_allowed-clause-fault
 returns-in_err-is_allowed-clause-fault g c =
