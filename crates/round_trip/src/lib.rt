@@ -13,6 +13,8 @@ mod ladder;
 mod laws;
 mod made;
 #[cfg(test)]
+mod reads;
+#[cfg(test)]
 mod run;
 #[cfg(test)]
 mod standard;
