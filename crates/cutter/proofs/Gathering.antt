@@ -1,13 +1,14 @@
 -- What is held of a segment that goes on is what its packets make.
-use Rattle.std.proofs.Common.{◌≡◌, ◌∙◌, ℕ, ℤ, ◌+◌, ◌%◌, Bool, true, false, List, [], ◌∷◌, ◌++◌, length, Option, Some, None, if◌then◌else◌, refl, ap, sym, arith}
+use Rattle.std.proofs.Common.{◌≡◌, ◌∙◌, ℕ, ℤ, ◌+◌, Bool, true, false, List, [], ◌∷◌, ◌++◌, length, Option, Some, None, if◌then◌else◌, refl, ap, sym, arith}
 use Rattle.std.proofs.lemmas.List.{append_assoc, append-nil}
 use Rattle.pes_time.specs.declared.clock.Stamp.{Stamp}
 use Rattle.cutter.specs.declared.settings.CutSettings.{CutSettings}
 use Rattle.cutter.specs.declared.plan.Frame.{Frame}
 use Rattle.cutter.specs.Points.{Mark}
-use Rattle.cutter.specs.Segments.{Segment, bytes_of, body_of, later, greatest, until_start, frame_at, frames_of, plan_of, ticks_between, is_discontinuity}
+use Rattle.cutter.specs.Segments.{Segment, bytes_of, body_of, later, greatest, until_start, frame_at, frames_of, plan_of, ticks_between}
 use Rattle.cutter.specs.Cuts.{with_mark}
-use Rattle.cutter.specs.SegmentState.{Framing, Gathered, framed, framing_of, no_frames, end_of, pending_at, gathered, added, plan_from}
+use Rattle.cutter.specs.SegmentState.{framing_of, gathered, added, plan_from}
+use Rattle.cutter.specs.Framing.{Framing, framed, no_frames, end_of, pending_at, frames_by}
 
 body_of-more : (marks : List Mark) (m : Mark) → body_of (marks ++ m ∷ []) ≡ body_of marks ++ bytes_of m
 body_of-more [] m = append-nil (bytes_of m)
@@ -23,27 +24,11 @@ unfolding framing_of
 framing_of-more head f [] m = refl
 framing_of-more head f (x ∷ marks) m = framing_of-more head (framed head f x) marks m
 
--- with these parts
-abbrev with_parts : Segment → List ℕ → Framing → ℤ → Gathered
-with_parts g body framing greatest = record {
-  number = g.number;
-  discontinuity = is_discontinuity g.previous g.head;
-  head = g.head;
-  pmt_counter = g.pmt_packets % 16;
-  body = body;
-  framing = framing;
-  greatest = greatest;
-}
-
 -- one packet more
 pub gathered-mark : (g : Segment) (m : Mark) → gathered (with_mark g m) ≡ added (gathered g) m
 unfolding gathered
 gathered-mark g m =
     rw (body_of-more g.marks m, framing_of-more g.head.stamp no_frames g.marks m, greatest-more g.head.stamp.epoch g.head.stamp.time g.marks m) refl
-
--- the I-frames where the body ends here
-abbrev frames_by : Framing → List Frame
-frames_by f = f.ended ++ end_of f.pending f.offset
 
 pending-ends : (head : Stamp) (c : Option Stamp) (offset len : ℕ) → end_of (pending_at head offset c) (offset + len) ≡ frame_at head offset len c
 pending-ends head None offset len = refl

@@ -8,5 +8,9 @@ pub mod Counted
 pub mod Dividing
 pub mod Faults
 pub mod Ordered
+pub mod Lent
+pub mod Framing
+pub mod Reels
+pub mod Spooled
 pub mod SegmentState
 pub mod State

@@ -1,39 +1,20 @@
 -- What a plan and the segment that goes on keep of their packets, and what one packet more makes of them.
-use Rattle.std.specs.Prelude.{ℕ, ◌≤◌, ◌<◌, Option, Some, None, length, ◌≡◌, ◌⊎◌, ℤ, ◌+◌, ◌-◌, ◌%◌, ◌*◌, ◌^◌, unsigned_abs, Bool, false, nat_lt, nat_le, List, [], ◌∷◌, ◌++◌, if◌then◌else◌}
-use Rattle.cutter.specs.declared.plan.Plan.TheInside.{Inside as PlanInside}
-use Rattle.cutter.specs.declared.going.Going.TheInside.{Inside as GoingInside}
-use Rattle.cutter.specs.declared.going.Pending.{Pending}
-use Rattle.cutter.specs.Plans.{SegmentPlan}
+use Rattle.std.specs.Prelude.{◌≡◌, ◌⊎◌, is_some, ℕ, ℤ, ◌+◌, ◌%◌, ◌*◌, ◌≤◌, ◌<◌, ◌^◌, unsigned_abs, Bool, false, nat_lt, nat_le, List, [], ◌∷◌, ◌++◌, length, Option, Some, None, if◌then◌else◌}
 use Rattle.psi_tables.specs.InForce.{InForce}
 use Rattle.psi_tables.specs.Head.{packet_count}
 use Rattle.pes_time.specs.declared.clock.Stamp.{Stamp}
 use Rattle.cutter.specs.declared.settings.CutSettings.{CutSettings}
+use Rattle.cutter.specs.declared.reel.Label.{Label}
 use Rattle.cutter.specs.declared.fault.CutFault.{CutFault}
 use Rattle.cutter.specs.declared.fault.CutFault.TheVariants.{NoProgram, NoStart, LongSegment, BigSegment, Limit, NoMemory}
-use Rattle.cutter.specs.declared.plan.Frame.{Frame}
-use Rattle.cutter.specs.Cuts.{MayHide}
+use Rattle.cutter.specs.declared.plan.Plan.TheInside.{Inside as PlanInside}
+use Rattle.cutter.specs.declared.going.Going.TheInside.{Inside as GoingInside}
+use Rattle.cutter.specs.Plans.{SegmentPlan}
 use Rattle.cutter.specs.Points.{Mark}
-use Rattle.cutter.specs.Segments.{Point, Segment, bytes_of, body_of, later, greatest, ticks_between, ticks_to, breaks, is_cut, is_discontinuity, is_long}
-
--- the I-frames of a body so far: those that ended, the one that goes on, and the bytes of the body
-pub record Framing : Type 0 where
-  pub ended : List Frame
-  pub pending : Option Pending
-  pub offset : ℕ
-
-abbrev pub end_of : Option Pending → ℕ → List Frame
-end_of None offset = []
-end_of (Some p) offset = record { offset = p.offset; len = offset - p.offset; start = p.start } ∷ []
-
-abbrev pub pending_at : Stamp → ℕ → Option Stamp → Option Pending
-pending_at head offset None = None
-pending_at head offset (Some c) = Some (record { offset = offset; start = ticks_between head.time c.time })
-
-abbrev pub framed : Stamp → Framing → Mark → Framing
-framed head f m =
-    if m.look.starts_video
-    then record { ended = f.ended ++ end_of f.pending f.offset; pending = pending_at head f.offset m.counted; offset = f.offset + length (bytes_of m) }
-    else record { ended = f.ended; pending = f.pending; offset = f.offset + length (bytes_of m) }
+use Rattle.cutter.specs.Cuts.{made, MayHide}
+use Rattle.cutter.specs.Framing.{Framing, framed, no_frames, frames_by}
+use Rattle.cutter.specs.Reels.{Filled}
+use Rattle.cutter.specs.Segments.{Point, Segment, bytes_of, body_of, later, greatest, ticks_to, breaks, is_cut, is_discontinuity, is_long}
 
 -- what is held of a segment that goes on
 pub record Gathered : Type 0 where
@@ -48,9 +29,6 @@ pub record Gathered : Type 0 where
 unfoldable pub framing_of : Stamp → Framing → List Mark → Framing
 framing_of head f [] = f
 framing_of head f (m ∷ marks) = framing_of head (framed head f m) marks
-
-abbrev pub no_frames : Framing
-no_frames = record { ended = []; pending = None; offset = 0 }
 
 unfoldable pub gathered : Segment → Gathered
 gathered g = record {
@@ -95,7 +73,59 @@ plan_from rendition s g next = record {
   pat_counter = g.number % 16;
   pmt_counter = g.pmt_counter;
   body = g.body;
-  frames = g.framing.ended ++ end_of g.framing.pending g.framing.offset;
+  frames = frames_by g.framing;
+  ticks = ticks_to s g.head.stamp g.greatest next;
+  discontinuity = g.discontinuity;
+}
+
+-- the same beside the reel that holds its body and its I-frames
+pub record Opened : Type 0 where
+  pub number : ℕ
+  pub discontinuity : Bool
+  pub head : Point
+  pub pmt_counter : ℕ
+  pub greatest : ℤ
+
+abbrev pub over : Opened → Filled → Gathered
+over g f = record {
+  number = g.number;
+  discontinuity = g.discontinuity;
+  head = g.head;
+  pmt_counter = g.pmt_counter;
+  body = f.body;
+  framing = f.framing;
+  greatest = g.greatest;
+}
+
+abbrev pub held_in : Option Opened → Filled → Option Gathered
+held_in None f = None
+held_in (Some g) f = Some (over g f)
+
+-- where no segment goes on the reel has no body
+abbrev pub IsIdle : Option Opened → Filled → Type 0
+IsIdle None f = (f.body ≡ []) × (f.framing ≡ no_frames)
+IsIdle (Some g) f = Unit {0}
+
+abbrev pub opened_first : Point → Opened
+opened_first p = record { number = 0; discontinuity = false; head = p; pmt_counter = 0; greatest = p.stamp.time }
+
+abbrev pub opened_next : Opened → Point → Opened
+opened_next g p = record {
+  number = g.number + 1;
+  discontinuity = breaks g.head p;
+  head = p;
+  pmt_counter = (g.pmt_counter + packet_count g.head.tables.section) % 16;
+  greatest = p.stamp.time;
+}
+
+-- all of its plan but the body and the I-frames
+abbrev pub label_of : ℕ → CutSettings → Opened → Option Stamp → Label
+label_of rendition s g next = record {
+  rendition = rendition;
+  number = g.number;
+  tables = g.head.tables;
+  pat_counter = g.number % 16;
+  pmt_counter = g.pmt_counter;
   ticks = ticks_to s g.head.stamp g.greatest next;
   discontinuity = g.discontinuity;
 }
@@ -111,6 +141,13 @@ gives going plan = record { going = going; plan = plan; fault = None }
 
 abbrev pub faults : CutFault → Out
 faults fault = record { going = None; plan = None; fault = Some fault }
+
+-- a packet is placed: the segment that goes on, the plan that was closed, and whether one was
+pub record Places (out : Out) (before after : Filled) (opened : Option Opened) (closed : Bool) : Type 0 where
+  pub going : out ≡ gives (held_in opened after) out.plan
+  pub plans : after.plans ≡ before.plans ++ made out.plan
+  pub told : closed ≡ is_some out.plan
+  pub idle : IsIdle opened after
 
 -- a packet isn't taken, for want of memory or for its fault
 abbrev pub Refuses : Out → CutFault → Type 0
@@ -179,24 +216,16 @@ segment_plan p = record {
   discontinuity = p.discontinuity;
 }
 
-abbrev pub gathered_by : GoingInside → Gathered
-gathered_by g = record {
+abbrev pub opened_by : GoingInside → Opened
+opened_by g = record {
   number = g.number;
   discontinuity = g.discontinuity;
   head = record { stamp = g.start; tables = g.tables };
   pmt_counter = g.pmt_counter;
-  body = g.body.items;
-  framing = record { ended = g.frames.items; pending = g.pending; offset = length g.body.items };
   greatest = g.greatest;
 }
-
--- the I-frame that goes on began in the body
-abbrev pub IsWithin : Option Pending → ℕ → Type 0
-IsWithin None offset = Unit {0}
-IsWithin (Some p) offset = p.offset ≤ offset
 
 pub record IsSound (g : GoingInside) : Type 0 where
   pub start : IsInRange g.start.time
   pub greatest : IsInRange g.greatest
-  pub pending : IsWithin g.pending (length g.body.items)
   pub counter : g.pmt_counter < 16

@@ -3,18 +3,15 @@ ghost use Rattle.cutter.specs.declared.fault.CutFault.TheVariants.{NoMemory, End
 ghost use Rattle.cutter.specs.Cuts.{cuts, closed, fault, plans, made, Ends, MayHide};
 ghost use Rattle.cutter.specs.Ordered.{IsPlan};
 ghost use Rattle.cutter.specs.Settings.{IsAllowed};
+ghost use Rattle.cutter.specs.Spooled.{IsOne};
 
 use crate::fault::CutFault;
-use crate::following::{Arrival, look_behind, watch_packet};
-use crate::going::Going;
-use crate::place::{Placed, finish, place};
 use crate::plan::Plan;
-use crate::point::{Mark, counted};
 use crate::settings::CutSettings;
+use crate::spool::Spool;
+use crate::spool_cutter::SpoolCutter;
 use ghost_list::GhostList;
-use pes_time::{Clock, Stamp};
-use psi_tables::Watch;
-use std::alloc::Global;
+use std::alloc::{AllocError, Global};
 use std::marker::Model;
 
 /// Cuts the packets of a rendition into segments, and gives the plan of each as soon as the next one begins.
@@ -28,12 +25,7 @@ use std::marker::Model;
 #[derive(Drop)]
 pub struct Cutter {
     alloc: Global,
-    rendition: usize,
-    settings: CutSettings,
-    watch: Watch,
-    clock: Clock,
-    top: Option<Stamp>,
-    going: Option<Going>,
+    inner: SpoolCutter,
     ended: bool,
     fed: GhostList<[u8; 188]>,
 }
@@ -43,11 +35,12 @@ impl Model for Cutter {
 
     ghost Value = { Pushed };
 
-    ghost use Rattle.cutter.specs.State.{pushed, IsTied};
+    ghost use Rattle.cutter.specs.State.{pushed, IsEmptied};
+    ghost use Rattle.std.specs.Prelude.{◌≡◌, false};
 
     ghost view = { pushed };
 
-    ghost invariant = { IsTied };
+    ghost invariant = { λ c. c.ended ≡ false → IsEmptied c };
 }
 
 impl Cutter {
@@ -58,12 +51,7 @@ impl Cutter {
     {
         Cutter {
             alloc,
-            rendition,
-            settings,
-            watch: Watch::new(alloc, settings.program),
-            clock: Clock::new(settings.gap),
-            top: None,
-            going: None,
+            inner: SpoolCutter::new(alloc, rendition, settings),
             ended: false,
             fed: GhostList::new(),
         }
@@ -96,27 +84,8 @@ impl Cutter {
             return Err(CutFault::Ended);
         }
         self.ended = true;
-        let arrival = Arrival::new(packet);
-        let look = look_behind(&self.watch, &mut self.clock, &arrival)?;
-        let counted = counted(self.top, look);
-        let (alloc, rendition, settings) = (self.alloc, self.rendition, self.settings);
-        let going = self.going.take();
-        let mark = Mark {
-            packet,
-            look,
-            counted,
-        };
-        let Placed { going, plan } = place(
-            alloc,
-            rendition,
-            settings,
-            going,
-            self.watch.tables(),
-            &mark,
-        )?;
-        watch_packet(&mut self.watch, &arrival)?;
-        self.top = counted.or(self.top);
-        self.going = going;
+        let closed = self.inner.push(packet)?;
+        let plan = take_plan(self.alloc, &mut self.inner, closed)?;
         self.fed.push(packet);
         self.ended = false;
         Ok(plan)
@@ -145,8 +114,28 @@ impl Cutter {
             return Err(CutFault::Ended);
         }
         self.ended = true;
-        let going = self.going.take();
-        let plan = finish(self.rendition, self.settings, self.watch.tables(), going)?;
-        Ok(Some(plan))
+        let closed = self.inner.finish()?;
+        let plan = take_plan(self.alloc, &mut self.inner, closed)?;
+        Ok(plan)
+    }
+}
+
+/// Turns out the plan that was closed, if one was, and moves it out of its spool.
+fn take_plan(
+    alloc: Global,
+    inner: &mut SpoolCutter,
+    closed: bool,
+) -> Result<Option<Plan>, AllocError>
+    requires { IsOne inner.old.filled closed }
+    ensures ok { IfOk result (λ plan. inner.old.filled ≡ made plan) }
+    ensures same { OnOk result (inner.new ≡ record inner.old { turned = inner.new.turned; filled = [] }) }
+    ensures err { OnErr result (inner.new ≡ inner.old) }
+{
+    if !closed {
+        return Ok(None);
+    }
+    match inner.turn(Spool::new(alloc)) {
+        Ok(full) => Ok(full.into_first()),
+        Err(_spare) => Err(AllocError),
     }
 }

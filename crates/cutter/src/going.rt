@@ -1,25 +1,19 @@
 //! The segment that goes on.
 
-ghost use Rattle.std.specs.Prelude.{◌≡◌, ◌+◌, ◌≤◌, ◌<◌, ◌^◌, ◌++◌, false, length, IfOk, OnOk};
+ghost use Rattle.std.specs.Prelude.{◌≡◌, ◌+◌, ◌≤◌, ◌<◌, ◌^◌, Some, IfOk};
 ghost use Rattle.cutter.specs.Segments;
-ghost use Rattle.cutter.specs.SegmentState.{IsWithin, added, empty, end_of, next_of, pending_at, plan_from, IsInRange, HasRange};
+ghost use Rattle.cutter.specs.SegmentState.{opened_first, opened_next, label_of, IsInRange, HasRange};
 
-use crate::plan::{Frame, Plan};
 use crate::point::{self, Mark, Point};
+use crate::reel::Label;
 use crate::settings::CutSettings;
 use pes_time::Stamp;
 use psi_tables::{Tables, pmt_packets};
-use std::alloc::{AllocError, Global};
+use std::alloc::AllocError;
 use std::marker::Model;
+use std::mem;
 
-/// An I-frame whose end hasn't come.
-#[derive(Clone, Copy)]
-pub(crate) struct Pending {
-    pub offset: u64,
-    pub start: u64,
-}
-
-/// A segment whose end hasn't come.
+/// A segment whose end hasn't come. Its body and its I-frames are those that go on in a reel.
 #[derive(Drop)]
 pub(crate) struct Going {
     number: u64,
@@ -27,28 +21,25 @@ pub(crate) struct Going {
     start: Stamp,
     tables: Tables,
     pmt_counter: u8,
-    body: Vec<u8>,
-    frames: Vec<Frame>,
-    pending: Option<Pending>,
     greatest: i64,
 }
 
 impl Model for Going {
-    ghost use Rattle.cutter.specs.SegmentState.{Gathered};
+    ghost use Rattle.cutter.specs.SegmentState.{Opened};
 
-    ghost Value = { Gathered };
+    ghost Value = { Opened };
 
-    ghost use Rattle.cutter.specs.SegmentState.{gathered_by, IsSound};
+    ghost use Rattle.cutter.specs.SegmentState.{opened_by, IsSound};
 
-    ghost view = { gathered_by };
+    ghost view = { opened_by };
 
     ghost invariant = { IsSound };
 }
 
 impl Going {
     /// The first segment of a stream, with no packet yet.
-    pub(crate) fn first(alloc: Global, head: &Point<'_>) -> Result<Going, AllocError>
-        ensures { IfOk result (λ going. going ≡ empty 0 false 0 head.now) }
+    pub(crate) fn first(head: &Point<'_>) -> Result<Going, AllocError>
+        ensures { IfOk result (λ going. going ≡ opened_first head.now) }
     {
         Ok(Going {
             number: 0,
@@ -56,21 +47,14 @@ impl Going {
             start: head.stamp,
             tables: head.tables.copy()?,
             pmt_counter: 0,
-            body: Vec::new(alloc),
-            frames: Vec::new(alloc),
-            pending: None,
             greatest: head.stamp.time,
         })
     }
 
     /// A segment of this number, with no packet yet.
     #[cfg(test)]
-    pub(crate) fn numbered(
-        alloc: Global,
-        head: &Point<'_>,
-        number: u32,
-    ) -> Result<Going, AllocError> {
-        let first = Going::first(alloc, head)?;
+    pub(crate) fn numbered(head: &Point<'_>, number: u32) -> Result<Going, AllocError> {
+        let first = Going::first(head)?;
         Ok(Going {
             number: u64::from(number),
             ..first
@@ -78,9 +62,9 @@ impl Going {
     }
 
     /// The segment behind this one, with no packet yet.
-    pub(crate) fn next(&self, alloc: Global, head: &Point<'_>) -> Result<Going, AllocError>
+    pub(crate) fn next(&self, head: &Point<'_>) -> Result<Going, AllocError>
         requires { self.now.number < 2 ^ 32 }
-        ensures { IfOk result (λ going. going ≡ next_of self.now head.now) }
+        ensures { IfOk result (λ going. going ≡ opened_next self.now head.now) }
     {
         let discontinuity = point::breaks(&self.head(), head);
         let counter = (usize::from(self.pmt_counter) + pmt_packets(&self.tables)) % 16;
@@ -90,9 +74,6 @@ impl Going {
             start: head.stamp,
             tables: head.tables.copy()?,
             pmt_counter: counter as u8,
-            body: Vec::new(alloc),
-            frames: Vec::new(alloc),
-            pending: None,
             greatest: head.stamp.time,
         })
     }
@@ -107,23 +88,18 @@ impl Going {
         }
     }
 
-    /// Takes one packet more.
-    pub(crate) fn add(&mut self, mark: &Mark<'_>) -> Result<(), AllocError>
-        ensures { OnOk result (self.new ≡ added self.old mark.now) }
+    /// The stamp of that cut.
+    pub(crate) fn start(&self) -> Stamp
+        ensures { result ≡ self.now.head.stamp }
     {
-        let offset = self.body.len() as u64;
-        if mark.look.is_accepted {
-            let packet = mark.packet;
-            self.body.extend_from_slice(packet)?;
-        }
-        if mark.look.starts_video {
-            let pending = self.pending;
-            self.pending = None;
-            end_frame(&mut self.frames, pending, offset)?;
-            self.pending = pending_from(self.start, offset, mark.counted);
-        }
+        self.start
+    }
+
+    /// Goes on with one packet more, whose bytes the reel takes.
+    pub(crate) fn see(&mut self, mark: &Mark<'_>)
+        ensures { self.new ≡ record self.old { greatest = Segments.later self.old.head.stamp.epoch self.old.greatest mark.now.look.stamp } }
+    {
         self.greatest = later(self.start.epoch, self.greatest, mark.look.stamp);
-        Ok(())
     }
 
     /// How long the segment lasts, up to a cut with this stamp or the end of the stream.
@@ -136,16 +112,11 @@ impl Going {
         ticks_to(settings, self.start, self.greatest, next)
     }
 
-    /// Ends the segment, at a cut with this stamp or at the end of the stream.
-    pub(crate) fn close(
-        self,
-        rendition: usize,
-        settings: CutSettings,
-        next: Option<Stamp>,
-    ) -> Result<Plan, AllocError>
+    /// All of its plan but the body and the I-frames, where it ends at a cut with this stamp or at the end of the stream.
+    pub(crate) fn label(self, rendition: usize, settings: CutSettings, next: Option<Stamp>) -> Label
         requires frame { settings.frame ≤ 900000 }
         requires next { HasRange next }
-        ensures { IfOk result (λ plan. plan ≡ plan_from rendition settings self next) }
+        ensures { result ≡ label_of rendition settings self next }
     {
         let ticks = ticks_to(settings, self.start, self.greatest, next);
         let Going {
@@ -153,23 +124,33 @@ impl Going {
             discontinuity,
             tables,
             pmt_counter,
-            body,
-            mut frames,
-            pending,
             ..
         } = self;
-        end_frame(&mut frames, pending, body.len() as u64)?;
-        Ok(Plan {
+        Label {
             rendition,
             number,
             tables,
             pat_counter: (number % 16) as u8,
             pmt_counter,
-            body,
-            frames,
             ticks,
             discontinuity,
-        })
+        }
+    }
+
+    /// Goes on as the next segment, which begins at a cut with this stamp, and gives what `label` gives of this one.
+    pub(crate) fn pass(
+        &mut self,
+        next: Going,
+        rendition: usize,
+        settings: CutSettings,
+        stamp: Stamp,
+    ) -> Label
+        requires frame { settings.frame ≤ 900000 }
+        requires stamp { IsInRange stamp.time }
+        ensures label { result ≡ label_of rendition settings self.old (Some stamp) }
+        ensures next { self.new ≡ next }
+    {
+        mem::replace(self, next).label(rendition, settings, Some(stamp))
     }
 
     pub(crate) fn number(&self) -> u64
@@ -185,45 +166,6 @@ impl Going {
     {
         point::is_cut(settings, &self.head(), next)
     }
-
-    /// How many bytes the body has.
-    pub(crate) fn size(&self) -> u64
-        ensures { result ≡ length self.now.body }
-    {
-        self.body.len() as u64
-    }
-}
-
-/// Ends the I-frame that goes on, if one does.
-fn end_frame(
-    frames: &mut Vec<Frame>,
-    pending: Option<Pending>,
-    offset: u64,
-) -> Result<(), AllocError>
-    requires { IsWithin pending offset }
-    ensures { OnOk result (frames.new.items ≡ frames.old.items ++ end_of pending offset) }
-{
-    let Some(pending) = pending else {
-        return Ok(());
-    };
-    frames.push(Frame {
-        offset: pending.offset,
-        len: offset - pending.offset,
-        start: pending.start,
-    })?;
-    Ok(())
-}
-
-/// The I-frame that begins at a counted point.
-fn pending_from(head: Stamp, offset: u64, counted: Option<Stamp>) -> Option<Pending>
-    ensures is { result ≡ pending_at head offset counted }
-    ensures within { IsWithin result offset }
-{
-    let Some(stamp) = counted else {
-        return None;
-    };
-    let start = stamp.time.abs_diff(head.time);
-    Some(Pending { offset, start })
 }
 
 /// The greatest time of this epoch, with one stamp more.

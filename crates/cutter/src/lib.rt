@@ -7,15 +7,22 @@ mod fault;
 #[cfg(test)]
 mod fixtures;
 mod following;
+mod framing;
 mod going;
 mod laws;
+mod lent;
 #[cfg(test)]
 mod limit_tests;
 mod look;
 mod place;
 mod plan;
 mod point;
+mod reel;
 mod settings;
+mod spool;
+mod spool_cutter;
+#[cfg(test)]
+mod spool_tests;
 mod stream;
 #[cfg(test)]
 mod tests;
@@ -27,6 +34,9 @@ pub use laws::{
     plans_are_in_order, plans_only_grow, points_count_above_all_earlier,
     seconds_of_ticks_are_those_of_microseconds, segments_divide_a_stream,
 };
+pub use lent::{Lent, PlanRef};
 pub use plan::{Frame, Plan};
 pub use settings::CutSettings;
+pub use spool::Spool;
+pub use spool_cutter::SpoolCutter;
 pub use stream::cut_stream;

@@ -6,6 +6,7 @@ use crate::following::{Arrival, look_behind, watch_packet};
 use crate::going::Going;
 use crate::place::place;
 use crate::point::{Mark, Point, counted};
+use crate::reel::Reel;
 use crate::{CutFault, CutSettings};
 use pes_time::{Clock, Stamp};
 use psi_tables::Watch;
@@ -31,14 +32,15 @@ fn cut_behind(alloc: Global, number: u32, settings: CutSettings) -> Result<Optio
         return Ok(None);
     };
     let stamp = Stamp { time: 0, epoch: 0 };
-    let going = Going::numbered(alloc, &Point { stamp, tables }, number)?;
+    let mut going = Some(Going::numbered(&Point { stamp, tables }, number)?);
     let mark = Mark {
         packet,
         look,
         counted: counted(None, look),
     };
-    let placed = place(alloc, 0, settings, Some(going), Some(tables), &mark)?;
-    Ok(placed.plan.map(|plan| plan.number))
+    let mut reel = Reel::new(alloc);
+    place(0, settings, &mut reel, &mut going, Some(tables), &mark)?;
+    Ok(reel.plan(0).map(|plan| plan.number))
 }
 
 #[test]

@@ -1,108 +1,122 @@
 //! Where a packet goes: into the segment that goes on, or into a new one behind a cut.
 
-ghost use Rattle.std.specs.Prelude.{◌≡◌, ◌+◌, ◌<◌, ◌≤◌, ◌^◌, nat_lt, Some, None, IfOk, IfErr, option_copied};
+ghost use Rattle.std.specs.Prelude.{◌≡◌, ◌+◌, ◌<◌, ◌≤◌, ◌^◌, nat_lt, true, false, Some, None, IfOk, IfErr, OnErr, OnOk, option_copied};
 ghost use Rattle.cutter.specs.Settings.{IsAllowed};
 ghost use Rattle.cutter.specs.Segments;
 ghost use Rattle.cutter.specs.SegmentState;
-ghost use Rattle.cutter.specs.SegmentState.{added, begun, carried, sized, taken, finished, gives, faults, renewed, Refuses, RefusesEnd, IsInRange, HasRange};
+ghost use Rattle.cutter.specs.SegmentState.{added, begun, carried, sized, taken, finished, gives, faults, renewed, over, held_in, Places, Refuses, RefusesEnd, IsIdle, IsInRange, HasRange};
 
 use crate::fault::CutFault;
 use crate::going::Going;
-use crate::plan::Plan;
 use crate::point::{Mark, Point};
+use crate::reel::Reel;
 use crate::settings::CutSettings;
 use psi_tables::Tables;
-use std::alloc::Global;
 
-/// The segment that goes on behind a packet, and the plan that the packet closed.
-#[derive(Drop)]
-pub(crate) struct Placed {
-    pub going: Option<Going>,
-    pub plan: Option<Plan>,
-}
-
-/// Places a packet, by the tables before it.
+/// Places a packet, by the tables before it, and says whether it closed a segment: its plan then stands last in the reel.
 pub(crate) fn place(
-    alloc: Global,
     rendition: usize,
     settings: CutSettings,
-    going: Option<Going>,
+    reel: &mut Reel,
+    going: &mut Option<Going>,
     tables: Option<&Tables>,
     mark: &Mark<'_>,
-) -> Result<Placed, CutFault>
-    requires { IsAllowed settings }
-    ensures ok { IfOk result (λ p. taken rendition settings going (option_copied tables.entry) mark.now.counted mark.now ≡ gives p.going p.plan) }
-    ensures err { IfErr result (Refuses (taken rendition settings going (option_copied tables.entry) mark.now.counted mark.now)) }
+) -> Result<bool, CutFault>
+    requires settings { IsAllowed settings }
+    requires idle { IsIdle going.old reel.old }
+    ensures ok { IfOk result (Places (taken rendition settings (held_in going.old reel.old) (option_copied tables.entry) mark.now.counted mark.now) reel.old reel.new going.new) }
+    ensures err { IfErr result (Refuses (taken rendition settings (held_in going.old reel.old) (option_copied tables.entry) mark.now.counted mark.now)) }
+    ensures kept { OnErr result (reel.new.plans ≡ reel.old.plans) }
 {
     let Some(tables) = tables else {
-        return carry(settings, going, mark);
+        return carry(settings, reel, going, mark);
     };
     let Some(stamp) = mark.counted else {
-        return carry(settings, going, mark);
+        return carry(settings, reel, going, mark);
     };
     let point = Point { stamp, tables };
-    let Some(going) = going else {
-        return first(alloc, settings, &point, mark);
+    let Some(segment) = going else {
+        *going = Some(first(settings, reel, &point, mark)?);
+        return Ok(false);
     };
-    if going.is_cut(settings, &point) {
-        return cut(alloc, rendition, settings, going, &point, mark);
+    if segment.is_cut(settings, &point) {
+        cut(rendition, settings, reel, segment, &point, mark)?;
+        return Ok(true);
     }
-    grow(settings, going, mark)
+    grow(settings, reel, segment, mark)?;
+    Ok(false)
 }
 
 /// The segment goes on with this packet, if there is one.
-fn carry(settings: CutSettings, going: Option<Going>, mark: &Mark<'_>) -> Result<Placed, CutFault>
-    requires { IsAllowed settings }
-    ensures ok { IfOk result (λ p. carried settings going mark.now ≡ gives p.going p.plan) }
-    ensures err { IfErr result (Refuses (carried settings going mark.now)) }
+fn carry(
+    settings: CutSettings,
+    reel: &mut Reel,
+    going: &mut Option<Going>,
+    mark: &Mark<'_>,
+) -> Result<bool, CutFault>
+    requires settings { IsAllowed settings }
+    requires idle { IsIdle going.old reel.old }
+    ensures ok { IfOk result (Places (carried settings (held_in going.old reel.old) mark.now) reel.old reel.new going.new) }
+    ensures err { IfErr result (Refuses (carried settings (held_in going.old reel.old) mark.now)) }
+    ensures kept { OnErr result (reel.new.plans ≡ reel.old.plans) }
 {
-    let Some(going) = going else {
-        return Ok(Placed {
-            going: None,
-            plan: None,
-        });
-    };
-    grow(settings, going, mark)
+    if let Some(segment) = going {
+        grow(settings, reel, segment, mark)?;
+    }
+    Ok(false)
 }
 
 /// The segment goes on with this packet.
-fn grow(settings: CutSettings, mut going: Going, mark: &Mark<'_>) -> Result<Placed, CutFault>
+fn grow(
+    settings: CutSettings,
+    reel: &mut Reel,
+    going: &mut Going,
+    mark: &Mark<'_>,
+) -> Result<(), CutFault>
     requires { IsAllowed settings }
-    ensures ok { IfOk result (λ p. sized settings (added going mark.now) None ≡ gives p.going p.plan) }
-    ensures err { IfErr result (Refuses (sized settings (added going mark.now) None)) }
+    ensures ok { OnOk result (Places (sized settings (added (over going.old reel.old) mark.now) None) reel.old reel.new (Some going.new) false) }
+    ensures err { IfErr result (Refuses (sized settings (added (over going.old reel.old) mark.now) None)) }
+    ensures kept { OnErr result (reel.new.plans ≡ reel.old.plans) }
 {
-    going.add(mark)?;
-    check_size(settings, going, None)
+    reel.add(going.start(), mark)?;
+    going.see(mark);
+    if 188 * settings.most < reel.size() {
+        return Err(CutFault::BigSegment(going.number()));
+    }
+    Ok(())
 }
 
 /// The first segment begins with this packet.
 fn first(
-    alloc: Global,
     settings: CutSettings,
+    reel: &mut Reel,
     point: &Point<'_>,
     mark: &Mark<'_>,
-) -> Result<Placed, CutFault>
-    requires { IsAllowed settings }
-    ensures ok { IfOk result (λ p. begun settings point.now mark.now ≡ gives p.going p.plan) }
+) -> Result<Going, CutFault>
+    requires settings { IsAllowed settings }
+    requires idle { IsIdle None reel.old }
+    ensures ok { IfOk result (λ going. Places (begun settings point.now mark.now) reel.old reel.new (Some going) false) }
     ensures err { IfErr result (Refuses (begun settings point.now mark.now)) }
+    ensures kept { OnErr result (reel.new.plans ≡ reel.old.plans) }
 {
-    let mut going = Going::first(alloc, point)?;
-    going.add(mark)?;
-    check_size(settings, going, None)
+    let mut going = Going::first(point)?;
+    grow(settings, reel, &mut going, mark)?;
+    Ok(going)
 }
 
 /// The segment ends here, and the next one begins with this packet.
 fn cut(
-    alloc: Global,
     rendition: usize,
     settings: CutSettings,
-    going: Going,
+    reel: &mut Reel,
+    going: &mut Going,
     point: &Point<'_>,
     mark: &Mark<'_>,
-) -> Result<Placed, CutFault>
+) -> Result<(), CutFault>
     requires { IsAllowed settings }
-    ensures ok { IfOk result (λ p. SegmentState.cut rendition settings going point.now mark.now ≡ gives p.going p.plan) }
-    ensures err { IfErr result (Refuses (SegmentState.cut rendition settings going point.now mark.now)) }
+    ensures ok { OnOk result (Places (SegmentState.cut rendition settings (over going.old reel.old) point.now mark.now) reel.old reel.new (Some going.new) true) }
+    ensures err { IfErr result (Refuses (SegmentState.cut rendition settings (over going.old reel.old) point.now mark.now)) }
+    ensures kept { OnErr result (reel.new.plans ≡ reel.old.plans) }
 {
     let number = going.number();
     if is_long(settings, going.ticks(settings, Some(point.stamp))) {
@@ -111,27 +125,32 @@ fn cut(
     if number >= 0xFFFF_FFFE {
         return Err(CutFault::Limit);
     }
-    renew(alloc, rendition, settings, going, point, mark)
+    renew(rendition, settings, reel, going, point, mark)
 }
 
-/// The next segment, and the plan of the one before.
+/// The next segment, behind the plan of the one before.
 fn renew(
-    alloc: Global,
     rendition: usize,
     settings: CutSettings,
-    going: Going,
+    reel: &mut Reel,
+    going: &mut Going,
     point: &Point<'_>,
     mark: &Mark<'_>,
-) -> Result<Placed, CutFault>
+) -> Result<(), CutFault>
     requires settings { IsAllowed settings }
-    requires number { going.number < 2 ^ 32 }
-    ensures ok { IfOk result (λ p. renewed rendition settings going point.now mark.now ≡ gives p.going p.plan) }
-    ensures err { IfErr result (Refuses (renewed rendition settings going point.now mark.now)) }
+    requires number { going.old.number < 2 ^ 32 }
+    ensures ok { OnOk result (Places (renewed rendition settings (over going.old reel.old) point.now mark.now) reel.old reel.new (Some going.new) true) }
+    ensures err { IfErr result (Refuses (renewed rendition settings (over going.old reel.old) point.now mark.now)) }
+    ensures kept { OnErr result (reel.new.plans ≡ reel.old.plans) }
 {
-    let mut next = going.next(alloc, point)?;
-    let plan = going.close(rendition, settings, Some(point.stamp))?;
-    next.add(mark)?;
-    check_size(settings, next, Some(plan))
+    let mut next = going.next(point)?;
+    next.see(mark);
+    if 188 * settings.most < mark.bytes().len() as u64 {
+        return Err(CutFault::BigSegment(next.number()));
+    }
+    let label = going.pass(next, rendition, settings, point.stamp);
+    reel.close(label, mark.bytes(), mark.pending(point.stamp))?;
+    Ok(())
 }
 
 /// Whether so many ticks, in whole seconds, are more than the target.
@@ -142,31 +161,18 @@ fn is_long(settings: CutSettings, ticks: u64) -> bool
     settings.target < (ticks + 45_000) / 90_000
 }
 
-/// The segment that goes on, unless it has too many packets.
-fn check_size(settings: CutSettings, going: Going, plan: Option<Plan>) -> Result<Placed, CutFault>
-    requires { IsAllowed settings }
-    ensures ok { IfOk result (λ p. sized settings going plan ≡ gives p.going p.plan) }
-    ensures err { IfErr result (λ e. sized settings going plan ≡ faults e) }
-{
-    if 188 * settings.most < going.size() {
-        return Err(CutFault::BigSegment(going.number()));
-    }
-    Ok(Placed {
-        going: Some(going),
-        plan,
-    })
-}
-
-/// The plan of the last segment, at the end of the stream.
+/// Closes the last segment, at the end of the stream: its plan then stands last in the reel.
 pub(crate) fn finish(
     rendition: usize,
     settings: CutSettings,
+    reel: &mut Reel,
     tables: Option<&Tables>,
     going: Option<Going>,
-) -> Result<Plan, CutFault>
+) -> Result<(), CutFault>
     requires { IsAllowed settings }
-    ensures ok { IfOk result (λ plan. finished rendition settings (option_copied tables.entry) going ≡ gives None (Some plan)) }
-    ensures err { IfErr result (RefusesEnd (finished rendition settings (option_copied tables.entry) going)) }
+    ensures ok { OnOk result (Places (finished rendition settings (option_copied tables.entry) (held_in going reel.old)) reel.old reel.new None true) }
+    ensures err { IfErr result (RefusesEnd (finished rendition settings (option_copied tables.entry) (held_in going reel.old))) }
+    ensures kept { OnErr result (reel.new.plans ≡ reel.old.plans) }
 {
     let Some(going) = going else {
         return Err(if tables.is_none() {
@@ -178,5 +184,7 @@ pub(crate) fn finish(
     if is_long(settings, going.ticks(settings, None)) {
         return Err(CutFault::LongSegment(going.number()));
     }
-    Ok(going.close(rendition, settings, None)?)
+    let label = going.label(rendition, settings, None);
+    reel.close(label, &[], None)?;
+    Ok(())
 }

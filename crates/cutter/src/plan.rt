@@ -43,41 +43,17 @@ impl Plan {
     pub fn same(&self, other: &Plan) -> bool
         ensures { Decides result (self.now ≡ other.now) }
     {
-        if self.rendition != other.rendition {
-            return false;
-        }
-        if self.number != other.number {
-            return false;
-        }
-        if self.pat_counter != other.pat_counter {
-            return false;
-        }
-        if self.pmt_counter != other.pmt_counter {
-            return false;
-        }
-        if self.ticks != other.ticks {
-            return false;
-        }
-        if self.discontinuity != other.discontinuity {
-            return false;
-        }
-        if !self.tables.same(&other.tables) {
-            return false;
-        }
-        if !same_bytes(&self.body, &other.body) {
-            return false;
-        }
-        same_frames(&self.frames, &other.frames)
+        self.lend().same(other.lend())
     }
 }
 
-fn same_bytes(bytes: &[u8], other: &[u8]) -> bool
+pub(crate) fn same_bytes(bytes: &[u8], other: &[u8]) -> bool
     ensures { Decides result (bytes.now ≡ other.now) }
 {
     bytes == other
 }
 
-fn same_frames(frames: &[Frame], other: &[Frame]) -> bool
+pub(crate) fn same_frames(frames: &[Frame], other: &[Frame]) -> bool
     ensures { Decides result (frames.now ≡ other.now) }
 {
     frames == other

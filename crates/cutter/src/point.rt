@@ -2,9 +2,11 @@
 
 ghost use Rattle.std.specs.Prelude.{◌≡◌, ◌<◌, ◌^◌};
 ghost use Rattle.cutter.specs.SegmentState.{IsInRange, HasRange};
+ghost use Rattle.cutter.specs.Framing.{framed, no_frames, IsWithin};
 ghost use Rattle.cutter.specs.Points;
 ghost use Rattle.cutter.specs.Segments;
 
+use crate::framing::{Pending, pending_from};
 use crate::look::Look;
 use crate::settings::CutSettings;
 use pes_time::Stamp;
@@ -28,6 +30,27 @@ impl<'a> Model for Mark<'a> {
     ghost view = { λ m. mark m.packet.now m.look m.counted };
 
     ghost invariant = { λ m. HasRange m.look.stamp × HasRange m.counted };
+}
+
+impl<'a> Mark<'a> {
+    /// The bytes of the packet, where it is accepted.
+    pub(crate) fn bytes(&self) -> &[u8]
+        ensures { result.now ≡ Segments.bytes_of self.now }
+    {
+        let packet = self.packet;
+        if self.look.is_accepted { packet } else { &[] }
+    }
+
+    /// The I-frame that begins with the packet where it is the first one of a segment that begins at this stamp.
+    pub(crate) fn pending(&self, head: Stamp) -> Option<Pending>
+        ensures is { result ≡ (framed head no_frames self.now).pending }
+        ensures within { IsWithin result 0 }
+    {
+        if !self.look.starts_video {
+            return None;
+        }
+        pending_from(head, 0, self.counted)
+    }
 }
 
 /// A counted point, and the tables in force before it. Its time is in range.

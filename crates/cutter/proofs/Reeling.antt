@@ -1,0 +1,164 @@
+-- A reel whose body grows, or is closed.
+use Rattle.std.proofs.Common.{◌≡◌, ◌∙◌, ℕ, ◌+◌, ◌-◌, true, false, List, [], ◌∷◌, ◌++◌, length, drop, None, refl, sym, ap, subst, arith}
+use Rattle.std.specs.Prelude.{slice_range}
+use Rattle.std.proofs.lemmas.List.{append-nil, length-append, drop-append-le}
+use Rattle.pes_time.specs.declared.clock.Stamp.{Stamp}
+use Rattle.cutter.specs.Plans.{SegmentPlan}
+use Rattle.cutter.specs.Points.{Mark}
+use Rattle.cutter.specs.Segments.{bytes_of}
+use Rattle.cutter.specs.declared.plan.Frame.{Frame}
+use Rattle.cutter.specs.declared.reel.Row.{Row}
+use Rattle.cutter.specs.declared.reel.Reel.TheInside.{Inside}
+use Rattle.cutter.specs.Framing.{framed, end_of, pending_at, IsWithin}
+use Rattle.cutter.specs.Reels.{Filled, labelled, plan_in, plans_in, AreWithin, AreInFront, filled_by, IsLaid}
+use Rattle.cutter.proofs.Rows.{within_more, within_last, within_less, front_last, front_less, front_same, pending_more, part_more, rows_more, rows_last, past_is, past_more, rest_is}
+
+-- there are these bytes and I-frames more
+pub record Grows (s t : Inside) (more : List ℕ) (others : List Frame) : Type 0 where
+  pub bytes : t.bytes.items ≡ s.bytes.items ++ more
+  pub frames : t.frames.items ≡ s.frames.items ++ others
+
+-- and the same plans are closed
+pub record Lengthens (s t : Inside) (more : List ℕ) (others : List Frame) : Type 0 where
+  pub grows : Grows s t more others
+  pub rows : t.rows.items ≡ s.rows.items
+  pub body_at : t.body_at ≡ s.body_at
+  pub frames_at : t.frames_at ≡ s.frames_at
+
+bytes_len : (s t : Inside) (more : List ℕ) (others : List Frame) → Grows s t more others → length t.bytes.items ≡ length s.bytes.items + length more
+bytes_len s t more others g = ap (λ (l : List ℕ). length l) g.bytes ∙ length-append s.bytes.items more
+
+frames_len : (s t : Inside) (more : List ℕ) (others : List Frame) → Grows s t more others → length t.frames.items ≡ length s.frames.items + length others
+frames_len s t more others g = ap (λ (l : List Frame). length l) g.frames ∙ length-append s.frames.items others
+
+plans_same : (s t : Inside) (more : List ℕ) (others : List Frame) → IsLaid s → Grows s t more others
+    → plans_in t.bytes.items t.frames.items s.rows.items ≡ plans_in s.bytes.items s.frames.items s.rows.items
+plans_same s t more others laid g =
+    (λ i. plans_in (g.bytes i) (g.frames i) s.rows.items) ∙ rows_more s.bytes.items more s.frames.items others s.rows.items laid.within
+
+pub longer_plans : (s t : Inside) (more : List ℕ) (others : List Frame) → IsLaid s → Lengthens s t more others
+    → plans_in t.bytes.items t.frames.items t.rows.items ≡ plans_in s.bytes.items s.frames.items s.rows.items
+longer_plans s t more others laid l = ap (plans_in t.bytes.items t.frames.items) l.rows ∙ plans_same s t more others laid l.grows
+
+pub longer_laid : (s t : Inside) (more : List ℕ) (others : List Frame) → IsLaid s → Lengthens s t more others → IsWithin t.pending (length t.bytes.items - t.body_at) → IsLaid t
+longer_laid s t more others laid l pending =
+    let b = bytes_len s t more others l.grows in
+    let f = frames_len s t more others l.grows in
+    record {
+      within = rw l.rows (within_more _ _ _ _ s.rows.items (omega (arith, b)) (omega (arith, f)) laid.within);
+      body = omega (arith, b, l.body_at, laid.body);
+      frames = omega (arith, f, l.frames_at, laid.frames);
+      pending = pending;
+      front = rw (l.rows, l.body_at, l.frames_at) laid.front;
+    }
+
+-- the I-frame that went on still lies in the body
+pub still_within : (s t : Inside) (more : List ℕ) (others : List Frame) → IsLaid s → Lengthens s t more others → t.pending ≡ s.pending → IsWithin t.pending (length t.bytes.items - t.body_at)
+still_within s t more others laid l same =
+    rw same (pending_more s.pending _ _ (omega (arith, bytes_len s t more others l.grows, l.body_at, laid.body)) laid.pending)
+
+-- so does one that begins behind the old bytes
+pub then_within : (s t : Inside) (more : List ℕ) (others : List Frame) → IsLaid s → Lengthens s t more others → IsWithin t.pending (length s.bytes.items - s.body_at) → IsWithin t.pending (length t.bytes.items - t.body_at)
+then_within s t more others laid l at =
+    pending_more t.pending _ _ (omega (arith, bytes_len s t more others l.grows, l.body_at, laid.body)) at
+
+pub longer_is : (s t : Inside) (more : List ℕ) (others : List Frame) → IsLaid s → Lengthens s t more others → filled_by t ≡ record {
+  plans = plans_in s.bytes.items s.frames.items s.rows.items;
+  body = drop s.body_at s.bytes.items ++ more;
+  framing = record { ended = drop s.frames_at s.frames.items ++ others; pending = t.pending; offset = (length s.bytes.items - s.body_at) + length more };
+}
+longer_is s t more others laid l =
+    let b = bytes_len s t more others l.grows in
+    let body : drop t.body_at t.bytes.items ≡ drop s.body_at s.bytes.items ++ more = (λ i. drop (l.body_at i) (l.grows.bytes i)) ∙ drop-append-le s.body_at s.bytes.items more laid.body in
+    let ended : drop t.frames_at t.frames.items ≡ drop s.frames_at s.frames.items ++ others = (λ i. drop (l.frames_at i) (l.grows.frames i)) ∙ drop-append-le s.frames_at s.frames.items others laid.frames in
+    let offset : length t.bytes.items - t.body_at ≡ (length s.bytes.items - s.body_at) + length more = omega (arith, b, l.body_at, laid.body) in
+    λ i. record { plans = longer_plans s t more others laid l i; body = body i; framing = record { ended = ended i; pending = t.pending; offset = offset i } }
+
+-- with a packet in which a video start is, and in which none is
+abbrev with_packet : Stamp → Filled → Mark → Filled
+with_packet head f m = record { plans = f.plans; body = f.body ++ bytes_of m; framing = framed head f.framing m }
+
+pub started_is : (s t : Inside) (v : Filled) (head : Stamp) (m : Mark) → IsLaid s → filled_by s ≡ v → m.look.starts_video ≡ true
+    → Lengthens s t (bytes_of m) (end_of s.pending (length s.bytes.items - s.body_at)) → t.pending ≡ pending_at head (length s.bytes.items - s.body_at) m.counted
+    → filled_by t ≡ with_packet head v m
+started_is s t v head m laid is starts l pending =
+    longer_is s t _ _ laid l ∙ (rw (← is, starts, pending) refl)
+
+pub unstarted_is : (s t : Inside) (v : Filled) (head : Stamp) (m : Mark) → IsLaid s → filled_by s ≡ v → m.look.starts_video ≡ false
+    → Lengthens s t (bytes_of m) [] → t.pending ≡ s.pending → filled_by t ≡ with_packet head v m
+unstarted_is s t v head m laid is starts l pending =
+    longer_is s t _ _ laid l ∙ (rw (← is, starts, pending) (ap (λ (ended : List Frame). record {
+      plans = plans_in s.bytes.items s.frames.items s.rows.items;
+      body = drop s.body_at s.bytes.items ++ bytes_of m;
+      framing = record { ended = ended; pending = s.pending; offset = (length s.bytes.items - s.body_at) + length (bytes_of m) };
+    }) (append-nil _)))
+
+-- the body that went on is closed, and the rest goes on
+pub record Ends (s t : Inside) (row : Row) (more : List ℕ) (others : List Frame) : Type 0 where
+  pub grows : Grows s t more others
+  pub rows : t.rows.items ≡ s.rows.items ++ row ∷ []
+  pub at : row.body_at ≡ s.body_at
+  pub end : row.body_end ≡ length s.bytes.items
+  pub frames_at : row.frames_at ≡ s.frames_at
+  pub frames_end : row.frames_end ≡ length t.frames.items
+  pub next_at : t.body_at ≡ length s.bytes.items
+  pub next_frames_at : t.frames_at ≡ length t.frames.items
+
+pub ends_laid : (s t : Inside) (row : Row) (more : List ℕ) (others : List Frame) → IsLaid s → Ends s t row more others → IsWithin t.pending 0 → IsLaid t
+ends_laid s t row more others laid e pending =
+    let b = bytes_len s t more others e.grows in
+    let f = frames_len s t more others e.grows in
+    record {
+      within = rw e.rows (within_last _ _ s.rows.items row (within_more _ _ _ _ s.rows.items (omega (arith, b)) (omega (arith, f)) laid.within)
+          (omega (arith, e.at, e.end, laid.body)) (omega (arith, e.end, b)) (omega (arith, e.frames_at, e.frames_end, f, laid.frames)) (omega (arith, e.frames_end)));
+      body = omega (arith, b, e.next_at);
+      frames = omega (arith, e.next_frames_at);
+      pending = pending_more t.pending 0 _ (omega arith) pending;
+      front = rw e.rows (front_last s.body_at s.frames_at t.body_at t.frames_at s.rows.items row laid.front e.at e.frames_at);
+    }
+
+pub ends_is : (s t : Inside) (row : Row) (more : List ℕ) (others : List Frame) → IsLaid s → Ends s t row more others → filled_by t ≡ record {
+  plans = plans_in s.bytes.items s.frames.items s.rows.items ++ labelled row.label (drop s.body_at s.bytes.items) (drop s.frames_at s.frames.items ++ others) ∷ [];
+  body = more;
+  framing = record { ended = []; pending = t.pending; offset = length more };
+}
+ends_is s t row more others laid e =
+    let b = bytes_len s t more others e.grows in
+    let own : slice_range t.bytes.items row.body_at row.body_end ≡ drop s.body_at s.bytes.items =
+    (λ i. slice_range (e.grows.bytes i) (e.at i) (e.end i)) ∙ part_more s.bytes.items more s.body_at (length s.bytes.items) laid.body (omega arith) ∙ rest_is s.bytes.items s.body_at in
+    let shots : slice_range t.frames.items row.frames_at row.frames_end ≡ drop s.frames_at s.frames.items ++ others =
+    (λ i. slice_range t.frames.items (e.frames_at i) (e.frames_end i)) ∙ rest_is t.frames.items s.frames_at ∙ ap (drop s.frames_at) e.grows.frames ∙ drop-append-le s.frames_at s.frames.items others laid.frames in
+    let plans : plans_in t.bytes.items t.frames.items t.rows.items ≡ plans_in s.bytes.items s.frames.items s.rows.items ++ labelled row.label (drop s.body_at s.bytes.items) (drop s.frames_at s.frames.items ++ others) ∷ [] =
+    ap (plans_in t.bytes.items t.frames.items) e.rows ∙ rows_last t.bytes.items t.frames.items s.rows.items row
+    ∙ (λ i. plans_same s t more others laid e.grows i ++ labelled row.label (own i) (shots i) ∷ []) in
+    let body : drop t.body_at t.bytes.items ≡ more = (λ i. drop (e.next_at i) (e.grows.bytes i)) ∙ past_more s.bytes.items more in
+    let ended : drop t.frames_at t.frames.items ≡ [] = ap (λ n. drop n t.frames.items) e.next_frames_at ∙ past_is t.frames.items in
+    let offset : length t.bytes.items - t.body_at ≡ length more = omega (arith, b, e.next_at) in
+    λ i. record { plans = plans i; body = body i; framing = record { ended = ended i; pending = t.pending; offset = offset i } }
+
+-- without its last plan
+pub record Reopens (s t : Inside) (row : Row) : Type 0 where
+  pub bytes : t.bytes ≡ s.bytes
+  pub frames : t.frames ≡ s.frames
+  pub rows : s.rows.items ≡ t.rows.items ++ row ∷ []
+  pub at : t.body_at ≡ row.body_at
+  pub frames_at : t.frames_at ≡ row.frames_at
+  pub pending : t.pending ≡ None
+
+pub reopens_laid : (s t : Inside) (row : Row) → IsLaid s → Reopens s t row → IsLaid t
+reopens_laid s t row laid r =
+    let within = within_less _ _ t.rows.items row (subst (AreWithin (length s.bytes.items) (length s.frames.items)) r.rows laid.within) in
+    record {
+      within = rw (r.bytes, r.frames) within.0;
+      body = rw (r.bytes, r.at) within.1;
+      frames = rw (r.frames, r.frames_at) within.2;
+      pending = rw r.pending tt;
+      front = rw (r.at, r.frames_at) (front_less s.body_at s.frames_at t.rows.items row (subst (AreInFront s.body_at s.frames_at) r.rows laid.front));
+    }
+
+pub reopens_is : (s t : Inside) (v : Filled) (row : Row) (plans : List SegmentPlan) (last : SegmentPlan) → filled_by s ≡ v → Reopens s t row → v.plans ≡ plans ++ last ∷ []
+    → plans_in t.bytes.items t.frames.items t.rows.items ≡ plans
+reopens_is s t v row plans last is r whole =
+    let same : plans_in t.bytes.items t.frames.items t.rows.items ≡ plans_in s.bytes.items s.frames.items t.rows.items = λ i. plans_in (r.bytes i).items (r.frames i).items t.rows.items in
+    same ∙ front_same _ plans (plan_in s.bytes.items s.frames.items row) last
+    (sym (rows_last s.bytes.items s.frames.items t.rows.items row) ∙ ap (plans_in s.bytes.items s.frames.items) (sym r.rows) ∙ ap (λ (f : Filled). f.plans) is ∙ whole)

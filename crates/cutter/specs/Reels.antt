@@ -1,0 +1,64 @@
+-- What a reel holds: plans that are closed, and the body that goes on behind them.
+use Rattle.std.specs.Prelude.{◌≡◌, ℕ, ◌-◌, ◌≤◌, List, [], ◌∷◌, length, drop, slice_range}
+use Rattle.cutter.specs.declared.plan.Frame.{Frame}
+use Rattle.cutter.specs.declared.reel.Label.{Label}
+use Rattle.cutter.specs.declared.reel.Row.{Row}
+use Rattle.cutter.specs.declared.reel.Reel.TheInside.{Inside as ReelInside}
+use Rattle.cutter.specs.Plans.{SegmentPlan}
+use Rattle.cutter.specs.Framing.{Framing, no_frames, IsWithin}
+
+pub record Filled : Type 0 where
+  pub plans : List SegmentPlan
+  pub body : List ℕ
+  pub framing : Framing
+
+abbrev pub unfilled : Filled
+unfilled = record { plans = []; body = []; framing = no_frames }
+
+-- a plan with this body and these I-frames
+abbrev pub labelled : Label → List ℕ → List Frame → SegmentPlan
+labelled label body frames = record {
+  rendition = label.rendition;
+  number = label.number;
+  tables = label.tables;
+  pat_counter = label.pat_counter;
+  pmt_counter = label.pmt_counter;
+  body = body;
+  frames = frames;
+  ticks = label.ticks;
+  discontinuity = label.discontinuity;
+}
+
+-- a closed plan, whose body and I-frames lie among those of the reel
+abbrev pub plan_in : List ℕ → List Frame → Row → SegmentPlan
+plan_in bytes frames row =
+    labelled row.label (slice_range bytes row.body_at row.body_end) (slice_range frames row.frames_at row.frames_end)
+
+abbrev pub plans_in : List ℕ → List Frame → List Row → List SegmentPlan
+plans_in bytes frames [] = []
+plans_in bytes frames (row ∷ rows) = plan_in bytes frames row ∷ plans_in bytes frames rows
+
+-- each lies there
+abbrev pub AreWithin : ℕ → ℕ → List Row → Type 0
+AreWithin bytes frames [] = Unit {0}
+AreWithin bytes frames (row ∷ rows) =
+    (row.body_at ≤ row.body_end) × (row.body_end ≤ bytes) × (row.frames_at ≤ row.frames_end) × (row.frames_end ≤ frames) × AreWithin bytes frames rows
+
+-- the first one, or else the body that goes on, lies in front
+abbrev pub AreInFront : ℕ → ℕ → List Row → Type 0
+AreInFront body_at frames_at [] = (body_at ≡ 0) × (frames_at ≡ 0)
+AreInFront body_at frames_at (row ∷ rows) = (row.body_at ≡ 0) × (row.frames_at ≡ 0)
+
+abbrev pub filled_by : ReelInside → Filled
+filled_by s = record {
+  plans = plans_in s.bytes.items s.frames.items s.rows.items;
+  body = drop s.body_at s.bytes.items;
+  framing = record { ended = drop s.frames_at s.frames.items; pending = s.pending; offset = length s.bytes.items - s.body_at };
+}
+
+pub record IsLaid (s : ReelInside) : Type 0 where
+  pub within : AreWithin (length s.bytes.items) (length s.frames.items) s.rows.items
+  pub body : s.body_at ≤ length s.bytes.items
+  pub frames : s.frames_at ≤ length s.frames.items
+  pub pending : IsWithin s.pending (length s.bytes.items - s.body_at)
+  pub front : AreInFront s.body_at s.frames_at s.rows.items

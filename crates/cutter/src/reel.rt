@@ -1,0 +1,256 @@
+//! Plans that are closed, and the body that goes on behind them.
+
+ghost use Rattle.std.specs.Prelude.{◌≡◌, ◌≤◌, ◌++◌, ◌∷◌, [], List, Some, None, IfSome, IfNone, OnOk, OnErr, slice_get, slice_range, length};
+ghost use Rattle.cutter.specs.Plans.{SegmentPlan};
+ghost use Rattle.cutter.specs.Lent.{lent};
+ghost use Rattle.cutter.specs.Segments.{bytes_of};
+ghost use Rattle.cutter.specs.Framing.{framed, frames_by, no_frames, IsWithin};
+ghost use Rattle.cutter.specs.Reels.{labelled, plan_in, unfilled};
+
+use crate::framing::{Pending, end_frame, pending_from};
+use crate::lent::PlanRef;
+use crate::plan::{Frame, Plan};
+use crate::point::Mark;
+use pes_time::Stamp;
+use psi_tables::Tables;
+use std::alloc::{AllocError, Global};
+use std::marker::Model;
+
+/// All of a plan but its body and its I-frames.
+#[derive(Drop)]
+pub(crate) struct Label {
+    pub rendition: usize,
+    pub number: u64,
+    pub tables: Tables,
+    pub pat_counter: u8,
+    pub pmt_counter: u8,
+    pub ticks: u64,
+    pub discontinuity: bool,
+}
+
+/// A closed plan, and where its body and its I-frames lie.
+#[derive(Drop)]
+pub(crate) struct Row {
+    label: Label,
+    body_at: usize,
+    body_end: usize,
+    frames_at: usize,
+    frames_end: usize,
+}
+
+/// The bodies of closed plans in one run of bytes, one behind the other, and behind them the body that goes on.
+///
+/// Clauses see the plans, and the body that goes on with its I-frames.
+#[derive(Drop)]
+pub(crate) struct Reel {
+    bytes: Vec<u8>,
+    frames: Vec<Frame>,
+    rows: Vec<Row>,
+    body_at: usize,
+    frames_at: usize,
+    pending: Option<Pending>,
+}
+
+impl Model for Reel {
+    ghost use Rattle.cutter.specs.Reels.{Filled};
+
+    ghost Value = { Filled };
+
+    ghost use Rattle.cutter.specs.Reels.{filled_by, IsLaid};
+
+    ghost view = { filled_by };
+
+    ghost invariant = { IsLaid };
+}
+
+impl Reel {
+    /// A reel that holds nothing.
+    pub(crate) fn new(alloc: Global) -> Reel
+        ensures { result ≡ unfilled }
+    {
+        Reel {
+            bytes: Vec::new(alloc),
+            frames: Vec::new(alloc),
+            rows: Vec::new(alloc),
+            body_at: 0,
+            frames_at: 0,
+            pending: None,
+        }
+    }
+
+    /// How many plans are closed.
+    pub(crate) fn plans(&self) -> usize
+        ensures { result ≡ length self.now.plans }
+    {
+        self.rows.len()
+    }
+
+    /// A closed plan, lent.
+    pub(crate) fn plan(&self, i: usize) -> Option<PlanRef<'_>>
+        ensures some { IfSome result (λ plan. slice_get self.now.plans i ≡ Some (lent plan)) }
+        ensures none { IfNone result (length self.now.plans ≤ i) }
+    {
+        if i >= self.rows.len() {
+            return None;
+        }
+        Some(lend_row(&self.rows[i], &self.bytes, &self.frames))
+    }
+
+    /// The first plan, its body and its I-frames moved out. The rest is let go.
+    pub(crate) fn into_first(self) -> Option<Plan>
+        ensures { result ≡ slice_get self.plans 0 }
+    {
+        let Reel {
+            mut bytes,
+            mut frames,
+            mut rows,
+            ..
+        } = self;
+        rows.truncate(1);
+        let Some(row) = rows.pop() else {
+            return None;
+        };
+        bytes.truncate(row.body_end);
+        frames.truncate(row.frames_end);
+        let Row { label, .. } = row;
+        Some(Plan {
+            rendition: label.rendition,
+            number: label.number,
+            tables: label.tables,
+            pat_counter: label.pat_counter,
+            pmt_counter: label.pmt_counter,
+            body: bytes,
+            frames,
+            ticks: label.ticks,
+            discontinuity: label.discontinuity,
+        })
+    }
+
+    /// How many bytes the body that goes on has.
+    pub(crate) fn size(&self) -> u64
+        ensures { result ≡ length self.now.body }
+    {
+        (self.bytes.len() - self.body_at) as u64
+    }
+
+    /// Takes one packet more into the body that goes on, of a segment that begins at this stamp.
+    pub(crate) fn add(&mut self, head: Stamp, mark: &Mark<'_>) -> Result<(), AllocError>
+        ensures ok { OnOk result (self.new ≡ record self.old { body = self.old.body ++ bytes_of mark.now; framing = framed head self.old.framing mark.now }) }
+        ensures err { OnErr result (self.new.plans ≡ self.old.plans) }
+    {
+        let offset = (self.bytes.len() - self.body_at) as u64;
+        self.bytes.extend_from_slice(mark.bytes())?;
+        if mark.look.starts_video {
+            let pending = self.pending;
+            end_frame(&mut self.frames, pending, offset)?;
+            self.pending = pending_from(head, offset, mark.counted);
+        }
+        Ok(())
+    }
+
+    /// Closes the body that goes on, and begins the next one with these bytes.
+    pub(crate) fn close(
+        &mut self,
+        label: Label,
+        next: &[u8],
+        pending: Option<Pending>,
+    ) -> Result<(), AllocError>
+        requires { IsWithin pending 0 }
+        ensures ok { OnOk result (self.new ≡ record {
+          plans = self.old.plans ++ labelled label self.old.body (frames_by self.old.framing) ∷ [];
+          body = next.now;
+          framing = record { ended = []; pending = pending; offset = length next.now };
+        }) }
+        ensures err { OnErr result (self.new.plans ≡ self.old.plans) }
+    {
+        let body_end = self.bytes.len();
+        let offset = (body_end - self.body_at) as u64;
+        self.bytes.extend_from_slice(next)?;
+        end_frame(&mut self.frames, self.pending, offset)?;
+        let frames_end = self.frames.len();
+        self.rows.push(Row {
+            label,
+            body_at: self.body_at,
+            body_end,
+            frames_at: self.frames_at,
+            frames_end,
+        })?;
+        self.body_at = body_end;
+        self.frames_at = frames_end;
+        self.pending = pending;
+        Ok(())
+    }
+
+    /// Lets go of the last plan: its body goes on.
+    pub(crate) fn reopen(&mut self)
+        ensures { (plans : List SegmentPlan) (last : SegmentPlan) → self.old.plans ≡ plans ++ last ∷ [] → self.new.plans ≡ plans }
+    {
+        let Some(row) = self.rows.pop() else {
+            return;
+        };
+        self.body_at = row.body_at;
+        self.frames_at = row.frames_at;
+        self.pending = None;
+    }
+
+    /// Lets go of all that it holds, but for its memory.
+    pub(crate) fn clear(&mut self)
+        ensures { self.new ≡ unfilled }
+    {
+        self.bytes.clear();
+        self.frames.clear();
+        self.rows.clear();
+        self.body_at = 0;
+        self.frames_at = 0;
+        self.pending = None;
+    }
+
+    /// Holds a copy of the body that goes on in another, and no plans.
+    pub(crate) fn copy_open(&mut self, other: &Reel) -> Result<(), AllocError>
+        ensures { OnOk result (self.new ≡ record other.now { plans = [] }) }
+    {
+        self.clear();
+        self.bytes
+            .extend_from_slice(bytes_part(&other.bytes, other.body_at, other.bytes.len()))?;
+        self.frames.extend_from_slice(frames_part(
+            &other.frames,
+            other.frames_at,
+            other.frames.len(),
+        ))?;
+        self.pending = other.pending;
+        Ok(())
+    }
+}
+
+/// A closed plan, lent.
+fn lend_row<'s>(row: &'s Row, bytes: &'s [u8], frames: &'s [Frame]) -> PlanRef<'s>
+    requires body { (row.now.body_at ≤ row.now.body_end) × (row.now.body_end ≤ length bytes.now) }
+    requires frames { (row.now.frames_at ≤ row.now.frames_end) × (row.now.frames_end ≤ length frames.now) }
+    ensures { lent result ≡ plan_in bytes.now frames.now row.now }
+{
+    PlanRef {
+        rendition: row.label.rendition,
+        number: row.label.number,
+        tables: &row.label.tables,
+        pat_counter: row.label.pat_counter,
+        pmt_counter: row.label.pmt_counter,
+        body: bytes_part(bytes, row.body_at, row.body_end),
+        frames: frames_part(frames, row.frames_at, row.frames_end),
+        ticks: row.label.ticks,
+        discontinuity: row.label.discontinuity,
+    }
+}
+
+fn bytes_part(bytes: &[u8], at: usize, end: usize) -> &[u8]
+    requires { (at ≤ end) × (end ≤ length bytes.now) }
+    ensures { result.now ≡ slice_range bytes.now at end }
+{
+    &bytes[at..end]
+}
+
+fn frames_part(frames: &[Frame], at: usize, end: usize) -> &[Frame]
+    requires { (at ≤ end) × (end ≤ length frames.now) }
+    ensures { result.now ≡ slice_range frames.now at end }
+{
+    &frames[at..end]
+}
