@@ -1,5 +1,4 @@
 ghost use Rattle.std.specs.Prelude.{◌≡◌, ◌+◌, ◌<◌, ◌^◌, [], ℕ, List, false, None, All, map, length, IfOk, IfErr, OnOk, OnErr};
-ghost use Rattle.std.specs.Arc.{arc_value};
 ghost use Rattle.segment_job.specs.Segments.{sealed_segment};
 ghost use Rattle.master_playlist.specs.Faults.{fault_of};
 ghost use Rattle.ladder_items.specs.declared.fault.PackFault.TheVariants.{NoMemory};
@@ -19,7 +18,6 @@ use cutter::Plan;
 use item_io::Outlet;
 use segment_job::{Keys, Sealed, seal_plan};
 use std::alloc::{AllocError, Global};
-use std::sync::Arc;
 
 /// Gives the next segments of rendition `r`, each with the playlists behind it.
 pub fn give_segments<O: Outlet>(
@@ -42,7 +40,7 @@ pub fn give_segments<O: Outlet>(
     ensures fault { IfErr result (λ fault. SaysFailures fault (O.failures outlet.old) (O.failures outlet.new)) }
 {
     for plan in plans {
-        give_segment(alloc, outlet, settings, r, plan, playlists)?;
+        give_segment(alloc, outlet, settings, r, &plan, playlists)?;
     }
     Ok(())
 }
@@ -75,17 +73,17 @@ fn give_segment<O: Outlet>(
     outlet: &mut O,
     settings: &Settings,
     r: usize,
-    plan: Plan,
+    plan: &Plan,
     playlists: &mut Vec<Playlists>,
 ) -> Result<(), PackFault>
     requires failures { O.failures outlet.old < 2 ^ 63 }
     requires allowed { IsAllowed settings.now }
-    requires next { (parts : List Part) × IsNext settings.now r parts playlists.old.items plan }
-    ensures ok { OnOk result ((parts : List Part) → IsNext settings.now r parts playlists.old.items plan →
-        PutAll (outlet_of O.holds O.broken O.failures) outlet.old outlet.new (block settings.now parts (Row r plan))
-        × (playlists.new.items ≡ shown_all settings.now (after parts (Row r plan)))) }
-    ensures err { OnErr result ((parts : List Part) → IsNext settings.now r parts playlists.old.items plan →
-        PutSome (outlet_of O.holds O.broken O.failures) outlet.old outlet.new (block settings.now parts (Row r plan))) }
+    requires next { (parts : List Part) × IsNext settings.now r parts playlists.old.items plan.now }
+    ensures ok { OnOk result ((parts : List Part) → IsNext settings.now r parts playlists.old.items plan.now →
+        PutAll (outlet_of O.holds O.broken O.failures) outlet.old outlet.new (block settings.now parts (Row r plan.now))
+        × (playlists.new.items ≡ shown_all settings.now (after parts (Row r plan.now)))) }
+    ensures err { OnErr result ((parts : List Part) → IsNext settings.now r parts playlists.old.items plan.now →
+        PutSome (outlet_of O.holds O.broken O.failures) outlet.old outlet.new (block settings.now parts (Row r plan.now))) }
     ensures failures { OnOk result (O.failures outlet.new ≡ O.failures outlet.old) }
     ensures fault { IfErr result (λ fault. SaysFailures fault (O.failures outlet.old) (O.failures outlet.new)) }
 {
@@ -95,12 +93,16 @@ fn give_segment<O: Outlet>(
 }
 
 /// Seals a segment of rendition `r`.
-fn seal(alloc: Global, settings: &Settings, r: usize, plan: Plan) -> Result<Sealed, AllocError>
+fn seal<'s>(
+    alloc: Global,
+    settings: &Settings,
+    r: usize,
+    plan: &'s Plan,
+) -> Result<Sealed<'s>, AllocError>
     requires { r < length settings.now.renditions }
-    ensures { IfOk result (λ sealed. sealed ≡ sealed_segment (rendition_at settings.now r).keys plan) }
+    ensures { IfOk result (λ sealed. sealed ≡ sealed_segment (rendition_at settings.now r).keys plan.now) }
 {
-    let shared = shared(alloc, plan)?;
-    seal_plan(alloc, shared, keys_of(settings, r))
+    seal_plan(alloc, plan.lend(), keys_of(settings, r))
 }
 
 /// Gives the next segment of rendition `r`, which is sealed under the rendition's keys, its playlists and the master
@@ -110,18 +112,18 @@ pub fn give_sealed<O: Outlet>(
     outlet: &mut O,
     settings: &Settings,
     r: usize,
-    sealed: Sealed,
+    sealed: Sealed<'_>,
     playlists: &mut Vec<Playlists>,
 ) -> Result<(), PackFault>
     requires failures { O.failures outlet.old < 2 ^ 63 }
     requires allowed { IsAllowed settings.now }
     requires next { (parts : List Part) × IsNext settings.now r parts playlists.old.items sealed.plan }
     requires sealed { sealed ≡ sealed_segment (rendition_at settings.now r).keys sealed.plan }
-    ensures ok { OnOk result ((parts : List Part) → IsNext settings.now r parts playlists.old.items sealed.plan →
-        PutAll (outlet_of O.holds O.broken O.failures) outlet.old outlet.new (block settings.now parts (Row r sealed.plan))
-        × (playlists.new.items ≡ shown_all settings.now (after parts (Row r sealed.plan)))) }
-    ensures err { OnErr result ((parts : List Part) → IsNext settings.now r parts playlists.old.items sealed.plan →
-        PutSome (outlet_of O.holds O.broken O.failures) outlet.old outlet.new (block settings.now parts (Row r sealed.plan))) }
+    ensures ok { OnOk result ((parts : List Part) → IsNext settings.now r parts playlists.old.items sealed.entry.plan →
+        PutAll (outlet_of O.holds O.broken O.failures) outlet.old outlet.new (block settings.now parts (Row r sealed.entry.plan))
+        × (playlists.new.items ≡ shown_all settings.now (after parts (Row r sealed.entry.plan)))) }
+    ensures err { OnErr result ((parts : List Part) → IsNext settings.now r parts playlists.old.items sealed.entry.plan →
+        PutSome (outlet_of O.holds O.broken O.failures) outlet.old outlet.new (block settings.now parts (Row r sealed.entry.plan))) }
     ensures failures { OnOk result (O.failures outlet.new ≡ O.failures outlet.old) }
     ensures fault { IfErr result (λ fault. SaysFailures fault (O.failures outlet.old) (O.failures outlet.new)) }
 {
@@ -136,7 +138,7 @@ fn put_block<O: Outlet>(
     outlet: &mut O,
     settings: &Settings,
     r: usize,
-    sealed: Sealed,
+    sealed: Sealed<'_>,
     playlists: &[Playlists],
 ) -> Result<(), PackFault>
     requires failures { O.failures outlet.old < 2 ^ 63 }
@@ -144,8 +146,8 @@ fn put_block<O: Outlet>(
     requires each { length playlists.now ≡ length settings.now.renditions }
     requires within { r < length playlists.now }
     requires going { All (λ shown. shown.ended ≡ false) playlists.now }
-    ensures ok { OnOk result (PutAll (outlet_of O.holds O.broken O.failures) outlet.old outlet.new (block_of settings.now r sealed playlists.now)) }
-    ensures err { OnErr result (PutSome (outlet_of O.holds O.broken O.failures) outlet.old outlet.new (block_of settings.now r sealed playlists.now)) }
+    ensures ok { OnOk result (PutAll (outlet_of O.holds O.broken O.failures) outlet.old outlet.new (block_of settings.now r sealed.entry playlists.now)) }
+    ensures err { OnErr result (PutSome (outlet_of O.holds O.broken O.failures) outlet.old outlet.new (block_of settings.now r sealed.entry playlists.now)) }
     ensures fault { IfErr result (λ fault. SaysFailures fault (O.failures outlet.old) (O.failures outlet.new)) }
 {
     let rendition = rendition_of(settings, r);
@@ -160,7 +162,7 @@ fn add_row(
     alloc: Global,
     settings: &Settings,
     r: usize,
-    sealed: &Sealed,
+    sealed: &Sealed<'_>,
     playlists: &mut Vec<Playlists>,
 ) -> Result<(), PackFault>
     requires allowed { IsAllowed settings.now }
@@ -192,14 +194,4 @@ fn rendition_of(settings: &Settings, r: usize) -> &Rendition
     ensures { result.now ≡ rendition_at settings.now r }
 {
     &settings.renditions[r]
-}
-
-/// A plan that can be shared.
-fn shared(alloc: Global, plan: Plan) -> Result<Arc<Plan, Global>, AllocError>
-    ensures { IfOk result (λ shared. arc_value shared ≡ plan) }
-{
-    match Arc::new(alloc, plan) {
-        Ok(shared) => Ok(shared),
-        Err(refused) => Err(AllocError::from(refused)),
-    }
 }

@@ -34,17 +34,16 @@ pub fn put_segment<O: Outlet>(
     outlet: &mut O,
     r: usize,
     rendition: &Rendition,
-    sealed: Sealed,
+    sealed: Sealed<'_>,
 ) -> Result<(), PackFault>
     requires { O.failures outlet.old < 2 ^ 63 }
-    ensures ok { OnOk result (PutAll (outlet_of O.holds O.broken O.failures) outlet.old outlet.new (segment_of r rendition.now sealed ∷ [])) }
-    ensures err { OnErr result (PutSome (outlet_of O.holds O.broken O.failures) outlet.old outlet.new (segment_of r rendition.now sealed ∷ [])) }
+    ensures ok { OnOk result (PutAll (outlet_of O.holds O.broken O.failures) outlet.old outlet.new (segment_of r rendition.now sealed.entry ∷ [])) }
+    ensures err { OnErr result (PutSome (outlet_of O.holds O.broken O.failures) outlet.old outlet.new (segment_of r rendition.now sealed.entry ∷ [])) }
     ensures fault { IfErr result (λ fault. SaysFailures fault (O.failures outlet.old) (O.failures outlet.new)) }
 {
     let name = rendition.name.clone()?;
     let (plan, bytes) = sealed.into_parts();
     let number = plan.number;
-    drop(plan);
     let item = Item::Segment {
         rendition: r,
         number,

@@ -5,7 +5,7 @@ ghost use Rattle.playlist_text.specs.Numbers;
 ghost use Rattle.ladder_items.specs.Rows.{frame_row};
 ghost use Rattle.ladder_items.specs.Rows;
 
-use cutter::{Frame, Plan};
+use cutter::{Frame, PlanRef};
 use media_playlist::{FrameRow, Row};
 use playlist_text::micros;
 use segment_job::{Keys, Sealed};
@@ -13,7 +13,7 @@ use std::alloc::{AllocError, Global};
 
 /// The row of a sealed segment in its playlists. Its I-frames lie within its body and its time, which are small.
 #[tactic(auto, unfolding(crate::specs::Rows::row_of))]
-pub fn row_of(alloc: Global, sealed: &Sealed, keys: &Keys) -> Result<Row, AllocError>
+pub fn row_of(alloc: Global, sealed: &Sealed<'_>, keys: &Keys) -> Result<Row, AllocError>
     requires short { sealed.now.plan.ticks < 2 ^ 45 }
     requires small { length sealed.now.plan.body < 2 ^ 31 }
     requires inside { All (IsInside (length sealed.now.plan.body) sealed.now.plan.ticks) sealed.now.plan.frames }
@@ -33,7 +33,7 @@ pub fn row_of(alloc: Global, sealed: &Sealed, keys: &Keys) -> Result<Row, AllocE
 }
 
 /// How long the head of a segment is: one packet for its PAT, and at most six for its PMT.
-fn head_len(sealed: &Sealed) -> u64
+fn head_len(sealed: &Sealed<'_>) -> u64
     ensures value { result ≡ length (plan_head sealed.now.plan) }
     ensures short { result ≤ 188 * 7 }
 {
@@ -43,14 +43,14 @@ fn head_len(sealed: &Sealed) -> u64
 }
 
 /// The I-frames of a segment behind a head of so many bytes.
-fn frame_rows(alloc: Global, head: u64, plan: &Plan) -> Result<Vec<FrameRow>, AllocError>
+fn frame_rows(alloc: Global, head: u64, plan: PlanRef<'_>) -> Result<Vec<FrameRow>, AllocError>
     requires head { head < 2 ^ 32 }
-    requires short { plan.now.ticks < 2 ^ 45 }
-    requires small { length plan.now.body < 2 ^ 32 }
-    requires inside { All (IsInside (length plan.now.body) plan.now.ticks) plan.now.frames }
-    ensures { IfOk result (λ rows. rows.items ≡ Rows.frame_rows head plan.now.ticks plan.now.frames) }
+    requires short { plan.ticks < 2 ^ 45 }
+    requires small { length plan.body.now < 2 ^ 32 }
+    requires inside { All (IsInside (length plan.body.now) plan.ticks) plan.frames.now }
+    ensures { IfOk result (λ rows. rows.items ≡ Rows.frame_rows head plan.entry.ticks plan.entry.frames.now) }
 {
-    let frames = plan.frames.as_slice();
+    let frames = plan.frames;
     let mut rows = Vec::new(alloc);
     for i in 0..frames.len() {
         let end = end_of(plan.ticks, frames, i);

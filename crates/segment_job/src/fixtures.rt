@@ -1,9 +1,8 @@
 //! Streams and segments for tests.
 
 use crate::{Keys, Sealed, seal_plan};
-use cutter::{CutSettings, cut_stream};
+use cutter::{CutSettings, Plan, cut_stream};
 use std::alloc::{AllocError, Global};
-use std::sync::Arc;
 use std::test::Fail;
 
 /// Program 1 with its PMT on PID 0x1000, in a packet.
@@ -88,27 +87,32 @@ pub(crate) fn two_keys(alloc: Global) -> Result<Keys, Fail> {
     Ok(Keys::new(keys, 1)?)
 }
 
-/// The segments of a stream, sealed.
-pub(crate) fn seal_stream(
-    alloc: Global,
-    stream: &[&[u8]],
-    keys: &Keys,
-) -> Result<Vec<Sealed>, Fail> {
+/// The plans of a stream.
+pub(crate) fn plans_of(alloc: Global, stream: &[&[u8]]) -> Result<Vec<Plan>, Fail> {
     let mut packets = Vec::new(alloc);
     for begin in stream {
         packets.push(filled(begin))?;
     }
     let mut plans = Vec::new(alloc);
     cut_stream(alloc, 0, SETTINGS, &packets, &mut plans)?;
+    Ok(plans)
+}
+
+/// The segments of some plans, sealed.
+pub(crate) fn seal_all<'s>(
+    alloc: Global,
+    plans: &'s [Plan],
+    keys: &Keys,
+) -> Result<Vec<Sealed<'s>>, AllocError> {
     let mut all = Vec::new(alloc);
     for plan in plans {
-        all.push(seal_plan(alloc, Arc::new(alloc, plan)?, keys)?)?;
+        all.push(seal_plan(alloc, plan.lend(), keys)?)?;
     }
     Ok(all)
 }
 
 /// The segment at a place.
-pub(crate) fn segment(all: &[Sealed], at: usize) -> Result<&Sealed, Fail> {
+pub(crate) fn segment<'a, 's>(all: &'a [Sealed<'s>], at: usize) -> Result<&'a Sealed<'s>, Fail> {
     match all.get(at) {
         Some(sealed) => Ok(sealed),
         None => Err(Fail::from("no such segment")),
@@ -116,7 +120,7 @@ pub(crate) fn segment(all: &[Sealed], at: usize) -> Result<&Sealed, Fail> {
 }
 
 /// How many bytes each of some segments has.
-pub(crate) fn sizes(alloc: Global, all: &[Sealed]) -> Result<Vec<usize>, AllocError> {
+pub(crate) fn sizes(alloc: Global, all: &[Sealed<'_>]) -> Result<Vec<usize>, AllocError> {
     let mut sizes = Vec::new(alloc);
     for sealed in all {
         sizes.push(sealed.bytes().len())?;

@@ -1,7 +1,7 @@
 //! Segments that are sealed.
 
 ghost use Rattle.std.specs.Prelude.{◌≡◌, ◌↔◌, length, IsTrue, IfOk, OnOk};
-ghost use Rattle.std.specs.Arc.{arc_value};
+ghost use Rattle.cutter.specs.Lent.{lent};
 ghost use Rattle.aes_cbc.specs.Block.{IsBlock};
 ghost use Rattle.aes_cbc.specs.Opening.{Seals};
 ghost use Rattle.segment_job.specs.Segments.{plan_head, sealed_segment, IsSealed};
@@ -9,36 +9,35 @@ ghost use Rattle.segment_job.specs.Segments.{plan_head, sealed_segment, IsSealed
 use crate::keys::Keys;
 use crate::plain::plain_text;
 use aes_cbc::{Key, seal_in_place};
-use cutter::Plan;
+use cutter::PlanRef;
 use psi_tables::{length_of_a_head, pmt_packets};
 use std::alloc::{AllocError, Global};
 use std::fmt::{self, Debug, Formatter, Write};
 use std::marker::Model;
-use std::sync::Arc;
 
 /// A segment that is sealed: its bytes are those of its own plan, under its own key and vector. No other is ever made.
 ///
 /// Clauses see its plan, its key, its vector and its bytes.
 #[derive(Drop)]
-pub struct Sealed {
-    plan: Arc<Plan, Global>,
+pub struct Sealed<'s> {
+    plan: PlanRef<'s>,
     key: [u8; 16],
     vector: [u8; 16],
     bytes: Vec<u8>,
 }
 
-impl Model for Sealed {
-    ghost use Rattle.std.specs.Arc.{arc_value};
+impl<'s> Model for Sealed<'s> {
+    ghost use Rattle.cutter.specs.Lent.{lent};
     ghost use Rattle.segment_job.specs.Segments.{SealedSegment, IsSealed};
 
     ghost Value = { SealedSegment };
 
-    ghost view = { λ s. record { plan = arc_value s.plan; key = s.key; vector = s.vector; bytes = s.bytes.items } };
+    ghost view = { λ s. record { plan = lent s.plan; key = s.key; vector = s.vector; bytes = s.bytes.items } };
 
-    ghost invariant = { λ s. IsSealed (record { plan = arc_value s.plan; key = s.key; vector = s.vector; bytes = s.bytes.items }) };
+    ghost invariant = { λ s. IsSealed (record { plan = lent s.plan; key = s.key; vector = s.vector; bytes = s.bytes.items }) };
 }
 
-impl Debug for Sealed {
+impl<'s> Debug for Sealed<'s> {
     ghost use Rattle.std.specs.Prelude.{Some};
     ghost use Rattle.segment_job.specs.Printed.{printed_segment};
 
@@ -56,12 +55,12 @@ impl Debug for Sealed {
     }
 }
 
-impl Sealed {
+impl<'s> Sealed<'s> {
     /// The plan of which this is the segment.
-    pub fn plan(&self) -> &Plan
-        ensures { result.now ≡ self.now.plan }
+    pub fn plan(&self) -> PlanRef<'s>
+        ensures { lent result ≡ self.now.plan }
     {
-        &self.plan
+        self.plan
     }
 
     /// The bytes of its key.
@@ -91,7 +90,7 @@ impl Sealed {
         ensures { result ≡ length (plan_head self.now.plan) }
     {
         length_of_a_head();
-        let tables = &self.plan.tables;
+        let tables = self.plan.tables;
         // A proof learns here that the section has at most 1,024 bytes.
         let _ = tables.section();
         188 * (1 + pmt_packets(tables) as u64)
@@ -106,9 +105,9 @@ impl Sealed {
     }
 
     /// Its plan and its bytes.
-    pub fn into_parts(self) -> (Arc<Plan, Global>, Vec<u8>)
-        ensures plan { arc_value result.0 ≡ self.plan }
-        ensures bytes { result.1.items ≡ self.bytes }
+    pub fn into_parts(self) -> (PlanRef<'s>, Vec<u8>)
+        ensures plan { lent result.0 ≡ self.entry.plan }
+        ensures bytes { result.1.items ≡ self.entry.bytes }
     {
         let Sealed { plan, bytes, .. } = self;
         (plan, bytes)
@@ -117,14 +116,17 @@ impl Sealed {
 
 /// Seals the segment of a plan, under the key and the vector of its number.
 ///
-/// The plain segment is made once, and encrypted where it lies. A refusal lets go of the plan too: a caller that wants to
-/// try again keeps another `Arc` of it.
-pub fn seal_plan(alloc: Global, plan: Arc<Plan, Global>, keys: &Keys) -> Result<Sealed, AllocError>
-    ensures { IfOk result (λ sealed. sealed ≡ sealed_segment keys.now (arc_value plan)) }
+/// The plain segment is made once, and encrypted where it lies. The plan is borrowed as long as the sealed segment is there.
+pub fn seal_plan<'s>(
+    alloc: Global,
+    plan: PlanRef<'s>,
+    keys: &Keys,
+) -> Result<Sealed<'s>, AllocError>
+    ensures { IfOk result (λ sealed. sealed ≡ sealed_segment keys.now (lent plan.entry)) }
 {
     let key = keys.key(plan.number);
     let vector = keys.vector(plan.number);
-    let mut bytes = plain_text(alloc, &plan)?;
+    let mut bytes = plain_text(alloc, plan)?;
     seal_text(&key, &vector, &mut bytes)?;
     Ok(Sealed {
         plan,

@@ -1,5 +1,5 @@
 use crate::fixtures::{
-    KEY_FRAME, NEW_TABLES, TWO_KEY_FRAMES, filled, seal_stream, segment, sizes, two_keys,
+    KEY_FRAME, NEW_TABLES, TWO_KEY_FRAMES, filled, plans_of, seal_all, segment, sizes, two_keys,
 };
 use crate::{KeyFault, Keys, RangeFault, Sealed, open_range, vector};
 use aes_cbc::{Key, OpenFault, open, seal};
@@ -107,7 +107,7 @@ fn sent<T: Send>(value: T) -> T {
 }
 
 /// The plain text of a segment.
-fn opened(alloc: Global, sealed: &Sealed) -> Result<Vec<u8>, OpenFault> {
+fn opened(alloc: Global, sealed: &Sealed<'_>) -> Result<Vec<u8>, OpenFault> {
     open(
         alloc,
         &Key::new(sealed.key()),
@@ -119,13 +119,15 @@ fn opened(alloc: Global, sealed: &Sealed) -> Result<Vec<u8>, OpenFault> {
 #[test]
 fn sizes_of_segments(rt: HostRuntime) -> Result<(), Fail> {
     let keys = two_keys(rt.alloc())?;
-    let all = seal_stream(rt.alloc(), &TWO_KEY_FRAMES, &keys)?;
+    let plans = plans_of(rt.alloc(), &TWO_KEY_FRAMES)?;
+    let all = seal_all(rt.alloc(), &plans, &keys)?;
     assert_eq!(rt; sizes(rt.alloc(), &all)?.as_slice(), [768, 768].as_slice());
     for sealed in &all {
         assert_eq!(rt; opened(rt.alloc(), sealed)?.len(), 752);
         assert_eq!(rt; sealed.head_len(), 376);
     }
-    let all = seal_stream(rt.alloc(), &NEW_TABLES, &keys)?;
+    let plans = plans_of(rt.alloc(), &NEW_TABLES)?;
+    let all = seal_all(rt.alloc(), &plans, &keys)?;
     assert_eq!(rt; sizes(rt.alloc(), &all)?.as_slice(), [768, 576].as_slice());
     Ok(())
 }
@@ -133,7 +135,8 @@ fn sizes_of_segments(rt: HostRuntime) -> Result<(), Fail> {
 #[test]
 fn segments_are_sealed_as_others_seal_them(rt: HostRuntime) -> Result<(), Fail> {
     let keys = two_keys(rt.alloc())?;
-    let all = seal_stream(rt.alloc(), &TWO_KEY_FRAMES, &keys)?;
+    let plans = plans_of(rt.alloc(), &TWO_KEY_FRAMES)?;
+    let all = seal_all(rt.alloc(), &plans, &keys)?;
     assert_eq!(rt; all.len(), 2);
     // The first and the last block of each segment, from OpenSSL 3, `enc -aes-128-cbc`.
     let firsts = [
@@ -160,7 +163,8 @@ fn segments_are_sealed_as_others_seal_them(rt: HostRuntime) -> Result<(), Fail> 
 fn a_segment_tells_what_it_is(rt: HostRuntime) -> Result<(), Fail> {
     let keys = two_keys(rt.alloc())?;
     let others = Keys::new(Vec::from_array(rt.alloc(), [[7; 16]])?, 1)?;
-    let all = seal_stream(rt.alloc(), &TWO_KEY_FRAMES, &keys)?;
+    let plans = plans_of(rt.alloc(), &TWO_KEY_FRAMES)?;
+    let all = seal_all(rt.alloc(), &plans, &keys)?;
     assert_eq!(rt; all.len(), 2);
     for sealed in all {
         assert!(rt; sealed.is_by(&keys));
@@ -176,7 +180,7 @@ fn a_segment_tells_what_it_is(rt: HostRuntime) -> Result<(), Fail> {
 /// The bytes of a range, opened under a vector, or why there are none.
 fn range(
     alloc: Global,
-    sealed: &Sealed,
+    sealed: &Sealed<'_>,
     vector: &[u8; 16],
     offset: u64,
     len: u64,
@@ -187,7 +191,8 @@ fn range(
 
 #[test]
 fn a_frame_opens_alone(rt: HostRuntime) -> Result<(), Fail> {
-    let all = seal_stream(rt.alloc(), &TWO_KEY_FRAMES, &two_keys(rt.alloc())?)?;
+    let plans = plans_of(rt.alloc(), &TWO_KEY_FRAMES)?;
+    let all = seal_all(rt.alloc(), &plans, &two_keys(rt.alloc())?)?;
     let sealed = segment(&all, 0)?;
     for vector in [[0; 16], [9; 16]] {
         let text = range(rt.alloc(), sealed, &vector, 376, 188)?;
