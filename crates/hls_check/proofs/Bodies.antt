@@ -1,9 +1,8 @@
 -- Sealed segments unpack to the bodies of their plans.
-use Rattle.std.proofs.Common.{◌≡◌, ℕ, zero, suc, ◌<◌, None, List, [], ◌∷◌, ◌++◌, length, get_or, map, refl, sym, ap, ◌∙◌, subst, arith}
+use Rattle.std.proofs.Common.{◌≡◌, ℕ, zero, suc, ◌<◌, List, [], ◌∷◌, ◌++◌, length, get_or, map, refl, sym, ap, ◌∙◌, subst, arith}
 use Rattle.aes_cbc.specs.Opening.{Seals}
 use Rattle.playlist_text.specs.MediaLines.{Entry}
-use Rattle.playlist_text.specs.Vectors.{vector}
-use Rattle.segment_job.specs.Rotation.{KeyRotation, IsRotation, key_index}
+use Rattle.segment_job.specs.Rotation.{KeyRotation, IsRotation, key_index, vector_of}
 use Rattle.segment_job.specs.Segments.{SealedSegment, plain, plan_head}
 use Rattle.hls_check.specs.Unpacking.{packed, Unpacks, AllUnpack}
 use Rattle.hls_check.specs.Listed.{Lists, ListEach}
@@ -14,10 +13,10 @@ index-below keys n sound = omega (arith, sound.some)
 
 -- the text of an entry
 text-opens : (keys : KeyRotation) (entry : Entry) (s : SealedSegment) → Lists keys entry s
-    → Seals (get_or keys.keys entry.key []) (vector entry.number) (plan_head s.plan ++ s.plan.body) s.bytes
+    → Seals (get_or keys.keys entry.key []) (vector_of keys entry.number) (plan_head s.plan ++ s.plan.body) s.bytes
 text-opens keys entry s lists =
     let key : s.key ≡ get_or keys.keys entry.key [] = ap (λ (x : SealedSegment). x.key) lists.by_keys ∙ ap (λ i. get_or keys.keys i []) (sym lists.key) in
-    let number : s.vector ≡ vector entry.number = ap (λ (x : SealedSegment). x.vector) lists.by_keys ∙ ap vector (sym lists.number) in
+    let number : s.vector ≡ vector_of keys entry.number = ap (λ (x : SealedSegment). x.vector) lists.by_keys ∙ ap (vector_of keys) (sym lists.number) in
     let text : Seals s.key s.vector (plan_head s.plan ++ s.plan.body) s.bytes = lists.is_sealed.opens.text in
     subst (λ v. Seals (get_or keys.keys entry.key []) v (plan_head s.plan ++ s.plan.body) s.bytes) number
     (subst (λ k. Seals k s.vector (plan_head s.plan ++ s.plan.body) s.bytes) key text)
@@ -38,7 +37,7 @@ as-many keys (entry ∷ entries) [] each = absurd each
 
 -- each entry unpacks to its body
 each-unpacks : (keys : KeyRotation) (entries : List Entry) (sealed : List SealedSegment) → IsRotation keys → ListEach keys entries sealed
-    → (i : ℕ) → i < length (bodies_of sealed) → Unpacks (packed None entries (bytes_of sealed) keys.keys) i (get_or (bodies_of sealed) i [])
+    → (i : ℕ) → i < length (bodies_of sealed) → Unpacks (packed keys.salt entries (bytes_of sealed) keys.keys) i (get_or (bodies_of sealed) i [])
 each-unpacks keys [] [] sound each i lt = absurd (omega (arith, lt))
 each-unpacks keys [] (s ∷ sealed) sound each i lt = absurd each
 each-unpacks keys (entry ∷ entries) [] sound each i lt = absurd each
@@ -67,6 +66,6 @@ each-unpacks keys (entry ∷ entries) (s ∷ sealed) sound each (suc i) lt =
     }
 
 pub bodies-unpack : (keys : KeyRotation) (entries : List Entry) (sealed : List SealedSegment) → IsRotation keys → ListEach keys entries sealed
-    → AllUnpack (packed None entries (map (λ s. s.bytes) sealed) keys.keys) (map (λ s. s.plan.body) sealed)
+    → AllUnpack (packed keys.salt entries (map (λ s. s.bytes) sealed) keys.keys) (map (λ s. s.plan.body) sealed)
 bodies-unpack keys entries sealed sound each =
     record { each_one = as-many keys entries sealed each; unpacks = each-unpacks keys entries sealed sound each }

@@ -1,6 +1,6 @@
 //! What the words of the contracts mean.
 
-ghost use Rattle.std.specs.Prelude.{◌≡◌, List, None, map};
+ghost use Rattle.std.specs.Prelude.{◌≡◌, List, map};
 ghost use Rattle.playlist_text.specs.MediaLines.{Entry, Listing};
 ghost use Rattle.segment_job.specs.Rotation.{KeyRotation, IsRotation};
 ghost use Rattle.segment_job.specs.Segments.{SealedSegment};
@@ -18,5 +18,5 @@ pub fn a_text_lists_one_playlist()
 pub fn segments_unpack_to_their_bodies()
     ensures { (keys : KeyRotation) (entries : List Entry) (sealed : List SealedSegment) → IsRotation keys →
         ListEach keys entries sealed →
-        AllUnpack (packed None entries (map (λ s. s.bytes) sealed) keys.keys) (map (λ s. s.plan.body) sealed) }
+        AllUnpack (packed keys.salt entries (map (λ s. s.bytes) sealed) keys.keys) (map (λ s. s.plan.body) sealed) }
 {}

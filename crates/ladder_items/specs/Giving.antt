@@ -1,5 +1,5 @@
 -- What stands before a segment is given.
-use Rattle.std.specs.Prelude.{◌≡◌, ℕ, ◌<◌, false, List, [], ◌∷◌, map, length, get_or}
+use Rattle.std.specs.Prelude.{◌≡◌, ℕ, ◌<◌, false, List, [], ◌∷◌, map, length, None, get_or}
 use Rattle.cutter.specs.Plans.{SegmentPlan}
 use Rattle.cutter.specs.Ordered.{IsPlan}
 use Rattle.segment_job.specs.Segments.{SealedSegment}
@@ -24,7 +24,7 @@ pub record IsNext (ladder : Ladder) (r : ℕ) (parts : List Part) (shown : List 
   pub plan_is : IsPlan r ladder.cut (count (part_at parts r)) plan
 
 abbrev pub no_shown : Shown
-no_shown = record { name = []; target = 0; window = 0; rows = []; ended = false }
+no_shown = record { name = []; target = 0; window = 0; event = false; salt = None; rows = []; ended = false }
 
 -- a segment of rendition r, its playlists and the master of what all renditions show
 abbrev pub block_of : Ladder → ℕ → SealedSegment → List Shown → List ItemValue

@@ -4,7 +4,7 @@ use Rattle.std.specs.List.{zip}
 use Rattle.cutter.specs.Plans.{SegmentPlan}
 use Rattle.segment_job.specs.Segments.{SealedSegment, sealed_segment}
 use Rattle.item_io.specs.Items.{ItemValue, PlaylistValue, SegmentItem, MediaItem, FramesItem, MasterItem}
-use Rattle.ladder_items.specs.Ladder.{RenditionValue, Ladder, rendition_at}
+use Rattle.ladder_items.specs.Ladder.{RenditionValue, Ladder, rendition_at, is_event, least_listed}
 use Rattle.ladder_items.specs.Rows.{rows_of}
 use Rattle.ladder_items.specs.Shown.{Shown, media_text, frames_text}
 use Rattle.ladder_items.specs.Masters.{master_of}
@@ -29,7 +29,9 @@ abbrev pub shown_of : Ladder → RenditionValue → List SegmentPlan → Shown
 shown_of ladder rendition plans = record {
   name = rendition.name;
   target = ladder.cut.target;
-  window = ladder.window;
+  window = least_listed ladder.kind ladder.window;
+  event = is_event ladder.kind;
+  salt = rendition.salt;
   rows = rows_of rendition.keys plans;
   ended = false;
 }

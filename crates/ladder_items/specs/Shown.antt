@@ -1,5 +1,5 @@
 -- What a rendition shows of the rows of its segments: two playlists, and their bit rates.
-use Rattle.std.specs.Prelude.{ℕ, Bool, List, map, length, ◌≡◌, ◌<◌, ◌≤◌, ◌^◌, false, All, sum_by}
+use Rattle.std.specs.Prelude.{ℕ, Bool, Option, List, map, length, ◌≡◌, ◌<◌, ◌≤◌, ◌^◌, false, All, sum_by}
 use Rattle.std.specs.List.{flat_map}
 use Rattle.playlist_text.specs.Lines.{text_of}
 use Rattle.media_playlist.specs.declared.row.FrameRow.{FrameRow}
@@ -8,18 +8,20 @@ use Rattle.media_playlist.specs.Listed.{Pushed}
 use Rattle.media_playlist.specs.Lines.{media_lines, iframe_lines}
 use Rattle.bandwidth.specs.declared.run.Row.{Row}
 
--- a rendition's name, the target duration in seconds, the least number of rows to list, the rows of all its segments, and
--- whether it takes no more
+-- a rendition's name, the target duration in seconds, the least number of rows to list, whether all rows of an event are
+-- listed, the salt of the vectors, the rows of all its segments, and whether it takes no more
 pub record Shown : Type 0 where
   pub name : List ℕ
   pub target : ℕ
   pub window : ℕ
+  pub event : Bool
+  pub salt : Option (List ℕ)
   pub rows : List SegmentRow
   pub ended : Bool
 
 -- as the window of its playlists
 abbrev pub in_window : Shown → Pushed
-in_window shown = record { name = shown.name; target = shown.target; window = shown.window; rows = shown.rows }
+in_window shown = record { name = shown.name; target = shown.target; window = shown.window; event = shown.event; salt = shown.salt; rows = shown.rows }
 
 -- the texts of its playlists, ended or not
 abbrev pub media_text : Shown → Bool → List ℕ

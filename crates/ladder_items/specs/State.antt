@@ -8,13 +8,21 @@ use Rattle.ladder_items.specs.Ladder.{RenditionValue, Ladder}
 use Rattle.ladder_items.specs.Shown.{Shown, segment_rates, frame_rates, lasting}
 
 abbrev pub rendition_value : RenditionInside → RenditionValue
-rendition_value r = record { name = string_bytes r.name; codecs = string_bytes r.codecs; width = r.width; height = r.height; keys = r.keys }
+rendition_value r = record { name = string_bytes r.name; codecs = string_bytes r.codecs; width = r.width; height = r.height; keys = r.keys; salt = r.salt }
 
 abbrev pub ladder : SettingsInside → Ladder
-ladder s = record { renditions = s.renditions.items; cut = s.cut; window = s.window; queue = s.queue }
+ladder s = record { renditions = s.renditions.items; cut = s.cut; kind = s.kind; window = s.window; queue = s.queue }
 
 abbrev pub shown : Inside → Shown
-shown p = record { name = p.window.name; target = p.window.target; window = p.window.window; rows = p.window.rows; ended = p.ended }
+shown p = record {
+  name = p.window.name;
+  target = p.window.target;
+  window = p.window.window;
+  event = p.window.event;
+  salt = p.window.salt;
+  rows = p.window.rows;
+  ended = p.ended;
+}
 
 -- until they end, the meters and the sum are those of the rows
 pub record IsTied (p : Inside) : Type 0 where

@@ -1,4 +1,4 @@
-ghost use Rattle.std.specs.Prelude.{◌≡◌, ◌≤◌, None, map, length, Decides, IfOk};
+ghost use Rattle.std.specs.Prelude.{◌≡◌, ◌≤◌, None, map, length, All, Decides, IfOk};
 ghost use Rattle.master_playlist.specs.Faults.{fault_of};
 ghost use Rattle.ladder_items.specs.Ladder.{unmeasured, IsProgram, IsCutAllowed, IsAllowed};
 ghost use Rattle.ladder_items.specs.Ladder;
@@ -8,11 +8,15 @@ use cutter::CutSettings;
 use master_playlist::{MasterFault, Variant, master_text};
 use std::alloc::{AllocError, Global};
 
-/// Whether the settings are within their limits, and there are as many inputs as renditions.
+/// Whether the settings are within their limits, the keys of each rendition hold its salt, and there are as many inputs as
+/// renditions.
 pub fn is_allowed(alloc: Global, settings: &Settings, inputs: usize) -> Result<bool, AllocError>
     ensures { IfOk result (λ allowed. Decides allowed (IsAllowed settings.now × (inputs ≡ length settings.now.renditions))) }
 {
     if inputs != settings.renditions.len() || !is_ladder(settings) || !is_cut(settings.cut) {
+        return Ok(false);
+    }
+    if !hold_their_salts(&settings.renditions) {
         return Ok(false);
     }
     are_listable(alloc, &settings.renditions)
@@ -20,13 +24,22 @@ pub fn is_allowed(alloc: Global, settings: &Settings, inputs: usize) -> Result<b
 
 /// Whether the number of renditions, the window and the queue are within their limits.
 fn is_ladder(settings: &Settings) -> bool
-    ensures { Decides result (((1 ≤ length settings.now.renditions) × (length settings.now.renditions ≤ 8))
+    ensures { Decides result (((1 ≤ length settings.now.renditions) × (length settings.now.renditions ≤ 32))
         × ((1 ≤ settings.now.window) × (settings.now.window ≤ 10000))
         × ((1 ≤ settings.now.queue) × (settings.now.queue ≤ 256))) }
 {
-    is_up_to(settings.renditions.len() as u64, 8)
+    is_up_to(settings.renditions.len() as u64, 32)
         && is_up_to(settings.window, 10_000)
         && is_up_to(settings.queue, 256)
+}
+
+/// Whether the keys of each rendition hold its salt.
+fn hold_their_salts(renditions: &[Rendition]) -> bool
+    ensures { Decides result (All (λ rendition. rendition.keys.salt ≡ rendition.salt) renditions.now) }
+{
+    renditions
+        .iter()
+        .all(|rendition| rendition.keys.salt() == rendition.salt)
 }
 
 /// Whether a cutter's settings are within their limits.

@@ -19,5 +19,5 @@ pub use fault::PackFault;
 pub use give::{give_end, give_sealed, give_segments};
 pub use playlists::Playlists;
 pub use report::{Report, report_of};
-pub use settings::{Rendition, Settings};
+pub use settings::{Kind, Rendition, Settings};
 pub use start::{first_lanes, first_playlists};

@@ -2,10 +2,12 @@ ghost use Rattle.std.specs.Prelude.{◌≡◌, ◌+◌, ◌*◌, ◌<◌, ◌≤
 ghost use Rattle.std.specs.String.{string_bytes};
 ghost use Rattle.bandwidth.specs.Peaks.{peak_of, average_of};
 ghost use Rattle.ladder_items.specs.declared.fault.PackFault.TheVariants.{NoMemory};
+ghost use Rattle.ladder_items.specs.Ladder.{is_event, least_listed};
 ghost use Rattle.ladder_items.specs.Shown.{IsNextRow, IsSmallFrame, frame_rate, segment_rates, frame_rates, lasting};
 ghost use Rattle.ladder_items.specs.Shown;
 
 use crate::fault::PackFault;
+use crate::settings::Kind;
 use bandwidth::{Meter, Peak};
 use media_playlist::{FrameRow, Row, Window};
 use std::alloc::{AllocError, Global};
@@ -13,8 +15,9 @@ use std::marker::Model;
 
 /// The playlists of a rendition, and the bit rates of its segments and of its I-frames.
 ///
-/// Clauses see them as the rendition's name, the target duration, the least number of rows to list, and the rows of all
-/// segments. For want of memory they end, and take no more rows.
+/// Clauses see them as the rendition's name, the target duration, the least number of rows to list, whether all rows of an
+/// event are listed, the salt of the vectors, and the rows of all segments. For want of memory they end, and take no more
+/// rows.
 #[derive(Drop)]
 pub struct Playlists {
     window: Window,
@@ -38,13 +41,28 @@ impl Model for Playlists {
 
 impl Playlists {
     /// The playlists of no rows. The target duration is in seconds.
-    pub fn new(alloc: Global, name: &str, target: u64, window: u64) -> Result<Playlists, AllocError>
+    pub fn new(
+        alloc: Global,
+        name: &str,
+        target: u64,
+        window: u64,
+        kind: Kind,
+        salt: Option<[u8; 16]>,
+    ) -> Result<Playlists, AllocError>
         requires least { 1 ≤ target }
         requires most { target ≤ 3600 }
-        ensures { IfOk result (λ new. new ≡ record { name = name.now; target = target; window = window; rows = []; ended = false }) }
+        ensures { IfOk result (λ new. new ≡ record {
+          name = name.now;
+          target = target;
+          window = least_listed kind window;
+          event = is_event kind;
+          salt = salt;
+          rows = [];
+          ended = false;
+        }) }
     {
         Ok(Playlists {
-            window: Window::new(alloc, name, target, window)?,
+            window: empty_window(alloc, name, target, window, kind, salt)?,
             segments: Meter::new(alloc, target),
             frames: Meter::new(alloc, target),
             micros: 0,
@@ -130,6 +148,31 @@ impl Playlists {
         ensures { result ≡ average_of (frame_rates self.now.rows) }
     {
         self.frames.average()
+    }
+}
+
+/// A window that was pushed nothing.
+fn empty_window(
+    alloc: Global,
+    name: &str,
+    target: u64,
+    window: u64,
+    kind: Kind,
+    salt: Option<[u8; 16]>,
+) -> Result<Window, AllocError>
+    ensures { IfOk result (λ new. new ≡ record {
+      name = name.now;
+      target = target;
+      window = least_listed kind window;
+      event = is_event kind;
+      salt = salt;
+      rows = [];
+    }) }
+{
+    match (kind, salt) {
+        (Kind::Event, salt) => Window::event(alloc, name, target, salt),
+        (Kind::Live, Some(salt)) => Window::salted(alloc, name, target, window, salt),
+        (Kind::Live, None) => Window::new(alloc, name, target, window),
     }
 }
 

@@ -36,7 +36,7 @@ pub fn report_of(
 ) -> Result<Report, AllocError>
     requires each { length lanes.now ≡ length playlists.now }
     requires going { All (λ shown. shown.ended ≡ false) playlists.now }
-    requires few { length playlists.now ≤ 8 }
+    requires few { length playlists.now ≤ 32 }
     ensures numbers { IfOk result (IsReport playlists.now (map (λ lane. gone_of lane.stop) lanes.now)) }
     ensures alone { IfOk result IsAlone }
 {

@@ -2,15 +2,26 @@ use cutter::CutSettings;
 use segment_job::Keys;
 use std::marker::Model;
 
+/// Which segments the playlists of a ladder list.
+#[derive(Clone, Copy, PartialEq, Eq, Debug)]
+pub enum Kind {
+    /// The last ones: a window slides over them (RFC 8216, 6.2.2).
+    Live,
+    /// All of an event (RFC 8216, 4.3.3.5).
+    Event,
+}
+
 /// A rendition of a ladder: its name and codecs (RFC 6381) as a master playlist lists them, its size in pixels, each
-/// side from 1 to 16,384, and the keys of its segments.
+/// side from 1 to 16,384, the keys of its segments, and the salt of their vectors, where there is one.
 #[derive(Drop)]
 pub struct Rendition {
     pub name: String,
     pub codecs: String,
     pub width: u64,
     pub height: u64,
+    /// They hold the same salt.
     pub keys: Keys,
+    pub salt: Option<[u8; 16]>,
 }
 
 impl Model for Rendition {
@@ -26,11 +37,13 @@ impl Model for Rendition {
 /// What a packager works by.
 #[derive(Drop)]
 pub struct Settings {
-    /// The renditions of the ladder, 1 to 8.
+    /// The renditions of the ladder, 1 to 32.
     pub renditions: Vec<Rendition>,
     /// How their streams are cut.
     pub cut: CutSettings,
-    /// The least number of segments that a playlist lists behind removed ones, 1 to 10,000.
+    /// Which segments the playlists list.
+    pub kind: Kind,
+    /// The least number of segments that a sliding playlist lists behind removed ones, 1 to 10,000.
     pub window: u64,
     /// The most segments that may be on their way, 1 to 256. One thread has one on its way.
     pub queue: u64,

@@ -38,6 +38,8 @@ pub fn first_playlists(alloc: Global, settings: &Settings) -> Result<Vec<Playlis
             &rendition.name,
             settings.cut.target,
             settings.window,
+            settings.kind,
+            rendition.salt,
         )?)?;
     }
     Ok(playlists)

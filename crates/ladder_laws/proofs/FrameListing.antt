@@ -1,5 +1,5 @@
 -- What the I-frame playlist behind a segment lists of it, and the segments of a rendition.
-use Rattle.std.proofs.Common.{◌≡◌, ◌∙◌, ℕ, ◌≤◌, Bool, true, false, List, [], ◌∷◌, ◌++◌, map, length, drop, filter, slice_get, refl, ap, sym, subst, append_assoc}
+use Rattle.std.proofs.Common.{◌≡◌, ◌∙◌, ℕ, ◌≤◌, Bool, true, false, List, [], ◌∷◌, ◌++◌, map, length, drop, filter, Option, slice_get, refl, ap, sym, subst, append_assoc}
 use Rattle.std.specs.List.{flat_map}
 use Rattle.std.proofs.lemmas.List.{append-nil, map-append, drop-append-le}
 use Rattle.std.proofs.lemmas.List.Elements.{filter-append}
@@ -7,12 +7,12 @@ use Rattle.std.proofs.lemmas.Grind.{flat_map-append}
 use Rattle.cutter.specs.Plans.{SegmentPlan}
 use Rattle.segment_job.specs.Segments.{sealed_segment}
 use Rattle.playlist_text.specs.Lines.{text_of}
-use Rattle.playlist_text.specs.MediaLines.{head_lines, end_lines}
+use Rattle.playlist_text.specs.MediaLines.{head_lines, type_lines, end_lines}
 use Rattle.media_playlist.specs.Rows.{SegmentRow}
-use Rattle.media_playlist.specs.Listed.{Pushed, first_listed, listed, removed, discontinuity_count, frame_count}
+use Rattle.media_playlist.specs.Listed.{Pushed, first, listed, removed, discontinuity_count, frame_count}
 use Rattle.media_playlist.specs.Lines.{unless_empty, frames_only_line, row_frame_lines, iframe_lines}
 use Rattle.item_io.specs.Items.{ItemValue, SegmentValue, PlaylistValue, SegmentItem, MediaItem, FramesItem}
-use Rattle.ladder_items.specs.Ladder.{Ladder, rendition_at, IsAllowed}
+use Rattle.ladder_items.specs.Ladder.{Ladder, rendition_at, is_event, IsAllowed}
 use Rattle.ladder_items.specs.Rows.{row_of, rows_of}
 use Rattle.ladder_items.specs.Shown.{in_window, frames_text}
 use Rattle.ingest.specs.Streams.{plans_of}
@@ -21,8 +21,9 @@ use Rattle.ladder_items.specs.Weave.{Row, after_all, block, none_of, Weaves}
 use Rattle.ladder_laws.specs.Openings.{AreOfStreams}
 use Rattle.ladder_laws.specs.Listings.{is_segment, segments_of, AreFramesListed, AreFramesListedBehind}
 use Rattle.ladder_laws.proofs.Alone.{seen}
+use Rattle.ladder_laws.proofs.Salts.{salt-held}
 use Rattle.ladder_laws.proofs.Together.{segment-at}
-use Rattle.ladder_laws.proofs.Opening.{Suffice, Order, Long, last-listed, unless-some, segment_value, media_value, within-at, front-at, at-front, number-at, same-segment}
+use Rattle.ladder_laws.proofs.Opening.{Suffice, Order, Long, last-in-window, unless-some, segment_value, media_value, within-at, front-at, at-front, number-at, same-segment}
 
 abbrev frames_value : Ladder → ℕ → List SegmentPlan → PlaylistValue
 frames_value ladder r plans =
@@ -31,22 +32,22 @@ frames_value ladder r plans =
 
 -- the lines before those of the rows
 abbrev heading : Pushed → List (List ℕ)
-heading pushed = head_lines pushed.target (frame_count (removed pushed)) (discontinuity_count (removed pushed)) ++ frames_only_line ∷ []
+heading pushed = head_lines pushed.target (frame_count (removed pushed)) (discontinuity_count (removed pushed)) ++ type_lines pushed.event ++ frames_only_line ∷ []
 
 lines-are : (pushed : Pushed) (rows : List SegmentRow) (row : SegmentRow) → pushed.rows ≡ rows ++ row ∷ []
-    → iframe_lines pushed false ≡ heading pushed ++ flat_map (row_frame_lines pushed.name) (listed pushed)
+    → iframe_lines pushed false ≡ heading pushed ++ flat_map (row_frame_lines pushed.name pushed.salt) (listed pushed)
 unfolding iframe_lines end_lines
 lines-are pushed rows row e =
-    let lines = heading pushed ++ flat_map (row_frame_lines pushed.name) (listed pushed) in
+    let lines = heading pushed ++ flat_map (row_frame_lines pushed.name pushed.salt) (listed pushed) in
     ap (λ l. unless_empty l (lines ++ [])) e ∙ (unless-some rows row (lines ++ []) ∙ append-nil lines)
 
-last-lines : (name : List ℕ) (j : ℕ) (all rows : List SegmentRow) (row : SegmentRow) → all ≡ rows ++ row ∷ [] → j ≤ length rows
-    → flat_map (row_frame_lines name) (drop j all) ≡ flat_map (row_frame_lines name) (drop j rows) ++ row_frame_lines name row
-last-lines name j all rows row e below =
-    ap (λ l. flat_map (row_frame_lines name) (drop j l)) e
-    ∙ (ap (flat_map (row_frame_lines name)) (drop-append-le j rows (row ∷ []) below)
-    ∙ (flat_map-append (row_frame_lines name) (drop j rows) (row ∷ [])
-    ∙ ap (λ l. flat_map (row_frame_lines name) (drop j rows) ++ l) (append-nil (row_frame_lines name row))))
+last-lines : (name : List ℕ) (salt : Option (List ℕ)) (j : ℕ) (all rows : List SegmentRow) (row : SegmentRow) → all ≡ rows ++ row ∷ [] → j ≤ length rows
+    → flat_map (row_frame_lines name salt) (drop j all) ≡ flat_map (row_frame_lines name salt) (drop j rows) ++ row_frame_lines name salt row
+last-lines name salt j all rows row e below =
+    ap (λ l. flat_map (row_frame_lines name salt) (drop j l)) e
+    ∙ (ap (flat_map (row_frame_lines name salt)) (drop-append-le j rows (row ∷ []) below)
+    ∙ (flat_map-append (row_frame_lines name salt) (drop j rows) (row ∷ [])
+    ∙ ap (λ l. flat_map (row_frame_lines name salt) (drop j rows) ++ l) (append-nil (row_frame_lines name salt row))))
 
 are-listed : Suffice → (ladder : Ladder) (r : ℕ) (before : List SegmentPlan) (plan : SegmentPlan) → IsAllowed ladder
     → AreFramesListed (rendition_at ladder r).keys plan (segment_value ladder r plan) (frames_value ladder r (before ++ plan ∷ []))
@@ -57,15 +58,17 @@ are-listed suffice ladder r before plan allowed =
     let name = (rendition_at ladder r).name in
     let all : rows_of keys (before ++ plan ∷ []) ≡ rows ++ row ∷ [] = map-append (λ p. row_of keys (sealed_segment keys p)) before (plan ∷ []) in
     let pushed : Pushed = in_window (shown_of ladder (rendition_at ladder r) (before ++ plan ∷ [])) in
-    let j = first_listed ladder.cut.target ladder.window (rows_of keys (before ++ plan ∷ [])) in
-    let below : j ≤ length rows = last-listed suffice ladder.cut.target ladder.window (rows_of keys (before ++ plan ∷ [])) rows row all allowed.window.0 in
-    let front = flat_map (row_frame_lines name) (drop j rows) in
+    let salt = pushed.salt in
+    let j = first pushed in
+    let below : j ≤ length rows = last-in-window suffice (is_event ladder.kind) ladder.kind ladder.cut.target ladder.window (rows_of keys (before ++ plan ∷ [])) rows row refl all allowed.window.0 in
+    let front = flat_map (row_frame_lines name salt) (drop j rows) in
     record {
       before = heading pushed ++ front;
       text_is = ap text_of
           (lines-are pushed rows row all
-          ∙ (ap (λ l. heading pushed ++ l) (last-lines name j (rows_of keys (before ++ plan ∷ [])) rows row all below)
-          ∙ sym (append_assoc (heading pushed) front (row_frame_lines name row))));
+          ∙ (ap (λ l. heading pushed ++ l) (last-lines name salt j (rows_of keys (before ++ plan ∷ [])) rows row all below)
+          ∙ (sym (append_assoc (heading pushed) front (row_frame_lines name salt row))
+          ∙ ap (λ s. heading pushed ++ front ++ row_frame_lines name s row) (sym (salt-held ladder r allowed)))));
     }
 
 pub are-listed-behind : Suffice → Long → Order → (ladder : Ladder) (parts : List Part) (streams : ℕ → List ℕ) (front : List ItemValue) (s : SegmentValue) (behind : List ItemValue)

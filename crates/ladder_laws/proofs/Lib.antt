@@ -1,3 +1,4 @@
+pub mod Salts
 pub mod Alone
 pub mod Together
 pub mod KeyLines

@@ -1,7 +1,8 @@
 -- What a media playlist lists for the segment right before it.
-use Rattle.std.proofs.Common.{◌≡◌, ◌∙◌, inl, inr, ℕ, zero, suc, ◌+◌, ◌-◌, ◌<◌, ◌≤◌, false, List, [], ◌∷◌, ◌++◌, map, length, drop, Some, slice_get, refl, ap, sym, subst, arith, append_assoc, length-append}
+use Rattle.std.proofs.Common.{◌≡◌, ◌∙◌, inl, inr, ℕ, zero, suc, ◌+◌, ◌-◌, ◌<◌, ◌≤◌, false, true, Bool, List, [], ◌∷◌, ◌++◌, map, length, drop, Some, slice_get, refl, ap, sym, subst, arith, append_assoc, length-append}
 use Rattle.std.specs.List.{All}
-use Rattle.std.proofs.lemmas.Bool.{cases_eq}
+use Rattle.std.specs.Prelude.{if◌then◌else◌}
+use Rattle.std.proofs.lemmas.Bool.{cases_eq, false≢true}
 use Rattle.std.proofs.lemmas.List.{append-nil, map-append, length-map, length-drop, drop-append-le, get_or-set_same, get_or-set_other, length-set}
 use Rattle.std.proofs.lemmas.Option.{get_or_from_slice_get, slice_get_within}
 use Rattle.ghost_list.specs.Lists.{IsBeginning}
@@ -12,8 +13,8 @@ use Rattle.cutter.specs.declared.settings.CutSettings.{CutSettings}
 use Rattle.cutter.specs.Plans.{SegmentPlan}
 use Rattle.cutter.specs.Ordered.{IsPlan, IsPacketLong}
 use Rattle.cutter.specs.Cuts.{plans}
-use Rattle.playlist_text.specs.Vectors.{vector}
-use Rattle.segment_job.specs.Rotation.{key_of}
+use Rattle.playlist_text.specs.Vectors.{salted_vector}
+use Rattle.segment_job.specs.Rotation.{key_of, vector_of}
 use Rattle.segment_job.specs.Segments.{plain, sealed_segment}
 use Rattle.playlist_text.specs.Lines.{text_of}
 use Rattle.playlist_text.specs.MediaLines.{Listing, listing_lines}
@@ -21,7 +22,9 @@ use Rattle.media_playlist.specs.Rows.{SegmentRow}
 use Rattle.media_playlist.specs.Listed.{Pushed, first, first_listed, listed, removed, discontinuity_count}
 use Rattle.media_playlist.specs.Lines.{entry_of, unless_empty, media_lines}
 use Rattle.item_io.specs.Items.{ItemValue, SegmentValue, PlaylistValue, SegmentItem, MediaItem}
-use Rattle.ladder_items.specs.Ladder.{Ladder, rendition_at, IsAllowed}
+use Rattle.ladder_items.specs.declared.settings.Kind.{Kind}
+use Rattle.ladder_items.specs.declared.settings.Kind.TheVariants.{Live, Event as OfEvent}
+use Rattle.ladder_items.specs.Ladder.{Ladder, rendition_at, is_event, least_listed, IsAllowed}
 use Rattle.ladder_items.specs.Rows.{row_of, rows_of}
 use Rattle.ladder_items.specs.Shown.{in_window, media_text}
 use Rattle.ingest.specs.Streams.{plans_of}
@@ -30,6 +33,7 @@ use Rattle.ladder_items.specs.Weave.{Event, Row, End, rendition_of, grown, close
 use Rattle.ingest.specs.Sealable.{IsOfBytes}
 use Rattle.ladder_laws.specs.Openings.{AreOfStreams, IsListed, IsListedBehind}
 use Rattle.ladder_items.proofs.Rows.{after_all-append}
+use Rattle.ladder_laws.proofs.Salts.{salt-held}
 use Rattle.ladder_laws.proofs.KeyLines.{applies-last}
 use Rattle.ladder_laws.proofs.Together.{segment-at, legal-behind}
 
@@ -59,6 +63,14 @@ last-listed suffice target window all rows row e some =
     by-place (first_listed target window all) (length rows) window some
     (λ below. omega (arith, suffice target window all below, length-drop (first_listed target window all) all, ap length e, length-append rows (row ∷ [])))
 
+-- of a window, also where it is one of an event, which lists all rows
+pub last-in-window : Suffice → (event : Bool) (kind : Kind) (target window : ℕ) (all rows : List SegmentRow) (row : SegmentRow) → event ≡ is_event kind
+    → all ≡ rows ++ row ∷ [] → 1 ≤ window
+    → (if event then 0 else first_listed target (least_listed kind window) all) ≤ length rows
+last-in-window suffice true kind target window all rows row is e some = omega arith
+last-in-window suffice false Live target window all rows row is e some = last-listed suffice target window all rows row e some
+last-in-window suffice false OfEvent target window all rows row is e some = absurd (false≢true is)
+
 pub unless-some : (rows : List SegmentRow) (row : SegmentRow) (lines : List (List ℕ)) → unless_empty (rows ++ row ∷ []) lines ≡ lines
 unless-some [] row lines = refl
 unless-some (x ∷ rows) row lines = refl
@@ -69,6 +81,8 @@ listing_of pushed = record {
   target = pushed.target;
   sequence = first pushed;
   discontinuity_sequence = discontinuity_count (removed pushed);
+  event = pushed.event;
+  salt = pushed.salt;
   entries = map entry_of (listed pushed);
   ended = false;
 }
@@ -84,7 +98,7 @@ segment_value ladder r plan = record {
   rendition = r;
   number = plan.number;
   name = (rendition_at ladder r).name;
-  bytes = sealed_text (key_of (rendition_at ladder r).keys plan.number) (vector plan.number) (plain plan);
+  bytes = sealed_text (key_of (rendition_at ladder r).keys plan.number) (vector_of (rendition_at ladder r).keys plan.number) (plain plan);
 }
 
 abbrev pub media_value : Ladder → ℕ → List SegmentPlan → PlaylistValue
@@ -101,14 +115,16 @@ is-listed suffice ladder r before plan allowed number of_bytes =
     let row = row_of keys (sealed_segment keys plan) in
     let all : rows_of keys (before ++ plan ∷ []) ≡ rows ++ row ∷ [] = map-append (λ p. row_of keys (sealed_segment keys p)) before (plan ∷ []) in
     let pushed : Pushed = in_window (shown_of ladder (rendition_at ladder r) (before ++ plan ∷ [])) in
-    let j = first_listed ladder.cut.target ladder.window (rows_of keys (before ++ plan ∷ [])) in
-    let below : j ≤ length rows = last-listed suffice ladder.cut.target ladder.window (rows_of keys (before ++ plan ∷ [])) rows row all allowed.window.0 in
+    let salted : keys.salt ≡ pushed.salt = salt-held ladder r allowed in
+    let j = first pushed in
+    let below : j ≤ length rows = last-in-window suffice (is_event ladder.kind) ladder.kind ladder.cut.target ladder.window (rows_of keys (before ++ plan ∷ [])) rows row refl all allowed.window.0 in
     let many : length rows ≡ length before = length-map before (λ p. row_of keys (sealed_segment keys p)) in
     let sequence : j + length (map entry_of (drop j rows)) ≡ plan.number =
     omega (arith, below, many, number, length-map (drop j rows) entry_of, length-drop j rows) in
-    let bytes : sealed_text (key_of keys plan.number) (vector plan.number) (plain plan)
-    ≡ sealed_text (key_of keys plan.number) (vector (j + length (map entry_of (drop j rows)))) (plain plan) =
-    ap (λ n. sealed_text (key_of keys plan.number) (vector n) (plain plan)) (sym sequence) in
+    let bytes : sealed_text (key_of keys plan.number) (vector_of keys plan.number) (plain plan)
+    ≡ sealed_text (key_of keys plan.number) (salted_vector pushed.salt (j + length (map entry_of (drop j rows)))) (plain plan) =
+    ap (λ n. sealed_text (key_of keys plan.number) (vector_of keys n) (plain plan)) (sym sequence)
+    ∙ ap (λ s. sealed_text (key_of keys plan.number) (salted_vector s (j + length (map entry_of (drop j rows)))) (plain plan)) salted in
     let entries : map entry_of (listed pushed) ≡ map entry_of (drop j rows) ++ entry_of row ∷ [] =
     ap (λ l. map entry_of (drop j l)) all ∙ (ap (map entry_of) (drop-append-le j rows (row ∷ []) below) ∙ map-append entry_of (drop j rows) (row ∷ [])) in
     record {
@@ -194,12 +210,12 @@ unfolding AreLegal after_all
 front-at ladder parts streams events earlier r plan later legal is of all =
     let none = none_of ladder in
     let so_far = after_all none earlier in
-    let then = after so_far (Row r plan) in
+    let grown_so = after so_far (Row r plan) in
     let rest = legal-behind none earlier (Row r plan ∷ later) (subst (AreLegal none) all legal) in
-    let end : parts ≡ after_all then later = sym is ∙ (ap (after_all none) all ∙ after_all-append none earlier (Row r plan ∷ later)) in
-    let here : (part_at then r).plans ≡ (part_at so_far r).plans ++ plan ∷ [] =
+    let end : parts ≡ after_all grown_so later = sym is ∙ (ap (after_all none) all ∙ after_all-append none earlier (Row r plan ∷ later)) in
+    let here : (part_at grown_so r).plans ≡ (part_at so_far r).plans ++ plan ∷ [] =
     ap (λ (part : Part). part.plans) (get_or-set_same so_far r (grown (part_at so_far r) plan) no_part rest.0) in
-    let stays = subst (λ (ps : List Part). IsBeginning (part_at then r).plans (part_at ps r).plans) (sym end) (all-front r then later rest.2) in
+    let stays = subst (λ (ps : List Part). IsBeginning (part_at grown_so r).plans (part_at ps r).plans) (sym end) (all-front r grown_so later rest.2) in
     front-of-front ((part_at so_far r).plans ++ plan ∷ []) (part_at parts r).plans (plans_of r ladder.cut (streams r))
     (subst (λ l. IsBeginning l (part_at parts r).plans) here stays) of
 

@@ -21,11 +21,11 @@ is_segment (MasterItem text) = false
 abbrev pub segments_of : ℕ → List ItemValue → List ItemValue
 segments_of r items = filter is_segment (of_rendition r items)
 
--- The I-frame playlist ends with the lines of the segment's row: its key's line with its vector, and for each I-frame its
+-- The I-frame playlist ends with the lines of the segment's row: its key's line with its vector, salted where there is a salt, and for each I-frame its
 -- time, its range in the segment and the segment's URI (RFC 8216, 4.3.2.2, 4.3.2.4 and 4.3.3.6).
 pub record AreFramesListed (keys : KeyRotation) (plan : SegmentPlan) (s : SegmentValue) (frames : PlaylistValue) : Type 0 where
   pub before : List (List ℕ)
-  pub text_is : frames.text ≡ text_of (before ++ row_frame_lines s.name (row_of keys (sealed_segment keys plan)))
+  pub text_is : frames.text ≡ text_of (before ++ row_frame_lines s.name keys.salt (row_of keys (sealed_segment keys plan)))
 
 -- an I-frame playlist that lists the I-frames of the stream's plan stands behind the media playlist right behind it
 pub record AreFramesListedBehind (ladder : Ladder) (streams : ℕ → List ℕ) (s : SegmentValue) (behind : List ItemValue) : Type 0 where

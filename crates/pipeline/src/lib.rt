@@ -5,5 +5,5 @@ mod lane;
 mod serial;
 mod turn;
 
-pub use ladder_items::{PackFault, Rendition, Report, Settings};
+pub use ladder_items::{Kind, PackFault, Rendition, Report, Settings};
 pub use serial::{pack_serial, pack_serial_reads};

@@ -1,5 +1,7 @@
 -- The listing of the rows of some plans, and what its segments unpack to.
-use Rattle.std.proofs.Common.{◌≡◌, ◌∙◌, ℕ, zero, suc, ◌+◌, ◌-◌, ◌*◌, ◌/◌, ◌<◌, ◌≤◌, Bool, false, List, [], ◌∷◌, ◌++◌, map, length, drop, get_or, Some, slice_get, refl, ap, sym, subst, arith}
+use Rattle.std.proofs.Common.{◌≡◌, ◌∙◌, ℕ, zero, suc, ◌+◌, ◌-◌, ◌*◌, ◌/◌, ◌<◌, ◌≤◌, Bool, true, false, List, [], ◌∷◌, ◌++◌, map, length, drop, get_or, Some, slice_get, refl, ap, sym, subst, arith}
+use Rattle.std.specs.Prelude.{if◌then◌else◌, take}
+use Rattle.std.proofs.lemmas.Bool.{false≢true}
 use Rattle.std.proofs.lemmas.List.{length-map}
 use Rattle.std.proofs.lemmas.Option.{get_or_from_slice_get}
 use Rattle.aes_cbc.specs.Chain.{sealed_text}
@@ -8,13 +10,16 @@ use Rattle.cutter.specs.declared.settings.CutSettings.{CutSettings}
 use Rattle.cutter.specs.Plans.{SegmentPlan}
 use Rattle.cutter.specs.Ordered.{IsPlan}
 use Rattle.cutter.specs.Segments.{seconds}
-use Rattle.playlist_text.specs.Vectors.{vector}
-use Rattle.segment_job.specs.Rotation.{KeyRotation, IsRotation, key_index, key_of}
+use Rattle.playlist_text.specs.Vectors.{salted_vector}
+use Rattle.segment_job.specs.Rotation.{KeyRotation, IsRotation, key_index, key_of, vector_of}
 use Rattle.segment_job.specs.Segments.{plain, sealed_segment}
 use Rattle.playlist_text.specs.MediaLines.{Entry, Listing, listing_lines}
 use Rattle.media_playlist.specs.Rows.{SegmentRow}
 use Rattle.media_playlist.specs.Listed.{Pushed, first, first_listed, listed, removed, discontinuity_count}
 use Rattle.media_playlist.specs.Lines.{entry_of, unless_empty, media_lines}
+use Rattle.ladder_items.specs.declared.settings.Kind.{Kind}
+use Rattle.ladder_items.specs.declared.settings.Kind.TheVariants.{Live, Event}
+use Rattle.ladder_items.specs.Ladder.{is_event, least_listed}
 use Rattle.ladder_items.specs.Rows.{row_of, rows_of}
 use Rattle.ingest.specs.Sealable.{IsOfBytes}
 use Rattle.hls_check.specs.Unpacking.{packed, entry_at, bytes_at, Unpacks, AllUnpack}
@@ -29,6 +34,8 @@ listing_of pushed ended = record {
   target = pushed.target;
   sequence = first pushed;
   discontinuity_sequence = discontinuity_count (removed pushed);
+  event = pushed.event;
+  salt = pushed.salt;
   entries = map entry_of (listed pushed);
   ended = ended;
 }
@@ -50,6 +57,21 @@ pub some-listed : (target window : ℕ) (rows : List SegmentRow) → (0 < first_
     → length (drop (first_listed target window rows) rows) ≡ length rows - first_listed target window rows → 1 ≤ window → 0 < length rows → first_listed target window rows < length rows
 some-listed target window rows many left one some =
     by-place (first_listed target window rows) (length rows) window one some (λ below. omega (arith, many below, left))
+
+-- of a window, also where it is one of an event, which lists all rows
+pub some-in-window : (event : Bool) (kind : Kind) (target window : ℕ) (rows : List SegmentRow) → event ≡ is_event kind
+    → (0 < first_listed target window rows → window ≤ length (drop (first_listed target window rows) rows))
+    → length (drop (first_listed target window rows) rows) ≡ length rows - first_listed target window rows → 1 ≤ window → 0 < length rows
+    → (if event then 0 else first_listed target (least_listed kind window) rows) < length rows
+some-in-window true kind target window rows is many left one some = some
+some-in-window false Live target window rows is many left one some = some-listed target window rows many left one some
+some-in-window false Event target window rows is many left one some = absurd (false≢true is)
+
+-- the window of an event begins at its first row
+pub event-begins : (pushed : Pushed) → pushed.event ≡ true → (first pushed ≡ 0) × (discontinuity_count (removed pushed) ≡ 0)
+event-begins pushed is =
+    let zero_is : first pushed ≡ 0 = ap (λ (event : Bool). if event then 0 else first_listed pushed.target pushed.window pushed.rows) is in
+    (zero_is, ap (λ (j : ℕ). discontinuity_count (take j pushed.rows)) zero_is)
 
 -- the index of a key is that of one
 turn-below : (keys : KeyRotation) (n : ℕ) → IsRotation keys → key_index keys n < length keys.keys
@@ -83,18 +105,18 @@ listed-on rounds r cut keys n (plan ∷ plans) rotation frame are =
 
 -- the sealed bytes of a plan's segment
 abbrev pub bytes_of : KeyRotation → SegmentPlan → List ℕ
-bytes_of keys plan = sealed_text (key_of keys plan.number) (vector plan.number) (plain plan)
+bytes_of keys plan = sealed_text (key_of keys plan.number) (vector_of keys plan.number) (plain plan)
 
 abbrev no_entry : Entry
 no_entry = record { number = 0; key = 0; micros = 0; discontinuity = false }
 
 unpack-one : (keys : KeyRotation) (plans : List SegmentPlan) (i : ℕ) (plan : SegmentPlan) → IsRotation keys → slice_get plans i ≡ Some plan → i < length plans → IsOfBytes plan
-    → Unpacks (packed (map entry_of (rows_of keys plans)) (map (bytes_of keys) plans) keys.keys) i (get_or (map (λ p. p.body) plans) i [])
+    → Unpacks (packed keys.salt (map entry_of (rows_of keys plans)) (map (bytes_of keys) plans) keys.keys) i (get_or (map (λ p. p.body) plans) i [])
 unfolding row_of
 unpack-one keys plans i plan rotation at below of =
     let rows = rows_of keys plans in
     let row = row_of keys (sealed_segment keys plan) in
-    let p = packed (map entry_of rows) (map (bytes_of keys) plans) keys.keys in
+    let p = packed keys.salt (map entry_of rows) (map (bytes_of keys) plans) keys.keys in
     let entry : entry_at p i ≡ entry_of row =
     get_or_from_slice_get (map entry_of rows) i (entry_of row) no_entry (mapped-at entry_of rows i row (mapped-at (λ x. row_of keys (sealed_segment keys x)) plans i plan at)) in
     let bytes : bytes_at p i ≡ bytes_of keys plan = get_or_from_slice_get (map (bytes_of keys) plans) i (bytes_of keys plan) [] (mapped-at (bytes_of keys) plans i plan at) in
@@ -107,7 +129,7 @@ unpack-one keys plans i plan rotation at below of =
       text = plain plan;
       opens = record {
         bytes = of.bytes;
-        sealed = bytes ∙ ap (λ (e : Entry). sealed_text (get_or keys.keys e.key []) (vector e.number) (plain plan)) (sym entry);
+        sealed = bytes ∙ ap (λ (e : Entry). sealed_text (get_or keys.keys e.key []) (salted_vector keys.salt e.number) (plain plan)) (sym entry);
       };
       begins = record {
         tables = plan.tables;
@@ -119,7 +141,7 @@ unpack-one keys plans i plan rotation at below of =
     }
 
 pub unpack-all : (keys : KeyRotation) (plans : List SegmentPlan) → IsRotation keys → ((i : ℕ) (plan : SegmentPlan) → slice_get plans i ≡ Some plan → IsOfBytes plan)
-    → AllUnpack (packed (map entry_of (rows_of keys plans)) (map (bytes_of keys) plans) keys.keys) (map (λ p. p.body) plans)
+    → AllUnpack (packed keys.salt (map entry_of (rows_of keys plans)) (map (bytes_of keys) plans) keys.keys) (map (λ p. p.body) plans)
 unpack-all keys plans rotation of =
     let long = length-map plans (λ (p : SegmentPlan). p.body) in
     let rows = length-map plans (λ p. row_of keys (sealed_segment keys p)) in

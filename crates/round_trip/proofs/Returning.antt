@@ -1,5 +1,5 @@
 -- A media playlist of a weave, read back.
-use Rattle.std.proofs.Common.{◌≡◌, ◌∙◌, inl, inr, ℕ, ◌+◌, ◌-◌, ◌<◌, ◌≤◌, true, not, None, Some, List, [], ◌∷◌, ◌++◌, map, length, take, drop, get_or, slice_get, refl, ap, sym, subst, arith, append_assoc}
+use Rattle.std.proofs.Common.{◌≡◌, ◌∙◌, inl, inr, ℕ, ◌+◌, ◌-◌, ◌<◌, ◌≤◌, true, not, Option, None, Some, List, [], ◌∷◌, ◌++◌, map, length, take, drop, get_or, slice_get, refl, ap, sym, subst, arith, append_assoc}
 use Rattle.std.specs.List.{All}
 use Rattle.std.proofs.Math.ListN.{get_or-eq_default}
 use Rattle.std.proofs.Math.Seq.{take-append_seam}
@@ -16,14 +16,14 @@ use Rattle.playlist_text.specs.Names.{is_name}
 use Rattle.playlist_text.specs.Lines.{text_of}
 use Rattle.playlist_text.specs.MediaLines.{Entry}
 use Rattle.media_playlist.specs.Rows.{SegmentRow}
-use Rattle.media_playlist.specs.Listed.{first_listed, discontinuity_count}
+use Rattle.media_playlist.specs.Listed.{first, first_listed, discontinuity_count}
 use Rattle.media_playlist.specs.Lines.{entry_of}
 use Rattle.master_playlist.specs.Listed.{Listed}
 use Rattle.master_playlist.specs.declared.fault.MasterFault.{MasterFault}
 use Rattle.master_playlist.specs.declared.fault.MasterFault.TheVariants.{BadName}
 use Rattle.master_playlist.specs.Faults.{fault_of, Stands}
 use Rattle.item_io.specs.Items.{ItemValue, PlaylistValue, MediaItem}
-use Rattle.ladder_items.specs.Ladder.{Ladder, no_rendition, rendition_at, unmeasured, IsAllowed}
+use Rattle.ladder_items.specs.Ladder.{Ladder, no_rendition, rendition_at, is_event, unmeasured, IsAllowed}
 use Rattle.item_io.specs.FileNames.{segment_file_name, file_name}
 use Rattle.ladder_items.specs.Rows.{row_of, rows_of}
 use Rattle.ladder_items.specs.Shown.{in_window, media_text}
@@ -37,10 +37,11 @@ use Rattle.hls_check.specs.Unpacking.{packed, AllUnpack}
 use Rattle.hls_check.specs.MediaTexts.{AreListed}
 use Rattle.round_trip.specs.Returning.{AreMade, IsMade, sealed_bytes, sealed_of, ComesBack}
 use Rattle.ladder_laws.proofs.Alone.{same_test}
+use Rattle.ladder_laws.proofs.Salts.{salt-held}
 use Rattle.ladder_items.proofs.Elsewhere.{some-at}
 use Rattle.round_trip.proofs.Places.{at-drop, at-front}
 use Rattle.round_trip.proofs.Splitting.{split}
-use Rattle.round_trip.proofs.Listing.{listing_of, lines-are, some-listed, AreFrom, Rounds, listed-on, bytes_of, unpack-all}
+use Rattle.round_trip.proofs.Listing.{listing_of, lines-are, some-in-window, event-begins, AreFrom, Rounds, listed-on, bytes_of, unpack-all}
 
 -- what the laws say of which this is made
 abbrev pub Suffice : Type 0
@@ -144,14 +145,14 @@ comes-back rounds unfaulted suffice has_parts seen order sealed ladder parts str
     λ i plan here. ap (λ l. slice_get l i) all ∙ at-front given (at.rest ++ more.0) i plan here in
     let are : AreFrom r cut 0 given =
     λ i plan here. let zero_is : i ≡ 0 + i = omega arith in subst (λ n. IsPlan r cut n plan) zero_is (order r cut stream i plan (at_all i plan here)) in
-    let j = first_listed cut.target ladder.window rows in
+    let pushed = in_window shown in
+    let j = first pushed in
     let j_below : j < length rows =
-    some-listed cut.target ladder.window rows (suffice cut.target ladder.window rows) (length-drop j rows) allowed.window.0 (omega (arith, any, long)) in
+    some-in-window (is_event ladder.kind) ladder.kind cut.target ladder.window rows refl (suffice cut.target ladder.window rows) (length-drop (first_listed cut.target ladder.window rows) rows) allowed.window.0 (omega (arith, any, long)) in
     let behind_j : AreFrom r cut j (drop j given) =
     λ i plan here. order r cut stream (j + i) plan (at_all (j + i) plan (at-drop j i given plan here)) in
     let bytes_behind : (i : ℕ) (plan : SegmentPlan) → slice_get (drop j given) i ≡ Some plan → IsOfBytes plan =
     λ i plan here. all-at (plans_of r cut stream) (j + i) plan (sealed r cut stream (of.bytes r within)) (at_all (j + i) plan (at-drop j i given plan here)) in
-    let pushed = in_window shown in
     let listing = listing_of pushed at.ended in
     let rows_behind : drop j rows ≡ rows_of keys (drop j given) = drop-map _ j given in
     let entries : map entry_of (drop j rows) ≡ map entry_of (rows_of keys (drop j given)) = ap (map entry_of) rows_behind in
@@ -166,6 +167,8 @@ comes-back rounds unfaulted suffice has_parts seen order sealed ladder parts str
         some_target = omega (arith, allowed.cut.target.0);
         target = allowed.cut.target.1;
         discontinuity_sequence = omega (arith, few, length-take-le j rows (omega (arith, j_below)), j_below, long, few-plans r cut given are);
+        event = event-begins pushed;
+        salt = is_made.salt;
         some = omega (arith, length-map (drop j rows) entry_of, length-drop j rows, j_below);
         entries = subst (AreListed cut.target j) (sym entries) (listed-on rounds r cut keys j (drop j given) is_made.keys (omega (arith, allowed.cut.frame.0)) behind_j);
       };
@@ -178,7 +181,8 @@ comes-back rounds unfaulted suffice has_parts seen order sealed ladder parts str
           ∙ (ap (map file_name) (sym (drop-map (segment_item ladder r) j given)) ∙ ap (λ l. map file_name (drop j l)) (sym at.segments_are)));
       plans = drop j given;
       plans_are = ap (drop j) (sym (ap (λ n. take n (plans_of r cut stream)) count ∙ (ap (take (length given)) all ∙ take-append_seam given (at.rest ++ more.0))));
-      unpack = subst (λ l. AllUnpack (packed (map entry_of (drop j rows)) l keys.keys) (map (λ p. p.body) (drop j given))) (sym segments)
-          (subst (λ l. AllUnpack (packed l (map (bytes_of keys) (drop j given)) keys.keys) (map (λ p. p.body) (drop j given))) (sym entries)
-          (unpack-all keys (drop j given) is_made.keys bytes_behind));
+      unpack = subst (λ l. AllUnpack (packed rendition.salt (map entry_of (drop j rows)) l keys.keys) (map (λ p. p.body) (drop j given))) (sym segments)
+          (subst (λ l. AllUnpack (packed rendition.salt l (map (bytes_of keys) (drop j given)) keys.keys) (map (λ p. p.body) (drop j given))) (sym entries)
+          (subst (λ (s : Option (List ℕ)). AllUnpack (packed s (map entry_of (rows_of keys (drop j given))) (map (bytes_of keys) (drop j given)) keys.keys) (map (λ p. p.body) (drop j given)))
+          (salt-held ladder r allowed) (unpack-all keys (drop j given) is_made.keys bytes_behind)));
     }

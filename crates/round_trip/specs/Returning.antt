@@ -10,12 +10,13 @@ use Rattle.ladder_items.specs.Ladder.{RenditionValue, Ladder, rendition_at}
 use Rattle.ingest.specs.Streams.{plans_of}
 use Rattle.ladder_laws.specs.Listings.{segments_of}
 use Rattle.hls_check.specs.Unpacking.{packed, AllUnpack}
-use Rattle.hls_check.specs.MediaTexts.{IsListing, listing_text}
+use Rattle.hls_check.specs.MediaTexts.{IsListing, IsSalt, listing_text}
 
--- a rendition as its type makes it: its name is text, and its keys take turns
+-- a rendition as its type makes it: its name is text, its keys take turns, and its salt has 16 bytes
 pub record IsMade (rendition : RenditionValue) : Type 0 where
   pub name : IsUtf8 rendition.name
   pub keys : IsRotation rendition.keys
+  pub salt : IsSalt rendition.salt
 
 -- each rendition of a ladder is made so
 abbrev pub AreMade : Ladder → Type 0
@@ -45,4 +46,4 @@ pub record ComesBack (ladder : Ladder) (streams : ℕ → List ℕ) (front : Lis
   pub names_are : map (λ entry. segment_file_name listing.name entry.number) listing.entries ≡ map file_name (drop listing.sequence (segments_of media.rendition front))
   pub plans : List SegmentPlan
   pub plans_are : plans ≡ drop listing.sequence (take media.count (plans_of media.rendition ladder.cut (streams media.rendition)))
-  pub unpack : AllUnpack (packed listing.entries (drop listing.sequence (sealed_of media.rendition front)) (rendition_at ladder media.rendition).keys.keys) (map (λ plan. plan.body) plans)
+  pub unpack : AllUnpack (packed listing.salt listing.entries (drop listing.sequence (sealed_of media.rendition front)) (rendition_at ladder media.rendition).keys.keys) (map (λ plan. plan.body) plans)

@@ -1,17 +1,26 @@
 //! Which settings are allowed.
 use crate::run::{CUT, Ran, WELL, run};
 use cutter::CutSettings;
-use pipeline::{PackFault, Rendition, Settings};
+use pipeline::{Kind, PackFault, Rendition, Settings};
 use segment_job::Keys;
 use std::alloc::Global;
 use std::test::Fail;
 
-/// The bytes of nine empty inputs.
-const NO_BYTES: [&[u8]; 9] = [&[]; 9];
+/// The bytes of 33 empty inputs.
+const NO_BYTES: [&[u8]; 33] = [&[]; 33];
+
+/// The names of 33 renditions.
+pub const NAMES: [&str; 33] = [
+    "a", "b", "c", "d", "e", "f", "g", "h", "i", "j", "k", "l", "m", "n", "o", "p", "q", "r", "s",
+    "t", "u", "v", "w", "x", "y", "z", "0", "1", "2", "3", "4", "5", "6",
+];
+
+/// A salt of sixteen equal bytes.
+const SALT: [u8; 16] = [0xA5; 16];
 
 /// Whether these settings are allowed with so many inputs, which are empty: then the first is told to have no program.
 fn is_allowed(alloc: Global, settings: &Settings, inputs: usize) -> Result<bool, Fail> {
-    let Ran { answer, .. } = run(alloc, &NO_BYTES[..inputs.min(9)], WELL, settings)?;
+    let Ran { answer, .. } = run(alloc, &NO_BYTES[..inputs.min(33)], WELL, settings)?;
     match answer.err() {
         Some(PackFault::Settings) => Ok(false),
         Some(PackFault::NoProgram(0)) => Ok(true),
@@ -27,6 +36,7 @@ fn rendition(alloc: Global, name: &str, width: u64) -> Result<Rendition, Fail> {
         width,
         height: 360,
         keys: Keys::new(Vec::from_array(alloc, [[7; 16]])?, 1)?,
+        salt: None,
     })
 }
 
@@ -39,6 +49,7 @@ fn names(alloc: Global, names: &[&str], inputs: usize) -> Result<bool, Fail> {
     let settings = Settings {
         renditions,
         cut: CUT,
+        kind: Kind::Live,
         window: 5,
         queue: 4,
     };
@@ -52,6 +63,7 @@ fn one(alloc: Global, width: u64, cut: CutSettings, window: u64, queue: u64) -> 
     let settings = Settings {
         renditions,
         cut,
+        kind: Kind::Live,
         window,
         queue,
     };
@@ -60,17 +72,53 @@ fn one(alloc: Global, width: u64, cut: CutSettings, window: u64, queue: u64) -> 
 
 #[test]
 fn numbers_of_renditions_and_inputs(rt: HostRuntime) -> Result<(), Fail> {
-    let eight = ["a", "b", "c", "d", "e", "f", "g", "h"];
-    let nine = ["a", "b", "c", "d", "e", "f", "g", "h", "i"];
     assert_eq!(rt; names(rt.alloc(), &[], 0)?, false);
     assert_eq!(rt; names(rt.alloc(), &["a"], 1)?, true);
     assert_eq!(rt; names(rt.alloc(), &["a"], 0)?, false);
     assert_eq!(rt; names(rt.alloc(), &["a"], 2)?, false);
-    assert_eq!(rt; names(rt.alloc(), &eight, 8)?, true);
-    assert_eq!(rt; names(rt.alloc(), &eight, 7)?, false);
-    assert_eq!(rt; names(rt.alloc(), &eight, 9)?, false);
-    assert_eq!(rt; names(rt.alloc(), &nine, 9)?, false);
-    assert_eq!(rt; names(rt.alloc(), &nine, 8)?, false);
+    assert_eq!(rt; names(rt.alloc(), &NAMES[..32], 32)?, true);
+    assert_eq!(rt; names(rt.alloc(), &NAMES[..32], 31)?, false);
+    assert_eq!(rt; names(rt.alloc(), &NAMES[..32], 33)?, false);
+    assert_eq!(rt; names(rt.alloc(), &NAMES, 33)?, false);
+    assert_eq!(rt; names(rt.alloc(), &NAMES, 32)?, false);
+    Ok(())
+}
+
+/// Whether a rendition of one key is allowed that has this salt, while its keys have that one.
+fn salts(alloc: Global, own: Option<[u8; 16]>, of_keys: Option<[u8; 16]>) -> Result<bool, Fail> {
+    let mut rendition = rendition(alloc, "v", 640)?;
+    rendition.salt = own;
+    if let Some(salt) = of_keys {
+        rendition.keys = Keys::salted(Vec::from_array(alloc, [[7; 16]])?, 1, salt)?;
+    }
+    let mut renditions = Vec::new(alloc);
+    renditions.push(rendition)?;
+    let settings = Settings {
+        renditions,
+        cut: CUT,
+        kind: Kind::Live,
+        window: 5,
+        queue: 4,
+    };
+    is_allowed(alloc, &settings, 1)
+}
+
+#[test]
+fn keys_hold_the_salt(rt: HostRuntime) -> Result<(), Fail> {
+    let table = [
+        (None, None, true),
+        (Some(SALT), Some(SALT), true),
+        (Some(SALT), None, false),
+        (None, Some(SALT), false),
+        (Some(SALT), Some([0; 16]), false),
+    ];
+    for (own, of_keys, allowed) in table {
+        assert_eq!(rt;
+            salts(rt.alloc(), own, of_keys)?,
+            allowed,
+            "{own:?} {of_keys:?}"
+        );
+    }
     Ok(())
 }
 

@@ -57,7 +57,7 @@ const SEQUENCE: &str = "#EXT-X-MEDIA-SEQUENCE:";
 const END: &str = "#EXT-X-ENDLIST";
 
 /// Seven segments of six seconds.
-const SEVEN: &[Video] = &[
+pub const SEVEN: &[Video] = &[
     Key(0),
     Key(540_000),
     Key(1_080_000),

@@ -2,7 +2,7 @@
 use crate::back::first_lost;
 use crate::run::{CUT, Ran, WELL, last_master, last_media, run, settings, values};
 use crate::stream::Video::{Key, Other};
-use crate::stream::{Change, TWO_SEGMENTS, stream_of};
+use crate::stream::{Change, TWO_SEGMENTS, Video, stream_of};
 use item_io::Item;
 use pipeline::PackFault;
 use std::alloc::{AllocError, Global};
@@ -117,20 +117,22 @@ fn slides_of(alloc: Global, items: &[Item]) -> Result<String, AllocError> {
     Ok(slides)
 }
 
+/// Seven segments of six seconds, of which the second stands behind a discontinuity.
+pub const SEVEN_BEHIND_A_JUMP: &[Video] = &[
+    Key(0),
+    Other(536_400),
+    Key(9_000_000),
+    Key(9_540_000),
+    Key(10_080_000),
+    Key(10_620_000),
+    Key(11_160_000),
+    Key(11_700_000),
+    Other(12_236_400),
+];
+
 #[test]
 fn a_window_slides_past_a_discontinuity(rt: HostRuntime) -> Result<(), Fail> {
-    let frames = [
-        Key(0),
-        Other(536_400),
-        Key(9_000_000),
-        Key(9_540_000),
-        Key(10_080_000),
-        Key(10_620_000),
-        Key(11_160_000),
-        Key(11_700_000),
-        Other(12_236_400),
-    ];
-    let stream = stream_of(rt.alloc(), &frames, Change::None)?;
+    let stream = stream_of(rt.alloc(), SEVEN_BEHIND_A_JUMP, Change::None)?;
     let settings = settings(rt.alloc(), &["v"], 1, 1, CUT, 3)?;
     let Ran { answer, outlet } = run(rt.alloc(), &[&stream], WELL, &settings)?;
     assert_eq!(rt; answer.err(), None);

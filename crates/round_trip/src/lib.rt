@@ -9,6 +9,8 @@ mod back;
 #[cfg(test)]
 mod cases;
 #[cfg(test)]
+mod forms;
+#[cfg(test)]
 mod ladder;
 mod laws;
 mod made;

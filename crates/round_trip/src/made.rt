@@ -1,7 +1,8 @@
 //! What the types of a packager's settings keep.
-ghost use Rattle.std.specs.Prelude.{ℕ, ◌<◌, length, slice_index_or};
+ghost use Rattle.std.specs.Prelude.{ℕ, ◌<◌, length, All, slice_index_or};
 ghost use Rattle.std.specs.Str.{IsUtf8};
 ghost use Rattle.ladder_items.specs.Ladder.{no_rendition};
+ghost use Rattle.hls_check.specs.MediaTexts.{IsSalt};
 ghost use Rattle.round_trip.specs.Returning.{IsMade, AreMade};
 
 use pipeline::{Rendition, Settings};
@@ -13,12 +14,28 @@ fn is_text(text: &str)
     let _ = text;
 }
 
-/// A rendition's name is text, and its keys take turns.
+/// A salt has 16 bytes.
+fn is_salt(salt: Option<[u8; 16]>)
+    ensures { IsSalt salt }
+{
+    if let Some(salt) = salt {
+        are_bytes(&salt);
+    }
+}
+
+fn are_bytes(bytes: &[u8])
+    ensures { All (λ b. b < 256) bytes.now }
+{
+    let _ = bytes;
+}
+
+/// A rendition's name is text, its keys take turns, and its salt has 16 bytes.
 fn rendition_is_made(rendition: &Rendition)
     ensures { IsMade rendition.now }
 {
     is_text(&rendition.name);
     rendition.keys.index(0);
+    is_salt(rendition.salt);
 }
 
 /// So is each of some renditions.
@@ -30,7 +47,8 @@ fn all_are_made(renditions: &[Rendition])
     }
 }
 
-/// The renditions of any settings are made as the law of what comes back takes them: names are text, keys take turns.
+/// The renditions of any settings are made as the law of what comes back takes them: names are text, keys take turns, salts
+/// have 16 bytes.
 pub fn settings_are_made(settings: &Settings)
     ensures { AreMade settings.now }
 {

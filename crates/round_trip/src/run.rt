@@ -1,6 +1,6 @@
 use cutter::CutSettings;
 use item_io::{FailingOutlet, FailingReader, Item, Outlet};
-use pipeline::{PackFault, Rendition, Report, Settings, pack_serial};
+use pipeline::{Kind, PackFault, Rendition, Report, Settings, pack_serial};
 use segment_job::Keys;
 use std::alloc::{AllocError, Global};
 use std::test::Fail;
@@ -38,8 +38,27 @@ pub const WELL: Ways = Ways {
     failing_put: 0,
 };
 
+/// Which segments are listed, and the salt of the vectors.
+#[derive(Clone, Copy, Debug)]
+pub struct Form {
+    pub kind: Kind,
+    pub salt: Option<[u8; 16]>,
+}
+
+/// Playlists that slide, without a salt.
+pub const PLAIN: Form = Form {
+    kind: Kind::Live,
+    salt: None,
+};
+
 /// A rendition with keys of its own.
-fn rendition(alloc: Global, name: &str, keys: u8, period: u64) -> Result<Rendition, Fail> {
+fn rendition(
+    alloc: Global,
+    name: &str,
+    keys: u8,
+    period: u64,
+    salt: Option<[u8; 16]>,
+) -> Result<Rendition, Fail> {
     let mut all = Vec::new(alloc);
     for key in 0..keys {
         all.push([key; 16])?;
@@ -49,7 +68,11 @@ fn rendition(alloc: Global, name: &str, keys: u8, period: u64) -> Result<Renditi
         codecs: String::from_str(alloc, "avc1.4d401e")?,
         width: 640,
         height: 360,
-        keys: Keys::new(all, period)?,
+        keys: match salt {
+            None => Keys::new(all, period)?,
+            Some(salt) => Keys::salted(all, period, salt)?,
+        },
+        salt,
     })
 }
 
@@ -62,13 +85,26 @@ pub fn settings(
     cut: CutSettings,
     window: u64,
 ) -> Result<Settings, Fail> {
+    settings_of(alloc, names, (keys, period), cut, window, PLAIN)
+}
+
+/// The same of this form; the keys come with their period.
+pub fn settings_of(
+    alloc: Global,
+    names: &[&str],
+    keys: (u8, u64),
+    cut: CutSettings,
+    window: u64,
+    form: Form,
+) -> Result<Settings, Fail> {
     let mut renditions = Vec::new(alloc);
     for name in names {
-        renditions.push(rendition(alloc, name, keys, period)?)?;
+        renditions.push(rendition(alloc, name, keys.0, keys.1, form.salt)?)?;
     }
     Ok(Settings {
         renditions,
         cut,
+        kind: form.kind,
         window,
         queue: 16,
     })

@@ -1,0 +1,170 @@
+//! Salted vectors, playlists of an event, as many renditions as there may be, and each beginning of a stream.
+use crate::allowed::NAMES;
+use crate::back::first_lost;
+use crate::cases::SEVEN;
+use crate::ladder::SEVEN_BEHIND_A_JUMP;
+use crate::run::{
+    CUT, Form, PLAIN, Ran, WELL, last_frames, last_media, run, settings, settings_of,
+};
+use crate::stream::{Change, TWO_SEGMENTS, stream_of};
+use item_io::Item;
+use pipeline::{Kind, PackFault, Settings};
+use std::alloc::Global;
+use std::test::Fail;
+
+/// A salt of the bytes F0 to FF.
+const SALTED: Form = Form {
+    salt: Some(*b"\xf0\xf1\xf2\xf3\xf4\xf5\xf6\xf7\xf8\xf9\xfa\xfb\xfc\xfd\xfe\xff"),
+    ..PLAIN
+};
+
+const EVENT: Form = Form {
+    kind: Kind::Event,
+    ..PLAIN
+};
+
+const MEDIA: &str = "#EXTM3U
+#EXT-X-VERSION:4
+#EXT-X-TARGETDURATION:6
+#EXT-X-MEDIA-SEQUENCE:0
+#EXT-X-DISCONTINUITY-SEQUENCE:0
+#EXT-X-KEY:METHOD=AES-128,URI=\"v.0.key\",IV=0xF0F1F2F3F4F5F6F7F8F9FAFBFCFDFEFF
+#EXTINF:6.000000,
+v.0.ts
+#EXT-X-KEY:METHOD=AES-128,URI=\"v.0.key\",IV=0xF0F1F2F3F4F5F6F7F8F9FAFBFCFDFEFE
+#EXTINF:3.040000,
+v.1.ts
+#EXT-X-ENDLIST
+";
+
+const FRAMES: &str = "#EXTM3U
+#EXT-X-VERSION:4
+#EXT-X-TARGETDURATION:6
+#EXT-X-MEDIA-SEQUENCE:0
+#EXT-X-DISCONTINUITY-SEQUENCE:0
+#EXT-X-I-FRAMES-ONLY
+#EXT-X-KEY:METHOD=AES-128,URI=\"v.0.key\",IV=0xF0F1F2F3F4F5F6F7F8F9FAFBFCFDFEFF
+#EXTINF:6.000000,
+#EXT-X-BYTERANGE:188@376
+v.0.ts
+#EXT-X-KEY:METHOD=AES-128,URI=\"v.0.key\",IV=0xF0F1F2F3F4F5F6F7F8F9FAFBFCFDFEFE
+#EXTINF:3.040000,
+#EXT-X-BYTERANGE:188@376
+v.1.ts
+#EXT-X-ENDLIST
+";
+
+#[test]
+fn two_segments_under_a_salt(rt: HostRuntime) -> Result<(), Fail> {
+    let stream = stream_of(rt.alloc(), TWO_SEGMENTS, Change::None)?;
+    let settings = settings_of(rt.alloc(), &["v"], (1, 1), CUT, 5, SALTED)?;
+    let Ran { answer, outlet } = run(rt.alloc(), &[&stream], WELL, &settings)?;
+    assert_eq!(rt; answer.err(), None);
+    let items = outlet.items();
+    assert_eq!(rt; items.len(), 10);
+    assert_eq!(rt; last_media(items), MEDIA);
+    assert_eq!(rt; last_frames(items), FRAMES);
+    assert_eq!(rt; first_lost(rt.alloc(), items, 0, &[[0; 16]])?, None);
+    Ok(())
+}
+
+#[test]
+fn keys_take_turns_under_a_salt(rt: HostRuntime) -> Result<(), Fail> {
+    let stream = stream_of(rt.alloc(), SEVEN, Change::None)?;
+    let settings = settings_of(rt.alloc(), &["v"], (2, 2), CUT, 3, SALTED)?;
+    let Ran { answer, outlet } = run(rt.alloc(), &[&stream], WELL, &settings)?;
+    assert_eq!(rt; answer.err(), None);
+    let keys = [[0; 16], [1; 16]];
+    assert_eq!(rt; first_lost(rt.alloc(), outlet.items(), 0, &keys)?, None);
+    Ok(())
+}
+
+#[test]
+fn an_event_lists_all_segments(rt: HostRuntime) -> Result<(), Fail> {
+    let stream = stream_of(rt.alloc(), SEVEN, Change::None)?;
+    let settings = settings_of(rt.alloc(), &["v"], (1, 1), CUT, 1, EVENT)?;
+    let Ran { answer, outlet } = run(rt.alloc(), &[&stream], WELL, &settings)?;
+    assert_eq!(rt; answer.err(), None);
+    let items = outlet.items();
+    let media = last_media(items);
+    let frames = last_frames(items);
+    assert_eq!(rt; media.lines().count(), 22);
+    assert_eq!(rt; frames.lines().count(), 36);
+    for text in [media, frames] {
+        assert_eq!(rt; text.lines().nth(3), Some("#EXT-X-MEDIA-SEQUENCE:0"));
+        assert_eq!(rt; text.lines().nth(5), Some("#EXT-X-PLAYLIST-TYPE:EVENT"));
+    }
+    assert_eq!(rt; first_lost(rt.alloc(), items, 0, &[[0; 16]])?, None);
+    Ok(())
+}
+
+/// How often this line stands in a text.
+fn times(text: &str, wanted: &str) -> usize {
+    text.lines().filter(|line| *line == wanted).count()
+}
+
+#[test]
+fn an_event_with_a_discontinuity(rt: HostRuntime) -> Result<(), Fail> {
+    let stream = stream_of(rt.alloc(), SEVEN_BEHIND_A_JUMP, Change::None)?;
+    let settings = settings_of(rt.alloc(), &["v"], (1, 1), CUT, 3, EVENT)?;
+    let Ran { answer, outlet } = run(rt.alloc(), &[&stream], WELL, &settings)?;
+    assert_eq!(rt; answer.err(), None);
+    for item in outlet.items() {
+        if let Item::Media { count, text, .. } = item {
+            let begins = times(text, "#EXT-X-DISCONTINUITY-SEQUENCE:0");
+            let signs = times(text, "#EXT-X-DISCONTINUITY");
+            assert_eq!(rt; (begins, signs), (1, usize::from(*count > 1)), "{count}");
+        }
+    }
+    Ok(())
+}
+
+#[test]
+fn as_many_renditions_as_there_may_be(rt: HostRuntime) -> Result<(), Fail> {
+    let stream = stream_of(rt.alloc(), TWO_SEGMENTS, Change::None)?;
+    let inputs: [&[u8]; 32] = [stream.as_slice(); 32];
+    let settings = settings(rt.alloc(), &NAMES[..32], 1, 1, CUT, 5)?;
+    let Ran { answer, outlet } = run(rt.alloc(), &inputs, WELL, &settings)?;
+    assert_eq!(rt; answer.err(), None);
+    assert_eq!(rt; outlet.items().len(), 320);
+    Ok(())
+}
+
+/// What a beginning of the stream of two segments gives, from so many bytes on: the fault, or how many microseconds are
+/// told; and how many items.
+const BEGINNINGS: [(usize, Result<u128, PackFault>, usize); 6] = [
+    (0, Err(PackFault::NoProgram(0)), 0),
+    (376, Err(PackFault::NoStart(0)), 0),
+    (564, Ok(40_000), 6),
+    (752, Ok(3_040_000), 6),
+    (940, Ok(6_040_000), 10),
+    (1128, Ok(9_040_000), 10),
+];
+
+/// Whether these bytes as a whole input give what they should.
+fn is_as_wanted(alloc: Global, input: &[u8], settings: &Settings) -> Result<bool, Fail> {
+    let Ran { answer, outlet } = run(alloc, &[input], WELL, settings)?;
+    let micros = match answer {
+        Ok(report) => Ok(report.micros.iter().sum()),
+        Err(fault) => Err(fault),
+    };
+    let mut right = false;
+    for (least, wanted, items) in BEGINNINGS {
+        if least <= input.len() {
+            right = micros == wanted && outlet.items().len() == items;
+        }
+    }
+    Ok(right)
+}
+
+#[test]
+fn each_beginning_of_a_stream(rt: HostRuntime) -> Result<(), Fail> {
+    let stream = stream_of(rt.alloc(), TWO_SEGMENTS, Change::None)?;
+    let settings = settings(rt.alloc(), &["v"], 1, 1, CUT, 5)?;
+    assert_eq!(rt; stream.len(), 1128);
+    for len in 0..=1128 {
+        let (input, _) = stream.split_at(stream.len().min(len));
+        assert!(rt; is_as_wanted(rt.alloc(), input, &settings)?, "{len}");
+    }
+    Ok(())
+}
