@@ -1,10 +1,14 @@
 -- A packager's settings of words and numbers.
-use Rattle.std.specs.Prelude.{◌≡◌, ℕ, ◌*◌, ◌<◌, ◌≤◌, ◌^◌, List, [], ◌∷◌, map, length, Some}
-use Rattle.std.specs.Option.{unwrap_or}
+use Rattle.std.specs.Prelude.{◌≡◌, ◌≢◌, ℕ, ◌*◌, ◌<◌, ◌≤◌, ◌^◌, Bool, true, false, List, [], ◌∷◌, map, length, Option, Some, None}
+use Rattle.std.specs.Option.{unwrap_or, option_map}
 use Rattle.cutter.specs.declared.settings.CutSettings.{CutSettings}
+use Rattle.ladder_items.specs.declared.settings.Kind.{Kind}
+use Rattle.ladder_items.specs.declared.settings.Kind.TheVariants.{Live, Event}
 use Rattle.ladder_items.specs.Ladder.{Ladder, RenditionValue}
 use Rattle.commands.specs.declared.numbers.Numbers.{Numbers}
-use Rattle.commands.specs.Hex.{bytes_of_hex}
+use Rattle.commands.specs.declared.settings.PackingWords.{PackingWords}
+use Rattle.commands.specs.Defaults.{name_of}
+use Rattle.commands.specs.Hex.{bytes_of_hex, chosen_salt}
 use Rattle.commands.specs.KeyLists.{key_texts}
 use Rattle.commands.specs.Sizes.{IsSize}
 
@@ -32,19 +36,50 @@ cut_of numbers = record {
 abbrev pub TakeTurns : List (List ℕ) → ℕ → Type 0
 TakeTurns keys period = (length keys ≤ 4096) × (0 < period)
 
--- a rendition of these words, whose keys take turns by this period
-pub record IsRenditionOf (name codecs size keys : List ℕ) (turns : ℕ) (made : RenditionValue) : Type 0 where
-  pub name_is : made.name ≡ name
-  pub codecs_are : made.codecs ≡ codecs
-  pub size_is : IsSize size made.width made.height
-  pub keys_are : map bytes_of_hex (key_texts keys) ≡ map Some made.keys.keys
+-- the words of a packager of one rendition, as texts
+pub record Words : Type 0 where
+  pub name : List ℕ
+  pub codecs : List ℕ
+  pub size : List ℕ
+  pub keys : List ℕ
+  pub salt : Option (List ℕ)
+  pub event : Bool
+
+abbrev pub words_of : PackingWords → Words
+words_of words = record {
+  name = name_of (option_map (λ t. t.now) words.name);
+  codecs = words.codecs.now;
+  size = words.size.now;
+  keys = words.keys.now;
+  salt = option_map (λ t. t.now) words.salt;
+  event = words.event;
+}
+
+-- the salt is 32 hex digits, or there is none
+abbrev pub HasSalt : Words → Type 0
+HasSalt words = chosen_salt words.salt ≢ None
+
+-- playlists of an event, or that slide
+abbrev pub kind_of : Bool → Kind
+kind_of true = Event
+kind_of false = Live
+
+-- a rendition of these words, whose keys take turns by this period and hold its salt
+pub record IsRenditionOf (words : Words) (turns : ℕ) (made : RenditionValue) : Type 0 where
+  pub name_is : made.name ≡ words.name
+  pub codecs_are : made.codecs ≡ words.codecs
+  pub size_is : IsSize words.size made.width made.height
+  pub keys_are : map bytes_of_hex (key_texts words.keys) ≡ map Some made.keys.keys
   pub period_is : made.keys.period ≡ turns
+  pub salt_is : chosen_salt words.salt ≡ Some made.salt
+  pub held_is : made.keys.salt ≡ made.salt
 
 -- the settings of one rendition, cut and listed by these numbers
-pub record IsLadderOf (name codecs size keys : List ℕ) (numbers : Numbers) (made : Ladder) : Type 0 where
+pub record IsLadderOf (words : Words) (numbers : Numbers) (made : Ladder) : Type 0 where
   pub rendition : RenditionValue
   pub alone : made.renditions ≡ rendition ∷ []
-  pub rendition_is : IsRenditionOf name codecs size keys numbers.period rendition
+  pub rendition_is : IsRenditionOf words numbers.period rendition
   pub cut_is : made.cut ≡ cut_of numbers
+  pub kind_is : made.kind ≡ kind_of words.event
   pub window_is : made.window ≡ numbers.window
   pub queue_is : made.queue ≡ 1

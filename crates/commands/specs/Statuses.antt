@@ -18,6 +18,7 @@ key_list_status keys.NoMemory = 1
 abbrev pub settings_status : SettingsFault → ℕ
 settings_status settings.BadKey = 2
 settings_status settings.BadSize = 2
+settings_status settings.BadVector = 2
 settings_status settings.TooMany = 1
 settings_status settings.ZeroPeriod = 1
 settings_status settings.Settings = 1

@@ -70,6 +70,7 @@ fn name_of(fault: &Fault) -> &'static str {
         Fault::KeyList(KeyListFault::BadKey) => "BadKey",
         Fault::Settings(SettingsFault::BadKey) => "BadKey",
         Fault::Settings(SettingsFault::BadSize) => "BadSize",
+        Fault::Settings(SettingsFault::BadVector) => "BadVector",
         Fault::Settings(SettingsFault::TooMany) => "TooMany",
         Fault::Settings(SettingsFault::ZeroPeriod) => "ZeroPeriod",
         Fault::Settings(SettingsFault::Settings) => "Settings",

@@ -43,6 +43,7 @@ Ticks are 1/90000 s. Faults, as 'tshls: NAME NUMBERS' on standard error; what wa
   BigSegment   This segment has more packets than --most: give more, or a shorter --segment.
   Limit        The last number of a segment, or the range of time, is passed.
   BadKey       A key isn't 32 hex digits.         BadSize     The size isn't WIDTHxHEIGHT.
+  BadVector    --salt isn't 32 hex digits.
   TooMany      More than 4096 keys.               ZeroPeriod  --period is 0.
   Read         Standard input couldn't be read.   ReadLimit   2^40 reads didn't come to its end.
   Outlet       Standard output can't be written.  NoMemory    Memory was refused.";

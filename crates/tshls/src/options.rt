@@ -1,6 +1,6 @@
 //! The options of each command: how help shows them, and the words that were given.
 use clap::parser::ValueSource;
-use clap::{Arg, ArgMatches, Command};
+use clap::{Arg, ArgAction, ArgMatches, Command};
 use commands::{CheckWords, CipherWords, NumberWords, PackingWords};
 use std::alloc::{AllocError, Global};
 
@@ -25,17 +25,26 @@ pub fn cipher_words<'a>(options: &ArgMatches<'a>) -> CipherWords<'a> {
     }
 }
 
-/// The command with the options of one rendition.
+/// The command with the options of one rendition, and of which segments are listed.
 pub fn with_rendition<'a>(alloc: Global, command: Command<'a>) -> Result<Command<'a>, AllocError> {
     let codecs = "The codecs, as a master playlist lists them";
     let size = "The width and the height of the pictures, 1 to 16384 pixels each";
     let keys = "The keys, 32 hex digits each, 1 to 4096 of them";
     let name = "The name of the rendition";
+    let salt =
+        "A salt of the segments' vectors, 32 hex digits: each is then the salt xor the number, and is listed";
+    let event = "List all segments, as those of an event";
+    let event = Arg::new(alloc, "event")
+        .long("event")
+        .action(ArgAction::SetTrue)
+        .help(event);
     command
         .arg(text(alloc, "codecs", "CODECS", codecs).required(true))?
         .arg(text(alloc, "size", "WIDTHxHEIGHT", size).required(true))?
         .arg(text(alloc, "keys", "KEY[+KEY..]", keys).required(true))?
-        .arg(text(alloc, "name", "NAME", name).default_value("v"))
+        .arg(text(alloc, "name", "NAME", name).default_value("v"))?
+        .arg(text(alloc, "salt", "HEX", salt))?
+        .arg(event)
 }
 
 /// The words of a rendition.
@@ -49,6 +58,8 @@ pub fn packing_words<'a>(options: &ArgMatches<'a>) -> PackingWords<'a> {
         codecs: options.get_str("codecs").unwrap_or(""),
         size: options.get_str("size").unwrap_or(""),
         keys: options.get_str("keys").unwrap_or(""),
+        salt: options.get_str("salt"),
+        event: options.get_flag("event"),
     }
 }
 

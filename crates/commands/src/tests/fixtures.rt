@@ -32,6 +32,8 @@ pub fn words<'a>(size: &'a str, keys: &'a str) -> PackingWords<'a> {
         codecs: "avc1.4d401e",
         size,
         keys,
+        salt: None,
+        event: false,
     }
 }
 

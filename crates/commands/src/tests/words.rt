@@ -80,6 +80,7 @@ fn statuses(rt: HostRuntime) -> Result<(), Fail> {
     assert_eq!(rt; KeyListFault::NoMemory.status(), 1);
     assert_eq!(rt; SettingsFault::BadKey.status(), 2);
     assert_eq!(rt; SettingsFault::BadSize.status(), 2);
+    assert_eq!(rt; SettingsFault::BadVector.status(), 2);
     assert_eq!(rt; SettingsFault::TooMany.status(), 1);
     assert_eq!(rt; SettingsFault::ZeroPeriod.status(), 1);
     assert_eq!(rt; SettingsFault::Settings.status(), 1);

@@ -37,6 +37,11 @@ fn of_the_line(rt: HostRuntime) -> Result<(), Fail> {
             2,
         ),
         (
+            Fault::Settings(SettingsFault::BadVector),
+            "tshls: BadVector\n",
+            2,
+        ),
+        (
             Fault::Settings(SettingsFault::TooMany),
             "tshls: TooMany\n",
             1,

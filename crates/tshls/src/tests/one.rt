@@ -1,7 +1,7 @@
 use super::words::KEY;
 use crate::command_line::{Job, line};
 use crate::fault::Fault;
-use pipeline::Settings;
+use pipeline::{Kind, Settings};
 use std::alloc::Global;
 use std::test::Fail;
 
@@ -54,6 +54,8 @@ fn defaults(rt: HostRuntime) -> Result<(), Fail> {
     assert_eq!(rt; (cut.target, cut.segment), (6, 540_000));
     assert_eq!(rt; (cut.frame, cut.gap, cut.most), (3600, 900_000, 1_000_000));
     assert!(rt; cut.program.is_none());
+    assert!(rt; settings.kind == Kind::Live);
+    assert!(rt; rendition.salt.is_none());
     Ok(())
 }
 
@@ -100,6 +102,19 @@ fn settings_of_options(rt: HostRuntime) -> Result<(), Fail> {
 }
 
 #[test]
+fn a_salt_and_an_event(rt: HostRuntime) -> Result<(), Fail> {
+    let salt = "f0f1f2f3f4f5f6f7f8f9FAFBFCFDFEFF";
+    let words = ["--size", "1x1", "--keys", KEY, "--salt", salt, "--event"];
+    let settings = settings(rt.alloc(), &words).map_err(|_| "line")?;
+    assert!(rt; settings.kind == Kind::Event);
+    let rendition = &settings.renditions[0];
+    assert_eq!(rt; rendition.keys.vector(0)[15], 0xFF);
+    assert_eq!(rt; rendition.keys.vector(1)[15], 0xFE);
+    assert_eq!(rt; rendition.salt, rendition.keys.salt());
+    Ok(())
+}
+
+#[test]
 fn a_target_gives_the_segment(rt: HostRuntime) -> Result<(), Fail> {
     let words = ["--size", "1x1", "--keys", KEY, "--target", "8"];
     let settings = settings(rt.alloc(), &words).map_err(|_| "line")?;
@@ -116,7 +131,17 @@ type Refusal = (
     u8,
 );
 
-const REFUSALS: [Refusal; 9] = [
+const REFUSALS: [Refusal; 13] = [
+    ("1X1", KEY, &["--salt", "00"], "tshls: BadSize\n", 2),
+    ("1x1", KEY, &["--salt", "00"], "tshls: BadVector\n", 2),
+    ("1x1", KEY, &["--salt", ""], "tshls: BadVector\n", 2),
+    (
+        "1x1",
+        KEY,
+        &["--salt", "0", "--period", "0"],
+        "tshls: BadVector\n",
+        2,
+    ),
     ("1x1", "00", &[], "tshls: BadKey\n", 2),
     ("1X1", "00", &[], "tshls: BadKey\n", 2),
     ("1X1", KEY, &[], "tshls: BadSize\n", 2),
