@@ -56,6 +56,21 @@ changed() {
     cp -r "$work/hls" "$work/changed"
 }
 
+# with_form OPTIONS.. -- COMMAND..: the command, where the standard folder is made under these options.
+with_form() {
+    local options=() made=$work/hls status=0
+    while [ "$1" != -- ]; do
+        options+=("$1")
+        shift
+    done
+    shift
+    make_standard_folder "$work/form" "${options[@]}" || return
+    mv "$made" "$work/plain" && mv "$work/form" "$made"
+    "$@" || status=$?
+    rm -rf "$made" && mv "$work/plain" "$made"
+    return $status
+}
+
 # with_text SED FAULT: what is told where the playlist was changed so.
 with_text() {
     changed && sed -i "$1" "$work/changed/v.m3u8" && refuses 1 "$2" check --keys "$key" "$work/changed/v.m3u8"
@@ -84,7 +99,23 @@ check_bad_playlists() {
     check 'check: an LF too many' from <(cat "$playlist" && echo) of_bytes 'NotProfile 12'
     check 'check: an I-frame playlist' refuses 1 'NotProfile 6' check --keys "$key" "$work/hls/v.iframes.m3u8"
     check 'check: a master playlist' refuses 1 'NotProfile 3' check --keys "$key" "$work/hls/master.m3u8"
+    check_salted_playlists
     check 'check: a wrong line ahead of a missing segment' tells_a_wrong_line_first
+}
+
+check_salted_playlists() {
+    local salt=f0f1f2f3f4f5f6f7f8f9fafbfcfdfeff
+    check 'check: under a salt' with_form --salt "$salt" -- prints 'ok 2 752' check --keys "$key" "$work/hls/v.m3u8"
+    check 'check: an event' with_form --event -- prints 'ok 2 752' check --keys "$key" "$work/hls/v.m3u8"
+    check 'check: an event under a salt' \
+        with_form --event --salt "$salt" -- prints 'ok 2 752' check --keys "$key" "$work/hls/v.m3u8"
+    check "check: another segment's vector" with_form --salt "$salt" -- with_text '9s/FE$/FF/' 'NotProfile 9'
+    check 'check: a line of a vector is missing' with_form --salt "$salt" -- with_text 9d 'NotProfile 9'
+    check 'check: a vector in lower case' with_form --salt "$salt" -- with_text '6s/F0F1/f0f1/' 'NotProfile 6'
+    check 'check: another salt' with_form --salt "$salt" -- with_text '6s/F0/F1/;9s/F0/F1/' 'NoHead 0'
+    check 'check: an event that begins at 1' with_form --event -- with_text '4s/0/1/' 'NotProfile 6'
+    check 'check: an event behind a discontinuity' with_form --event -- with_text '5s/0/1/' 'NotProfile 6'
+    check 'check: the type twice' with_form --event -- with_text 6p 'NotProfile 7'
 }
 
 tells_a_wrong_line_first() {

@@ -2,6 +2,7 @@
 # shellcheck shell=bash disable=SC2154
 
 second_key=$vector
+salt=f0f1f2f3f4f5f6f7f8f9fafbfcfdfeff
 one=(one --codecs avc1.4d401e --size 640x360 --keys "$key")
 one_by_two_keys=(one --codecs avc1.4d401e --size 320x180 --keys "$key+$second_key")
 
@@ -98,6 +99,11 @@ check_worked_inputs() {
     check 'one: seven segments, window 7' lists_from 0 0 seven_segments "${one[@]}" --window 7
     check 'one: an epoch in seven segments' lists_from 4 1 epoch_in_seven_segments "${one[@]}" --window 3
     check 'one: two keys, period 2' names_keys '0 1 0' five_segments "${one_by_two_keys[@]}" --period 2
+    check 'one: the standard stream under a salt' gives_salted_lines
+    check 'one: seven segments of an event' lists_from 0 0 seven_segments "${one[@]}" --window 1 --event
+    check 'one: an epoch in seven segments of an event' lists_from 0 0 epoch_in_seven_segments "${one[@]}" --window 3 --event
+    check 'one: seven segments of an event under a salt' lists_from 0 0 seven_segments "${one[@]}" --event --salt "$salt"
+    check 'one: seven segments under a salt, window 3' lists_from 4 0 seven_segments "${one[@]}" --window 3 --salt "$salt"
     check 'one: two I-frames in a segment' packs '768:6.000000 576:0.040000' two_iframes "${one[@]}"
     check 'one: other tables on the way' packs '768:3.333333 576:0.040000' new_tables "${one[@]}"
     check 'one: too many packets' faults 'BigSegment 0 0' standard "${one[@]}" --most 1
@@ -123,6 +129,21 @@ frames v.iframes.m3u8 14
 master master.m3u8 5
 media v.m3u8 11
 frames v.iframes.m3u8 15
+LINES
+}
+
+# Lines 6 to 12 of the last media playlist.
+gives_salted_lines() {
+    packs '768:6.000000 768:3.040000' standard "${one[@]}" --salt "${salt^^}" || return
+    tac "$work/out" | sed '/^media /q' | tac | sed -n '/^frames /q; p' | sed -n '7,13p' >"$work/salted_lines"
+    is_equal 'the salted lines' "$work/salted_lines" - <<'LINES'
+#EXT-X-KEY:METHOD=AES-128,URI="v.0.key",IV=0xF0F1F2F3F4F5F6F7F8F9FAFBFCFDFEFF
+#EXTINF:6.000000,
+v.0.ts
+#EXT-X-KEY:METHOD=AES-128,URI="v.0.key",IV=0xF0F1F2F3F4F5F6F7F8F9FAFBFCFDFEFE
+#EXTINF:3.040000,
+v.1.ts
+#EXT-X-ENDLIST
 LINES
 }
 
@@ -196,6 +217,9 @@ check_real_streams() {
     check_stream sample "$sample" --target 1
     check_stream h264 "$real/h264.ts" --target 2
     check_stream h264_in_one_segment "$real/h264.ts"
+    check_stream h264_under_a_salt "$real/h264.ts" --target 2 --salt "$salt"
+    check_stream h264_of_an_event "$real/h264.ts" --target 2 --event
+    check_stream hevc_under_a_salt_of_an_event "$real/hevc.ts" --target 2 --event --salt "$salt"
     check_stream hevc "$real/hevc.ts" --target 2
     check_stream mpeg2 "$real/mpeg2.ts" --target 2 --segment 1
     check_stream wrap "$real/wrap.ts" --target 2
@@ -301,6 +325,11 @@ check_one_options() {
         check "one: the size '$bad'" refuses 2 BadSize "${keyed[@]}" --size "$bad"
     done
     check 'one: a bad key with a bad size' refuses 2 BadKey "${base[@]}" --size 640 --keys 00
+    for bad in '' 00 "${salt%?}" "${salt}0" "${salt%?}g" "0x$salt"; do
+        check "one: the salt '$bad'" refuses 2 BadVector "${one[@]}" --salt "$bad"
+    done
+    check 'one: a bad size with a bad salt' refuses 2 BadSize "${keyed[@]}" --size 640 --salt 00
+    check 'one: a bad salt with period 0' refuses 2 BadVector "${one[@]}" --salt 00 --period 0
     check 'one: a bad size with period 0' refuses 2 BadSize "${keyed[@]}" --size 640 --period 0
     check 'one: period 0' refuses 1 ZeroPeriod "${one[@]}" --period 0
     check 'one: period 0 with target 0' refuses 1 ZeroPeriod "${one[@]}" --period 0 --target 0

@@ -13,8 +13,14 @@ def seconds(duration):
     return f"{duration // 1000000}.{duration % 1000000:06}"
 
 
-def vector(number):
-    return number.to_bytes(16, "big")
+def vector(number, salt):
+    """The number in 16 bytes, xor the salt where there is one."""
+    return bytes(a ^ b for a, b in zip(number.to_bytes(16, "big"), salt or bytes(16)))
+
+
+def vector_line(name, row, options):
+    iv = vector(row.number, options.salt).hex().upper()
+    return f'#EXT-X-KEY:METHOD=AES-128,URI="{name}.{row.key}.key",IV=0x{iv}'
 
 
 class Row:
@@ -26,7 +32,9 @@ class Row:
 
 
 def first_listed(rows, options):
-    """The greatest row from which on enough is left: as many as the window, and three targets."""
+    """The greatest row from which on enough is left, as many as the window and three targets; an event keeps all."""
+    if options.event:
+        return 0
     enough = 3 * options.target * 1000000
     return max(
         j
@@ -42,7 +50,7 @@ def top(options, sequence, discontinuities):
         f"#EXT-X-TARGETDURATION:{options.target}",
         f"#EXT-X-MEDIA-SEQUENCE:{sequence}",
         f"#EXT-X-DISCONTINUITY-SEQUENCE:{discontinuities}",
-    ]
+    ] + ["#EXT-X-PLAYLIST-TYPE:EVENT"] * options.event
 
 
 def media(rows, options, ended):
@@ -52,7 +60,9 @@ def media(rows, options, ended):
     for row in rows[first:]:
         if row.discontinuity:
             lines.append("#EXT-X-DISCONTINUITY")
-        if row.key != key:
+        if options.salt:
+            lines.append(vector_line(name, row, options))
+        elif row.key != key:
             key = row.key
             lines.append(f'#EXT-X-KEY:METHOD=AES-128,URI="{name}.{key}.key"')
         lines += [f"#EXTINF:{seconds(row.duration)},", f"{name}.{row.number}.ts"]
@@ -67,9 +77,7 @@ def iframes(rows, options, ended):
     for row in rows[first:]:
         if row.discontinuity:
             lines.append("#EXT-X-DISCONTINUITY")
-        lines.append(
-            f'#EXT-X-KEY:METHOD=AES-128,URI="{name}.{row.key}.key",IV=0x{vector(row.number).hex().upper()}'
-        )
+        lines.append(vector_line(name, row, options))
         for offset, length, duration in row.frames:
             lines += [f"#EXTINF:{seconds(duration)},", f"#EXT-X-BYTERANGE:{length}@{offset}", f"{name}.{row.number}.ts"]
     return lines + ["#EXT-X-ENDLIST"] * ended

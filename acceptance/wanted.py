@@ -20,6 +20,8 @@ def read_options(words):
         parser.add_argument(f"--{name}", type=int, default=value)
     for name in ("segment", "program"):
         parser.add_argument(f"--{name}", type=int)
+    parser.add_argument("--salt", type=bytes.fromhex)
+    parser.add_argument("--event", action="store_true")
     options = parser.parse_args([word for word in words if word != "one"])
     options.keys = options.keys.split("+")
     options.size = "x".join(str(int(side)) for side in options.size.split("x"))
@@ -27,8 +29,8 @@ def read_options(words):
     return options
 
 
-def sealed(plain, key, number):
-    command = ["openssl", "enc", "-aes-128-cbc", "-K", key, "-iv", playlists.vector(number).hex()]
+def sealed(plain, key, vector):
+    command = ["openssl", "enc", "-aes-128-cbc", "-K", key, "-iv", vector.hex()]
     return subprocess.run(command, input=plain, stdout=subprocess.PIPE, check=True).stdout
 
 
@@ -50,7 +52,7 @@ def lines(data, options):
     for segment in segments.segments(data, options):
         key = segment.number // options.period % len(options.keys)
         head = segment.head()
-        bytes_sealed = sealed(head + segment.body(), options.keys[key], segment.number)
+        bytes_sealed = sealed(head + segment.body(), options.keys[key], playlists.vector(segment.number, options.salt))
         frames = [(len(head) + offset, length, duration) for offset, length, duration in segment.frames]
         duration = segments.micros(segment.ticks)
         rows.append(
