@@ -1,0 +1,38 @@
+# The checks of what the compiler refuses: a spool can't be turned in while a plan of it is read.
+# shellcheck shell=bash disable=SC2154
+
+check_borrowed_spool() {
+    check "cutter: a spool isn't turned in while a plan of it is read" refuses_the_turn 'spool.plan(0)' 'lent.is_some()'
+    check 'cutter: a spool is turned in once its plan was read' takes_the_turn 'spool.plan(0).is_some()' lent
+}
+
+# turns_in LENT TOLD: whether a crate compiles that turns in a spool between what the spool lends and what is told of that.
+turns_in() {
+    local root=$work/borrowed name
+    rm -rf "$root"
+    mkdir -p "$root/crates"
+    for name in ghost_list ts_packet psi_tables pes_time cutter; do
+        cp -a "$here/../crates/$name" "$root/crates/" || return
+        grep "^$name:" "$here/../crates.txt" >>"$root/crates.txt" || return
+    done
+    cp "$here/../HANDLES" "$root/" && git -C "$root" init -q || return
+    cat >>"$root/crates/cutter/src/lib.rt" <<LINES
+
+/// Turns in a spool.
+pub fn turns_in(cutter: &mut SpoolCutter, spool: Spool) -> bool {
+    let lent = $1;
+    let turned = cutter.turn(spool);
+    $2 && turned.is_ok()
+}
+LINES
+    (cd "$root/crates/cutter" && rt check --only '') >"$work/compiled" 2>&1
+}
+
+refuses_the_turn() {
+    ! turns_in "$@" || { echo 'it compiles'; return 1; }
+    grep -q 'cannot move out of `spool` because it is borrowed' "$work/compiled" || { tail -n 3 "$work/compiled"; return 1; }
+}
+
+takes_the_turn() {
+    turns_in "$@" || { tail -n 3 "$work/compiled"; return 1; }
+}
