@@ -90,7 +90,8 @@ fn salted_vectors(rt: HostRuntime) -> Result<(), Fail> {
 fn segments_under_a_salt(rt: HostRuntime) -> Result<(), Fail> {
     let keys = salted_key(rt.alloc())?;
     let unsalted = Keys::new(Vec::from_array(rt.alloc(), [[7; 16]])?, 1)?;
-    let all = seal_stream(rt.alloc(), &TWO_KEY_FRAMES, &keys)?;
+    let plans = plans_of(rt.alloc(), &TWO_KEY_FRAMES)?;
+    let all = seal_all(rt.alloc(), &plans, &keys)?;
     assert_eq!(rt; sizes(rt.alloc(), &all)?.as_slice(), [768, 768].as_slice());
     for sealed in &all {
         assert_eq!(rt; sealed.vector(), keys.vector(sealed.plan().number));
