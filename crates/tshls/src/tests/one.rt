@@ -107,6 +107,7 @@ fn a_salt_and_an_event(rt: HostRuntime) -> Result<(), Fail> {
     let words = ["--size", "1x1", "--keys", KEY, "--salt", salt, "--event"];
     let settings = settings(rt.alloc(), &words).map_err(|_| "line")?;
     assert!(rt; settings.kind == Kind::Event);
+    assert_eq!(rt; settings.renditions.len(), 1);
     let rendition = &settings.renditions[0];
     assert_eq!(rt; rendition.keys.vector(0)[15], 0xFF);
     assert_eq!(rt; rendition.keys.vector(1)[15], 0xFE);
