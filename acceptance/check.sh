@@ -65,10 +65,9 @@ with_form() {
     done
     shift
     make_standard_folder "$work/form" "${options[@]}" || return
-    mv "$made" "$work/plain" && mv "$work/form" "$made"
+    mv "$made" "$work/hls_before" && mv "$work/form" "$made" || return
     "$@" || status=$?
-    rm -rf "$made" && mv "$work/plain" "$made"
-    return $status
+    rm -rf "$made" && mv "$work/hls_before" "$made" && return $status
 }
 
 # with_text SED FAULT: what is told where the playlist was changed so.

@@ -145,7 +145,7 @@ const BEGINNINGS: [(usize, Result<u128, PackFault>, usize); 6] = [
 fn is_as_wanted(alloc: Global, input: &[u8], settings: &Settings) -> Result<bool, Fail> {
     let Ran { answer, outlet } = run(alloc, &[input], WELL, settings)?;
     let micros = match answer {
-        Ok(report) => Ok(report.micros.iter().sum()),
+        Ok(report) => Ok(report.micros.first().copied().unwrap_or(0)),
         Err(fault) => Err(fault),
     };
     let mut right = false;
