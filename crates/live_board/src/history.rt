@@ -1,0 +1,169 @@
+//! The history of a board: which snapshots it has shown, as proofs know it. All that is kept of it is its length.
+
+ghost use Rattle.std.specs.Prelude.{◌≡◌, ◌++◌, ◌∷◌, [], length, IfSome, IfNone};
+ghost use Rattle.ghost_list.specs.Lists.{IsBeginning};
+ghost use Rattle.live_board.specs.Counts.{NeverFalls};
+ghost use Rattle.live_board.specs.Histories.{head_of};
+
+use crate::snapshot::Snapshot;
+use logbook::{Gain, Offer, Plain, Play, Rule, Seen, Start, Word};
+use std::marker::Model;
+
+/// More snapshots than a board can show while it stands.
+const MOST: u64 = 1 << 62;
+
+/// What holds of a history: its word is its length.
+pub struct HistoryRule;
+
+impl Rule<Snapshot, u64> for HistoryRule {
+    ghost use Rattle.std.specs.Prelude.{[]};
+    ghost use base.Fml.{ftrue};
+    ghost use Rattle.live_board.specs.Histories.{IsKept};
+
+    ghost holds = { λ cells log. IsKept cells log };
+
+    ghost first = { [] };
+
+    ghost hinted = { λ n log. Unit {0} };
+
+    ghost shows = { λ log. [] };
+
+    ghost keeps = { λ names log. ftrue };
+
+    ghost moves = { λ ask before after answer. Unit {0} };
+}
+
+/// Nothing else is kept by a history.
+struct Nothing;
+
+impl Gain<Snapshot, u64> for Nothing {
+    ghost use base.Fml.{ftrue};
+
+    ghost after = { λ names about answer. ftrue };
+}
+
+/// The step that adds a snapshot.
+struct Addition;
+
+impl Play<Snapshot, u64> for Addition {
+    ghost use Rattle.live_board.specs.Histories.{Adds};
+
+    ghost then = { Adds };
+}
+
+impl Plain<Snapshot, Snapshot, u64> for Addition {
+    ghost use Rattle.std.specs.Prelude.{None};
+
+    ghost ask = { λ snapshot. snapshot };
+
+    ghost state = { λ snapshot. None };
+}
+
+/// The word of a board's history, which its publisher alone changes.
+pub type Head = Word<Snapshot, u64, HistoryRule>;
+
+/// A beginning of the history of a board.
+#[derive(Drop)]
+pub struct History {
+    count: u64,
+    seen: Seen<Snapshot, u64, HistoryRule>,
+}
+
+impl Model for History {
+    ghost use Rattle.std.specs.Prelude.{◌≡◌, length};
+    ghost use Rattle.live_board.specs.Snapshots.{Known};
+    ghost use Rattle.live_board.specs.Counts.{NeverFalls};
+
+    ghost Value = { Known };
+
+    ghost view = { λ h. record { list = h.seen.log; board = h.seen.book } };
+
+    ghost invariant = { λ h. (h.count ≡ length h.seen.log) × NeverFalls h.seen.log };
+}
+
+/// The history of a new board, and its word.
+pub fn new_history() -> (Head, History)
+    ensures { (result.1.list ≡ []) × (result.0 ≡ head_of result.1.board) }
+{
+    let (seen, mut first, _second) = Seen::open(Start::alone(), 0, 0);
+    (Word::tracked(0, &mut first), History { count: 0, seen })
+}
+
+impl History {
+    /// A copy.
+    pub fn again(&self) -> History
+        ensures same { result ≡ self.now }
+        ensures rises { NeverFalls result.list }
+    {
+        History {
+            count: self.count,
+            seen: self.seen.again(),
+        }
+    }
+
+    /// The longer of two beginnings of one history.
+    pub fn longer(&self, other: &History) -> History
+        requires { other.now.board ≡ self.now.board }
+        ensures board { result.board ≡ self.now.board }
+        ensures this { IsBeginning self.now.list result.list }
+        ensures that { IsBeginning other.now.list result.list }
+    {
+        let mut both = self.seen.again();
+        both.learn(&other.seen);
+        if self.count < other.count {
+            other.again()
+        } else {
+            self.again()
+        }
+    }
+
+    /// A copy. `None` where the other beginning of this history is longer.
+    pub fn after(&self, other: &History) -> Option<History>
+        requires { other.now.board ≡ self.now.board }
+        ensures same { IfSome result (λ h. h ≡ self.now) }
+        ensures begins { IfSome result (λ h. IsBeginning other.now.list h.list) }
+        ensures rises { IfSome result (λ h. NeverFalls h.list) }
+        ensures shorter { IfNone result (IsBeginning self.now.list other.now.list) }
+    {
+        let mut both = self.seen.again();
+        both.learn(&other.seen);
+        if self.count < other.count {
+            None
+        } else {
+            Some(self.again())
+        }
+    }
+
+    /// The history with one more snapshot. `None` where it is longer already.
+    pub fn add(&self, head: &Head, snapshot: &Snapshot) -> Option<History>
+        requires head { head.now ≡ head_of self.now.board }
+        requires rises { NeverFalls (self.now.list ++ snapshot.now ∷ []) }
+        ensures { IfSome result (λ h. (h.list ≡ self.now.list ++ snapshot.now ∷ []) × (h.board ≡ self.now.board)) }
+    {
+        let count = self.count;
+        if count >= MOST {
+            return None;
+        }
+        let mut seen = self.seen.again();
+        let mut offer: Offer<Snapshot, u64, HistoryRule, Nothing> = seen.plain::<
+            Nothing,
+            Snapshot,
+            Addition,
+        >(snapshot);
+        let mut pen = seen.no_pen();
+        let found = head.compare_exchange::<Addition, Nothing>(
+            count,
+            count + 1,
+            &mut seen,
+            &mut offer,
+            &mut pen,
+        );
+        if found != count {
+            return None;
+        }
+        Some(History {
+            count: count + 1,
+            seen,
+        })
+    }
+}

@@ -1,0 +1,181 @@
+//! The publisher, and the board that it begins.
+
+ghost use Rattle.std.specs.Prelude.{◌≡◌, ◌≤◌, ◌++◌, ◌∷◌, [], length, All, IfOk, OnOk, OnErr, IfErr, Err, ◌⊎◌};
+ghost use Rattle.ghost_list.specs.Lists.{IsBeginning};
+ghost use Rattle.left_right.specs.Sides.{view as known_by};
+ghost use Rattle.live_board.specs.declared.fault.BoardFault.TheVariants.{NoMemory, NoPlace};
+ghost use Rattle.live_board.specs.Counts.{counts_shown, NoneFalls};
+ghost use Rattle.live_board.specs.Histories.{head_of};
+ghost use Rattle.live_board.specs.Refusals.{Refuses};
+ghost use Rattle.live_board.specs.State.{knowing, moment_of, IsLast};
+
+use crate::counts::backwards;
+use crate::fault::BoardFault;
+use crate::history::{Head, History, new_history};
+use crate::rule::BoardWriter;
+use crate::snapshot::Snapshot;
+use crate::steps::{append_now, new_viewers, next_moment, show_now, two_copies};
+use crate::viewer::Viewer;
+use std::alloc::Global;
+use std::marker::Model;
+use std::sync::Wait;
+
+/// The one who shows snapshots. It isn't let go but by `end`, or by a `HeldPublisher`.
+///
+/// Clauses see it as the list of snapshots that it showed, and its board.
+pub struct Publisher {
+    writer: BoardWriter,
+    history: History,
+    head: Head,
+    ghost named: { head ≡ head_of history.board },
+    ghost mine: { known_by writer.desk.place ≡ knowing history },
+    ghost shows: { (moment_of writer.desk.shown.value).history ≡ history },
+    ghost last: { IsLast (moment_of writer.desk.shown.value) },
+}
+
+impl Model for Publisher {
+    ghost use Rattle.live_board.specs.Snapshots.{Known};
+
+    ghost Value = { Known };
+
+    ghost view = { λ p. p.history };
+}
+
+/// A board that shows the snapshot, its publisher and from 1 to 64 viewers, all of whom know of it. Refused are want of
+/// memory, and NoPlace where a viewer gets no place among the readers.
+pub fn board<R: Wait>(
+    rt: &R,
+    alloc: Global,
+    first: Snapshot,
+    viewers: usize,
+) -> Result<(Publisher, Vec<Viewer>), BoardFault>
+    requires { (1 ≤ viewers) × (viewers ≤ 64) }
+    ensures list { IfOk result (λ b. b.0.list ≡ first ∷ []) }
+    ensures count { IfOk result (λ b. length b.1.items ≡ viewers) }
+    ensures viewers { IfOk result (λ b. All (λ v. v ≡ b.0) b.1.items) }
+    ensures fault { OnErr result ((result ≡ Err NoPlace) ⊎ (result ≡ Err NoMemory)) }
+{
+    let (head, empty) = new_history();
+    let Some(moment) = next_moment(alloc, &empty, &head, first) else {
+        return Err(BoardFault::NoMemory);
+    };
+    let history = moment.history.again();
+    let Some(writer) = two_copies(alloc, &moment, viewers) else {
+        return Err(BoardFault::NoMemory);
+    };
+    let mut writer = writer;
+    if writer.append(moment).is_err() {
+        writer.take(rt);
+        return Err(BoardFault::NoMemory);
+    }
+    let mut writer = show_now(rt, writer);
+    match new_viewers(&mut writer, &history, alloc, viewers) {
+        Ok(all) => Ok((
+            Publisher {
+                writer,
+                history,
+                head,
+            },
+            all,
+        )),
+        Err(fault) => {
+            writer.take(rt);
+            Err(fault)
+        }
+    }
+}
+
+impl Publisher {
+    /// The counts that are shown, by rendition.
+    #[tactic(auto, using(crate::proofs::Lists::counts_last))]
+    pub fn counts(&self) -> &[u64]
+        ensures { result.now ≡ counts_shown self.now.list }
+    {
+        self.writer.published().moment.snapshot.counts.as_slice()
+    }
+
+    /// Shows the snapshot, in one exchange. It waits for viewers who still look at the copy before.
+    ///
+    /// A snapshot is refused as Backwards where a count falls below the one that is shown or the number of renditions is
+    /// another, and then for want of memory. After a refusal the board shows what it showed, and the same snapshot is
+    /// taken or refused as if it had never been refused.
+    pub fn publish<R: Wait>(
+        &mut self,
+        rt: &R,
+        alloc: Global,
+        snapshot: Snapshot,
+    ) -> Result<(), BoardFault>
+        ensures ok { OnOk result (self.new.list ≡ self.old.list ++ snapshot ∷ []) }
+        ensures rising { OnOk result (NoneFalls (counts_shown self.old.list) snapshot.counts) }
+        ensures err { OnErr result (self.new.list ≡ self.old.list) }
+        ensures fault { IfErr result (λ fault. Refuses (counts_shown self.old.list) snapshot.counts fault) }
+        ensures board { self.new.board ≡ self.old.board }
+    {
+        core::mem::replace_with(self, (rt, alloc, snapshot), |publisher, given| {
+            let (rt, alloc, snapshot) = given;
+            publisher.show(rt, alloc, snapshot)
+        })
+    }
+
+    /// As `publish`, and back.
+    fn show<R: Wait>(
+        self,
+        rt: &R,
+        alloc: Global,
+        snapshot: Snapshot,
+    ) -> (Publisher, Result<(), BoardFault>)
+        ensures ok { OnOk result.1 (result.0.list ≡ self.list ++ snapshot ∷ []) }
+        ensures rising { OnOk result.1 (NoneFalls (counts_shown self.list) snapshot.counts) }
+        ensures err { OnErr result.1 (result.0.list ≡ self.list) }
+        ensures fault { IfErr result.1 (λ fault. Refuses (counts_shown self.list) snapshot.counts fault) }
+        ensures board { result.0.board ≡ self.board }
+    {
+        let fallen = backwards(self.counts(), snapshot.counts.as_slice());
+        if let Some((rendition, shown)) = fallen {
+            return (self, Err(BoardFault::Backwards { rendition, shown }));
+        }
+        let Publisher {
+            writer,
+            history,
+            head,
+        } = self;
+        let before = history.again();
+        let Some(moment) = next_moment(alloc, &before, &head, snapshot) else {
+            let same = Publisher {
+                writer,
+                history,
+                head,
+            };
+            return (same, Err(BoardFault::NoMemory));
+        };
+        // the history has the snapshot: from here on nothing is refused
+        let after = moment.history.again();
+        let writer = show_now(rt, append_now(rt, writer, moment));
+        let next = Publisher {
+            writer,
+            history: after,
+            head,
+        };
+        (next, Ok(()))
+    }
+
+    /// Tells a viewer of the same board of all that was shown: from now on it sees no less.
+    pub fn tell(&self, viewer: &mut Viewer)
+        requires { viewer.old.board ≡ self.now.board }
+        ensures told { IsBeginning self.now.list viewer.new.list }
+        ensures own { IsBeginning viewer.old.list viewer.new.list }
+        ensures board { viewer.new.board ≡ viewer.old.board }
+    {
+        viewer.learn(&self.history);
+    }
+
+    /// Ends the board. It waits for viewers who look at it.
+    pub fn end<R: Wait>(self, rt: &R) {
+        let Publisher {
+            writer,
+            history: _,
+            head: _,
+        } = self;
+        writer.take(rt);
+    }
+}

@@ -1,0 +1,141 @@
+//! The steps of a publisher: a moment is made, appended, shown; copies and viewers are made.
+
+ghost use Rattle.std.specs.Prelude.{◌≡◌, ◌≤◌, ◌++◌, ◌∷◌, [], length, drop, All, IfSome, IfOk, OnErr, Err, ◌⊎◌};
+ghost use Rattle.std.specs.Arc.{arc_value};
+ghost use Rattle.left_right.specs.Sides.{view as known_by};
+ghost use Rattle.live_board.specs.declared.fault.BoardFault.TheVariants.{NoMemory, NoPlace};
+ghost use Rattle.live_board.specs.Counts.{NeverFalls};
+ghost use Rattle.live_board.specs.Histories.{head_of};
+ghost use Rattle.live_board.specs.State.{knowing, moment_of, shown_after, IsLast, GoesOn};
+
+use crate::fault::BoardFault;
+use crate::history::{Head, History};
+use crate::rule::{BoardWriter, Informed, Published, Told};
+use crate::shown::{Moment, Shown};
+use crate::snapshot::Snapshot;
+use crate::viewer::Viewer;
+use left_right::writer::Writer;
+use std::alloc::Global;
+use std::sync::{Arc, Wait};
+
+/// The snapshot as the next one of this history, which has it from here on. `None` for want of memory, which leaves the
+/// history.
+#[tactic(auto, using(crate::proofs::Lists::last_is))]
+pub fn next_moment(
+    alloc: Global,
+    history: &History,
+    head: &Head,
+    snapshot: Snapshot,
+) -> Option<Arc<Moment>>
+    requires head { head.now ≡ head_of history.now.board }
+    requires rises { NeverFalls (history.now.list ++ snapshot ∷ []) }
+    ensures history { IfSome result (λ m. (arc_value m).history.list ≡ history.now.list ++ snapshot ∷ []) }
+    ensures board { IfSome result (λ m. (arc_value m).history.board ≡ history.now.board) }
+    ensures last { IfSome result (λ m. IsLast (arc_value m)) }
+{
+    let mut moment = Arc::new(
+        alloc,
+        Moment {
+            snapshot,
+            history: history.again(),
+        },
+    )
+    .ok()?;
+    match Arc::get_mut(&mut moment) {
+        Some(inside) => {
+            inside.history = history.add(head, &inside.snapshot)?;
+        }
+        None => return None,
+    }
+    Some(moment)
+}
+
+/// Two copies that hold the moment, with places for so many readers.
+pub fn two_copies(alloc: Global, moment: &Arc<Moment>, viewers: usize) -> Option<BoardWriter>
+    requires count { (1 ≤ viewers) × (viewers ≤ 64) }
+    requires last { IsLast (arc_value moment.now) }
+    ensures shown { IfSome result (λ w. moment_of w.desk.shown.value ≡ arc_value moment.now) }
+    ensures pending { IfSome result (λ w. drop w.behind w.log.items ≡ []) }
+{
+    let first = Shown {
+        moment: Arc::try_clone(moment).ok()?,
+    };
+    let second = Shown {
+        moment: Arc::try_clone(moment).ok()?,
+    };
+    Writer::new(alloc, first, second, viewers).ok()
+}
+
+/// Appends the moment, for which there has been room since the board was made.
+pub fn append_now<R: Wait>(rt: &R, writer: BoardWriter, moment: Arc<Moment>) -> BoardWriter
+    ensures desk { result.desk ≡ writer.desk }
+    ensures last { shown_after (moment_of writer.desk.shown.value) (drop result.behind result.log.items) ≡ arc_value moment }
+{
+    let mut writer = writer;
+    let mut moment = moment;
+    for _ in rt.forever() {
+        match writer.append(moment) {
+            Ok(()) => return writer,
+            Err(back) => moment = back,
+        }
+    }
+    unreachable!()
+}
+
+/// Shows the moment that was appended last, in one exchange, and waits for the readers of the other copy. It is made
+/// again where a moment can't be shared once more, which takes more copies than there is memory.
+pub fn show_now<R: Wait>(rt: &R, writer: BoardWriter) -> BoardWriter
+    requires last { IsLast (shown_after (moment_of writer.desk.shown.value) (drop writer.behind writer.log.items)) }
+    requires goes_on { GoesOn (moment_of writer.desk.shown.value) (shown_after (moment_of writer.desk.shown.value) (drop writer.behind writer.log.items)) }
+    ensures shown { moment_of result.desk.shown.value ≡ shown_after (moment_of writer.desk.shown.value) (drop writer.behind writer.log.items) }
+    ensures known { known_by result.desk.place ≡ knowing (moment_of result.desk.shown.value).history }
+{
+    let mut writer = writer;
+    for _ in rt.forever() {
+        let (next, answer) = writer.publish_as::<Published, R>(rt);
+        writer = next;
+        if answer.is_ok() {
+            return writer;
+        }
+    }
+    unreachable!()
+}
+
+/// A viewer that knows what the history has.
+pub fn new_viewer(writer: &mut BoardWriter, history: &History) -> Result<Viewer, BoardFault>
+    requires { known_by writer.old.desk.place ≡ knowing history.now }
+    ensures shown { writer.new.desk.shown ≡ writer.old.desk.shown }
+    ensures known { known_by writer.new.desk.place ≡ known_by writer.old.desk.place }
+    ensures viewer { IfOk result (λ v. v ≡ history.now) }
+    ensures fault { OnErr result (result ≡ Err NoPlace) }
+{
+    let Ok(mut reader) = writer.factory().reader() else {
+        return Err(BoardFault::NoPlace);
+    };
+    reader.learn::<Informed>(writer.tell::<Told>());
+    Ok(Viewer::new(reader, history.again()))
+}
+
+/// So many viewers that know what the history has.
+pub fn new_viewers(
+    writer: &mut BoardWriter,
+    history: &History,
+    alloc: Global,
+    viewers: usize,
+) -> Result<Vec<Viewer>, BoardFault>
+    requires { known_by writer.old.desk.place ≡ knowing history.now }
+    ensures shown { writer.new.desk.shown ≡ writer.old.desk.shown }
+    ensures known { known_by writer.new.desk.place ≡ known_by writer.old.desk.place }
+    ensures count { IfOk result (λ all. length all.items ≡ viewers) }
+    ensures viewers { IfOk result (λ all. All (λ v. v ≡ history.now) all.items) }
+    ensures fault { OnErr result ((result ≡ Err NoPlace) ⊎ (result ≡ Err NoMemory)) }
+{
+    let mut all = Vec::new(alloc);
+    for _ in 0..viewers {
+        let viewer = new_viewer(writer, history)?;
+        if all.push(viewer).is_err() {
+            return Err(BoardFault::NoMemory);
+        }
+    }
+    Ok(all)
+}
