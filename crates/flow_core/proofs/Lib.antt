@@ -1,0 +1,4 @@
+pub mod Slotting
+pub mod Gathering
+pub mod Arriving
+pub mod Histories

@@ -1,0 +1,4 @@
+pub mod Slots
+pub mod Lanes
+pub mod Gatherings
+pub mod Arrivals
