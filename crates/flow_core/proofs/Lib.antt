@@ -2,3 +2,4 @@ pub mod Slotting
 pub mod Gathering
 pub mod Arriving
 pub mod Histories
+pub mod Queueing

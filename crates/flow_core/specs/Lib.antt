@@ -1,4 +1,7 @@
+pub mod Lists
 pub mod Slots
 pub mod Lanes
 pub mod Gatherings
 pub mod Arrivals
+pub mod Queues
+pub mod Steps

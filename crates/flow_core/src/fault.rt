@@ -1,3 +1,4 @@
+use cutter::PlanRef;
 use segment_job::Sealed;
 
 /// Why a piece is given back. The collector is as it was.
@@ -17,4 +18,17 @@ pub enum CollectFault<'s> {
 pub struct Collected {
     /// How many segments of its rendition stand without a gap from the start on, handed out or not.
     pub ready: u64,
+}
+
+/// Why a plan isn't fed, the first that holds. The plan comes back, and the queue is as it was.
+#[derive(Clone, Copy)]
+pub enum FeedFault<'s> {
+    /// As many plans are outstanding as may be.
+    Full(PlanRef<'s>),
+    /// The queue was closed, or 2^64 - 1 plans were fed.
+    Closed(PlanRef<'s>),
+    /// An outstanding plan has its rendition and number.
+    Twice(PlanRef<'s>),
+    /// There was no memory.
+    NoMemory(PlanRef<'s>),
 }

@@ -89,7 +89,7 @@ pub(crate) fn keys_of(alloc: Global, renditions: usize) -> Result<Vec<Keys>, Fai
 }
 
 /// The plan at a place.
-fn plan_at(plans: &[Plan], at: usize) -> Result<&Plan, Fail> {
+pub(crate) fn plan_at(plans: &[Plan], at: usize) -> Result<&Plan, Fail> {
     match plans.get(at) {
         Some(plan) => Ok(plan),
         None => Err(Fail::from("no such plan")),

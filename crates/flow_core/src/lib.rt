@@ -1,24 +1,32 @@
 //! What stands between those who seal segments in any order and those who give them out in theirs: a pure core, without a
 //! thread or a lock.
 //!
-//! A [`Collector`] is told which plans to expect, and takes the sealed segments that come for them in any order, from
-//! anyone. It keeps those that are right, gives back all others, and hands them out one rendition's in sequence.
+//! A [`Queue`] hands plans to workers, and what became of them to the one who asked. A [`Collector`] is told which plans to
+//! expect, and takes the sealed segments that come for them in any order, from anyone. It keeps those that are right, gives
+//! back all others, and hands them out one rendition's in sequence.
 #![tactic(auto)]
 
+mod claim;
 mod collector;
 mod fault;
 #[cfg(test)]
 mod fixtures;
 mod lane;
 mod laws;
+mod piece;
+mod queue;
 mod slot;
+mod standing;
 #[cfg(test)]
 mod tests;
 
+pub use claim::Claim;
 pub use collector::Collector;
-pub use fault::{CollectFault, Collected};
+pub use fault::{CollectFault, Collected, FeedFault};
 pub use laws::{
     a_right_piece_is_added, an_expected_plan_is_added, answers_follow_from_arrivals,
     new_renditions_stand_for_nothing, pieces_go_out_in_sequence,
 };
+pub use piece::{Finished, Outcome, Piece};
+pub use queue::Queue;
 pub use slot::Slot;
