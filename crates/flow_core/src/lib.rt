@@ -15,6 +15,8 @@ mod lane;
 mod laws;
 mod piece;
 mod queue;
+#[cfg(test)]
+mod queue_tests;
 mod slot;
 mod standing;
 #[cfg(test)]
