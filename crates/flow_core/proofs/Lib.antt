@@ -3,3 +3,7 @@ pub mod Gathering
 pub mod Arriving
 pub mod Histories
 pub mod Queueing
+pub mod Ofs
+pub mod Places
+pub mod Running
+pub mod EveryRun

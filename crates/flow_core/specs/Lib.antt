@@ -5,3 +5,4 @@ pub mod Gatherings
 pub mod Arrivals
 pub mod Queues
 pub mod Steps
+pub mod Flows

@@ -17,6 +17,7 @@ mod piece;
 mod queue;
 #[cfg(test)]
 mod queue_tests;
+mod runs;
 mod slot;
 mod standing;
 #[cfg(test)]
@@ -31,4 +32,5 @@ pub use laws::{
 };
 pub use piece::{Finished, Outcome, Piece};
 pub use queue::Queue;
+pub use runs::every_run;
 pub use slot::Slot;
