@@ -1,5 +1,5 @@
 -- Each event keeps what always holds of a queue.
-use Rattle.std.proofs.Common.{◌≡◌, ◌⊎◌, inl, inr, ◌∙◌, ℕ, ◌+◌, ◌≤◌, ◌<◌, ◌^◌, ◌==◌, ◌&&◌, Bool, true, false, List, [], ◌∷◌, ◌++◌, length, take, drop, zero, suc, Some, refl, sym, ap, subst, arith}
+use Rattle.std.proofs.Common.{◌≡◌, ◌⊎◌, inl, inr, ◌∙◌, ℕ, ◌+◌, ◌-◌, ◌≤◌, ◌<◌, ◌^◌, ◌==◌, ◌&&◌, Bool, true, false, List, [], ◌∷◌, ◌++◌, length, take, drop, zero, suc, Some, refl, sym, ap, subst, arith}
 use Rattle.std.specs.Prelude.{slice_get}
 use Rattle.std.proofs.lemmas.Bool.Decides.{nat_tests}
 use Rattle.std.proofs.lemmas.List.{length-append}
@@ -8,7 +8,7 @@ use Rattle.flow_core.specs.declared.piece.Outcome.{Outcome}
 use Rattle.flow_core.specs.declared.piece.Finished.{Finished}
 use Rattle.flow_core.specs.Lists.{In}
 use Rattle.flow_core.specs.Queues.{QueueValue, Claimed, outstanding, is_plan, one_if, among_waiting, among_claimed, among_done, standing, IsOwnOutcome, AreOwn, IsSound, IsKept}
-use Rattle.flow_core.specs.Steps.{Feeds, Claims, Delivers, Takes, stopped_queue}
+use Rattle.flow_core.specs.Steps.{Feeds, Claims, Delivers, Takes, Unfeeds, stopped_queue}
 
 waiting-in : (r n : ℕ) (plans : List SegmentPlan) (p : SegmentPlan) → among_waiting r n (plans ++ p ∷ []) ≡ among_waiting r n plans + one_if (is_plan r n p)
 waiting-in r n [] p = omega arith
@@ -160,6 +160,41 @@ takes-kept q x after a b h s =
       claimable = subst (λ (x : QueueValue). length x.waiting + length x.claimed ≤ a) (sym s.taken) h.claimable;
       takeable = subst (λ (x : QueueValue). outstanding x ≤ b) (sym s.taken) (omega (arith, gone, h.takeable));
     }
+
+pub unfeeds-kept : (q after : QueueValue) (a b : ℕ) → IsKept q a b → Unfeeds q after → IsKept after a b
+unfeeds-kept q after a b h s =
+    let gone = ap length s.waits ∙ length-append after.waiting (s.plan ∷ []) in
+    let sound : IsSound (record q { fed = q.fed - 1; waiting = after.waiting }) = record {
+      once = λ r n. omega (arith, h.sound.once r n, ap (among_waiting r n) s.waits ∙ waiting-in r n after.waiting s.plan);
+      own = h.sound.own;
+      few = omega (arith, h.sound.few, gone);
+      counted = h.sound.counted;
+      fed_first = omega (arith, h.sound.fed_first, gone);
+    } in
+    record {
+      sound = subst IsSound (sym s.unfed) sound;
+      low = subst (λ (x : QueueValue). x.fed < 2 ^ 64) (sym s.unfed) (omega (arith, h.low));
+      claimable = subst (λ (x : QueueValue). length x.waiting + length x.claimed ≤ a) (sym s.unfed) (omega (arith, gone, h.claimable));
+      takeable = subst (λ (x : QueueValue). outstanding x ≤ b) (sym s.unfed) (omega (arith, gone, h.takeable));
+    }
+
+-- .. and what was fed just before is as if it hadn't been
+abbrev pub all-but-last : {A : Type 0} → List A → List A
+all-but-last [] = []
+all-but-last (x ∷ []) = []
+all-but-last (x ∷ (y ∷ ys)) = x ∷ all-but-last (y ∷ ys)
+
+but-last : {A : Type 0} (xs : List A) (x : A) → all-but-last (xs ++ x ∷ []) ≡ xs
+but-last [] x = refl
+but-last (y ∷ []) x = refl
+but-last (y ∷ (z ∷ xs)) x = ap (λ l. y ∷ l) (but-last (z ∷ xs) x)
+
+pub unfeeds-fed : (q mid after : QueueValue) (p : SegmentPlan) → Feeds q p mid → Unfeeds mid after → after ≡ q
+unfeeds-fed q mid after p f u =
+    let both : q.waiting ++ p ∷ [] ≡ after.waiting ++ u.plan ∷ [] = ap (λ (x : QueueValue). x.waiting) (sym f.fed) ∙ u.waits in
+    let same : after.waiting ≡ q.waiting = sym (but-last after.waiting u.plan) ∙ ap all-but-last (sym both) ∙ but-last q.waiting p in
+    let fed : mid.fed - 1 ≡ q.fed = ap (λ (x : QueueValue). x.fed - 1) f.fed ∙ omega arith in
+    u.unfed ∙ (λ i. record (f.fed i) { fed = mid.fed - 1; waiting = after.waiting }) ∙ (λ i. record q { fed = fed i; waiting = same i })
 
 -- what stands at a place stands between what is before and behind it
 pub split_at : {A : Type 0} (xs : List A) (i : ℕ) (a : A) → slice_get xs i ≡ Some a → xs ≡ take i xs ++ a ∷ drop (suc i) xs

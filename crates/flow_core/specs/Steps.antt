@@ -1,5 +1,5 @@
 -- The events of a queue, each on the queue before and after.
-use Rattle.std.specs.Prelude.{◌≡◌, ◌⊎◌, ℕ, ◌+◌, ◌<◌, ◌^◌, true, false, List, [], ◌∷◌, ◌++◌}
+use Rattle.std.specs.Prelude.{◌≡◌, ◌⊎◌, ℕ, ◌+◌, ◌-◌, ◌<◌, ◌^◌, true, false, List, [], ◌∷◌, ◌++◌}
 use Rattle.cutter.specs.Plans.{SegmentPlan}
 use Rattle.cutter.specs.Lent.{lent}
 use Rattle.flow_core.specs.declared.piece.Outcome.{Outcome}
@@ -76,3 +76,9 @@ closed_queue q = record q { closed = true }
 -- no more plans are fed, and those that wait are given up
 abbrev pub stopped_queue : QueueValue → QueueValue
 stopped_queue q = record q { closed = true; waiting = [] }
+
+-- the last plan that waits is as if it hadn't been fed
+pub record Unfeeds (q : QueueValue) (after : QueueValue) : Type 0 where
+  pub plan : SegmentPlan
+  pub waits : q.waiting ≡ after.waiting ++ plan ∷ []
+  pub unfed : after ≡ record q { fed = q.fed - 1; waiting = after.waiting }

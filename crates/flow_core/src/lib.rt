@@ -11,6 +11,7 @@ mod collector;
 mod fault;
 #[cfg(test)]
 mod fixtures;
+mod flow;
 mod lane;
 mod laws;
 mod piece;
@@ -26,6 +27,7 @@ mod tests;
 pub use claim::Claim;
 pub use collector::Collector;
 pub use fault::{CollectFault, Collected, FeedFault};
+pub use flow::{Flow, Taken};
 pub use laws::{
     a_right_piece_is_added, an_expected_plan_is_added, answers_follow_from_arrivals,
     new_renditions_stand_for_nothing, pieces_go_out_in_sequence,

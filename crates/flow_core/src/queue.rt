@@ -5,7 +5,7 @@ ghost use Rattle.cutter.specs.Lent.{lent};
 ghost use Rattle.flow_core.specs.Lists.{In};
 ghost use Rattle.flow_core.specs.declared.piece.Outcome.TheVariants.{Sealed as IsSealed, Refused as IsRefused, Held as IsHeld};
 ghost use Rattle.flow_core.specs.Queues.{first_queue, outstanding, standing, IsOwnOutcome};
-ghost use Rattle.flow_core.specs.Steps.{MayFeed, Refuses, Feeds, Claims, Delivers, Gives, closed_queue, stopped_queue};
+ghost use Rattle.flow_core.specs.Steps.{MayFeed, Refuses, Feeds, Claims, Delivers, Gives, Unfeeds, closed_queue, stopped_queue};
 
 use crate::claim::Claim;
 use crate::fault::FeedFault;
@@ -87,6 +87,16 @@ impl<'s, L: Ledger, M: Ledger> Queue<'s, L, M> {
         }
         self.fed += 1;
         Ok(())
+    }
+
+    /// Takes back the plan that was fed last and still waits.
+    pub(crate) fn unfeed(&mut self)
+        requires { 0 < length self.old.waiting }
+        ensures { Unfeeds self.old self.new }
+    {
+        if self.waiting.pop_back().is_some() {
+            self.fed -= 1;
+        }
     }
 
     /// Why a plan may not be fed.
