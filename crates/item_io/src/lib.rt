@@ -2,6 +2,7 @@
 //! playlists.
 #![tactic(auto)]
 
+mod digits;
 mod failing_outlet;
 mod failing_reader;
 mod fault;
