@@ -56,7 +56,7 @@ impl<'a> Joined<'a> {
         if at < self.front.len() {
             (&self.front[at..], self.back)
         } else {
-            (&self.front[..0], &self.back[at - self.front.len()..])
+            (&self.back[at - self.front.len()..], &[])
         }
     }
 
@@ -88,13 +88,12 @@ fn first_packet(front: &[u8], back: &[u8]) -> [u8; 188]
     requires { 188 ≤ length front.now + length back.now }
     ensures { result ≡ take 188 (front.now ++ back.now) }
 {
-    let mut packet = [0; 188];
-    if front.len() >= 188 {
-        packet.copy_from_slice(&front[..188]);
-    } else {
-        let (head, tail) = packet.split_at_mut(front.len());
-        head.copy_from_slice(front);
-        tail.copy_from_slice(&back[..188 - front.len()]);
+    if let Some(packet) = front.first_chunk::<188>() {
+        return *packet;
     }
+    let mut packet = [0; 188];
+    let (head, tail) = packet.split_at_mut(front.len());
+    head.copy_from_slice(front);
+    tail.copy_from_slice(&back[..188 - front.len()]);
     packet
 }
