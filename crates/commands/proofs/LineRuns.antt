@@ -15,9 +15,9 @@ use Rattle.ladder_items.specs.Ladder.{Ladder}
 use Rattle.ladder_items.specs.Items.{Part, no_part, part_at}
 use Rattle.ladder_items.specs.Weave.{none_of, AreLegal, after_all, blocks}
 use Rattle.ingest.specs.Streams.{closed_of}
-use Rattle.ladder_items.specs.Runs.{InputView, OutletView, outlet_of, run_of}
+use Rattle.ingest.specs.Inputs.{InputView, SourceSays}
+use Rattle.ladder_items.specs.Runs.{OutletView, outlet_of, run_of}
 use Rattle.ladder_items.specs.Putting.{PutAll}
-use Rattle.ladder_items.specs.Sources.{SourceSays}
 use Rattle.ladder_items.specs.World.{stream_at}
 use Rattle.ladder_items.specs.Packed.{IsPacked, IsCutShort, HasHalted, IsRefused, IsLeft, of_run, FaultSays}
 use Rattle.ladder_items.proofs.Endings.{says-as}

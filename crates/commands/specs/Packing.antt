@@ -9,11 +9,9 @@ use Rattle.ingest.specs.declared.lane.Stop.TheVariants.{Good, Cut, Read as ReadF
 use Rattle.ladder_items.specs.Ladder.{Ladder, IsAllowed}
 use Rattle.ladder_items.specs.Items.{Part, part_at}
 use Rattle.ladder_items.specs.Weave.{Weaves}
-use Rattle.ladder_items.specs.Lanes.{IsWhole}
+use Rattle.ladder_items.specs.Lanes.{IsWhole, HasGiven, HasBegun}
 use Rattle.ladder_items.specs.Faults.{Sayings, Says}
-use Rattle.ladder_items.specs.Sources.{HasBegun}
 use Rattle.ingest.specs.Streams.{Stays}
-use Rattle.ladder_items.specs.Packed.{HasGiven}
 use Rattle.commands.specs.Streams.{ReadsAll}
 
 -- All that the reader gave was packed, and the writer got the lines of all segments and playlists.

@@ -1,11 +1,17 @@
 -- What bytes decide only grows.
-use Rattle.std.proofs.Common.{◌≡◌, ◌∙◌, ℕ, ◌≤◌, List, [], ◌∷◌, ◌++◌, length, refl, ap, sym, subst, arith, append_assoc}
+use Rattle.std.proofs.Common.{◌≡◌, ◌∙◌, ℕ, zero, suc, ◌≤◌, List, [], ◌∷◌, ◌++◌, length, Option, Some, None, refl, ap, sym, subst, arith, append_assoc}
 use Rattle.std.proofs.lemmas.List.{append-nil}
 use Rattle.ghost_list.specs.Lists.{IsBeginning}
 use Rattle.ts_packet.specs.Packets.{packets, decided, IsDecided}
 use Rattle.cutter.specs.declared.settings.CutSettings.{CutSettings}
 use Rattle.cutter.specs.Cuts.{closed, plans}
+use Rattle.std.specs.List.{slice_get}
+use Rattle.cutter.specs.Plans.{SegmentPlan}
+use Rattle.cutter.specs.Ordered.{IsPlan}
+use Rattle.ingest.specs.declared.lane.Stop.{Stop}
+use Rattle.ingest.specs.declared.lane.Stop.TheVariants.{Good, Cut, Read}
 use Rattle.ingest.specs.Streams.{closed_of, plans_of}
+use Rattle.ingest.specs.Lanes.{made_of}
 
 -- of two beginnings of a list the shorter one begins the longer one
 front-of-longer : {A : Type 0} (a b x y : List A) → a ++ x ≡ b ++ y → length a ≤ length b → (rest : List A) × (b ≡ a ++ rest)
@@ -50,3 +56,18 @@ unfolding closed_of
 grows-all r s stream more (rest, whole) grow =
     let a = grow (decided stream) rest in
     (a.0, ap (closed r s) whole ∙ a.1)
+
+front-at : (xs ys : List SegmentPlan) (n : ℕ) (plan : SegmentPlan) → slice_get xs n ≡ Some plan → slice_get (xs ++ ys) n ≡ Some plan
+front-at [] ys n plan at = cc
+front-at (x ∷ xs) ys zero plan at = at
+front-at (x ∷ xs) ys (suc n) plan at = front-at xs ys n plan at
+
+-- what is closed is in order, as all plans of the stream are
+pub in-order : (r : ℕ) (s : CutSettings) (stream : List ℕ) (stop : Option Stop)
+    → ((stream : List ℕ) (n : ℕ) (plan : SegmentPlan) → slice_get (plans_of r s stream) n ≡ Some plan → IsPlan r s n plan)
+    → IsBeginning (closed_of r s stream) (plans_of r s (stream ++ []))
+    → (n : ℕ) (plan : SegmentPlan) → slice_get (made_of stop r s stream) n ≡ Some plan → IsPlan r s n plan
+in-order r s stream None all front n plan at = all (stream ++ []) n plan (ap (λ (l : List SegmentPlan). slice_get l n) front.1 ∙ front-at (closed_of r s stream) front.0 n plan at)
+in-order r s stream (Some (Good gone)) all front n plan at = all stream n plan at
+in-order r s stream (Some (Cut told)) all front n plan at = all stream n plan at
+in-order r s stream (Some Read) all front n plan at = all (stream ++ []) n plan (ap (λ (l : List SegmentPlan). slice_get l n) front.1 ∙ front-at (closed_of r s stream) front.0 n plan at)

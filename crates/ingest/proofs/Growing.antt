@@ -1,11 +1,11 @@
 -- Lists of plans that grow alike.
-use Rattle.std.proofs.Common.{◌≡◌, ◌∙◌, ◌⊎◌, inl, inr, ℕ, suc, ◌<◌, false, List, [], ◌∷◌, ◌++◌, length, take, drop, get_or, ap, sym, subst, append_assoc, length-append, arith}
+use Rattle.std.proofs.Common.{◌≡◌, ◌∙◌, ◌⊎◌, inl, inr, ℕ, suc, ◌<◌, Bool, false, List, [], ◌∷◌, ◌++◌, length, take, drop, get_or, ap, sym, subst, append_assoc, length-append, arith}
 use Rattle.std.proofs.lemmas.List.{append-nil, take_more}
 use Rattle.std.proofs.Math.Seq.{split_at}
 use Rattle.cutter.specs.declared.settings.CutSettings.{CutSettings}
 use Rattle.cutter.specs.declared.fault.CutFault.{CutFault}
 use Rattle.cutter.specs.declared.fault.CutFault.TheVariants.{NoMemory}
-use Rattle.cutter.specs.Settings.{Pushed}
+use Rattle.cutter.specs.Spooled.{Spooling, Closes}
 use Rattle.cutter.specs.Plans.{SegmentPlan}
 use Rattle.cutter.specs.Cuts.{closed, made, Ends}
 use Rattle.cutter.specs.Ordered.{IsPlan}
@@ -34,18 +34,15 @@ next-made r s n None h = tt
 next-made r s n (Some p) h = (h, tt)
 
 -- a packet more
-pub grows-by : (v start : Pushed) (front : List (List ℕ)) (x : List ℕ) (all : List (List ℕ)) (plan : Option SegmentPlan) (old mid new : List SegmentPlan)
-    → v ≡ record start { list = front } → all ≡ front ++ x ∷ []
-    → GrowsAlike start.rendition start.settings (closed start.rendition start.settings start.list) (closed start.rendition start.settings front) old mid
-    → closed v.rendition v.settings (v.list ++ x ∷ []) ≡ closed v.rendition v.settings v.list ++ made plan
-    → IfSome plan (λ p. IsPlan v.rendition v.settings (length (closed v.rendition v.settings v.list)) p)
-    → new ≡ mid ++ made plan
-    → GrowsAlike start.rendition start.settings (closed start.rendition start.settings start.list) (closed start.rendition start.settings all) old new
-grows-by v start front x all plan old mid new is whole g e h f =
-    let closes = rw is at e in
-    let order = rw is at h in
-    grows-more start.rendition start.settings _ _ _ old mid new (made plan) g (ap (closed start.rendition start.settings) whole ∙ closes) f
-    (next-made start.rendition start.settings (length (closed start.rendition start.settings front)) plan order)
+pub grows-by : (v w start : Spooling) (front : List (List ℕ)) (x : List ℕ) (all : List (List ℕ)) (told : Bool) → v ≡ record start { list = front; filled = v.filled } → all ≡ front ++ x ∷ []
+    → GrowsAlike start.rendition start.settings (closed start.rendition start.settings start.list) (closed start.rendition start.settings front) start.filled v.filled
+    → Closes v.rendition v.settings (closed v.rendition v.settings v.list) (closed v.rendition v.settings (v.list ++ x ∷ [])) v.filled w.filled told
+    → GrowsAlike start.rendition start.settings (closed start.rendition start.settings start.list) (closed start.rendition start.settings all) start.filled w.filled
+grows-by v w start front x all told is whole g c =
+    let closes = rw is at c.plans in
+    let order = rw is at c.order in
+    grows-more start.rendition start.settings _ _ _ start.filled v.filled w.filled (made c.plan) g (ap (closed start.rendition start.settings) whole ∙ closes) c.filled
+    (next-made start.rendition start.settings (length (closed start.rendition start.settings front)) c.plan order)
 
 whole-of : (front ps more : List (List ℕ)) (i : ℕ) (d : List ℕ) → i < length ps
     → (front ++ take i ps) ++ get_or ps i d ∷ (drop (suc i) ps ++ more) ≡ (front ++ ps) ++ more
@@ -56,16 +53,16 @@ whole-of front ps more i d below =
     ∙ sym (append_assoc front ps more))
 
 -- what a cutter that was pushed these packets says where it refuses the next one
-abbrev pub Refuses : Pushed → List ℕ → CutFault → Type 0
+abbrev pub Refuses : Spooling → List ℕ → CutFault → Type 0
 Refuses v x e = (e ≡ NoMemory) ⊎ ((more : List (List ℕ)) → Ends v.rendition v.settings (v.list ++ x ∷ more) e (closed v.rendition v.settings v.list))
 
-stops-by : (start : Pushed) (ps : List (List ℕ)) (i : ℕ) (d : List ℕ) (e : CutFault) (old new : List SegmentPlan)
+stops-by : (start : Spooling) (ps : List (List ℕ)) (i : ℕ) (d : List ℕ) (e : CutFault) (v : Spooling)
     → i < length ps
-    → GrowsAlike start.rendition start.settings (closed start.rendition start.settings start.list) (closed start.rendition start.settings (start.list ++ take i ps)) old new
-    → Refuses (record start { list = start.list ++ take i ps }) (get_or ps i d) e
-    → (e ≡ NoMemory) ⊎ ((more : List (List ℕ)) → Stops start ((start.list ++ ps) ++ more) e old new)
-stops-by start ps i d e old new below grown (inl none) = inl none
-stops-by start ps i d e old new below grown (inr told) = inr (λ more.
+    → GrowsAlike start.rendition start.settings (closed start.rendition start.settings start.list) (closed start.rendition start.settings (start.list ++ take i ps)) start.filled v.filled
+    → Refuses (record v { rendition = start.rendition; settings = start.settings; list = start.list ++ take i ps }) (get_or ps i d) e
+    → (e ≡ NoMemory) ⊎ ((more : List (List ℕ)) → Stops start ((start.list ++ ps) ++ more) e v.filled)
+stops-by start ps i d e v below grown (inl none) = inl none
+stops-by start ps i d e v below grown (inr told) = inr (λ more.
     let ends = subst (λ (list : List (List ℕ)). Ends start.rendition start.settings list e (closed start.rendition start.settings (start.list ++ take i ps)))
     (whole-of start.list ps more i d below) (told (drop (suc i) ps ++ more)) in
     record {
@@ -74,18 +71,20 @@ stops-by start ps i d e old new below grown (inr told) = inr (λ more.
     })
 
 -- a fault at packet i
-pub stops-at : (v start : Pushed) (ps : List (List ℕ)) (i : ℕ) (d : List ℕ) (e : CutFault) (old new : List SegmentPlan)
-    → v ≡ record start { list = start.list ++ take i ps } → start.ended ≡ false → i < length ps
-    → GrowsAlike start.rendition start.settings (closed start.rendition start.settings start.list) (closed start.rendition start.settings (start.list ++ take i ps)) old new
+pub stops-at : (v start : Spooling) (ps : List (List ℕ)) (i : ℕ) (d : List ℕ) (e : CutFault)
+    → v ≡ record start { list = start.list ++ take i ps; filled = v.filled } → start.ended ≡ false → i < length ps
+    → GrowsAlike start.rendition start.settings (closed start.rendition start.settings start.list) (closed start.rendition start.settings (start.list ++ take i ps)) start.filled v.filled
     → (v.ended ≡ false → Refuses v (get_or ps i d) e)
-    → (e ≡ NoMemory) ⊎ ((more : List (List ℕ)) → Stops start ((start.list ++ ps) ++ more) e old new)
-stops-at v start ps i d e old new is going below grown told = stops-by start ps i d e old new below grown ((rw is at told) going)
+    → (e ≡ NoMemory) ⊎ ((more : List (List ℕ)) → Stops start ((start.list ++ ps) ++ more) e v.filled)
+stops-at v start ps i d e is going below grown told =
+    let refuses = told (ap (λ (u : Spooling). u.ended) is ∙ going) in
+    stops-by start ps i d e v below grown (subst (λ (u : Spooling). Refuses u (get_or ps i d) e) is refuses)
 
 pub more-of : (front ps : List (List ℕ)) (i : ℕ) (d : List ℕ) → i < length ps → front ++ take (i + 1) ps ≡ (front ++ take i ps) ++ get_or ps i d ∷ []
 more-of front ps i d below = ap (λ l. front ++ l) (take_more ps i d below) ∙ sym (append_assoc front (take i ps) (get_or ps i d ∷ []))
 
-pub pushed-more : (v w start : Pushed) (ps : List (List ℕ)) (i : ℕ) (d : List ℕ) → i < length ps → v ≡ record start { list = start.list ++ take i ps }
-    → w ≡ record v { list = v.list ++ get_or ps i d ∷ [] } → w ≡ record start { list = start.list ++ take (i + 1) ps }
+pub pushed-more : (v w start : Spooling) (ps : List (List ℕ)) (i : ℕ) (d : List ℕ) → i < length ps → v ≡ record start { list = start.list ++ take i ps; filled = v.filled }
+    → w ≡ record v { list = v.list ++ get_or ps i d ∷ []; filled = w.filled } → w ≡ record start { list = start.list ++ take (i + 1) ps; filled = w.filled }
 pushed-more v w start ps i d below is pushed =
-    pushed ∙ (ap (λ (u : Pushed). record u { list = u.list ++ get_or ps i d ∷ [] }) is
-    ∙ ap (λ (l : List (List ℕ)). record start { list = l }) (sym (more-of start.list ps i d below)))
+    pushed ∙ (ap (λ (u : Spooling). record u { list = u.list ++ get_or ps i d ∷ []; filled = w.filled }) is
+    ∙ ap (λ (l : List (List ℕ)). record start { list = l; filled = w.filled }) (sym (more-of start.list ps i d below)))

@@ -7,3 +7,4 @@ pub mod HeadBytes
 pub mod SectionBytes
 pub mod TableBytes
 pub mod CutBytes
+pub mod Turning

@@ -1,16 +1,16 @@
 -- From the packets that a cutter is pushed to the bytes that an intake takes.
-use Rattle.std.proofs.Common.{◌≡◌, ◌∙◌, ◌⊎◌, inl, inr, ℕ, ◌+◌, ◌<◌, ◌≤◌, ◌^◌, Bool, false, List, [], ◌++◌, length, Option, Some, None, ap, sym, subst, arith, length-append}
+use Rattle.std.proofs.Common.{◌≡◌, ◌∙◌, ◌⊎◌, inl, inr, ℕ, ◌+◌, ◌<◌, ◌≤◌, ◌^◌, Bool, false, List, [], ◌∷◌, ◌++◌, length, Some, None, ap, sym, subst, arith, length-append}
 use Rattle.std.proofs.lemmas.List.{append-nil, append_cancel_left}
+use Rattle.std.proofs.lemmas.Grind.{flat_map-append}
 use Rattle.ghost_list.specs.Lists.{IsBeginning}
 use Rattle.ts_packet.specs.Packets.{packets, decided}
 use Rattle.ts_packet.specs.State as Reading
 use Rattle.cutter.specs.declared.fault.CutFault.{CutFault}
 use Rattle.cutter.specs.declared.fault.CutFault.TheVariants.{NoMemory}
-use Rattle.cutter.specs.Settings.{Pushed}
+use Rattle.cutter.specs.Spooled.{Spooling, Closes, joined}
 use Rattle.cutter.specs.declared.settings.CutSettings.{CutSettings}
 use Rattle.cutter.specs.Plans.{SegmentPlan}
-use Rattle.std.specs.Prelude.{IfSome}
-use Rattle.cutter.specs.Ordered.{IsPlan}
+use Rattle.std.specs.Prelude.{OnOk, Result, Ok, Err}
 use Rattle.cutter.specs.Cuts.{closed, plans, fault, made, Ends}
 use Rattle.ingest.specs.Streams.{Taken, AreNext, GrowsAlike, Stops, Faults, Stays, plans_of, fault_of, closed_of}
 use Rattle.ingest.proofs.Growing.{grows-more, next-made}
@@ -29,18 +29,14 @@ few-all ps more stream grown few short =
     omega (arith, e, few, short)
 
 -- the intake of a cutter that was pushed what the stream decides
-abbrev pub intake_of : Bool → Pushed → List ℕ → Taken
-intake_of ended v stream = record { rendition = v.rendition; settings = v.settings; stream = stream; ended = ended }
+abbrev pub intake_of : Bool → Spooling → List ℕ → Taken
+intake_of ended v stream = record { rendition = v.rendition; settings = v.settings; stream = stream; ended = ended; turned = joined v.turned; filled = v.filled }
 
-pub closed-at : (v : Pushed) (stream : List ℕ) → v.list ≡ decided stream → closed_of v.rendition v.settings stream ≡ closed v.rendition v.settings v.list
+pub grown-to : (v w : Spooling) (stream next : List ℕ) (ps : List (List ℕ)) → v.list ≡ decided stream → decided next ≡ decided stream ++ ps
+    → GrowsAlike v.rendition v.settings (closed v.rendition v.settings v.list) (closed v.rendition v.settings (v.list ++ ps)) v.filled w.filled
+    → GrowsAlike v.rendition v.settings (closed_of v.rendition v.settings stream) (closed_of v.rendition v.settings next) v.filled w.filled
 unfolding closed_of
-closed-at v stream is = ap (closed v.rendition v.settings) (sym is)
-
-pub grown-to : (v : Pushed) (stream next : List ℕ) (ps : List (List ℕ)) (old new : List SegmentPlan) → v.list ≡ decided stream → decided next ≡ decided stream ++ ps
-    → GrowsAlike v.rendition v.settings (closed v.rendition v.settings v.list) (closed v.rendition v.settings (v.list ++ ps)) old new
-    → GrowsAlike v.rendition v.settings (closed_of v.rendition v.settings stream) (closed_of v.rendition v.settings next) old new
-unfolding closed_of
-grown-to v stream next ps old new is grown g =
+grown-to v w stream next ps is grown g =
     let whole : v.list ++ ps ≡ decided next = ap (λ list. list ++ ps) is ∙ sym grown in
     record {
       more = g.more;
@@ -49,10 +45,10 @@ grown-to v stream next ps old new is grown g =
       order = subst (λ list. AreNext v.rendition v.settings (length (closed v.rendition v.settings list)) g.more) is g.order;
     }
 
-faults-by : (ended : Bool) (v : Pushed) (stream next : List ℕ) (whole : List (List ℕ)) (e : CutFault) (old new : List SegmentPlan)
-    → v.list ≡ decided stream → whole ≡ packets next → Stops v whole e old new → Faults (intake_of ended v stream) next e old new
+faults-by : (ended : Bool) (v : Spooling) (stream next : List ℕ) (whole : List (List ℕ)) (e : CutFault) (filled : List SegmentPlan)
+    → v.list ≡ decided stream → whole ≡ packets next → Stops v whole e filled → Faults (intake_of ended v stream) next e filled
 unfolding closed_of plans_of fault_of
-faults-by ended v stream next whole e old new is all stops = record {
+faults-by ended v stream next whole e filled is all stops = record {
   fault = ap (fault v.rendition v.settings) (sym all) ∙ stops.fault;
   plans = record {
     more = stops.plans.more;
@@ -63,8 +59,8 @@ faults-by ended v stream next whole e old new is all stops = record {
 }
 
 -- what push_all says where it refuses
-abbrev pub StopsAll : Pushed → List (List ℕ) → CutFault → List SegmentPlan → List SegmentPlan → Type 0
-StopsAll v ps e old new = (e ≡ NoMemory) ⊎ ((more : List (List ℕ)) → Stops v ((v.list ++ ps) ++ more) e old new)
+abbrev pub StopsAll : Spooling → List (List ℕ) → CutFault → List SegmentPlan → Type 0
+StopsAll v ps e filled = (e ≡ NoMemory) ⊎ ((more : List (List ℕ)) → Stops v ((v.list ++ ps) ++ more) e filled)
 
 -- all plans that come before a fault are closed
 plans-closed : (r : ℕ) (s : CutSettings) (ps : List (List ℕ)) (e : CutFault) → fault r s ps ≡ Some e → plans r s ps ≡ closed r s ps
@@ -72,11 +68,11 @@ unfolding plans
 plans-closed r s ps e told = rw told (append-nil (closed r s ps))
 
 -- a fault that stands whatever packets come behind stands whatever bytes do
-stays-by : (v : Pushed) (next : List ℕ) (ps : List (List ℕ)) (e : CutFault) (old new : List SegmentPlan)
+stays-by : (v : Spooling) (next : List ℕ) (ps : List (List ℕ)) (e : CutFault) (filled : List SegmentPlan)
     → v.list ++ ps ≡ decided next → ((more : List ℕ) → IsBeginning (decided next) (packets (next ++ more)))
-    → ((more : List (List ℕ)) → Stops v ((v.list ++ ps) ++ more) e old new) → Stays v.rendition v.settings next e
+    → ((more : List (List ℕ)) → Stops v ((v.list ++ ps) ++ more) e filled) → Stays v.rendition v.settings next e
 unfolding closed_of plans_of fault_of
-stays-by v next ps e old new is always told =
+stays-by v next ps e filled is always told =
     let r = v.rendition in
     let s = v.settings in
     let none = told [] in
@@ -92,74 +88,76 @@ stays-by v next ps e old new is always told =
           let mine = (told begin.0).plans in
           ap (plans r s) (begin.1 ∙ ap (λ list. list ++ begin.0) (sym is))
           ∙ (mine.grown
-          ∙ (ap (λ list. closed r s v.list ++ list) (append_cancel_left old mine.more none.plans.more (sym mine.given ∙ none.plans.given)) ∙ (sym none.plans.grown ∙ all)));
+          ∙ (ap (λ list. closed r s v.list ++ list) (append_cancel_left v.filled mine.more none.plans.more (sym mine.given ∙ none.plans.given)) ∙ (sym none.plans.grown ∙ all)));
     }
 
 -- a fault at bytes that were taken
-pub faults-at : (ended : Bool) (v : Pushed) (stream next : List ℕ) (ps : List (List ℕ)) (e : CutFault) (old new : List SegmentPlan)
+pub faults-at : (ended : Bool) (v : Spooling) (stream next : List ℕ) (ps : List (List ℕ)) (e : CutFault) (filled : List SegmentPlan)
     → v.list ≡ decided stream → decided next ≡ decided stream ++ ps → IsBeginning (decided next) (packets next)
     → ((more : List ℕ) → IsBeginning (decided next) (packets (next ++ more)))
-    → StopsAll v ps e old new → (e ≡ NoMemory) ⊎ (Faults (intake_of ended v stream) next e old new × Stays v.rendition v.settings next e)
-faults-at ended v stream next ps e old new is grown begin always (inl none) = inl none
-faults-at ended v stream next ps e old new is grown begin always (inr told) =
+    → StopsAll v ps e filled → (e ≡ NoMemory) ⊎ (Faults (intake_of ended v stream) next e filled × Stays v.rendition v.settings next e)
+faults-at ended v stream next ps e filled is grown begin always (inl none) = inl none
+faults-at ended v stream next ps e filled is grown begin always (inr told) =
     let all : v.list ++ ps ≡ decided next = ap (λ list. list ++ ps) is ∙ sym grown in
     let whole = ap (λ list. list ++ begin.0) all ∙ sym begin.1 in
-    inr (faults-by ended v stream next _ e old new is whole (told begin.0), stays-by v next ps e old new all always told)
+    inr (faults-by ended v stream next _ e filled is whole (told begin.0), stays-by v next ps e filled all always told)
 
 -- a fault at packets that only the end of the stream decides
-pub faults-at-end : (ended : Bool) (v : Pushed) (stream : List ℕ) (ps : List (List ℕ)) (e : CutFault) (old new : List SegmentPlan)
+pub faults-at-end : (ended : Bool) (v : Spooling) (stream : List ℕ) (ps : List (List ℕ)) (e : CutFault) (filled : List SegmentPlan)
     → v.list ≡ decided stream → packets stream ≡ decided stream ++ ps
-    → StopsAll v ps e old new → (e ≡ NoMemory) ⊎ Faults (intake_of ended v stream) stream e old new
-faults-at-end ended v stream ps e old new is grown (inl none) = inl none
-faults-at-end ended v stream ps e old new is grown (inr told) =
+    → StopsAll v ps e filled → (e ≡ NoMemory) ⊎ Faults (intake_of ended v stream) stream e filled
+faults-at-end ended v stream ps e filled is grown (inl none) = inl none
+faults-at-end ended v stream ps e filled is grown (inr told) =
     let whole = append-nil (v.list ++ ps) ∙ (ap (λ list. list ++ ps) is ∙ sym grown) in
-    inr (faults-by ended v stream stream _ e old new is whole (told []))
+    inr (faults-by ended v stream stream _ e filled is whole (told []))
 
 -- what a cutter says that ends
-abbrev pub EndsWith : Pushed → CutFault → Type 0
+abbrev pub EndsWith : Spooling → CutFault → Type 0
 EndsWith v e = (e ≡ NoMemory) ⊎ Ends v.rendition v.settings v.list e (closed v.rendition v.settings v.list)
 
-ended-at : (ended : Bool) (v : Pushed) (stream : List ℕ) (ps : List (List ℕ)) (e : CutFault) (old new : List SegmentPlan)
+ended-at : (ended : Bool) (v w : Spooling) (stream : List ℕ) (ps : List (List ℕ)) (e : CutFault)
     → v.list ≡ decided stream → packets stream ≡ decided stream ++ ps
-    → GrowsAlike v.rendition v.settings (closed v.rendition v.settings v.list) (closed v.rendition v.settings (v.list ++ ps)) old new
-    → EndsWith (record v { list = v.list ++ ps }) e
-    → (e ≡ NoMemory) ⊎ Faults (intake_of ended v stream) stream e old new
-ended-at ended v stream ps e old new is grown g (inl none) = inl none
-ended-at ended v stream ps e old new is grown g (inr ends) =
+    → GrowsAlike v.rendition v.settings (closed v.rendition v.settings v.list) (closed v.rendition v.settings (v.list ++ ps)) v.filled w.filled
+    → EndsWith (record v { list = v.list ++ ps; filled = w.filled }) e
+    → (e ≡ NoMemory) ⊎ Faults (intake_of ended v stream) stream e w.filled
+ended-at ended v w stream ps e is grown g (inl none) = inl none
+ended-at ended v w stream ps e is grown g (inr ends) =
     let whole = ap (λ list. list ++ ps) is ∙ sym grown in
-    inr (faults-by ended v stream stream (v.list ++ ps) e old new is whole (record {
+    inr (faults-by ended v stream stream (v.list ++ ps) e w.filled is whole (record {
       fault = ends.fault;
       plans = record { more = g.more; grown = ends.plans ∙ g.grown; given = g.given; order = g.order };
     }))
 
 -- a fault at the end of the stream
-pub faults-behind : (ended : Bool) (v w : Pushed) (stream : List ℕ) (ps : List (List ℕ)) (e : CutFault) (old new : List SegmentPlan)
-    → v.list ≡ decided stream → packets stream ≡ decided stream ++ ps → v.ended ≡ false → w ≡ record v { list = v.list ++ ps }
-    → GrowsAlike v.rendition v.settings (closed v.rendition v.settings v.list) (closed v.rendition v.settings (v.list ++ ps)) old new
-    → (w.ended ≡ false → EndsWith w e)
-    → (e ≡ NoMemory) ⊎ Faults (intake_of ended v stream) stream e old new
-faults-behind ended v w stream ps e old new is grown going pushed g told = ended-at ended v stream ps e old new is grown g ((rw pushed at told) going)
+pub faults-behind : (ended : Bool) (v w : Spooling) (stream : List ℕ) (ps : List (List ℕ)) (e : CutFault) (filled : List SegmentPlan)
+    → v.list ≡ decided stream → packets stream ≡ decided stream ++ ps → v.ended ≡ false → w ≡ record v { list = v.list ++ ps; filled = w.filled }
+    → GrowsAlike v.rendition v.settings (closed v.rendition v.settings v.list) (closed v.rendition v.settings (v.list ++ ps)) v.filled w.filled
+    → (w.ended ≡ false → EndsWith w e) → filled ≡ w.filled
+    → (e ≡ NoMemory) ⊎ Faults (intake_of ended v stream) stream e filled
+faults-behind ended v w stream ps e filled is grown going pushed g told same =
+    let ends = told (ap (λ (u : Spooling). u.ended) pushed ∙ going) in
+    rw same (ended-at ended v w stream ps e is grown g (subst (λ (u : Spooling). EndsWith u e) pushed ends))
 
 -- a sound end
-pub sound-end : (v w : Pushed) (stream : List ℕ) (ps : List (List ℕ))
-    → v.list ≡ decided stream → packets stream ≡ decided stream ++ ps → w ≡ record v { list = v.list ++ ps }
+pub sound-end : (v w : Spooling) (stream : List ℕ) (ps : List (List ℕ))
+    → v.list ≡ decided stream → packets stream ≡ decided stream ++ ps → w ≡ record v { list = v.list ++ ps; filled = w.filled }
     → fault w.rendition w.settings w.list ≡ None → fault_of v.rendition v.settings stream ≡ None
 unfolding fault_of
 sound-end v w stream ps is grown pushed sound =
     let whole = ap (λ list. list ++ ps) is ∙ sym grown in
-    ap (fault v.rendition v.settings) (sym whole) ∙ (rw pushed at sound)
+    ap (fault v.rendition v.settings) (sym whole) ∙ subst (λ (u : Spooling). fault u.rendition u.settings u.list ≡ None) pushed sound
 
-pub grown-to-end : (v w : Pushed) (stream : List ℕ) (ps : List (List ℕ)) (last : Option SegmentPlan) (old mid new : List SegmentPlan)
-    → v.list ≡ decided stream → packets stream ≡ decided stream ++ ps → w ≡ record v { list = v.list ++ ps }
-    → GrowsAlike v.rendition v.settings (closed v.rendition v.settings v.list) (closed v.rendition v.settings (v.list ++ ps)) old mid
-    → plans w.rendition w.settings w.list ≡ closed w.rendition w.settings w.list ++ made last
-    → IfSome last (λ p. IsPlan w.rendition w.settings (length (closed w.rendition w.settings w.list)) p)
-    → new ≡ mid ++ made last
-    → GrowsAlike v.rendition v.settings (closed_of v.rendition v.settings stream) (plans_of v.rendition v.settings stream) old new
+-- the last segment
+pub grown-to-end : (v w : Spooling) (stream : List ℕ) (ps : List (List ℕ)) (told : Bool) (filled : List SegmentPlan)
+    → v.list ≡ decided stream → packets stream ≡ decided stream ++ ps → w ≡ record v { list = v.list ++ ps; filled = w.filled }
+    → GrowsAlike v.rendition v.settings (closed v.rendition v.settings v.list) (closed v.rendition v.settings (v.list ++ ps)) v.filled w.filled
+    → Closes w.rendition w.settings (closed w.rendition w.settings w.list) (plans w.rendition w.settings w.list) w.filled filled told
+    → GrowsAlike v.rendition v.settings (closed_of v.rendition v.settings stream) (plans_of v.rendition v.settings stream) v.filled filled
 unfolding closed_of plans_of
-grown-to-end v w stream ps last old mid new is grown pushed g all next given =
+grown-to-end v w stream ps told filled is grown pushed g c =
     let whole : v.list ++ ps ≡ packets stream = ap (λ list. list ++ ps) is ∙ sym grown in
-    let more = grows-more v.rendition v.settings _ _ _ old mid new (made last) g (rw pushed at all) given (next-made v.rendition v.settings _ last (rw pushed at next)) in
+    let last = subst (λ (u : Spooling). Closes u.rendition u.settings (closed u.rendition u.settings u.list) (plans u.rendition u.settings u.list) w.filled filled told) pushed c in
+    let more = grows-more v.rendition v.settings _ _ _ v.filled w.filled filled (made last.plan) g last.plans last.filled (next-made v.rendition v.settings _ last.plan last.order) in
     record {
       more = more.more;
       grown = ap (plans v.rendition v.settings) (sym whole) ∙ (more.grown ∙ ap (λ list. closed v.rendition v.settings list ++ more.more) is);
@@ -171,3 +169,19 @@ grown-to-end v w stream ps last old mid new is grown pushed g all next given =
 pub appended : (before after old new ps : List (List ℕ)) → Reading.GrowsAlike before after old new → old ≡ [] → ps ≡ new → after ≡ before ++ ps
 appended before after old new ps g none is =
     g.grown ∙ ap (λ list. before ++ list) (sym (is ∙ (g.given ∙ ap (λ list. list ++ g.more) none)))
+
+-- the plans of one spool more
+pub joined-more : (spools : List (List SegmentPlan)) (plans : List SegmentPlan) → joined (spools ++ plans ∷ []) ≡ joined spools ++ plans
+joined-more spools plans = flat_map-append (λ (p : List SegmentPlan). p) spools (plans ∷ []) ∙ ap (λ l. joined spools ++ l) (append-nil plans)
+
+-- an intake one of whose spools was turned out
+pub turned-out : (ended : Bool) (v w : Spooling) (stream : List ℕ) → w ≡ record v { turned = v.turned ++ v.filled ∷ []; filled = [] }
+    → intake_of ended w stream ≡ record (intake_of ended v stream) { turned = joined v.turned ++ v.filled; filled = [] }
+turned-out ended v w stream is =
+    ap (λ (u : Spooling). intake_of ended u stream) is
+    ∙ ap (λ (l : List SegmentPlan). record (intake_of ended v stream) { turned = l; filled = [] }) (joined-more v.turned v.filled)
+
+-- what a fact at a success implies
+pub OnOk-map : {T E P Q : Type 0} (r : Result T E) → (P → Q) → OnOk r P → OnOk r Q
+OnOk-map (Ok x) f p = f p
+OnOk-map (Err e) f p = tt

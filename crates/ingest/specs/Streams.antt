@@ -1,12 +1,12 @@
 -- What comes of the bytes that a rendition's input gave: its packets, the plans of its segments, and its fault.
-use Rattle.std.specs.Prelude.{◌≡◌, ℕ, ◌+◌, Bool, List, [], ◌∷◌, ◌++◌, length, Option, Some}
+use Rattle.std.specs.Prelude.{◌≡◌, ℕ, ◌+◌, Bool, false, List, [], ◌∷◌, ◌++◌, length, Option, Some}
 use Rattle.ts_packet.specs.Packets.{packets, decided}
 use Rattle.cutter.specs.declared.settings.CutSettings.{CutSettings}
 use Rattle.cutter.specs.declared.fault.CutFault.{CutFault}
 use Rattle.cutter.specs.Plans.{SegmentPlan}
 use Rattle.cutter.specs.Ordered.{IsPlan}
 use Rattle.cutter.specs.Cuts.{closed, plans, fault}
-use Rattle.cutter.specs.Settings.{Pushed}
+use Rattle.cutter.specs.Spooled.{Spooling}
 
 -- the plans of a whole stream
 unfoldable pub plans_of : ℕ → CutSettings → List ℕ → List SegmentPlan
@@ -20,12 +20,19 @@ fault_of r s stream = fault r s (packets stream)
 unfoldable pub closed_of : ℕ → CutSettings → List ℕ → List SegmentPlan
 closed_of r s stream = closed r s (decided stream)
 
--- what an intake stands for: its rendition, its settings, the bytes that it took, and whether it ended
+-- what an intake stands for: its rendition, its settings, the bytes that it took, whether it ended, the plans of the spools
+-- that were turned out, and those closed in the spool that is being filled
 pub record Taken : Type 0 where
   pub rendition : ℕ
   pub settings : CutSettings
   pub stream : List ℕ
   pub ended : Bool
+  pub turned : List SegmentPlan
+  pub filled : List SegmentPlan
+
+-- an intake that took nothing
+abbrev pub untaken : ℕ → CutSettings → Taken
+untaken r s = record { rendition = r; settings = s; stream = []; ended = false; turned = []; filled = [] }
 
 -- the plans that come behind so many others of a rendition, in order
 abbrev pub AreNext : ℕ → CutSettings → ℕ → List SegmentPlan → Type 0
@@ -39,15 +46,15 @@ pub record GrowsAlike (r : ℕ) (s : CutSettings) (before after old new : List S
   pub given : new ≡ old ++ more
   pub order : AreNext r s (length before) more
 
--- a stream of these packets has this fault, and the plans that come before it went behind those that were there
-pub record Stops (pushed : Pushed) (whole : List (List ℕ)) (told : CutFault) (old new : List SegmentPlan) : Type 0 where
+-- a stream of these packets has this fault, and the plans that come before it were closed in the spool
+pub record Stops (pushed : Spooling) (whole : List (List ℕ)) (told : CutFault) (filled : List SegmentPlan) : Type 0 where
   pub fault : fault pushed.rendition pushed.settings whole ≡ Some told
-  pub plans : GrowsAlike pushed.rendition pushed.settings (closed pushed.rendition pushed.settings pushed.list) (plans pushed.rendition pushed.settings whole) old new
+  pub plans : GrowsAlike pushed.rendition pushed.settings (closed pushed.rendition pushed.settings pushed.list) (plans pushed.rendition pushed.settings whole) pushed.filled filled
 
--- a stream of these bytes has this fault, and the plans that come before it went behind those that were there
-pub record Faults (taken : Taken) (whole : List ℕ) (told : CutFault) (old new : List SegmentPlan) : Type 0 where
+-- a stream of these bytes has this fault, and the plans that come before it were closed in the spool
+pub record Faults (taken : Taken) (whole : List ℕ) (told : CutFault) (filled : List SegmentPlan) : Type 0 where
   pub fault : fault_of taken.rendition taken.settings whole ≡ Some told
-  pub plans : GrowsAlike taken.rendition taken.settings (closed_of taken.rendition taken.settings taken.stream) (plans_of taken.rendition taken.settings whole) old new
+  pub plans : GrowsAlike taken.rendition taken.settings (closed_of taken.rendition taken.settings taken.stream) (plans_of taken.rendition taken.settings whole) taken.filled filled
 
 -- The bytes have this fault however the stream goes on, and all plans that come before it are closed.
 pub record Stays (r : ℕ) (s : CutSettings) (stream : List ℕ) (told : CutFault) : Type 0 where

@@ -3,22 +3,23 @@ ghost use Rattle.ghost_list.specs.Lists.{IsBeginning};
 ghost use Rattle.ts_packet.specs.Packets.{packets, decided, skipped};
 ghost use Rattle.cutter.specs.declared.settings.CutSettings.{CutSettings};
 ghost use Rattle.cutter.specs.declared.fault.CutFault.TheVariants.{NoMemory};
-ghost use Rattle.cutter.specs.Cuts.{closed, made};
+ghost use Rattle.cutter.specs.Cuts.{closed};
 ghost use Rattle.cutter.specs.Settings.{IsAllowed};
-ghost use Rattle.ingest.specs.Streams.{plans_of, fault_of, closed_of, GrowsAlike, Stops, Faults, Stays};
+ghost use Rattle.ingest.specs.Streams.{untaken, plans_of, fault_of, closed_of, GrowsAlike, Stops, Faults, Stays};
 
-use cutter::{CutFault, CutSettings, Cutter, Plan};
-use std::alloc::{AllocError, Global};
+use cutter::{CutFault, CutSettings, Spool, SpoolCutter};
+use std::alloc::Global;
 use std::marker::Model;
 use ts_packet::{Reader, Skipped};
 
-/// Takes the bytes of a rendition's input, and gives the plans of its segments as soon as they are closed.
+/// Takes the bytes of a rendition's input, and closes the plans of its segments in a spool.
 ///
-/// Clauses see an intake as its rendition, its settings, the list of the bytes that it took, and whether it has ended.
+/// Clauses see an intake as its rendition, its settings, the list of the bytes that it took, whether it has ended, the
+/// plans of the spools that were turned out, and those closed in the spool that is being filled.
 #[derive(Drop)]
 pub struct Intake {
     reader: Reader,
-    cutter: Cutter,
+    cutter: SpoolCutter,
     packets: Vec<[u8; 188]>,
     ended: bool,
 }
@@ -36,66 +37,83 @@ impl Model for Intake {
 }
 
 impl Intake {
-    /// An intake that took nothing.
+    /// An intake that took nothing, with an empty spool.
     pub fn new(alloc: Global, rendition: usize, settings: CutSettings) -> Intake
         requires { IsAllowed settings }
-        ensures { result ≡ record { rendition = rendition; settings = settings; stream = []; ended = false } }
+        ensures { result ≡ untaken rendition settings }
     {
         Intake {
             reader: Reader::new(),
-            cutter: Cutter::new(alloc, rendition, settings),
+            cutter: SpoolCutter::new(alloc, rendition, settings),
             packets: Vec::new(alloc),
             ended: false,
         }
     }
 
-    /// Takes the next bytes of the input, and appends the plans of the segments that they close.
+    /// How many plans stand in the spool that is being filled.
+    pub fn plans(&self) -> usize
+        ensures { result ≡ length self.now.filled }
+    {
+        self.cutter.plans()
+    }
+
+    /// Takes the next bytes of the input, and closes the segments that they close.
     ///
-    /// A fault is that of the stream, however it goes on; the plans that come before it were then appended.
-    pub fn take(&mut self, piece: &[u8], plans: &mut Vec<Plan>) -> Result<(), CutFault>
+    /// A fault is that of the stream, however it goes on; the plans that come before it were then closed.
+    pub fn take(&mut self, piece: &[u8]) -> Result<(), CutFault>
         requires few { length self.old.stream + length piece.now < 2 ^ 63 }
         requires going { self.old.ended ≡ false }
-        ensures taken { OnOk result (self.new ≡ record self.old { stream = self.old.stream ++ piece.now }) }
+        ensures taken { OnOk result (self.new ≡ record self.old { stream = self.old.stream ++ piece.now; filled = self.new.filled }) }
         ensures plans { OnOk result (GrowsAlike self.old.rendition self.old.settings
             (closed_of self.old.rendition self.old.settings self.old.stream)
             (closed_of self.old.rendition self.old.settings (self.old.stream ++ piece.now))
-            plans.old.items plans.new.items) }
+            self.old.filled self.new.filled) }
         ensures fault { IfErr result (λ e. (e ≡ NoMemory)
-            ⊎ (Faults self.old (self.old.stream ++ piece.now) e plans.old.items plans.new.items
+            ⊎ (Faults self.old (self.old.stream ++ piece.now) e self.new.filled
             × Stays self.old.rendition self.old.settings (self.old.stream ++ piece.now) e)) }
-        ensures err { OnErr result (self.new.ended ≡ true) }
+        ensures err { OnErr result (self.new ≡ record self.old { stream = self.new.stream; ended = true; filled = self.new.filled }) }
     {
         decided_begin();
         self.ended = true;
         self.packets.clear();
         self.reader.feed(piece, &mut self.packets)?;
-        push_all(&mut self.cutter, &self.packets, plans)?;
+        push_all(&mut self.cutter, &self.packets)?;
         self.ended = false;
         Ok(())
     }
 
-    /// Ends the input, appends the plans that weren't given yet, and tells how many bytes lay in no packet.
-    pub fn finish(&mut self, plans: &mut Vec<Plan>) -> Result<Skipped, CutFault>
+    /// Ends the input, closes the segments that weren't closed yet, and tells how many bytes lay in no packet.
+    pub fn finish(&mut self) -> Result<Skipped, CutFault>
         requires few { length self.old.stream < 2 ^ 63 }
         requires going { self.old.ended ≡ false }
         ensures sound { OnOk result (fault_of self.old.rendition self.old.settings self.old.stream ≡ None) }
         ensures plans { OnOk result (GrowsAlike self.old.rendition self.old.settings
             (closed_of self.old.rendition self.old.settings self.old.stream)
             (plans_of self.old.rendition self.old.settings self.old.stream)
-            plans.old.items plans.new.items) }
+            self.old.filled self.new.filled) }
         ensures skipped { IfOk result (λ gone. gone.bytes ≡ skipped self.old.stream) }
         ensures fault { IfErr result (λ e. (e ≡ NoMemory)
-            ⊎ Faults self.old self.old.stream e plans.old.items plans.new.items) }
-        ensures ended { self.new.ended ≡ true }
+            ⊎ Faults self.old self.old.stream e self.new.filled) }
+        ensures ended { self.new ≡ record self.old { stream = self.new.stream; ended = true; filled = self.new.filled } }
     {
         decided_begin();
         self.ended = true;
         self.packets.clear();
         let skipped = self.reader.finish(&mut self.packets)?;
-        push_all(&mut self.cutter, &self.packets, plans)?;
-        let plan = self.cutter.finish()?;
-        give(plans, plan)?;
+        push_all(&mut self.cutter, &self.packets)?;
+        self.cutter.finish()?;
         Ok(skipped)
+    }
+
+    /// Empties a spool, goes on in it with the body that is open, and answers the full one. For want of memory it
+    /// answers the spool that it was given, emptied, and goes on as it was.
+    pub fn turn(&mut self, spool: Spool) -> Result<Spool, Spool>
+        ensures full { IfOk result (λ full. full ≡ self.old.filled) }
+        ensures turned { OnOk result (self.new ≡ record self.old { turned = self.old.turned ++ self.old.filled; filled = [] }) }
+        ensures spare { IfErr result (λ spare. spare ≡ []) }
+        ensures err { OnErr result (self.new ≡ self.old) }
+    {
+        self.cutter.turn(spool)
     }
 }
 
@@ -120,36 +138,21 @@ pub fn closed_plans_begin_all()
     cutter::plans_only_grow();
 }
 
-/// Pushes packets, and appends the plans of the segments that they close.
-fn push_all(
-    cutter: &mut Cutter,
-    packets: &[[u8; 188]],
-    plans: &mut Vec<Plan>,
-) -> Result<(), CutFault>
+/// Pushes packets, and closes the segments that they close.
+fn push_all(cutter: &mut SpoolCutter, packets: &[[u8; 188]]) -> Result<(), CutFault>
     requires few { length cutter.old.list + length packets.now < 2 ^ 63 }
     requires going { cutter.old.ended ≡ false }
-    ensures pushed { OnOk result (cutter.new ≡ record cutter.old { list = cutter.old.list ++ packets.now }) }
+    ensures pushed { OnOk result (cutter.new ≡ record cutter.old { list = cutter.old.list ++ packets.now; filled = cutter.new.filled }) }
     ensures plans { OnOk result (GrowsAlike cutter.old.rendition cutter.old.settings
         (closed cutter.old.rendition cutter.old.settings cutter.old.list)
         (closed cutter.old.rendition cutter.old.settings (cutter.old.list ++ packets.now))
-        plans.old.items plans.new.items) }
+        cutter.old.filled cutter.new.filled) }
     ensures fault { IfErr result (λ e. (e ≡ NoMemory) ⊎ ((more : List (List ℕ)) →
-        Stops cutter.old ((cutter.old.list ++ packets.now) ++ more) e plans.old.items plans.new.items)) }
+        Stops cutter.old ((cutter.old.list ++ packets.now) ++ more) e cutter.new.filled)) }
+    ensures kept { (cutter.new.rendition ≡ cutter.old.rendition) × (cutter.new.settings ≡ cutter.old.settings) × (cutter.new.turned ≡ cutter.old.turned) }
 {
     for packet in packets {
-        let plan = cutter.push(packet)?;
-        give(plans, plan)?;
+        cutter.push(packet)?;
     }
-    Ok(())
-}
-
-/// Appends a plan, if there is one.
-fn give(plans: &mut Vec<Plan>, plan: Option<Plan>) -> Result<(), AllocError>
-    ensures { OnOk result (plans.new.items ≡ plans.old.items ++ made plan) }
-{
-    let Some(plan) = plan else {
-        return Ok(());
-    };
-    plans.push(plan)?;
     Ok(())
 }

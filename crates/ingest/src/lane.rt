@@ -1,10 +1,20 @@
+ghost use Rattle.std.specs.Prelude.{◌≡◌, ◌≢◌, ◌+◌, ◌<◌, ◌≤◌, ◌^◌, ◌++◌, ℕ, List, None, false, length, IfOk, OnOk, OnErr};
+ghost use Rattle.aes_cbc.specs.Block.{AreBytes};
+ghost use Rattle.cutter.specs.declared.fault.CutFault.TheVariants.{NoMemory};
+ghost use Rattle.cutter.specs.Settings.{IsAllowed};
+ghost use Rattle.ingest.specs.Inputs.{input_of, IsRead};
+ghost use Rattle.ingest.specs.declared.lane.Stop.TheVariants.{Cut};
+ghost use Rattle.ingest.specs.Lanes.{is_good, IsFirst, IsOfPiece, IsOfEnd, Takes, IsTurned};
+
 use crate::intake::Intake;
-use cutter::CutFault;
+use cutter::{CutFault, CutSettings};
+use item_io::Source;
+use std::alloc::{AllocError, Global};
 
 /// Why a rendition gives no more.
 #[derive(Clone, Copy, Debug, PartialEq, Eq)]
 pub enum Stop {
-    /// Its input came to its end, and all was given. So many bytes lay in no packet.
+    /// Its input came to its end, and its stream has no fault. So many bytes lay in no packet.
     Good(u64),
     /// Its stream has a fault.
     Cut(CutFault),
@@ -18,3 +28,96 @@ pub struct Lane {
     pub intake: Intake,
     pub stop: Option<Stop>,
 }
+
+impl Lane {
+    /// A rendition whose input gave nothing yet.
+    pub fn new(alloc: Global, rendition: usize, settings: CutSettings) -> Lane
+        requires { IsAllowed settings }
+        ensures { IsFirst rendition settings result }
+    {
+        Lane {
+            intake: Intake::new(alloc, rendition, settings),
+            stop: None,
+        }
+    }
+
+    /// Whether it came to its end, and its stream has no fault.
+    pub fn is_good(&self) -> bool
+        ensures { result ≡ is_good self.now.stop }
+    {
+        matches!(self.stop, Some(Stop::Good(_)))
+    }
+
+    /// Reads once, as many bytes as `buffer` has room for, and closes in its spool all segments that they close, or at the
+    /// end of the input the last ones. A fault of the input or of its stream stops the rendition, which is no refusal.
+    ///
+    /// It has to go on. Want of memory leaves it of no use.
+    pub fn turn<S: Source>(&mut self, source: &mut S, buffer: &mut [u8]) -> Result<(), AllocError>
+        requires reads { S.reads source.old < 2 ^ 63 }
+        requires failures { S.failures source.old < 2 ^ 63 }
+        requires some { 0 < length buffer.old }
+        requires short { length buffer.old ≤ 18800 }
+        requires open { self.old.stop ≡ None }
+        requires going { self.old.intake.ended ≡ false }
+        requires few { length self.old.intake.stream + 18800 < 2 ^ 63 }
+        ensures ok { OnOk result (IsTurned (input_of S.remaining S.reads S.failures) source.old source.new self.old self.new) }
+        ensures err { OnErr result ((piece : List ℕ) × IsRead (input_of S.remaining S.reads S.failures) source.old source.new piece) }
+        ensures no_read_failed { OnErr result (S.failures source.new ≡ S.failures source.old) }
+    {
+        match source.read(buffer) {
+            Err(_) => self.stop = Some(Stop::Read),
+            Ok(0) => self.close()?,
+            Ok(count) => {
+                let piece = &buffer[..count];
+                pieces_are_bytes(piece);
+                self.feed(piece)?;
+            }
+        }
+        Ok(())
+    }
+
+    /// Takes the next bytes.
+    fn feed(&mut self, piece: &[u8]) -> Result<(), AllocError>
+        requires few { length self.old.intake.stream + length piece.now < 2 ^ 63 }
+        requires open { self.old.stop ≡ None }
+        requires going { self.old.intake.ended ≡ false }
+        ensures takes { OnOk result (Takes self.old self.new (self.old.intake.stream ++ piece.now)) }
+        ensures stays { OnOk result (IsOfPiece self.new.stop self.old.intake.rendition self.old.intake.settings (self.old.intake.stream ++ piece.now)) }
+    {
+        if let Err(fault) = self.intake.take(piece) {
+            self.stop = Some(stop_of(fault)?);
+        }
+        Ok(())
+    }
+
+    /// Comes to the end of its input.
+    fn close(&mut self) -> Result<(), AllocError>
+        requires few { length self.old.intake.stream < 2 ^ 63 }
+        requires open { self.old.stop ≡ None }
+        requires going { self.old.intake.ended ≡ false }
+        ensures takes { OnOk result (Takes self.old self.new self.old.intake.stream) }
+        ensures ends { OnOk result (IsOfEnd self.new.stop) }
+    {
+        self.stop = match self.intake.finish() {
+            Ok(skipped) => Some(Stop::Good(skipped.bytes)),
+            Err(fault) => Some(stop_of(fault)?),
+        };
+        Ok(())
+    }
+}
+
+/// The stop at a stream's fault. Want of memory is none.
+fn stop_of(fault: CutFault) -> Result<Stop, AllocError>
+    ensures cut { IfOk result (λ stop. stop ≡ Cut fault) }
+    ensures other { OnOk result (fault ≢ NoMemory) }
+{
+    match fault {
+        CutFault::NoMemory => Err(AllocError),
+        other => Ok(Stop::Cut(other)),
+    }
+}
+
+/// A piece of a stream is made of bytes.
+fn pieces_are_bytes(piece: &[u8])
+    ensures { AreBytes piece.now }
+{}

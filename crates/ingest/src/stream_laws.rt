@@ -1,5 +1,5 @@
 //! What is known of the plans of a stream of bytes.
-ghost use Rattle.std.specs.Prelude.{◌≡◌, ◌++◌, All, None, Some, ℕ, List, slice_get};
+ghost use Rattle.std.specs.Prelude.{◌≡◌, ◌++◌, All, None, Some, ℕ, List, Option, slice_get};
 ghost use Rattle.ghost_list.specs.Lists.{IsBeginning};
 ghost use Rattle.aes_cbc.specs.Block.{AreBytes};
 ghost use Rattle.ts_packet.specs.Packets.{packets};
@@ -7,8 +7,12 @@ ghost use Rattle.cutter.specs.declared.settings.CutSettings.{CutSettings};
 ghost use Rattle.cutter.specs.Plans.{SegmentPlan};
 ghost use Rattle.cutter.specs.Ordered.{IsPlan};
 ghost use Rattle.ingest.specs.Sealable.{IsOfBytes};
+ghost use Rattle.ingest.specs.declared.lane.Stop.{Stop};
 ghost use Rattle.ingest.specs.Streams.{plans_of, fault_of};
+ghost use Rattle.ingest.specs.Lanes.{made_of};
 ghost use Rattle.ingest.specs.Output.{output, bodies, BeginWith};
+
+use crate::intake::closed_plans_begin_all;
 
 /// The bodies of a rendition's segments, joined, are the accepted packets of its stream from the first cut on: all of
 /// them where the stream has no fault, and a beginning of them in the segments of each beginning of its plans.
@@ -27,6 +31,15 @@ pub fn plans_of_bytes_are_in_order()
 {
     cutter::plans_are_in_order();
     ts_packet::packets_are_at_their_positions();
+}
+
+/// So are the plans that are closed where a rendition goes on or has stopped.
+pub fn closed_plans_are_in_order()
+    ensures { (stop : Option Stop) (r : ℕ) (s : CutSettings) (stream : List ℕ) (n : ℕ) (plan : SegmentPlan) →
+        slice_get (made_of stop r s stream) n ≡ Some plan → IsPlan r s n plan }
+{
+    plans_of_bytes_are_in_order();
+    closed_plans_begin_all();
 }
 
 /// Each plan of a stream of bytes can be sealed: its tables can be sent in a head, and its segment is made of bytes.

@@ -17,16 +17,15 @@ use Rattle.ladder_items.specs.Ladder.{Ladder, IsAllowed}
 use Rattle.ladder_items.specs.Shown.{Shown}
 use Rattle.ladder_items.specs.Items.{Part, part_at}
 use Rattle.ladder_items.specs.Weave.{blocks, none_of}
-use Rattle.ingest.specs.Streams.{Taken}
-use Rattle.ladder_items.specs.Lanes.{IsWhole, InStage}
-use Rattle.ladder_items.specs.Sources.{SourceSays}
-use Rattle.ladder_items.specs.Runs.{InputView, OutletView, run_of}
+use Rattle.ingest.specs.Inputs.{InputView, SourceSays}
+use Rattle.ladder_items.specs.Lanes.{IsWhole, HasGiven}
+use Rattle.ladder_items.specs.Runs.{OutletView, run_of}
 use Rattle.ladder_items.specs.Faults.{Sayings, Says}
 use Rattle.ladder_items.specs.Putting.{SaysFailures, of_failures}
-use Rattle.ladder_items.specs.World.{World, stream_at, turns_of}
+use Rattle.ladder_items.specs.World.{NothingDue, stream_at, turns_of}
 use Rattle.ladder_items.specs.Packed.{IsReport, IsPacked, IsCutShort, IsLeft, HasHalted, told_of, gone_of, of_run, FaultSays}
 use Rattle.ladder_items.proofs.Elsewhere.{some-at}
-use Rattle.ladder_items.proofs.Stages.{stage-left, turns-none}
+use Rattle.ladder_items.proofs.Stages.{stage-given, stage-left, turns-none}
 use Rattle.ladder_items.proofs.Worlds.{parts-of}
 
 -- a good end tells no fault, and nothing else does so
@@ -52,13 +51,13 @@ map-at f (x ∷ xs) zero y e = (x, refl, cc)
 map-at f (x ∷ xs) (suc k) y e = map-at f xs k y e
 
 -- at a good end all was given, and no byte is left
-good-part : {X : Type 0} (input : InputView X) (ladder : Ladder) (k : ℕ) (stop : Option Stop) (gone : ℕ) (intake : Taken) (stream : List ℕ) (part : Part) (a b : X) → stop ≡ Some (Good gone)
-    → InStage stop ladder k stream intake part → SourceSays input k ladder.cut stream stop a b
+good-part : {X : Type 0} (input : InputView X) (ladder : Ladder) (k : ℕ) (stop : Option Stop) (gone : ℕ) (stream : List ℕ) (part : Part) (a b : X) → stop ≡ Some (Good gone)
+    → HasGiven stop ladder k stream part → SourceSays input k ladder.cut stream stop a b
     → (IsWhole ladder k stream part × (gone_of stop ≡ skipped stream)) × IsAtEnd (input.left b) × (input.failures b ≡ input.failures a)
-good-part input ladder k None gone intake stream part a b is stage says = cc
-good-part input ladder k (Some (Good n)) gone intake stream part a b is stage says = (stage, says.1, says.0)
-good-part input ladder k (Some (Cut told)) gone intake stream part a b is stage says = cc
-good-part input ladder k (Some ReadFailed) gone intake stream part a b is stage says = cc
+good-part input ladder k None gone stream part a b is given says = cc
+good-part input ladder k (Some (Good n)) gone stream part a b is given says = (given, says.1, says.0)
+good-part input ladder k (Some (Cut told)) gone stream part a b is given says = cc
+good-part input ladder k (Some ReadFailed) gone stream part a b is given says = cc
 
 -- what a fault says, in other words
 pub says-as : (s t : Sayings) (e : PackFault) → (s.refused → t.refused) → ((r : ℕ) (stop : Option Stop) → s.halted r stop → t.halted r stop) → (s.unput → t.unput) → (s.wanting → t.wanting)
@@ -90,39 +89,42 @@ module _ (X Y : Type 0) (input : InputView X) (out : OutletView Y) (most_reads :
       → slice_get lanes r ≡ Some lane
       → ((k : ℕ) (earlier : Lane) → k < r → slice_get lanes k ≡ Some earlier → told_of k earlier.stop ≡ None)
       → ((k : ℕ) (lane : Lane) → slice_get lanes k ≡ Some lane → lane.stop ≡ None → rounds ≡ most_reads)
-      → rounds ≤ most_reads → IsAllowed ladder → World (run_of input out most_reads before now x y) ladder rounds 0 lanes shown → HasHalted (run_of input out most_reads before now x y) ladder r lane.stop
-  world-halted rounds before now lanes shown x y r lane f good limit few allowed w = record {
-    streams = w.streams;
-    parts = parts-of ladder w.events;
-    items = blocks ladder (none_of ladder) w.events;
-    stops = stop_at lanes;
-    allowed = allowed;
-    same_now = w.same_now ∙ sym w.same_before;
-    weave = record { events = w.events; legal = w.legal; parts_are = refl; items_are = refl };
-    puts = w.puts;
-    each = λ k a d e h.
-        let within : k < length lanes = omega (arith, slice_get_within before k a e, w.same_before, w.same_lanes) in
-        let m = some-at lanes k within in
-        let u = w.each k a d m.0 e h m.1 in
-        subst (λ (q : Option Stop). IsLeft input most_reads ladder k a d q (stream_at w.streams k) (part_at (parts-of ladder w.events) k)) (sym (stop-of lanes k m.0 m.1))
-        (stage-left X input ladder most_reads k (turns_of rounds 0 k) a d m.0 _ _ (λ none.
-        let taken = u.reads_are none in
-        let turns = turns-none rounds k in
-        let all = limit k m.0 m.1 none in
-        omega (arith, taken, turns, all)) (omega (arith, turns-none rounds k, few)) u);
-    within = some-at before r (omega (arith, slice_get_within lanes r lane f, w.same_before, w.same_lanes));
-    at_r = stop-of lanes r lane f;
-    first = λ k below.
-        let m = some-at lanes k (omega (arith, below, slice_get_within lanes r lane f)) in
-        ap (told_of k) (stop-of lanes k m.0 m.1) ∙ good k m.0 below m.1;
-  }
+      → rounds ≤ most_reads → IsAllowed ladder → NothingDue (run_of input out most_reads before now x y) ladder rounds 0 lanes shown → HasHalted (run_of input out most_reads before now x y) ladder r lane.stop
+  world-halted rounds before now lanes shown x y r lane f good limit few allowed due =
+      let w = due.world in
+      record {
+        streams = w.streams;
+        parts = parts-of ladder w.events;
+        items = blocks ladder (none_of ladder) w.events;
+        stops = stop_at lanes;
+        allowed = allowed;
+        same_now = w.same_now ∙ sym w.same_before;
+        weave = record { events = w.events; legal = w.legal; parts_are = refl; items_are = refl };
+        puts = w.puts;
+        each = λ k a d e h.
+            let within : k < length lanes = omega (arith, slice_get_within before k a e, w.same_before, w.same_lanes) in
+            let m = some-at lanes k within in
+            let u = w.each k a d m.0 e h m.1 in
+            subst (λ (q : Option Stop). IsLeft input most_reads ladder k a d q (stream_at w.streams k) (part_at (parts-of ladder w.events) k)) (sym (stop-of lanes k m.0 m.1))
+            (stage-left X input ladder most_reads k (turns_of rounds 0 k) a d m.0 _ _ (λ none.
+            let taken = u.reads_are none in
+            let turns = turns-none rounds k in
+            let all = limit k m.0 m.1 none in
+            omega (arith, taken, turns, all)) (omega (arith, turns-none rounds k, few)) (due.filled k m.0 m.1) (due.ended k m.0 m.1) u);
+        within = some-at before r (omega (arith, slice_get_within lanes r lane f, w.same_before, w.same_lanes));
+        at_r = stop-of lanes r lane f;
+        first = λ k below.
+            let m = some-at lanes k (omega (arith, below, slice_get_within lanes r lane f)) in
+            ap (told_of k) (stop-of lanes k m.0 m.1) ∙ good k m.0 below m.1;
+      }
 
   -- each rendition came to its good end
   pub world-packed : (rounds : ℕ) (before now : List X) (lanes : List Lane) (shown : List Shown) (x y : Y) (report : Report)
       → ((k : ℕ) (lane : Lane) → slice_get lanes k ≡ Some lane → told_of k lane.stop ≡ None)
       → IsReport shown (map (λ (l : Lane). gone_of l.stop) lanes) report
-      → rounds ≤ most_reads → World (run_of input out most_reads before now x y) ladder rounds 0 lanes shown → IsPacked (run_of input out most_reads before now x y) ladder report
-  world-packed rounds before now lanes shown x y report good is few w =
+      → rounds ≤ most_reads → NothingDue (run_of input out most_reads before now x y) ladder rounds 0 lanes shown → IsPacked (run_of input out most_reads before now x y) ladder report
+  world-packed rounds before now lanes shown x y report good is few due =
+      let w = due.world in
       let all : (k : ℕ) (a d : X) → slice_get before k ≡ Some a → slice_get now k ≡ Some d → (m : Lane) × (slice_get lanes k ≡ Some m)
       × (IsWhole ladder k (stream_at w.streams k) (part_at (parts-of ladder w.events) k) × (gone_of m.stop ≡ skipped (stream_at w.streams k)))
       × AreBytes (stream_at w.streams k) × Consumes (input.left a) (input.left d) (stream_at w.streams k) × IsAtEnd (input.left d) × (input.failures d ≡ input.failures a) × (input.reads d ≤ input.reads a + most_reads) =
@@ -131,7 +133,8 @@ module _ (X Y : Type 0) (input : InputView X) (out : OutletView Y) (most_reads :
       let m = some-at lanes k within in
       let u = w.each k a d m.0 e h m.1 in
       let end = good-end k m.0.stop (good k m.0 m.1) in
-      let part = good-part input ladder k m.0.stop end.0 m.0.intake (stream_at w.streams k) (part_at (parts-of ladder w.events) k) a d end.1 u.stage u.says in
+      let part = good-part input ladder k m.0.stop end.0 (stream_at w.streams k) (part_at (parts-of ladder w.events) k) a d end.1
+      (stage-given X input ladder k _ a d m.0 _ _ (due.filled k m.0 m.1) (due.ended k m.0 m.1) u) u.says in
       let taken = u.few_reads in
       let turns = turns-none rounds k in
       (m.0, m.1, part.0, u.bytes, u.read, part.1, part.2, omega (arith, taken, turns, few)) in

@@ -1,24 +1,25 @@
 -- Where a rendition stands on its way.
-use Rattle.std.proofs.Common.{◌≡◌, ◌∙◌, inl, inr, ℕ, ◌+◌, ◌<◌, ◌≤◌, true, false, List, [], ◌++◌, length, Option, Some, None, refl, ap, sym, subst, arith, length-append}
+use Rattle.std.proofs.Common.{◌≡◌, ◌∙◌, inl, inr, ℕ, ◌+◌, ◌<◌, ◌≤◌, Bool, true, false, List, [], ◌++◌, Option, Some, None, refl, ap, sym, subst, arith, length-append, append_assoc}
 use Rattle.std.specs.Io.KnownBytes.{Consumes}
 use Rattle.std.proofs.KnownBytes.{Consumes-nil, Consumes-trans}
 use Rattle.std.proofs.lemmas.List.{append-nil}
 use Rattle.std.proofs.lemmas.List.Elements.{All-append}
 use Rattle.aes_cbc.specs.Block.{AreBytes}
 use Rattle.std.proofs.lemmas.Bool.Decides.{nat_tests}
+use Rattle.ghost_list.specs.Lists.{IsBeginning}
 use Rattle.cutter.specs.declared.settings.CutSettings.{CutSettings}
-use Rattle.cutter.specs.declared.fault.CutFault.{CutFault}
+use Rattle.cutter.specs.Plans.{SegmentPlan}
 use Rattle.ingest.specs.declared.lane.Stop.{Stop}
 use Rattle.ingest.specs.declared.lane.Stop.TheVariants.{Good, Cut, Read}
 use Rattle.ingest.specs.declared.lane.Lane.{Lane}
+use Rattle.ingest.specs.Streams.{Taken, closed_of, plans_of}
+use Rattle.ingest.specs.Inputs.{InputView, SourceSays, IsRead}
+use Rattle.ingest.specs.Lanes.{made_of, is_good, StopsBy, IsOpen, IsAt, IsFirst, IsTurned}
 use Rattle.ladder_items.specs.Ladder.{Ladder}
-use Rattle.ingest.specs.Streams.{Taken, Stays, closed_of, plans_of}
 use Rattle.ladder_items.specs.Items.{Part, no_part}
-use Rattle.ladder_items.specs.Lanes.{IsOpen, IsWhole, Begins, BeginsClosed, InStage}
-use Rattle.ladder_items.specs.Runs.{InputView}
-use Rattle.ladder_items.specs.Sources.{SourceSays, HasBegun}
-use Rattle.ladder_items.specs.World.{IsFirst, Stage, turns_of}
-use Rattle.ladder_items.specs.Packed.{HasGiven, IsLeft}
+use Rattle.ladder_items.specs.Lanes.{BeginsClosed, BeginsMade, HasBegun, HasGiven}
+use Rattle.ladder_items.specs.World.{Stage, turns_of}
+use Rattle.ladder_items.specs.Packed.{IsLeft}
 
 -- turns
 pub turns-now : (rounds r : ℕ) → turns_of rounds r r ≡ rounds
@@ -50,37 +51,55 @@ says-one input r s stream (Some (Good gone)) a b says = omega (arith, says.0)
 says-one input r s stream (Some (Cut told)) a b says = omega (arith, says.0)
 says-one input r s stream (Some Read) a b says = omega (arith, says)
 
--- a part of which no end was told
-whole-front : (ladder : Ladder) (r : ℕ) (stream : List ℕ) (part : Part) → IsWhole ladder r stream part → Begins ladder r stream part
-whole-front ladder r stream part whole = record { plans = ([], sym (append-nil _ ∙ whole.plans)); ended = λ e. whole }
+-- what is never true is false
+never : (b : Bool) → (b ≡ true → false ≡ true) → b ≡ false
+never true e = sym (e refl)
+never false e = refl
 
-going-front : (ladder : Ladder) (r : ℕ) (stream : List ℕ) (part : Part) → part.plans ≡ plans_of r ladder.cut stream → part.ended ≡ false → Begins ladder r stream part
-going-front ladder r stream part plans going = record { plans = ([], sym (append-nil _ ∙ plans)); ended = λ e. let f : true ≡ false = sym e ∙ going in cc }
+good-goes : (stop : Option Stop) → stop ≡ None → is_good stop ≡ true → ⊥
+good-goes None e f = cc
+good-goes (Some q) e f = cc
 
-closed-front : (ladder : Ladder) (r : ℕ) (stream : List ℕ) (part : Part) → part.plans ≡ closed_of r ladder.cut stream → part.ended ≡ false → BeginsClosed ladder r stream part
-closed-front ladder r stream part plans going = record { plans = ([], sym (append-nil _ ∙ plans)); ended = going }
+-- a list begins itself
+pub all-of-it : {A : Type 0} (xs : List A) → IsBeginning xs xs
+all-of-it xs = ([], sym (append-nil xs))
 
-stays-front : (ladder : Ladder) (r : ℕ) (stream : List ℕ) (told : CutFault) (part : Part) → Stays r ladder.cut stream told → part.plans ≡ plans_of r ladder.cut stream → part.ended ≡ false
-    → BeginsClosed ladder r stream part
-stays-front ladder r stream told part stays plans going =
-    closed-front ladder r stream part (plans ∙ (ap (plans_of r ladder.cut) (sym (append-nil stream)) ∙ stays.plans [])) going
+ended-not : (b : Bool) → b ≡ false → b ≡ true → ⊥
+ended-not true e f = cc
+ended-not false e f = cc
 
--- a rendition has given a beginning
-pub stage-begins : {X : Type 0} (input : InputView X) (ladder : Ladder) (r : ℕ) (stop : Option Stop) (intake : Taken) (stream : List ℕ) (part : Part) (a b : X)
-    → InStage stop ladder r stream intake part → SourceSays input r ladder.cut stream stop a b → HasBegun ladder r (input.left b) stream part
-stage-begins input ladder r None intake stream part a b stage says = inr (closed-front ladder r stream part (stage.0.plans ∙ ap (closed_of r ladder.cut) stage.1) stage.0.ended)
-stage-begins input ladder r (Some (Good gone)) intake stream part a b stage says = inl (says.1, whole-front ladder r stream part stage.0)
-stage-begins input ladder r (Some (Cut told)) intake stream part a b stage says =
+-- a beginning of what is closed is one of what the bytes close, or of what the whole stream gives where no byte is left
+pub made-begun : {X : Type 0} (input : InputView X) (ladder : Ladder) (r : ℕ) (stop : Option Stop) (stream : List ℕ) (part : Part) (a b : X)
+    → StopsBy stop r ladder.cut stream → SourceSays input r ladder.cut stream stop a b → BeginsMade stop ladder r stream part → HasBegun ladder r (input.left b) stream part
+made-begun input ladder r None stream part a b stops says begins = inr (record { plans = begins.plans; ended = never part.ended (λ e. (begins.ended e).0) })
+made-begun input ladder r (Some (Good gone)) stream part a b stops says begins =
+    inl (says.1, record { plans = begins.plans; ended = λ e. record { fault = stops.0; plans = (begins.ended e).1; ended = e } })
+made-begun input ladder r (Some (Cut told)) stream part a b stops says begins =
+    let going = never part.ended (λ e. (begins.ended e).0) in
     elim says.1 as (λ _. HasBegun ladder r (input.left b) stream part) [
-      | inl end ↦ inl (end, going-front ladder r stream part stage.plans stage.ended)
-      | inr stays ↦ inr (stays-front ladder r stream told part stays stage.plans stage.ended)
+      | inl end ↦ inl (end, record { plans = begins.plans; ended = λ e. absurd (ended-not part.ended going e) })
+      | inr stays ↦
+          let all : plans_of r ladder.cut stream ≡ closed_of r ladder.cut stream = ap (plans_of r ladder.cut) (sym (append-nil stream)) ∙ stays.plans [] in
+          inr (record { plans = subst (IsBeginning part.plans) all begins.plans; ended = going })
     ]
-stage-begins input ladder r (Some Read) intake stream part a b stage says = inr (closed-front ladder r stream part stage.plans stage.ended)
+made-begun input ladder r (Some Read) stream part a b stops says begins = inr (record { plans = begins.plans; ended = never part.ended (λ e. (begins.ended e).0) })
 
--- it has ended, by its stop or by having had all its reads
-pub stage-ended : (ladder : Ladder) (r : ℕ) (stop : Option Stop) (intake : Taken) (stream : List ℕ) (part : Part) → InStage stop ladder r stream intake part → HasGiven stop ladder r stream part
-stage-ended ladder r None intake stream part stage = record { plans = stage.0.plans ∙ ap (closed_of r ladder.cut) stage.1; ended = stage.0.ended }
-stage-ended ladder r (Some stop) intake stream part stage = stage
+-- what a rendition has given of which nothing is due
+pub made-given : (ladder : Ladder) (r : ℕ) (stop : Option Stop) (stream : List ℕ) (part : Part) → StopsBy stop r ladder.cut stream
+    → part.plans ≡ made_of stop r ladder.cut stream → part.ended ≡ is_good stop → HasGiven stop ladder r stream part
+made-given ladder r None stream part stops plans ended = record { plans = plans; ended = ended }
+made-given ladder r (Some (Good gone)) stream part stops plans ended = (record { fault = stops.0; plans = plans; ended = ended }, stops.1)
+made-given ladder r (Some (Cut told)) stream part stops plans ended = record { fault = stops; plans = plans; ended = ended }
+made-given ladder r (Some Read) stream part stops plans ended = record { plans = plans; ended = ended }
+
+-- what was given begins what more bytes close
+pub closed-more : (ladder : Ladder) (r : ℕ) (stop : Option Stop) (stream piece : List ℕ) (part : Part) → stop ≡ None → IsBeginning (closed_of r ladder.cut stream) (closed_of r ladder.cut (stream ++ piece))
+    → BeginsMade stop ladder r stream part → BeginsClosed ladder r (stream ++ piece) part
+closed-more ladder r None stream piece part none grow begins = record {
+  plans = (begins.plans.0 ++ grow.0, grow.1 ∙ (ap (λ (l : List SegmentPlan). l ++ grow.0) begins.plans.1 ∙ append_assoc part.plans begins.plans.0 grow.0));
+  ended = never part.ended (λ e. (begins.ended e).0);
+}
+closed-more ladder r (Some stop) stream piece part none grow begins = cc
 
 -- what an input said before a turn and in it
 pub says-more : {X : Type 0} (input : InputView X) (r : ℕ) (s : CutSettings) (stream : List ℕ) (stop : Option Stop) (a b c : X)
@@ -90,23 +109,51 @@ says-more input r s stream (Some (Good gone)) a b c same says = (says.0 ∙ same
 says-more input r s stream (Some (Cut told)) a b c same says = (says.0 ∙ same, says.1)
 says-more input r s stream (Some Read) a b c same says = says ∙ ap (λ n. n + 1) same
 
+-- a turn, in the words of the rendition
+pub record Turned {X : Type 0} (input : InputView X) (ladder : Ladder) (k : ℕ) (b c : X) (lane then : Lane) (stream next : List ℕ) : Type 0 where
+  pub is_at : IsAt k ladder.cut next then
+  pub says : SourceSays input k ladder.cut next then.stop b c
+  pub turned : then.intake.turned ≡ lane.intake.turned
+
+turned-as : {X : Type 0} (input : InputView X) (ladder : Ladder) (k r : ℕ) (s : CutSettings) (b c : X) (lane then : Lane) (stream piece : List ℕ) → r ≡ k → s ≡ ladder.cut
+    → lane.intake.turned ++ lane.intake.filled ≡ closed_of k ladder.cut stream
+    → (plans : List SegmentPlan) → made_of then.stop r s (stream ++ piece) ≡ closed_of r s stream ++ plans → then.intake.filled ≡ lane.intake.filled ++ plans → then.intake.turned ≡ lane.intake.turned
+    → StopsBy then.stop r s (stream ++ piece) → (then.stop ≡ None → IsOpen r s (stream ++ piece) then.intake) → SourceSays input r s (stream ++ piece) then.stop b c
+    → Turned input ladder k b c lane then stream (stream ++ piece)
+turned-as input ladder k r s b c lane then stream piece e f whole plans made filled turned stops goes says =
+    let made = subst (λ (n : ℕ). made_of then.stop n ladder.cut (stream ++ piece) ≡ closed_of n ladder.cut stream ++ plans) e (subst (λ (q : CutSettings). made_of then.stop r q (stream ++ piece) ≡ closed_of r q stream ++ plans) f made) in
+    record {
+      is_at = record {
+        goes_on = λ none. subst (λ (n : ℕ). IsOpen n ladder.cut (stream ++ piece) then.intake) e (subst (λ (q : CutSettings). IsOpen r q (stream ++ piece) then.intake) f (goes none));
+        stops = subst (λ (n : ℕ). StopsBy then.stop n ladder.cut (stream ++ piece)) e (subst (λ (q : CutSettings). StopsBy then.stop r q (stream ++ piece)) f stops);
+        made = ap (λ (l : List SegmentPlan). l ++ then.intake.filled) turned
+            ∙ (ap (λ (l : List SegmentPlan). lane.intake.turned ++ l) filled
+            ∙ (sym (append_assoc lane.intake.turned lane.intake.filled plans)
+            ∙ (ap (λ (l : List SegmentPlan). l ++ plans) whole ∙ sym made)));
+      };
+      says = subst (λ (n : ℕ). SourceSays input n ladder.cut (stream ++ piece) then.stop b c) e (subst (λ (q : CutSettings). SourceSays input r q (stream ++ piece) then.stop b c) f says);
+      turned = turned;
+    }
+
 module _ (X : Type 0) (input : InputView X) (ladder : Ladder) where
   -- the same stage, named otherwise
-  pub stage-moved : (k turns turns' : ℕ) (a a' b b' : X) (lane lane' : Lane) (s s' : List ℕ) (p p' : Part) → turns ≡ turns' → a ≡ a' → b ≡ b' → lane ≡ lane' → s ≡ s' → p ≡ p'
-      → Stage input ladder k turns a b lane s p → Stage input ladder k turns' a' b' lane' s' p'
-  stage-moved k turns turns' a a' b b' lane lane' s s' p p' t e f g h i stage =
-      subst (λ (n : ℕ). Stage input ladder k n a' b' lane' s' p') t (
-      subst (λ (v : X). Stage input ladder k turns v b' lane' s' p') e (
-      subst (λ (v : X). Stage input ladder k turns a v lane' s' p') f (
-      subst (λ (v : Lane). Stage input ladder k turns a b v s' p') g (
-      subst (λ (v : List ℕ). Stage input ladder k turns a b lane v p') h (
-      subst (λ (v : Part). Stage input ladder k turns a b lane s v) i stage)))))
+  pub stage-moved : (k turns turns' : ℕ) (a a' b b' : X) (lane lane' : Lane) (s s' : List ℕ) (w : List SegmentPlan) (p p' : Part) → turns ≡ turns' → a ≡ a' → b ≡ b' → lane ≡ lane' → s ≡ s' → p ≡ p'
+      → Stage input ladder k turns a b lane s w p → Stage input ladder k turns' a' b' lane' s' w p'
+  stage-moved k turns turns' a a' b b' lane lane' s s' w p p' t e f g h i stage =
+      subst (λ (n : ℕ). Stage input ladder k n a' b' lane' s' w p') t (
+      subst (λ (v : X). Stage input ladder k turns v b' lane' s' w p') e (
+      subst (λ (v : X). Stage input ladder k turns a v lane' s' w p') f (
+      subst (λ (v : Lane). Stage input ladder k turns a b v s' w p') g (
+      subst (λ (v : List ℕ). Stage input ladder k turns a b lane v w p') h (
+      subst (λ (v : Part). Stage input ladder k turns a b lane s w v) i stage)))))
 
   -- one that stopped has no more turns
-  pub stage-stopped : (k turns turns' : ℕ) (a b : X) (lane : Lane) (s : List ℕ) (p : Part) → (lane.stop ≡ None → ⊥) → turns ≤ turns'
-      → Stage input ladder k turns a b lane s p → Stage input ladder k turns' a b lane s p
-  stage-stopped k turns turns' a b lane s p stopped more stage = record {
-    stage = stage.stage;
+  pub stage-stopped : (k turns turns' : ℕ) (a b : X) (lane : Lane) (s : List ℕ) (w : List SegmentPlan) (p : Part) → (lane.stop ≡ None → ⊥) → turns ≤ turns'
+      → Stage input ladder k turns a b lane s w p → Stage input ladder k turns' a b lane s w p
+  stage-stopped k turns turns' a b lane s w p stopped more stage = record {
+    is_at = stage.is_at;
+    gap = stage.gap;
+    ended = stage.ended;
     read = stage.read;
     bytes = stage.bytes;
     says = stage.says;
@@ -115,47 +162,61 @@ module _ (X : Type 0) (input : InputView X) (ladder : Ladder) where
     small = λ e. absurd (stopped e);
   }
 
-  pub open-stage : (k turns : ℕ) (a b : X) (lane : Lane) (s : List ℕ) (p : Part) → lane.stop ≡ None → Stage input ladder k turns a b lane s p
-      → IsOpen ladder k lane.intake p × (lane.intake.stream ≡ s)
-  open-stage k turns a b lane s p goes_on stage = subst (λ (q : Option Stop). InStage q ladder k s lane.intake p) goes_on stage.stage
+  pub same-fails : (k turns : ℕ) (a b : X) (lane : Lane) (s : List ℕ) (w : List SegmentPlan) (p : Part) → lane.stop ≡ None → Stage input ladder k turns a b lane s w p → input.failures b ≡ input.failures a
+  same-fails k turns a b lane s w p goes_on stage = subst (λ (q : Option Stop). SourceSays input k ladder.cut s q a b) goes_on stage.says
 
-  pub same-fails : (k turns : ℕ) (a b : X) (lane : Lane) (s : List ℕ) (p : Part) → lane.stop ≡ None → Stage input ladder k turns a b lane s p → input.failures b ≡ input.failures a
-  same-fails k turns a b lane s p goes_on stage = subst (λ (q : Option Stop). SourceSays input k ladder.cut s q a b) goes_on stage.says
+  -- what is closed of one that goes on
+  open-made : (k turns : ℕ) (a b : X) (lane : Lane) (s : List ℕ) (w : List SegmentPlan) (p : Part) → lane.stop ≡ None → Stage input ladder k turns a b lane s w p
+      → lane.intake.turned ++ lane.intake.filled ≡ closed_of k ladder.cut s
+  open-made k turns a b lane s w p goes_on stage = stage.is_at.made ∙ ap (λ (q : Option Stop). made_of q k ladder.cut s) goes_on
+
+  -- a read of one that goes on
+  pub stage-read : (k turns : ℕ) (a b c : X) (lane : Lane) (s piece : List ℕ) (w : List SegmentPlan) (p : Part) → IsRead input b c piece → Stage input ladder k turns a b lane s w p
+      → Consumes (input.left a) (input.left c) (s ++ piece) × AreBytes (s ++ piece)
+  stage-read k turns a b c lane s piece w p read stage = (
+    Consumes-trans (input.left a) (input.left b) (input.left c) s piece stage.read read.consumes,
+    All-append (λ (b : ℕ). b < 256) s piece stage.bytes read.bytes,
+  )
 
   -- a turn of one that goes on
-  pub stage-turned : (k turns : ℕ) (a b c : X) (lane then : Lane) (s more : List ℕ) (p q : Part) → lane.stop ≡ None
-      → Consumes (input.left b) (input.left c) more → length more ≤ 18800 → AreBytes more
-      → InStage then.stop ladder k (lane.intake.stream ++ more) then.intake q
-      → SourceSays input k ladder.cut (lane.intake.stream ++ more) then.stop b c
-      → (then.stop ≡ None → input.reads c ≡ input.reads b + 1) → input.reads c ≤ input.reads b + 1
-      → Stage input ladder k turns a b lane s p → Stage input ladder k (turns + 1) a c then (lane.intake.stream ++ more) q
-  stage-turned k turns a b c lane then s more p q goes_on read short bytes new says one few stage =
-      let o = open-stage k turns a b lane s p goes_on stage in
+  pub stage-turned : (k turns : ℕ) (a b c : X) (lane then : Lane) (s : List ℕ) (w : List SegmentPlan) (p : Part) → lane.stop ≡ None
+      → (t : IsTurned input b c lane then)
+      → Stage input ladder k turns a b lane s w p → Stage input ladder k (turns + 1) a c then (s ++ t.piece) w p
+  stage-turned k turns a b c lane then s w p goes_on t stage =
+      let o = stage.is_at.goes_on goes_on in
       let small = stage.small goes_on in
-      let same = ap length o.1 in
+      let T = rw o.stream at t.takes in
+      let says = rw o.stream at t.says in
+      let all = stage-read k turns a b c lane s t.piece w p t.read stage in
+      let u = turned-as input ladder k lane.intake.rendition lane.intake.settings b c lane then s t.piece o.rendition o.settings (open-made k turns a b lane s w p goes_on stage)
+      t.takes.plans (rw o.stream at t.takes.made) t.takes.filled t.takes.turned (rw o.stream at t.takes.stops) (rw o.stream at t.takes.goes_on) says in
       record {
-        stage = new;
-        read = subst (λ (l : List ℕ). Consumes (input.left a) (input.left c) (l ++ more)) (sym o.1) (Consumes-trans (input.left a) (input.left b) (input.left c) s more stage.read read);
-        bytes = All-append (λ (b : ℕ). b < 256) lane.intake.stream more (subst AreBytes (sym o.1) stage.bytes) bytes;
-        says = says-more input k ladder.cut (lane.intake.stream ++ more) then.stop a b c (same-fails k turns a b lane s p goes_on stage) says;
-        reads_are = λ e. let before = stage.reads_are goes_on in let now = one e in omega (arith, before, now);
-        few_reads = omega (arith, few, stage.few_reads);
-        small = λ e. omega (arith, small, short, same, length-append lane.intake.stream more);
+        is_at = u.is_at;
+        gap = stage.gap ∙ sym u.turned;
+        ended = λ e. absurd (good-goes lane.stop goes_on (stage.ended e).0);
+        read = all.0;
+        bytes = all.1;
+        says = says-more input k ladder.cut (s ++ t.piece) then.stop a b c (same-fails k turns a b lane s w p goes_on stage) u.says;
+        reads_are = λ e. let before = stage.reads_are goes_on in let now = t.counted e in omega (arith, before, now);
+        few_reads = omega (arith, t.read.counted, stage.few_reads);
+        small = λ e. omega (arith, small, t.read.short, length-append s t.piece);
       }
 
   -- before the first turn
-  pub stage-first : (k : ℕ) (a : X) (lane : Lane) → IsFirst ladder k lane → closed_of k ladder.cut [] ≡ [] → Stage input ladder k 0 a a lane [] no_part
+  pub stage-first : (k : ℕ) (a : X) (lane : Lane) → IsFirst k ladder.cut lane → closed_of k ladder.cut [] ≡ [] → Stage input ladder k 0 a a lane [] [] no_part
   stage-first k a lane first none = record {
-    stage = subst (λ (q : Option Stop). InStage q ladder k [] lane.intake no_part) (sym first.stop) (
-      record {
+    is_at = record {
+      goes_on = λ e. record {
         rendition = ap (λ (t : Taken). t.rendition) first.intake;
         settings = ap (λ (t : Taken). t.settings) first.intake;
+        stream = ap (λ (t : Taken). t.stream) first.intake;
         going = ap (λ (t : Taken). t.ended) first.intake;
-        plans = sym (ap (λ (t : Taken). closed_of k ladder.cut t.stream) first.intake ∙ none);
-        ended = refl;
-      },
-      ap (λ (t : Taken). t.stream) first.intake,
-    );
+      };
+      stops = subst (λ (q : Option Stop). StopsBy q k ladder.cut []) (sym first.stop) tt;
+      made = ap (λ (t : Taken). t.turned ++ t.filled) first.intake ∙ (sym none ∙ ap (λ (q : Option Stop). made_of q k ladder.cut []) (sym first.stop));
+    };
+    gap = ap (λ (t : Taken). t.turned) (sym first.intake);
+    ended = λ e. cc;
     read = Consumes-nil (input.left a);
     bytes = λ k d below. absurd (omega (arith, below));
     says = subst (λ (q : Option Stop). SourceSays input k ladder.cut [] q a a) (sym first.stop) refl;
@@ -164,11 +225,33 @@ module _ (X : Type 0) (input : InputView X) (ladder : Ladder) where
     small = λ e. omega arith;
   }
 
+  -- what it gave begins what is closed
+  pub stage-begins : (k turns : ℕ) (a b : X) (lane : Lane) (s : List ℕ) (w : List SegmentPlan) (p : Part) → Stage input ladder k turns a b lane s w p → BeginsMade lane.stop ladder k s p
+  stage-begins k turns a b lane s w p stage = record {
+    plans = (w ++ lane.intake.filled, sym stage.is_at.made ∙ (ap (λ (l : List SegmentPlan). l ++ lane.intake.filled) (sym stage.gap) ∙ append_assoc p.plans w lane.intake.filled));
+    ended = λ e.
+        let end = stage.ended e in (
+          end.0,
+          sym (append-nil p.plans)
+              ∙ (ap (λ (l : List SegmentPlan). p.plans ++ l) (sym end.1)
+              ∙ (stage.gap ∙ (sym (append-nil lane.intake.turned) ∙ (ap (λ (l : List SegmentPlan). lane.intake.turned ++ l) (sym end.2) ∙ stage.is_at.made)))),
+        );
+  }
+
+  pub stage-begun : (k turns : ℕ) (a b : X) (lane : Lane) (s : List ℕ) (w : List SegmentPlan) (p : Part) → Stage input ladder k turns a b lane s w p → HasBegun ladder k (input.left b) s p
+  stage-begun k turns a b lane s w p stage = made-begun input ladder k lane.stop s p a b stage.is_at.stops stage.says (stage-begins k turns a b lane s w p stage)
+
+  -- where nothing is due
+  pub stage-given : (k turns : ℕ) (a b : X) (lane : Lane) (s : List ℕ) (p : Part) → lane.intake.filled ≡ [] → p.ended ≡ is_good lane.stop → Stage input ladder k turns a b lane s [] p → HasGiven lane.stop ladder k s p
+  stage-given k turns a b lane s p none ended stage =
+      made-given ladder k lane.stop s p stage.is_at.stops
+      (sym (append-nil p.plans) ∙ (stage.gap ∙ (sym (append-nil lane.intake.turned) ∙ (ap (λ (l : List SegmentPlan). lane.intake.turned ++ l) (sym none) ∙ stage.is_at.made)))) ended
+
   -- as the run leaves it
   pub stage-left : (most_reads k turns : ℕ) (a b : X) (lane : Lane) (s : List ℕ) (p : Part) → (lane.stop ≡ None → input.reads b ≡ input.reads a + most_reads)
-      → turns ≤ most_reads → Stage input ladder k turns a b lane s p → IsLeft input most_reads ladder k a b lane.stop s p
-  stage-left most_reads k turns a b lane s p limit few stage = record {
-    given = stage-ended ladder k lane.stop lane.intake s p stage.stage;
+      → turns ≤ most_reads → lane.intake.filled ≡ [] → p.ended ≡ is_good lane.stop → Stage input ladder k turns a b lane s [] p → IsLeft input most_reads ladder k a b lane.stop s p
+  stage-left most_reads k turns a b lane s p limit few none ended stage = record {
+    given = stage-given k turns a b lane s p none ended stage;
     read = stage.read;
     bytes = stage.bytes;
     says = stage.says;

@@ -1,27 +1,15 @@
--- A rendition on its way: what it has given, by the bytes that its input gave.
-use Rattle.std.specs.Prelude.{◌≡◌, ℕ, true, false, List, Option, Some, None, All}
+-- What a rendition has given, by the bytes that its input gave.
+use Rattle.std.specs.Prelude.{◌≡◌, ℕ, true, false, List, Option, Some, None, ◌⊎◌}
+use Rattle.std.specs.Io.KnownBytes.{IsAtEnd}
 use Rattle.ghost_list.specs.Lists.{IsBeginning}
 use Rattle.ts_packet.specs.Packets.{skipped}
 use Rattle.cutter.specs.declared.fault.CutFault.{CutFault}
-use Rattle.cutter.specs.declared.settings.CutSettings.{CutSettings}
 use Rattle.ingest.specs.declared.lane.Stop.{Stop}
 use Rattle.ingest.specs.declared.lane.Stop.TheVariants.{Good, Cut, Read}
+use Rattle.ingest.specs.Streams.{plans_of, fault_of, closed_of}
+use Rattle.ingest.specs.Lanes.{made_of, is_good}
 use Rattle.ladder_items.specs.Ladder.{Ladder}
-use Rattle.ingest.specs.Streams.{Taken, Stays, plans_of, fault_of, closed_of}
-use Rattle.ladder_items.specs.Shown.{Shown}
-use Rattle.ladder_items.specs.Items.{Part, part_at, shown_all}
-use Rattle.ladder_items.specs.Weave.{Event, rendition_of, AreLegal, after_all, blocks}
-use Rattle.ladder_items.specs.Giving.{IsGoing}
-use Rattle.ladder_items.specs.Runs.{OutletView}
-use Rattle.ladder_items.specs.Putting.{PutAll, PutSome}
-
--- the rendition goes on: it has given just the segments that its bytes close
-pub record IsOpen (ladder : Ladder) (r : ℕ) (intake : Taken) (part : Part) : Type 0 where
-  pub rendition : intake.rendition ≡ r
-  pub settings : intake.settings ≡ ladder.cut
-  pub going : intake.ended ≡ false
-  pub plans : part.plans ≡ closed_of r ladder.cut intake.stream
-  pub ended : part.ended ≡ false
+use Rattle.ladder_items.specs.Items.{Part}
 
 -- it has given all of a whole stream without a fault, and its end
 pub record IsWhole (ladder : Ladder) (r : ℕ) (stream : List ℕ) (part : Part) : Type 0 where
@@ -46,18 +34,10 @@ HasStopped (Good gone) ladder r stream part = IsWhole ladder r stream part × (g
 HasStopped (Cut told) ladder r stream part = IsFaulted ladder r stream told part
 HasStopped Read ladder r stream part = IsClosed ladder r stream part
 
--- What is known of a stop at a piece of a stream: only a fault comes so, and it stands however the stream goes on.
-abbrev pub IsOfPiece : Option Stop → ℕ → CutSettings → List ℕ → Type 0
-IsOfPiece None r s stream = Unit {0}
-IsOfPiece (Some (Good gone)) r s stream = ⊥
-IsOfPiece (Some (Cut told)) r s stream = Stays r s stream told
-IsOfPiece (Some Read) r s stream = ⊥
-
--- a stop at the end of a stream
-abbrev pub IsOfEnd : Stop → Type 0
-IsOfEnd (Good gone) = Unit {0}
-IsOfEnd (Cut told) = Unit {0}
-IsOfEnd Read = ⊥
+-- what a rendition has given that stopped, or that goes on
+abbrev pub HasGiven : Option Stop → Ladder → ℕ → List ℕ → Part → Type 0
+HasGiven None ladder r stream part = IsClosed ladder r stream part
+HasGiven (Some stop) ladder r stream part = HasStopped stop ladder r stream part
 
 -- it has given a beginning of what the bytes so far close
 pub record BeginsClosed (ladder : Ladder) (r : ℕ) (stream : List ℕ) (part : Part) : Type 0 where
@@ -69,32 +49,11 @@ pub record Begins (ladder : Ladder) (r : ℕ) (stream : List ℕ) (part : Part) 
   pub plans : IsBeginning part.plans (plans_of r ladder.cut stream)
   pub ended : part.ended ≡ true → IsWhole ladder r stream part
 
--- after so many bytes it goes on, or has stopped
-abbrev pub InStage : Option Stop → Ladder → ℕ → List ℕ → Taken → Part → Type 0
-InStage None ladder r stream intake part = IsOpen ladder r intake part × (intake.stream ≡ stream)
-InStage (Some stop) ladder r stream intake part = HasStopped stop ladder r stream part
+-- it has given a beginning of what it gives of its stream, and where bytes may be left, of what the bytes so far close
+abbrev pub HasBegun : Ladder → ℕ → Option (List ℕ) → List ℕ → Part → Type 0
+HasBegun ladder r left stream part = (IsAtEnd left × Begins ladder r stream part) ⊎ BeginsClosed ladder r stream part
 
--- before a step of rendition r
-pub record Before (ladder : Ladder) (r : ℕ) (parts : List Part) (shown : List Shown) (intake : Taken) : Type 0 where
-  pub goes_on : IsGoing ladder r parts shown
-  pub is_open : IsOpen ladder r intake (part_at parts r)
-
--- events of rendition r alone, one behind another
-pub record AreOf (r : ℕ) (parts : List Part) (events : List Event) : Type 0 where
-  pub of_r : All (λ e. rendition_of e ≡ r) events
-  pub legal : AreLegal parts events
-
--- a step of rendition r was given whole, up to these bytes
-pub record Reaches {Y : Type 0} (out : OutletView Y) (ladder : Ladder) (r : ℕ) (parts : List Part) (old new : Y) (shown : List Shown) (stop : Option Stop) (stream : List ℕ) (intake : Taken) : Type 0 where
-  pub events : List Event
-  pub are_of : AreOf r parts events
-  pub puts : PutAll out old new (blocks ladder parts events)
-  pub shown_are : shown ≡ shown_all ladder (after_all parts events)
-  pub stage : InStage stop ladder r stream intake (part_at (after_all parts events) r)
-
--- a step of rendition r was cut off, and what it was to give is such a beginning
-pub record IsCutOff {Y : Type 0} (out : OutletView Y) (ladder : Ladder) (r : ℕ) (parts : List Part) (old new : Y) (IsBegun : Part → Type 0) : Type 0 where
-  pub events : List Event
-  pub are_of : AreOf r parts events
-  pub some : PutSome out old new (blocks ladder parts events)
-  pub begins : IsBegun (part_at (after_all parts events) r)
+-- it has given a beginning of what is closed, and its end at the most behind all of it, where its stream has no fault
+pub record BeginsMade (stop : Option Stop) (ladder : Ladder) (r : ℕ) (stream : List ℕ) (part : Part) : Type 0 where
+  pub plans : IsBeginning part.plans (made_of stop r ladder.cut stream)
+  pub ended : part.ended ≡ true → (is_good stop ≡ true) × (part.plans ≡ made_of stop r ladder.cut stream)

@@ -18,11 +18,11 @@ use Rattle.ladder_items.specs.Shown.{Shown, segment_rates, lasting}
 use Rattle.ladder_items.specs.Masters.{peak_rate}
 use Rattle.ladder_items.specs.Items.{Part, part_at, shown_all}
 use Rattle.ladder_items.specs.Weave.{Weaves}
-use Rattle.ladder_items.specs.Runs.{InputView, Run}
+use Rattle.ingest.specs.Inputs.{InputView, SourceSays}
+use Rattle.ladder_items.specs.Runs.{Run}
 use Rattle.ladder_items.specs.Faults.{Sayings, Says}
 use Rattle.ladder_items.specs.Putting.{PutAll, PutSome}
-use Rattle.ladder_items.specs.Lanes.{IsWhole, IsClosed, HasStopped}
-use Rattle.ladder_items.specs.Sources.{SourceSays, HasBegun}
+use Rattle.ladder_items.specs.Lanes.{IsWhole, HasGiven, HasBegun}
 use Rattle.ladder_items.specs.World.{stream_at}
 
 -- the numbers of a report are those of what the renditions show, and of the bytes that lay in no packet of their streams
@@ -52,11 +52,6 @@ pub record IsPacked {X Y : Type 0} (run : Run X Y) (ladder : Ladder) (report : R
   pub each : (k : ℕ) (a b : X) → slice_get run.before k ≡ Some a → slice_get run.now k ≡ Some b →
       IsWhole ladder k (stream_at streams k) (part_at parts k) × AreBytes (stream_at streams k) × Consumes (run.input.left a) (run.input.left b) (stream_at streams k) × IsAtEnd (run.input.left b) × (run.input.failures b ≡ run.input.failures a) × (run.input.reads b ≤ run.input.reads a + run.most_reads)
   pub report_is : IsReport (shown_all ladder parts) (map skipped streams) report
-
--- what a rendition has given that stopped, or that goes on
-abbrev pub HasGiven : Option Stop → Ladder → ℕ → List ℕ → Part → Type 0
-HasGiven None ladder r stream part = IsClosed ladder r stream part
-HasGiven (Some stop) ladder r stream part = HasStopped stop ladder r stream part
 
 -- The run was stopped: the items put are a beginning of a weave of beginnings.
 pub record IsCutShort {X Y : Type 0} (run : Run X Y) (ladder : Ladder) : Type 0 where

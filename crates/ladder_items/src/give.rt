@@ -1,4 +1,5 @@
 ghost use Rattle.std.specs.Prelude.{◌≡◌, ◌+◌, ◌<◌, ◌^◌, [], ℕ, List, false, None, All, map, length, IfOk, IfErr, OnOk, OnErr};
+ghost use Rattle.cutter.specs.Lent.{lent};
 ghost use Rattle.segment_job.specs.Segments.{sealed_segment};
 ghost use Rattle.master_playlist.specs.Faults.{fault_of};
 ghost use Rattle.ladder_items.specs.declared.fault.PackFault.TheVariants.{NoMemory};
@@ -14,33 +15,36 @@ use crate::playlists::Playlists;
 use crate::put::{put_master, put_playlists, put_segment};
 use crate::row::row_of;
 use crate::settings::{Rendition, Settings};
-use cutter::Plan;
+use cutter::{PlanRef, Spool};
 use item_io::Outlet;
 use segment_job::{Keys, Sealed, seal_plan};
 use std::alloc::{AllocError, Global};
 
-/// Gives the next segments of rendition `r`, each with the playlists behind it.
+/// Gives the segments of the plans of a spool, the next of rendition `r`, each with the playlists behind it.
 pub fn give_segments<O: Outlet>(
     alloc: Global,
     outlet: &mut O,
     settings: &Settings,
     r: usize,
-    plans: Vec<Plan>,
+    spool: &Spool,
     playlists: &mut Vec<Playlists>,
 ) -> Result<(), PackFault>
     requires failures { O.failures outlet.old < 2 ^ 63 }
     requires allowed { IsAllowed settings.now }
-    requires next { (parts : List Part) × AreNextPlans settings.now r parts playlists.old.items plans.items }
-    ensures ok { OnOk result ((parts : List Part) → AreNextPlans settings.now r parts playlists.old.items plans.items →
-        PutAll (outlet_of O.holds O.broken O.failures) outlet.old outlet.new (blocks settings.now parts (rows r plans.items))
-        × (playlists.new.items ≡ shown_all settings.now (after_all parts (rows r plans.items)))) }
-    ensures err { OnErr result ((parts : List Part) → AreNextPlans settings.now r parts playlists.old.items plans.items →
-        PutSome (outlet_of O.holds O.broken O.failures) outlet.old outlet.new (blocks settings.now parts (rows r plans.items))) }
+    requires next { (parts : List Part) × AreNextPlans settings.now r parts playlists.old.items spool.now }
+    ensures ok { OnOk result ((parts : List Part) → AreNextPlans settings.now r parts playlists.old.items spool.now →
+        PutAll (outlet_of O.holds O.broken O.failures) outlet.old outlet.new (blocks settings.now parts (rows r spool.now))
+        × (playlists.new.items ≡ shown_all settings.now (after_all parts (rows r spool.now)))) }
+    ensures err { OnErr result ((parts : List Part) → AreNextPlans settings.now r parts playlists.old.items spool.now →
+        PutSome (outlet_of O.holds O.broken O.failures) outlet.old outlet.new (blocks settings.now parts (rows r spool.now))) }
     ensures failures { OnOk result (O.failures outlet.new ≡ O.failures outlet.old) }
     ensures fault { IfErr result (λ fault. SaysFailures fault (O.failures outlet.old) (O.failures outlet.new)) }
 {
-    for plan in plans {
-        give_segment(alloc, outlet, settings, r, &plan, playlists)?;
+    for i in 0..spool.plans() {
+        let Some(plan) = spool.plan(i) else {
+            continue;
+        };
+        give_segment(alloc, outlet, settings, r, plan, playlists)?;
     }
     Ok(())
 }
@@ -73,17 +77,17 @@ fn give_segment<O: Outlet>(
     outlet: &mut O,
     settings: &Settings,
     r: usize,
-    plan: &Plan,
+    plan: PlanRef<'_>,
     playlists: &mut Vec<Playlists>,
 ) -> Result<(), PackFault>
     requires failures { O.failures outlet.old < 2 ^ 63 }
     requires allowed { IsAllowed settings.now }
-    requires next { (parts : List Part) × IsNext settings.now r parts playlists.old.items plan.now }
-    ensures ok { OnOk result ((parts : List Part) → IsNext settings.now r parts playlists.old.items plan.now →
-        PutAll (outlet_of O.holds O.broken O.failures) outlet.old outlet.new (block settings.now parts (Row r plan.now))
-        × (playlists.new.items ≡ shown_all settings.now (after parts (Row r plan.now)))) }
-    ensures err { OnErr result ((parts : List Part) → IsNext settings.now r parts playlists.old.items plan.now →
-        PutSome (outlet_of O.holds O.broken O.failures) outlet.old outlet.new (block settings.now parts (Row r plan.now))) }
+    requires next { (parts : List Part) × IsNext settings.now r parts playlists.old.items (lent plan) }
+    ensures ok { OnOk result ((parts : List Part) → IsNext settings.now r parts playlists.old.items (lent plan.entry) →
+        PutAll (outlet_of O.holds O.broken O.failures) outlet.old outlet.new (block settings.now parts (Row r (lent plan.entry)))
+        × (playlists.new.items ≡ shown_all settings.now (after parts (Row r (lent plan.entry))))) }
+    ensures err { OnErr result ((parts : List Part) → IsNext settings.now r parts playlists.old.items (lent plan.entry) →
+        PutSome (outlet_of O.holds O.broken O.failures) outlet.old outlet.new (block settings.now parts (Row r (lent plan.entry)))) }
     ensures failures { OnOk result (O.failures outlet.new ≡ O.failures outlet.old) }
     ensures fault { IfErr result (λ fault. SaysFailures fault (O.failures outlet.old) (O.failures outlet.new)) }
 {
@@ -97,12 +101,12 @@ fn seal<'s>(
     alloc: Global,
     settings: &Settings,
     r: usize,
-    plan: &'s Plan,
+    plan: PlanRef<'s>,
 ) -> Result<Sealed<'s>, AllocError>
     requires { r < length settings.now.renditions }
-    ensures { IfOk result (λ sealed. sealed ≡ sealed_segment (rendition_at settings.now r).keys plan.now) }
+    ensures { IfOk result (λ sealed. sealed ≡ sealed_segment (rendition_at settings.now r).keys (lent plan.entry)) }
 {
-    seal_plan(alloc, plan.lend(), keys_of(settings, r))
+    seal_plan(alloc, plan, keys_of(settings, r))
 }
 
 /// Gives the next segment of rendition `r`, which is sealed under the rendition's keys, its playlists and the master

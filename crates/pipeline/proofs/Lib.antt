@@ -1,4 +1,3 @@
-pub mod Feeding
-pub mod Closing
-pub mod Turns
+pub mod Dues
 pub mod AtOnce
+pub mod Stepping

@@ -7,7 +7,8 @@ use Rattle.ladder_items.specs.Items.{part_at}
 use Rattle.ladder_items.specs.Weave.{Event, AreLegal, after_all, blocks, none_of}
 use Rattle.ladder_items.specs.Runs.{Run}
 use Rattle.ladder_items.specs.World.{stream_at}
-use Rattle.ladder_items.specs.Packed.{HasGiven, IsCutShort}
+use Rattle.ladder_items.specs.Lanes.{HasGiven}
+use Rattle.ladder_items.specs.Packed.{IsCutShort}
 
 -- A run that was stopped in a turn of rendition r: before that turn each rendition had given all that its bytes close, or
 -- had stopped, and in the turn one read was made, of r alone.

@@ -1,9 +1,8 @@
 //! Packs a ladder of transport streams into encrypted segments and their playlists.
 #![tactic(auto)]
 
-mod lane;
+mod due;
 mod serial;
-mod turn;
 
 pub use ladder_items::{Kind, PackFault, Rendition, Report, Settings};
 pub use serial::{pack_serial, pack_serial_reads};

@@ -1,16 +1,18 @@
 ghost use Rattle.std.specs.Prelude.{◌≡◌, ◌≢◌, ◌<◌, ◌≤◌, ◌^◌, ◌⊎◌, ℕ, [], Some, None, length, slice_get, IfOk, IfErr, OnOk, OnErr};
 ghost use Rattle.ladder_items.specs.declared.fault.PackFault.TheVariants.{Settings as SettingsFault, Outlet as OutletFault, NoMemory, Held};
 ghost use Rattle.ingest.specs.declared.lane.Lane.{Lane};
+ghost use Rattle.ingest.specs.Inputs.{input_of};
 ghost use Rattle.ladder_items.specs.Ladder.{IsAllowed};
-ghost use Rattle.ladder_items.specs.Runs.{input_of, outlet_of, run_of};
+ghost use Rattle.ladder_items.specs.Runs.{outlet_of, run_of};
 ghost use Rattle.ladder_items.specs.Putting.{PutAll, SaysFailures};
-ghost use Rattle.ladder_items.specs.World.{HaveRoom, World};
+ghost use Rattle.ladder_items.specs.World.{HaveRoom, NothingDue};
 ghost use Rattle.ladder_items.specs.Packed.{IsPacked, IsAlone, FaultSays};
 ghost use Rattle.pipeline.specs.OneThread.{IsCutAtOnce};
 
-use crate::turn::turn;
-use ingest::{Lane, closed_plans_begin_all};
-use item_io::{Outlet, READS, Source};
+use crate::due::give_due;
+use cutter::Spool;
+use ingest::{Lane, closed_plans_are_in_order, closed_plans_begin_all};
+use item_io::{Outlet, PIECE, READS, Source};
 use ladder_items::{
     PackFault, Playlists, Report, Settings, first_lanes, first_playlists, have_stopped, is_allowed,
     report_of, standing,
@@ -110,14 +112,17 @@ fn turns<S: Source, O: Outlet>(
     requires allowed { IsAllowed settings.now }
     requires most { reads ≤ 2 ^ 40 }
     requires room { HaveRoom (input_of S.remaining S.reads S.failures) reads sources.old.items }
-    requires start { World (run_of (input_of S.remaining S.reads S.failures) (outlet_of O.holds O.broken O.failures) reads sources.old.items sources.old.items outlet.old outlet.old) settings.now 0 0 lanes.old.items playlists.old.items }
-    ensures ok { OnOk result ((rounds : ℕ) × (rounds ≤ reads) × World (run_of (input_of S.remaining S.reads S.failures) (outlet_of O.holds O.broken O.failures) reads sources.old.items sources.new.items outlet.old outlet.new) settings.now rounds 0 lanes.new.items playlists.new.items
+    requires start { NothingDue (run_of (input_of S.remaining S.reads S.failures) (outlet_of O.holds O.broken O.failures) reads sources.old.items sources.old.items outlet.old outlet.old) settings.now 0 0 lanes.old.items playlists.old.items }
+    ensures ok { OnOk result ((rounds : ℕ) × (rounds ≤ reads) × NothingDue (run_of (input_of S.remaining S.reads S.failures) (outlet_of O.holds O.broken O.failures) reads sources.old.items sources.new.items outlet.old outlet.new) settings.now rounds 0 lanes.new.items playlists.new.items
         × ((k : ℕ) (lane : Lane) → slice_get lanes.new.items k ≡ Some lane → lane.stop ≡ None → rounds ≡ reads)) }
     ensures err { OnErr result (IsCutAtOnce (run_of (input_of S.remaining S.reads S.failures) (outlet_of O.holds O.broken O.failures) reads sources.old.items sources.new.items outlet.old outlet.new) settings.now) }
     ensures failures { OnOk result (O.failures outlet.new ≡ O.failures outlet.old) }
     ensures fault { IfErr result (λ fault. SaysFailures fault (O.failures outlet.old) (O.failures outlet.new)) }
 {
     closed_plans_begin_all();
+    closed_plans_are_in_order();
+    let mut buffer = [0; PIECE];
+    let mut spare = Spool::new(alloc);
     for _ in 0..reads {
         if have_stopped(lanes) {
             return Ok(());
@@ -127,7 +132,8 @@ fn turns<S: Source, O: Outlet>(
             if lane.stop.is_some() {
                 continue;
             }
-            turn(alloc, &mut sources[r], outlet, settings, r, lane, playlists)?;
+            lane.turn(&mut sources[r], &mut buffer)?;
+            give_due(alloc, outlet, settings, r, lane, &mut spare, playlists)?;
         }
     }
     Ok(())

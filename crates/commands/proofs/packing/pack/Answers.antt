@@ -1,4 +1,4 @@
-use Rattle.ladder_items.specs.Runs.{input_of}
+use Rattle.ingest.specs.Inputs.{input_of}
 use Rattle.commands.proofs.LineRuns.{lines_out, packed, says, packed-counts, counts}
 use Rattle.commands.proofs.packing.pack.Goals as goal
 

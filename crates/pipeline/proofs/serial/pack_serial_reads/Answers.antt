@@ -2,7 +2,8 @@ use Rattle.std.proofs.Common.{◌≡◌, ◌∙◌, length, slice_get, refl, ap,
 use Rattle.std.proofs.lemmas.Result.{err_from_is_err_and}
 use Rattle.ladder_items.specs.Ladder.{IsAllowed}
 use Rattle.ladder_items.proofs.Blocks.{shown-going, shown-each}
-use Rattle.ladder_items.proofs.Worlds.{world-first, world-stop, nothing-given, parts-of, parts-length}
+use Rattle.ladder_items.proofs.Worlds.{nothing-given, parts-of, parts-length}
+use Rattle.pipeline.proofs.Stepping.{due-first}
 use Rattle.ladder_items.proofs.Endings.{world-halted, world-packed, halted-says, at-once}
 use Rattle.pipeline.proofs.AtOnce.{sudden-unheld, told-unheld, none-at-once, stop-at-once}
 use Rattle.pipeline.proofs.serial.pack_serial_reads.Goals as goal
@@ -10,23 +11,23 @@ use Rattle.pipeline.proofs.serial.pack_serial_reads.Goals as goal
 pub returns-in_err-is_allowed-clause-fault : goal.returns-in_err-is_allowed-clause-fault
 returns-in_err-is_allowed-clause-fault g c =
     let told = err_from_is_err_and c.from_residual.result c.from_residual.ensures.1 in
-    rw (told.1, told.2) (nothing-given _ _ _ _ _ _ _ _ (λ k. c.closed_plans_begin_all.ensures.none k c.args.settings.now.cut), refl)
+    rw (told.1, told.2) ((nothing-given _ _ _ _ _ _ _ _ (λ k. c.closed_plans_begin_all.ensures.none k c.args.settings.now.cut)).cut, refl)
 
 pub returns-in_err-lanes-clause-fault : goal.returns-in_err-lanes-clause-fault
 returns-in_err-lanes-clause-fault g c =
     let told = err_from_is_err_and c.from_residual-in_err-lanes.result c.from_residual-in_err-lanes.ensures.1 in
-    rw (told.1, told.2) (nothing-given _ _ _ _ _ _ _ _ (λ k. c.closed_plans_begin_all.ensures.none k c.args.settings.now.cut), refl)
+    rw (told.1, told.2) ((nothing-given _ _ _ _ _ _ _ _ (λ k. c.closed_plans_begin_all.ensures.none k c.args.settings.now.cut)).cut, refl)
 
 pub returns-in_err-playlists-clause-fault : goal.returns-in_err-playlists-clause-fault
 returns-in_err-playlists-clause-fault g c =
     let told = err_from_is_err_and c.from_residual-in_err-playlists.result c.from_residual-in_err-playlists.ensures.1 in
-    rw (told.1, told.2) (nothing-given _ _ _ _ _ _ _ _ (λ k. c.closed_plans_begin_all.ensures.none k c.args.settings.now.cut), refl)
+    rw (told.1, told.2) ((nothing-given _ _ _ _ _ _ _ _ (λ k. c.closed_plans_begin_all.ensures.none k c.args.settings.now.cut)).cut, refl)
 
 pub turns-requires-clause-start : goal.turns-requires-clause-start
 turns-requires-clause-start g c =
     let allowed : IsAllowed c.args.settings.now × (c.len.result ≡ length c.args.settings.now.renditions) = search rules in
     let whole : c.len.result ≡ length c.args.sources.now.items = search rules in
-    world-first _ _ _ _ _ _ _ _ _ _ (sym whole ∙ allowed.1) c.in_ok-lanes.ensures.each c.in_ok-lanes.ensures.first c.in_ok-playlists.ensures
+    due-first _ _ _ _ _ _ _ _ _ _ (sym whole ∙ allowed.1) c.in_ok-lanes.ensures.each c.in_ok-lanes.ensures.first c.in_ok-playlists.ensures
     (λ k. c.closed_plans_begin_all.ensures.none k c.args.settings.now.cut)
 
 pub returns-in-Some-clause-fault : goal.returns-in-Some-clause-fault
@@ -37,23 +38,23 @@ returns-in-Some-clause-fault g c =
     halted-says _ _ _ _ _ _ _ _ _ _ some.0 some.1.stop c.in-Some.fault some.3
     (world-halted _ _ _ _ _ _ ok.0 _ _ _ _ _ _ some.0 some.1 (ap (λ lanes. slice_get lanes some.0) (sym c.deref.ensures.value) ∙ some.2)
     (λ k earlier below at. some.4 k earlier below (ap (λ lanes. slice_get lanes k) c.deref.ensures.value ∙ at)) ok.3 ok.1 allowed.0 ok.2)
-    (world-stop _ _ _ _ _ _ _ _ _ _ _ _ _ ok.1 allowed.0 ok.2) c.in_ok-turns.ensures.failures
+    (stop-at-once _ _ _ _ _ _ _ _ _ _ _ _ _ ok.1 allowed.0 ok.2).cut c.in_ok-turns.ensures.failures
 
 pub report_of-requires-clause-each : goal.report_of-requires-clause-each
 report_of-requires-clause-each g c =
-    let w = c.in_ok-turns.ensures.ok.2 in
+    let w = c.in_ok-turns.ensures.ok.2.world in
     let each = shown-each c.args.settings.now (parts-of c.args.settings.now w.events) _ (parts-length c.args.settings.now w.events) w.shown_are in
     ap length c.deref-2.ensures.value ∙ (w.same_lanes ∙ (sym each ∙ ap length (sym c.deref-3.ensures.value)))
 
 pub report_of-requires-clause-going : goal.report_of-requires-clause-going
 report_of-requires-clause-going g c =
-    let w = c.in_ok-turns.ensures.ok.2 in
+    let w = c.in_ok-turns.ensures.ok.2.world in
     shown-going c.args.settings.now (parts-of c.args.settings.now w.events) c.deref-3.result.now (parts-length c.args.settings.now w.events) (c.deref-3.ensures.value ∙ w.shown_are)
 
 pub report_of-requires-clause-few : goal.report_of-requires-clause-few
 report_of-requires-clause-few g c =
     let allowed : IsAllowed c.args.settings.now × (c.len.result ≡ length c.args.settings.now.renditions) = search rules in
-    let w = c.in_ok-turns.ensures.ok.2 in
+    let w = c.in_ok-turns.ensures.ok.2.world in
     let each = shown-each c.args.settings.now (parts-of c.args.settings.now w.events) c.deref-3.result.now (parts-length c.args.settings.now w.events) (c.deref-3.ensures.value ∙ w.shown_are) in
     let few = allowed.0.renditions.1 in
     omega (arith, each, few)
@@ -62,7 +63,7 @@ pub returns-in_err-report_of-clause-fault : goal.returns-in_err-report_of-clause
 returns-in_err-report_of-clause-fault g c =
     let allowed : IsAllowed c.args.settings.now × (c.len.result ≡ length c.args.settings.now.renditions) = search rules in
     let told = err_from_is_err_and c.from_residual-in_err-report_of.result c.from_residual-in_err-report_of.ensures.1 in
-    rw (told.1, told.2) (world-stop _ _ _ _ _ _ _ _ _ _ _ _ _ c.in_ok-turns.ensures.ok.1 allowed.0 c.in_ok-turns.ensures.ok.2, c.in_ok-turns.ensures.failures)
+    rw (told.1, told.2) ((stop-at-once _ _ _ _ _ _ _ _ _ _ _ _ _ c.in_ok-turns.ensures.ok.1 allowed.0 c.in_ok-turns.ensures.ok.2).cut, c.in_ok-turns.ensures.failures)
 
 pub returns-clause-ok : goal.returns-clause-ok
 returns-clause-ok g c =

@@ -21,7 +21,7 @@ returns-in_err-push_all-clause-fault c =
     let going = rw (← c.self.view_is) at c.requires.going in
     let next = c.self.inside.reader ++ c.args.piece.now in
     let grown = ap decided (sym c.in_ok-feed.ensures.fed) ∙ appended _ _ _ _ c.deref.result.now c.in_ok-feed.ensures.packets c.clear.ensures.items c.deref.ensures.value in
-    rw (told.1, told.2, ← c.self.view_is) (faults-at c.self.inside.ended c.self.inside.cutter c.self.inside.reader next c.deref.result.now c.in_err-push_all.field-0.0 c.args.plans.now.items c.push_all.new.plans.items
+    rw (told.1, told.2, ← c.self.view_is) (faults-at c.self.inside.ended c.self.inside.cutter c.self.inside.reader next c.deref.result.now c.in_err-push_all.field-0.0 c.push_all.new.cutter.filled
     (c.self.invariant.list going) grown (c.decided_begin.ensures.begin next) (c.decided_begin.ensures.always next) c.in_err-push_all.ensures.fault)
 
 pub returns-clause-plans : goal.returns-clause-plans
@@ -29,5 +29,5 @@ returns-clause-plans c =
     let going = rw (← c.self.view_is) at c.requires.going in
     let next = c.self.inside.reader ++ c.args.piece.now in
     let grown = ap decided (sym c.in_ok-feed.ensures.fed) ∙ appended _ _ _ _ c.deref.result.now c.in_ok-feed.ensures.packets c.clear.ensures.items c.deref.ensures.value in
-    rw (← c.self.view_is) (grown-to c.self.inside.cutter c.self.inside.reader next c.deref.result.now c.args.plans.now.items c.push_all.new.plans.items
+    rw (← c.self.view_is) (grown-to c.self.inside.cutter c.push_all.new.cutter c.self.inside.reader next c.deref.result.now
     (c.self.invariant.list going) grown c.in_ok-push_all.ensures.plans)

@@ -1,14 +1,20 @@
--- What an input tells of a rendition's way.
-use Rattle.std.specs.Prelude.{◌≡◌, ℕ, ◌+◌, List, Option, Some, None, ◌⊎◌}
-use Rattle.std.specs.Io.KnownBytes.{IsAtEnd}
+-- An input, and what it tells of its rendition's way.
+use Rattle.std.specs.Prelude.{◌≡◌, ℕ, ◌+◌, ◌≤◌, List, length, Option, Some, None, ◌⊎◌}
+use Rattle.std.specs.Io.KnownBytes.{Consumes, IsAtEnd}
+use Rattle.aes_cbc.specs.Block.{AreBytes}
 use Rattle.cutter.specs.declared.settings.CutSettings.{CutSettings}
 use Rattle.ingest.specs.declared.lane.Stop.{Stop}
 use Rattle.ingest.specs.declared.lane.Stop.TheVariants.{Good, Cut, Read}
-use Rattle.ladder_items.specs.Ladder.{Ladder}
-use Rattle.ladder_items.specs.Runs.{InputView}
 use Rattle.ingest.specs.Streams.{Stays}
-use Rattle.ladder_items.specs.Items.{Part}
-use Rattle.ladder_items.specs.Lanes.{Begins, BeginsClosed}
+
+-- an input: the bytes left, how many reads gave a byte, and how many failed
+pub record InputView (X : Type 0) : Type 1 where
+  pub left : X → Option (List ℕ)
+  pub reads : X → ℕ
+  pub failures : X → ℕ
+
+abbrev pub input_of : {X : Type 0} → (X → Option (List ℕ)) → (X → ℕ) → (X → ℕ) → InputView X
+input_of l r f = record { left = l; reads = r; failures = f }
 
 -- What an input says of why its rendition stopped, or goes on: a read failed where that is told and else none did; at a
 -- good end no byte is left, and where bytes are left a fault stands however they go on.
@@ -18,6 +24,9 @@ SourceSays input r s stream (Some (Good gone)) old new = (input.failures new ≡
 SourceSays input r s stream (Some (Cut told)) old new = (input.failures new ≡ input.failures old) × (IsAtEnd (input.left new) ⊎ Stays r s stream told)
 SourceSays input r s stream (Some Read) old new = input.failures new ≡ input.failures old + 1
 
--- it has given a beginning of what it gives of its stream, and where bytes may be left, of what the bytes so far close
-abbrev pub HasBegun : Ladder → ℕ → Option (List ℕ) → List ℕ → Part → Type 0
-HasBegun ladder r left stream part = (IsAtEnd left × Begins ladder r stream part) ⊎ BeginsClosed ladder r stream part
+-- one read of at most 18,800 bytes took this piece
+pub record IsRead {X : Type 0} (input : InputView X) (old new : X) (piece : List ℕ) : Type 0 where
+  pub consumes : Consumes (input.left old) (input.left new) piece
+  pub short : length piece ≤ 18800
+  pub bytes : AreBytes piece
+  pub counted : input.reads new ≤ input.reads old + 1

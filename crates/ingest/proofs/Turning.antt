@@ -1,0 +1,33 @@
+-- A read that failed.
+use Rattle.std.proofs.Common.{◌≡◌, ◌∙◌, ◌+◌, [], Some, refl, ap, sym, arith}
+use Rattle.std.specs.Io.KnownBytes.{Keeps}
+use Rattle.std.proofs.lemmas.List.{append-nil}
+use Rattle.std.proofs.KnownBytes.{Consumes-nil, Consumes-kept}
+use Rattle.ingest.specs.declared.lane.Stop.TheVariants.{Read}
+use Rattle.ingest.specs.declared.lane.Lane.{Lane}
+use Rattle.ingest.specs.Streams.{closed_of}
+use Rattle.ingest.specs.Inputs.{InputView}
+use Rattle.ingest.specs.Lanes.{IsTurned}
+
+-- it took nothing, and nothing was closed
+pub read-failed : {X : Type 0} (input : InputView X) (a b : X) (lane : Lane) → Keeps (input.left a) (input.left b) → input.reads b ≡ input.reads a → input.failures b ≡ input.failures a + 1
+    → IsTurned input a b lane (record lane { stop = Some Read })
+read-failed input a b lane kept counted failed = record {
+  piece = [];
+  read = record {
+    consumes = Consumes-kept (input.left a) (input.left a) (input.left b) [] (Consumes-nil (input.left a)) kept;
+    short = omega arith;
+    bytes = λ k d below. absurd (omega (arith, below));
+    counted = omega (arith, counted);
+  };
+  takes = record {
+    plans = [];
+    made = ap (closed_of lane.intake.rendition lane.intake.settings) (append-nil lane.intake.stream) ∙ sym (append-nil _);
+    filled = sym (append-nil _);
+    turned = refl;
+    stops = tt;
+    goes_on = λ e. cc;
+  };
+  says = failed;
+  counted = λ e. cc;
+}

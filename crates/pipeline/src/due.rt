@@ -1,0 +1,101 @@
+ghost use Rattle.std.specs.Prelude.{◌≡◌, ◌<◌, ◌^◌, [], ◌++◌, ℕ, List, length, IfErr, OnOk, OnErr};
+ghost use Rattle.ladder_items.specs.Ladder.{IsAllowed};
+ghost use Rattle.ladder_items.specs.Items.{Part, shown_all};
+ghost use Rattle.ladder_items.specs.Weave.{after_all, blocks};
+ghost use Rattle.ladder_items.specs.Giving.{AreNextPlans, rows};
+ghost use Rattle.ladder_items.specs.Runs.{outlet_of};
+ghost use Rattle.ladder_items.specs.Putting.{PutAll, PutSome, SaysFailures};
+ghost use Rattle.pipeline.specs.Dues.{due};
+
+use cutter::Spool;
+use ingest::{Intake, Lane};
+use item_io::Outlet;
+use ladder_items::{PackFault, Playlists, Settings, give_end, give_segments};
+use std::alloc::{AllocError, Global};
+use std::mem;
+
+/// Gives all segments that rendition `r` has closed, and behind them its last playlists where it came to a good end.
+///
+/// Its spool is turned out against the spare one, which is the full one then.
+pub fn give_due<O: Outlet>(
+    alloc: Global,
+    outlet: &mut O,
+    settings: &Settings,
+    r: usize,
+    lane: &mut Lane,
+    spare: &mut Spool,
+    playlists: &mut Vec<Playlists>,
+) -> Result<(), PackFault>
+    requires failures { O.failures outlet.old < 2 ^ 63 }
+    requires allowed { IsAllowed settings.now }
+    requires next { (parts : List Part) × AreNextPlans settings.now r parts playlists.old.items lane.old.intake.filled }
+    ensures ok { OnOk result ((parts : List Part) → AreNextPlans settings.now r parts playlists.old.items lane.old.intake.filled →
+        PutAll (outlet_of O.holds O.broken O.failures) outlet.old outlet.new (blocks settings.now parts (due r lane.old))
+        × (playlists.new.items ≡ shown_all settings.now (after_all parts (due r lane.old)))) }
+    ensures err { OnErr result ((parts : List Part) → AreNextPlans settings.now r parts playlists.old.items lane.old.intake.filled →
+        PutSome (outlet_of O.holds O.broken O.failures) outlet.old outlet.new (blocks settings.now parts (due r lane.old))) }
+    ensures stop { OnOk result (lane.new.stop ≡ lane.old.stop) }
+    ensures intake { OnOk result (lane.new.intake ≡ record lane.old.intake { turned = lane.old.intake.turned ++ lane.old.intake.filled; filled = [] }) }
+    ensures failures { OnOk result (O.failures outlet.new ≡ O.failures outlet.old) }
+    ensures fault { IfErr result (λ fault. SaysFailures fault (O.failures outlet.old) (O.failures outlet.new)) }
+{
+    give_closed(
+        alloc,
+        outlet,
+        settings,
+        r,
+        &mut lane.intake,
+        spare,
+        playlists,
+    )?;
+    if !lane.is_good() {
+        return Ok(());
+    }
+    give_end(outlet, settings, r, playlists)?;
+    Ok(())
+}
+
+/// Gives the segments that are closed in the spool of rendition `r`, if there are any.
+fn give_closed<O: Outlet>(
+    alloc: Global,
+    outlet: &mut O,
+    settings: &Settings,
+    r: usize,
+    intake: &mut Intake,
+    spare: &mut Spool,
+    playlists: &mut Vec<Playlists>,
+) -> Result<(), PackFault>
+    requires failures { O.failures outlet.old < 2 ^ 63 }
+    requires allowed { IsAllowed settings.now }
+    requires next { (parts : List Part) × AreNextPlans settings.now r parts playlists.old.items intake.old.filled }
+    ensures ok { OnOk result ((parts : List Part) → AreNextPlans settings.now r parts playlists.old.items intake.old.filled →
+        PutAll (outlet_of O.holds O.broken O.failures) outlet.old outlet.new (blocks settings.now parts (rows r intake.old.filled))
+        × (playlists.new.items ≡ shown_all settings.now (after_all parts (rows r intake.old.filled)))) }
+    ensures err { OnErr result ((parts : List Part) → AreNextPlans settings.now r parts playlists.old.items intake.old.filled →
+        PutSome (outlet_of O.holds O.broken O.failures) outlet.old outlet.new (blocks settings.now parts (rows r intake.old.filled))) }
+    ensures intake { OnOk result (intake.new ≡ record intake.old { turned = intake.old.turned ++ intake.old.filled; filled = [] }) }
+    ensures failures { OnOk result (O.failures outlet.new ≡ O.failures outlet.old) }
+    ensures fault { IfErr result (λ fault. SaysFailures fault (O.failures outlet.old) (O.failures outlet.new)) }
+{
+    if intake.plans() == 0 {
+        return Ok(());
+    }
+    turn_out(alloc, intake, spare)?;
+    give_segments(alloc, outlet, settings, r, spare, playlists)?;
+    Ok(())
+}
+
+/// Turns out the spool of an intake, against the spare one.
+fn turn_out(alloc: Global, intake: &mut Intake, spare: &mut Spool) -> Result<(), AllocError>
+    ensures full { OnOk result (spare.new ≡ intake.old.filled) }
+    ensures turned { OnOk result (intake.new ≡ record intake.old { turned = intake.old.turned ++ intake.old.filled; filled = [] }) }
+{
+    let empty = mem::replace(spare, Spool::new(alloc));
+    match intake.turn(empty) {
+        Ok(full) => {
+            *spare = full;
+            Ok(())
+        }
+        Err(_) => Err(AllocError),
+    }
+}
