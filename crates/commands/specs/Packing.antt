@@ -11,7 +11,7 @@ use Rattle.ladder_items.specs.Items.{Part, part_at}
 use Rattle.ladder_items.specs.Weave.{Weaves}
 use Rattle.ladder_items.specs.Lanes.{IsWhole, HasGiven, HasBegun}
 use Rattle.ladder_items.specs.Faults.{Sayings, Says}
-use Rattle.ingest.specs.Streams.{Stays}
+use Rattle.ingest.specs.Streams.{Stays, as_cut}
 use Rattle.commands.specs.Streams.{ReadsAll}
 
 -- All that the reader gave was packed, and the writer got the lines of all segments and playlists.
@@ -28,7 +28,7 @@ pub record WritesPacked (ladder : Ladder) (left left_then held held_then : Optio
 abbrev pub FaultStands : Option Stop → Ladder → List ℕ → Option (List ℕ) → Type 0
 FaultStands None ladder stream left_then = Unit {0}
 FaultStands (Some (Good gone)) ladder stream left_then = IsAtEnd left_then
-FaultStands (Some (Cut told)) ladder stream left_then = IsAtEnd left_then ⊎ Stays 0 ladder.cut stream told
+FaultStands (Some (Cut told)) ladder stream left_then = IsAtEnd left_then ⊎ Stays 0 ladder.cut stream (as_cut told)
 FaultStands (Some ReadFailed) ladder stream left_then = Unit {0}
 
 -- The stream stopped this way, and the writer got the lines of all that comes before.

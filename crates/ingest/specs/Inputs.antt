@@ -5,7 +5,7 @@ use Rattle.aes_cbc.specs.Block.{AreBytes}
 use Rattle.cutter.specs.declared.settings.CutSettings.{CutSettings}
 use Rattle.ingest.specs.declared.lane.Stop.{Stop}
 use Rattle.ingest.specs.declared.lane.Stop.TheVariants.{Good, Cut, Read}
-use Rattle.ingest.specs.Streams.{Stays}
+use Rattle.ingest.specs.Streams.{Stays, as_cut}
 
 -- an input: the bytes left, how many reads gave a byte, and how many failed
 pub record InputView (X : Type 0) : Type 1 where
@@ -21,7 +21,7 @@ input_of l r f = record { left = l; reads = r; failures = f }
 abbrev pub SourceSays : {X : Type 0} → InputView X → ℕ → CutSettings → List ℕ → Option Stop → X → X → Type 0
 SourceSays input r s stream None old new = input.failures new ≡ input.failures old
 SourceSays input r s stream (Some (Good gone)) old new = (input.failures new ≡ input.failures old) × IsAtEnd (input.left new)
-SourceSays input r s stream (Some (Cut told)) old new = (input.failures new ≡ input.failures old) × (IsAtEnd (input.left new) ⊎ Stays r s stream told)
+SourceSays input r s stream (Some (Cut told)) old new = (input.failures new ≡ input.failures old) × (IsAtEnd (input.left new) ⊎ Stays r s stream (as_cut told))
 SourceSays input r s stream (Some Read) old new = input.failures new ≡ input.failures old + 1
 
 -- one read of at most 18,800 bytes took this piece

@@ -6,7 +6,7 @@ use Rattle.cutter.specs.Plans.{SegmentPlan}
 use Rattle.ingest.specs.declared.lane.Stop.{Stop}
 use Rattle.ingest.specs.declared.lane.Stop.TheVariants.{Good, Cut, Read}
 use Rattle.ingest.specs.declared.lane.Lane.{Lane}
-use Rattle.ingest.specs.Streams.{Taken, Stays, untaken, plans_of, fault_of, closed_of}
+use Rattle.ingest.specs.Streams.{Taken, Stays, as_cut, untaken, plans_of, fault_of, closed_of}
 use Rattle.ingest.specs.Inputs.{InputView, SourceSays, IsRead}
 
 -- the plans of the segments that are closed, where a rendition goes on or has stopped behind these bytes
@@ -20,7 +20,7 @@ made_of (Some Read) r s stream = closed_of r s stream
 abbrev pub StopsBy : Option Stop → ℕ → CutSettings → List ℕ → Type 0
 StopsBy None r s stream = Unit {0}
 StopsBy (Some (Good gone)) r s stream = (fault_of r s stream ≡ None) × (gone ≡ skipped stream)
-StopsBy (Some (Cut told)) r s stream = fault_of r s stream ≡ Some told
+StopsBy (Some (Cut told)) r s stream = fault_of r s stream ≡ Some (as_cut told)
 StopsBy (Some Read) r s stream = Unit {0}
 
 abbrev pub is_good : Option Stop → Bool
@@ -33,7 +33,7 @@ is_good (Some Read) = false
 abbrev pub IsOfPiece : Option Stop → ℕ → CutSettings → List ℕ → Type 0
 IsOfPiece None r s stream = Unit {0}
 IsOfPiece (Some (Good gone)) r s stream = ⊥
-IsOfPiece (Some (Cut told)) r s stream = Stays r s stream told
+IsOfPiece (Some (Cut told)) r s stream = Stays r s stream (as_cut told)
 IsOfPiece (Some Read) r s stream = ⊥
 
 -- a stop at the end of a stream

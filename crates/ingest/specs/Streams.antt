@@ -3,10 +3,21 @@ use Rattle.std.specs.Prelude.{◌≡◌, ℕ, ◌+◌, Bool, false, List, [], �
 use Rattle.ts_packet.specs.Packets.{packets, decided}
 use Rattle.cutter.specs.declared.settings.CutSettings.{CutSettings}
 use Rattle.cutter.specs.declared.fault.CutFault.{CutFault}
+use Rattle.cutter.specs.declared.fault.CutFault.TheVariants.{NoProgram as HasNoProgram, NoStart as HasNoStart, LongSegment as IsLong, BigSegment as IsBig, Limit as PassesLimit}
+use Rattle.ingest.specs.declared.fault.StreamFault.{StreamFault}
+use Rattle.ingest.specs.declared.fault.StreamFault.TheVariants.{NoProgram, NoStart, LongSegment, BigSegment, Limit}
 use Rattle.cutter.specs.Plans.{SegmentPlan}
 use Rattle.cutter.specs.Ordered.{IsPlan}
 use Rattle.cutter.specs.Cuts.{closed, plans, fault}
 use Rattle.cutter.specs.Spooled.{Spooling}
+
+-- a fault of a stream, as a cutter tells it
+abbrev pub as_cut : StreamFault → CutFault
+as_cut NoProgram = HasNoProgram
+as_cut NoStart = HasNoStart
+as_cut (LongSegment n) = IsLong n
+as_cut (BigSegment n) = IsBig n
+as_cut Limit = PassesLimit
 
 -- the plans of a whole stream
 unfoldable pub plans_of : ℕ → CutSettings → List ℕ → List SegmentPlan

@@ -1,13 +1,12 @@
 ghost use Rattle.std.specs.Prelude.{◌≡◌, ◌≢◌, ◌+◌, ◌<◌, ◌≤◌, ◌^◌, ◌++◌, ℕ, List, None, false, length, IfOk, OnOk, OnErr};
 ghost use Rattle.aes_cbc.specs.Block.{AreBytes};
-ghost use Rattle.cutter.specs.declared.fault.CutFault.TheVariants.{NoMemory};
 ghost use Rattle.cutter.specs.Settings.{IsAllowed};
 ghost use Rattle.ingest.specs.Inputs.{input_of, IsRead};
-ghost use Rattle.ingest.specs.declared.lane.Stop.TheVariants.{Cut};
 ghost use Rattle.ingest.specs.Lanes.{is_good, IsFirst, IsOfPiece, IsOfEnd, Takes, IsTurned};
 
+use crate::fault::{StreamFault, of_stream};
 use crate::intake::Intake;
-use cutter::{CutFault, CutSettings};
+use cutter::CutSettings;
 use item_io::Source;
 use std::alloc::{AllocError, Global};
 
@@ -17,7 +16,7 @@ pub enum Stop {
     /// Its input came to its end, and its stream has no fault. So many bytes lay in no packet.
     Good(u64),
     /// Its stream has a fault.
-    Cut(CutFault),
+    Cut(StreamFault),
     /// A read failed.
     Read,
 }
@@ -85,7 +84,7 @@ impl Lane {
         ensures stays { OnOk result (IsOfPiece self.new.stop self.old.intake.rendition self.old.intake.settings (self.old.intake.stream ++ piece.now)) }
     {
         if let Err(fault) = self.intake.take(piece) {
-            self.stop = Some(stop_of(fault)?);
+            self.stop = Some(Stop::Cut(of_stream(fault)?));
         }
         Ok(())
     }
@@ -100,20 +99,9 @@ impl Lane {
     {
         self.stop = match self.intake.finish() {
             Ok(skipped) => Some(Stop::Good(skipped.bytes)),
-            Err(fault) => Some(stop_of(fault)?),
+            Err(fault) => Some(Stop::Cut(of_stream(fault)?)),
         };
         Ok(())
-    }
-}
-
-/// The stop at a stream's fault. Want of memory is none.
-fn stop_of(fault: CutFault) -> Result<Stop, AllocError>
-    ensures cut { IfOk result (λ stop. stop ≡ Cut fault) }
-    ensures other { OnOk result (fault ≢ NoMemory) }
-{
-    match fault {
-        CutFault::NoMemory => Err(AllocError),
-        other => Ok(Stop::Cut(other)),
     }
 }
 

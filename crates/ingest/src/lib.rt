@@ -1,10 +1,12 @@
 //! Turns the bytes of a rendition's input into the plans of its segments.
 #![tactic(auto)]
 
+mod fault;
 mod intake;
 mod lane;
 mod stream_laws;
 
+pub use fault::StreamFault;
 pub use intake::{Intake, closed_plans_begin_all};
 pub use lane::{Lane, Stop};
 pub use stream_laws::{

@@ -6,7 +6,7 @@ use Rattle.std.proofs.lemmas.Option.{slice_get_within, same_Some, get_or_from_sl
 use Rattle.std.proofs.lemmas.List.{length-map}
 use Rattle.aes_cbc.specs.Block.{AreBytes}
 use Rattle.ts_packet.specs.Packets.{skipped}
-use Rattle.cutter.specs.declared.fault.CutFault.TheVariants.{NoProgram as HasNoProgram, NoStart as HasNoStart, LongSegment as IsLong, BigSegment as IsBig, Limit as PassesLimit, NoMemory as WantsMemory, Ended}
+use Rattle.ingest.specs.declared.fault.StreamFault.TheVariants.{NoProgram as HasNoProgram, NoStart as HasNoStart, LongSegment as IsLong, BigSegment as IsBig, Limit as PassesLimit}
 use Rattle.ladder_items.specs.declared.fault.PackFault.{PackFault}
 use Rattle.ladder_items.specs.declared.fault.PackFault.TheVariants.{Settings, Read, ReadLimit, NoProgram, NoStart, LongSegment, BigSegment, Limit, Outlet, NoMemory, Held as HeldBack}
 use Rattle.ingest.specs.declared.lane.Stop.{Stop}
@@ -160,18 +160,16 @@ module _ (X Y : Type 0) (input : InputView X) (out : OutletView Y) (most_reads :
 
   -- a fault that a rendition's end is told by
   pub halted-says : (before now : List X) (x y : Y) (r : ℕ) (stop : Option Stop) (e : PackFault) → told_of r stop ≡ Some e
-      → HasHalted (run_of input out most_reads before now x y) ladder r stop → IsCutShort (run_of input out most_reads before now x y) ladder → out.failures y ≡ out.failures x
+      → HasHalted (run_of input out most_reads before now x y) ladder r stop
       → FaultSays (run_of input out most_reads before now x y) ladder e
-  halted-says before now x y r None e t h cut same = subst (FaultSays (run_of input out most_reads before now x y) ladder) (same_Some _ _ t) h
-  halted-says before now x y r (Some (Good n)) e t h cut same = cc
-  halted-says before now x y r (Some ReadFailed) e t h cut same = subst (FaultSays (run_of input out most_reads before now x y) ladder) (same_Some _ _ t) h
-  halted-says before now x y r (Some (Cut HasNoProgram)) e t h cut same = subst (FaultSays (run_of input out most_reads before now x y) ladder) (same_Some _ _ t) h
-  halted-says before now x y r (Some (Cut HasNoStart)) e t h cut same = subst (FaultSays (run_of input out most_reads before now x y) ladder) (same_Some _ _ t) h
-  halted-says before now x y r (Some (Cut (IsLong n))) e t h cut same = subst (FaultSays (run_of input out most_reads before now x y) ladder) (same_Some _ _ t) h
-  halted-says before now x y r (Some (Cut (IsBig n))) e t h cut same = subst (FaultSays (run_of input out most_reads before now x y) ladder) (same_Some _ _ t) h
-  halted-says before now x y r (Some (Cut PassesLimit)) e t h cut same = subst (FaultSays (run_of input out most_reads before now x y) ladder) (same_Some _ _ t) h
-  halted-says before now x y r (Some (Cut WantsMemory)) e t h cut same = subst (FaultSays (run_of input out most_reads before now x y) ladder) (same_Some _ _ t) (cut, same)
-  halted-says before now x y r (Some (Cut Ended)) e t h cut same = subst (FaultSays (run_of input out most_reads before now x y) ladder) (same_Some _ _ t) (cut, same)
+  halted-says before now x y r None e t h = subst (FaultSays (run_of input out most_reads before now x y) ladder) (same_Some _ _ t) h
+  halted-says before now x y r (Some (Good n)) e t h = cc
+  halted-says before now x y r (Some ReadFailed) e t h = subst (FaultSays (run_of input out most_reads before now x y) ladder) (same_Some _ _ t) h
+  halted-says before now x y r (Some (Cut HasNoProgram)) e t h = subst (FaultSays (run_of input out most_reads before now x y) ladder) (same_Some _ _ t) h
+  halted-says before now x y r (Some (Cut HasNoStart)) e t h = subst (FaultSays (run_of input out most_reads before now x y) ladder) (same_Some _ _ t) h
+  halted-says before now x y r (Some (Cut (IsLong n))) e t h = subst (FaultSays (run_of input out most_reads before now x y) ladder) (same_Some _ _ t) h
+  halted-says before now x y r (Some (Cut (IsBig n))) e t h = subst (FaultSays (run_of input out most_reads before now x y) ladder) (same_Some _ _ t) h
+  halted-says before now x y r (Some (Cut PassesLimit)) e t h = subst (FaultSays (run_of input out most_reads before now x y) ladder) (same_Some _ _ t) h
 
   -- a fault that stopped the run at once
   pub at-once : (before now : List X) (x y : Y) (e : PackFault) → SaysFailures e (out.failures x) (out.failures y) → IsCutShort (run_of input out most_reads before now x y) ladder

@@ -4,12 +4,12 @@ use Rattle.std.specs.Option.{unwrap_or}
 use Rattle.std.specs.Io.KnownBytes.{Consumes, IsAtEnd}
 use Rattle.aes_cbc.specs.Block.{AreBytes}
 use Rattle.bandwidth.specs.Peaks.{peak_of, average_of}
-use Rattle.cutter.specs.declared.fault.CutFault.{CutFault}
-use Rattle.cutter.specs.declared.fault.CutFault.TheVariants.{NoProgram as HasNoProgram, NoStart as HasNoStart, LongSegment as IsLong, BigSegment as IsBig, Limit as PassesLimit, NoMemory as WantsMemory, Ended}
+use Rattle.ingest.specs.declared.fault.StreamFault.{StreamFault}
+use Rattle.ingest.specs.declared.fault.StreamFault.TheVariants.{NoProgram as HasNoProgram, NoStart as HasNoStart, LongSegment as IsLong, BigSegment as IsBig, Limit as PassesLimit}
 use Rattle.item_io.specs.Items.{ItemValue}
 use Rattle.ts_packet.specs.Packets.{skipped}
 use Rattle.ladder_items.specs.declared.fault.PackFault.{PackFault}
-use Rattle.ladder_items.specs.declared.fault.PackFault.TheVariants.{Read, ReadLimit, NoProgram, NoStart, LongSegment, BigSegment, Limit, NoMemory}
+use Rattle.ladder_items.specs.declared.fault.PackFault.TheVariants.{Read, ReadLimit, NoProgram, NoStart, LongSegment, BigSegment, Limit}
 use Rattle.ingest.specs.declared.lane.Stop.{Stop}
 use Rattle.ingest.specs.declared.lane.Stop.TheVariants.{Good, Cut, Read as ReadFailed}
 use Rattle.ladder_items.specs.declared.report.Report.{Report}
@@ -76,14 +76,12 @@ pub record IsLeft {X : Type 0} (input : InputView X) (most_reads : ℕ) (ladder 
   pub few_reads : input.reads b ≤ input.reads a + most_reads
 
 -- the fault that a stream's fault is told by
-abbrev pub told_of_cut : ℕ → CutFault → PackFault
+abbrev pub told_of_cut : ℕ → StreamFault → PackFault
 told_of_cut r HasNoProgram = NoProgram r
 told_of_cut r HasNoStart = NoStart r
 told_of_cut r (IsLong n) = LongSegment r n
 told_of_cut r (IsBig n) = BigSegment r n
 told_of_cut r PassesLimit = Limit r
-told_of_cut r WantsMemory = NoMemory
-told_of_cut r Ended = NoMemory
 
 -- the fault that a rendition's end is told by; a good end is none
 abbrev pub told_of : ℕ → Option Stop → Option PackFault

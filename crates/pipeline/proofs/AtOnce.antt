@@ -5,7 +5,7 @@ use Rattle.std.proofs.lemmas.List.{append-nil, get_or-set_same, get_or-set_other
 use Rattle.ingest.specs.declared.lane.Lane.{Lane}
 use Rattle.ingest.specs.declared.lane.Stop.{Stop}
 use Rattle.ingest.specs.declared.lane.Stop.TheVariants.{Good, Cut, Read as ReadFailed}
-use Rattle.cutter.specs.declared.fault.CutFault.TheVariants.{NoProgram as HasNoProgram, NoStart as HasNoStart, LongSegment as IsLong, BigSegment as IsBig, Limit as PassesLimit, NoMemory as WantsMemory, Ended}
+use Rattle.ingest.specs.declared.fault.StreamFault.TheVariants.{NoProgram as HasNoProgram, NoStart as HasNoStart, LongSegment as IsLong, BigSegment as IsBig, Limit as PassesLimit}
 use Rattle.ingest.specs.Inputs.{InputView}
 use Rattle.ingest.specs.Streams.{closed_of}
 use Rattle.ladder_items.specs.declared.fault.PackFault.{PackFault}
@@ -38,8 +38,6 @@ told-unheld k (Some (Cut HasNoStart)) e r n told is = cc
 told-unheld k (Some (Cut (IsLong m))) e r n told is = cc
 told-unheld k (Some (Cut (IsBig m))) e r n told is = cc
 told-unheld k (Some (Cut PassesLimit)) e r n told is = cc
-told-unheld k (Some (Cut WantsMemory)) e r n told is = cc
-told-unheld k (Some (Cut Ended)) e r n told is = cc
 
 module _ (X Y : Type 0) (input : InputView X) (out : OutletView Y) (most_reads : ℕ) (ladder : Ladder) where
   -- what a rendition had given

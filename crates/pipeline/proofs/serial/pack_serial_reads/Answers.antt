@@ -38,7 +38,6 @@ returns-in-Some-clause-fault g c =
     halted-says _ _ _ _ _ _ _ _ _ _ some.0 some.1.stop c.in-Some.fault some.3
     (world-halted _ _ _ _ _ _ ok.0 _ _ _ _ _ _ some.0 some.1 (ap (λ lanes. slice_get lanes some.0) (sym c.deref.ensures.value) ∙ some.2)
     (λ k earlier below at. some.4 k earlier below (ap (λ lanes. slice_get lanes k) c.deref.ensures.value ∙ at)) ok.3 ok.1 allowed.0 ok.2)
-    (stop-at-once _ _ _ _ _ _ _ _ _ _ _ _ _ ok.1 allowed.0 ok.2).cut c.in_ok-turns.ensures.failures
 
 pub report_of-requires-clause-each : goal.report_of-requires-clause-each
 report_of-requires-clause-each g c =
