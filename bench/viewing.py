@@ -1,38 +1,17 @@
-"""Views a second of 1 and of 4 viewers beside a publisher, on a board and on one snapshot under a lock.
+"""Views a second of 1 and of 4 viewers beside a publisher, on a board and on one snapshot under a lock."""
 
-The program in bench/view_board is built by rt, beside a copy of the crates that it stands on.
-"""
-
-import pathlib
-import shutil
-import subprocess
-
+from building import built
 from measuring import best, timed
 
-ROOT = pathlib.Path(__file__).resolve().parent.parent
 CRATES = ("ghost_list", "live_board")
+LIBRARIES = ("core", "left_right", "crossbeam_utils", "atomic_table", "logbook", "thiserror")
 LOOKS = {0: 10_000_000, 1000: 1_000_000}
 ROUNDS = 5
 
 
-def built(folder):
-    """The program, proved and built in the folder."""
-    root = pathlib.Path(folder)
-    listed = dict(line.split(":") for line in (ROOT / "crates.txt").read_text().splitlines() if line.startswith(tuple(f"{name}:" for name in CRATES)))
-    listed["view_board"] = f"{listed['live_board']} live_board"
-    (root / "crates.txt").write_text("".join(f"{name}:{names}\n" for name, names in listed.items()))
-    for name in CRATES:
-        shutil.copytree(ROOT / "crates" / name, root / "crates" / name)
-    shutil.copytree(ROOT / "bench" / "view_board", root / "crates" / "view_board")
-    shutil.copy(ROOT / "HANDLES", root)
-    subprocess.run(["git", "init", "-q"], cwd=root, check=True)
-    subprocess.run(["rt", "run", "--", "board", "1", "0", "1"], cwd=root / "crates" / "view_board", check=True, capture_output=True)
-    return str(root / "crates" / "view_board" / "out" / "view_board")
-
-
 def measure(folder):
     """Prints the figures: each pair is run in turn, the best of some rounds."""
-    program = built(folder)
+    program = built(folder, "view_board", CRATES, LIBRARIES, ("board", "1", "0", "1"))
     for size, looks in LOOKS.items():
         for viewers in (1, 4):
             rounds = [[timed([program, word, str(viewers), str(size), str(looks)]) for word in ("board", "mutex")] for _ in range(ROUNDS)]
