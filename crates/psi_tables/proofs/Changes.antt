@@ -5,7 +5,7 @@ use Rattle.std.proofs.lemmas.List.{length-take-le, drop-append-le, drop_all}
 use Rattle.psi_tables.specs.InForce.{choice, same_pid, since_change, IsSinceChange}
 use Rattle.psi_tables.specs.declared.choice.Choice.{Choice}
 
-same_pid-refl : (a : Option Choice) → same_pid a a ≡ true
+pub same_pid-refl : (a : Option Choice) → same_pid a a ≡ true
 same_pid-refl None = refl
 same_pid-refl (Some a) = eq-eqb a.pmt_pid a.pmt_pid refl
 

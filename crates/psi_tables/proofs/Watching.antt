@@ -1,5 +1,5 @@
 -- The tables in force, one packet further on.
-use Rattle.std.proofs.Common.{◌≡◌, ℕ, zero, suc, ◌<◌, ◌≤◌, true, false, cond, List, [], ◌∷◌, ◌++◌, length, take, drop, refl, sym, ◌∙◌, ap, arith, length-append, Option, Some, None}
+use Rattle.std.proofs.Common.{◌≡◌, ℕ, zero, suc, ◌<◌, ◌≤◌, true, false, cond, List, [], ◌∷◌, ◌++◌, length, take, drop, refl, sym, ◌∙◌, ap, arith, length-append, append-nil, Option, Some, None}
 use Rattle.std.specs.Option.{option_or}
 use Rattle.std.specs.List.{filter_map}
 use Rattle.std.proofs.lemmas.Bool.{cond-true, cond-false, eqb-true}
@@ -9,6 +9,7 @@ use Rattle.psi_tables.specs.Sections.{carriers, sections_in, sections}
 use Rattle.psi_tables.specs.State.{Gathered, gathered_sections, with_packet, pid_of, tables_among, Watches}
 use Rattle.psi_tables.specs.InForce.{InForce, last_or, choice_of, choice, same_pid, since_change, tables_of, put_in_force, tables_before, tables_behind}
 use Rattle.psi_tables.specs.declared.choice.Choice.{Choice}
+use Rattle.psi_tables.proofs.Changes.{same_pid-refl}
 use Rattle.psi_tables.proofs.Choosing.{last_or-append, last_or-or}
 
 -- what stands in a longer list at a place of the shorter one
@@ -180,3 +181,24 @@ tables_before-take wanted ps i within =
     ap (λ (qs : List (List ℕ)). tables_before wanted qs i) (sym (take-append-drop i ps))
     ∙ tables_before-append wanted (take i ps) (drop i ps) i (omega arith)
     ∙ ap (tables_before wanted (take i ps)) (sym long)
+
+-- no section is no choice, and puts nothing in force
+no_tables : (chosen : Option Choice) (tables : Option InForce) → tables ≡ option_or (last_or None (tables_among chosen [])) tables
+unfolding last_or
+no_tables None tables = refl
+no_tables (Some c) tables = refl
+
+-- neither section that is gathered goes on
+pub Watches-passed : (wanted : Option ℕ) (pats pmts : Gathered) (chosen : Option Choice) (tables : Option InForce) (p : List ℕ) →
+    Watches wanted pats pmts chosen tables →
+    gathered_sections (with_packet pats p) ≡ gathered_sections pats → gathered_sections (with_packet pmts p) ≡ gathered_sections pmts →
+    Watches wanted (with_packet pats p) (with_packet pmts p) chosen tables
+unfolding last_or
+Watches-passed wanted pats pmts chosen tables p w no_pat no_pmt = Watches-same wanted pats pmts chosen tables p chosen tables w (record {
+  found = [];
+  grown = no_pat ∙ sym (append-nil (gathered_sections pats));
+  chosen_is = refl;
+  pmts_found = [];
+  pmts_grown = no_pmt ∙ sym (append-nil (gathered_sections pmts));
+  tables_is = no_tables chosen tables;
+}) (same_pid-refl chosen)

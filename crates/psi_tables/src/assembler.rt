@@ -1,4 +1,4 @@
-ghost use Rattle.std.specs.Prelude.{◌≡◌, ◌≤◌, ◌<◌, ◌^◌, [], ◌∷◌, ◌++◌, map, IfOk, OnOk, OnErr};
+ghost use Rattle.std.specs.Prelude.{◌≡◌, ◌≤◌, ◌<◌, ◌^◌, [], ◌∷◌, ◌++◌, None, false, map, IfOk, OnOk, OnErr};
 ghost use Rattle.ts_packet.specs.State.{GrowsAlike};
 ghost use Rattle.psi_tables.specs.State.{gathered_sections, with_packet, IsKept, Follows};
 
@@ -74,6 +74,14 @@ impl Assembler {
         ensures { result ≡ self.now.pid }
     {
         self.pid
+    }
+
+    /// Whether the next packet is taken. One that isn't completes no section, and nothing of it is kept.
+    pub(crate) fn takes(&self, packet: &Packet) -> bool
+        ensures follows { result ≡ false → Follows self.now packet.now None }
+        ensures none { result ≡ false → gathered_sections (with_packet self.now packet.now) ≡ gathered_sections self.now }
+    {
+        is_taken(self.pid, self.begun.counter, packet)
     }
 
     /// What the next packet makes of the assembler, which stays as it is.

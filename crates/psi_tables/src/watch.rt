@@ -53,6 +53,20 @@ impl Watch {
         ensures pushed { OnOk result (self.new ≡ record self.old { packets = self.old.packets ++ packet.now ∷ [] }) }
         ensures err { OnErr result (self.new ≡ self.old) }
     {
+        let is_taken = self.pats.takes(packet) || self.pmts.takes(packet);
+        if is_taken {
+            return self.take(packet);
+        }
+        self.pats.follow(packet, None);
+        self.pmts.follow(packet, None);
+        Ok(())
+    }
+
+    /// Takes the next packet, which may bring sections. A refusal leaves the watch as it was.
+    fn take(&mut self, packet: &Packet) -> Result<(), AllocError>
+        ensures pushed { OnOk result (self.new ≡ record self.old { packets = self.old.packets ++ packet.now ∷ [] }) }
+        ensures err { OnErr result (self.new ≡ self.old) }
+    {
         let pats = self.pats.next(packet)?;
         let pmts = self.pmts.next(packet)?;
         let alloc = *pats.found.allocator();
