@@ -4,12 +4,11 @@ from building import built
 from growth import peak_memory
 from measuring import best_of
 
-CRATES = ("ghost_list", "ts_packet", "psi_tables", "pes_time", "cutter")
 PACKETS = 800_000
 
 
-def measure(folder):
-    program = built(folder, "cut_streams", CRATES, (), ("plans",))
+def measure():
+    program = built("cut_streams", ("plans",))
     for word in ("plans", "spools", "all_plans", "all_in_a_spool"):
         took = best_of(5, [program, word])
         memory = peak_memory([program, word], "/dev/null")

@@ -3,15 +3,13 @@
 from building import built
 from measuring import best, timed
 
-CRATES = ("ghost_list", "live_board")
-LIBRARIES = ("core", "left_right", "crossbeam_utils", "atomic_table", "logbook", "thiserror")
 LOOKS = {0: 10_000_000, 1000: 1_000_000}
 ROUNDS = 5
 
 
-def measure(folder):
+def measure():
     """Prints the figures: each pair is run in turn, the best of some rounds."""
-    program = built(folder, "view_board", CRATES, LIBRARIES, ("board", "1", "0", "1"))
+    program = built("view_board", ("board", "1", "0", "1"))
     for size, looks in LOOKS.items():
         for viewers in (1, 4):
             rounds = [[timed([program, word, str(viewers), str(size), str(looks)]) for word in ("board", "mutex")] for _ in range(ROUNDS)]

@@ -2,7 +2,7 @@
 //! `live_board`, or `mutex`, for one snapshot under a lock.
 //!
 //! Each viewer looks so often in a thread of its own, and each time reads a playlist of so many bytes. Beside them the
-//! first thread shows a new snapshot about every millisecond. Prints how many it has shown.
+//! first thread shows a new snapshot about every millisecond. It prints nothing.
 #![tactic(auto)]
 
 use live_board::{HeldPublisher, Snapshot, Viewer, board};
@@ -87,8 +87,8 @@ fn looks_on<R: Clock>(rt: &R, looking: &AtomicU64) -> bool {
     looking.load(Ordering::SeqCst) > 0
 }
 
-/// Shows snapshots on a board until nobody looks, and tells how many.
-fn on_a_board<R: Threads + Wait + Clock + Sync>(rt: &R, alloc: Global, job: Job) -> Option<u64> {
+/// Shows snapshots on a board until nobody looks.
+fn on_a_board<R: Threads + Wait + Clock + Sync>(rt: &R, alloc: Global, job: Job) -> Option<()> {
     let Job {
         viewers,
         bytes,
@@ -102,7 +102,7 @@ fn on_a_board<R: Threads + Wait + Clock + Sync>(rt: &R, alloc: Global, job: Job)
     let looking = AtomicU64::new(0);
     let shared = &looking;
     let held = HeldPublisher { publisher, rt };
-    thread::scope(thread::scope_env(), rt, |scope| -> Option<u64> {
+    thread::scope(thread::scope_env(), rt, |scope| -> Option<()> {
         let mut held = held;
         for viewer in viewers {
             shared.fetch_add(1, Ordering::SeqCst);
@@ -119,12 +119,12 @@ fn on_a_board<R: Threads + Wait + Clock + Sync>(rt: &R, alloc: Global, job: Job)
             let next = snapshot(alloc, count, bytes).ok()?;
             held.publisher.publish(rt, alloc, next).ok()?;
         }
-        Some(count)
+        Some(())
     })
 }
 
-/// Shows snapshots under a lock until nobody looks, and tells how many.
-fn under_a_lock<R: Threads + Wait + Clock + Sync>(rt: &R, alloc: Global, job: Job) -> Option<u64> {
+/// Shows snapshots under a lock until nobody looks.
+fn under_a_lock<R: Threads + Wait + Clock + Sync>(rt: &R, alloc: Global, job: Job) -> Option<()> {
     let Job {
         viewers,
         bytes,
@@ -133,7 +133,7 @@ fn under_a_lock<R: Threads + Wait + Clock + Sync>(rt: &R, alloc: Global, job: Jo
     let shown = Mutex::new(snapshot(alloc, 0, bytes).ok()?);
     let looking = AtomicU64::new(0);
     let (lock, shared) = (&shown, &looking);
-    thread::scope(thread::scope_env(), rt, |scope| -> Option<u64> {
+    thread::scope(thread::scope_env(), rt, |scope| -> Option<()> {
         for _ in 0..viewers {
             shared.fetch_add(1, Ordering::SeqCst);
             if scope
@@ -153,16 +153,16 @@ fn under_a_lock<R: Threads + Wait + Clock + Sync>(rt: &R, alloc: Global, job: Jo
             let before = core::mem::replace(&mut *lock.lock(rt), next);
             drop(before);
         }
-        Some(count)
+        Some(())
     })
 }
 
-/// Shows snapshots as the words ask, and tells how many.
+/// Shows snapshots as the words ask.
 fn shown<R: Threads + Wait + Clock + Sync>(
     rt: &R,
     alloc: Global,
     words: &mut env::Args,
-) -> Option<u64> {
+) -> Option<()> {
     let word = words.next()?;
     let job = Job {
         viewers: words.next()?.parse::<usize>().ok()?,
@@ -182,10 +182,7 @@ fn main(rt: HostRuntime) -> ExitCode {
     };
     let _ = words.next();
     match shown(&rt, rt.alloc(), &mut words) {
-        Some(count) => {
-            let _ = rt.println(&count);
-            ExitCode::SUCCESS
-        }
+        Some(()) => ExitCode::SUCCESS,
         None => ExitCode::FAILURE,
     }
 }

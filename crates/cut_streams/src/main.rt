@@ -1,4 +1,4 @@
-//! Cuts 800,000 packets, as one of four words asks: `plans` lets each plan go at once, `spools` turns a spool out behind
+//! Cuts 800,000 packets, as one of four words asks: `plans`, the one where none is given, lets each plan go at once, `spools` turns a spool out behind
 //! every four plans, `all_plans` and `all_in_a_spool` keep all that was cut. Prints how many bytes the bodies have.
 #![tactic(auto)]
 
