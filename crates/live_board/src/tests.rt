@@ -264,36 +264,3 @@ fn a_publisher_comes_back_from_a_scope(rt: HostRuntime) -> Result<(), Fail> {
     assert_eq!(rt; (answer, count), (Ok(()), Some(1)));
     Ok(())
 }
-
-/// Publishes, and once more where there was no memory.
-fn publish_twice<R: Wait>(
-    rt: &R,
-    alloc: Global,
-    publisher: &mut Publisher,
-    counts: &[u64],
-) -> Result<(), BoardFault>
-    ensures { publisher.new.board ≡ publisher.old.board }
-{
-    match publish(rt, alloc, publisher, counts) {
-        Err(BoardFault::NoMemory) => publish(rt, alloc, publisher, counts),
-        answer => answer,
-    }
-}
-
-#[test]
-fn a_publish_refused_for_memory_is_made_again(rt: HostRuntime) -> Result<(), Fail> {
-    let alloc = rt.alloc();
-    let (publisher, mut viewers) = board(&rt, alloc, counted(alloc, &[0])?, 1)?;
-    let viewer = viewers.pop();
-    let mut held = HeldPublisher { publisher, rt: &rt };
-    publish_twice(&rt, alloc, &mut held.publisher, &[1])?;
-    publish_twice(&rt, alloc, &mut held.publisher, &[2])?;
-    let mut count = None;
-    if let Some(mut viewer) = viewer {
-        held.publisher.tell(&mut viewer);
-        count = seen(viewer).1;
-    }
-    assert_eq!(rt; count, Some(2));
-    assert_eq!(rt; held.publisher.counts(), [2].as_slice());
-    Ok(())
-}
