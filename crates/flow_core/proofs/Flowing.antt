@@ -335,7 +335,7 @@ pub ready-told : (lane : LaneValue) (plans : List SegmentPlan) (pieces : List Se
 ready-told lane plans pieces s = omega (arith, s.next_is, ap leading s.slots_are, leading-drop (arrived pieces plans) (lane.next - lane.start) s.gone)
 
 -- a new flow
-first-at : (r : ℕ) (keys : List KeyRotation) (starts : List ℕ) (k : ℕ) → ((slice_index_or (lanes_from r keys starts) k no_lane).slots ≡ []) × ((slice_index_or (lanes_from r keys starts) k no_lane).next ≡ (slice_index_or (lanes_from r keys starts) k no_lane).start)
+pub first-at : (r : ℕ) (keys : List KeyRotation) (starts : List ℕ) (k : ℕ) → ((slice_index_or (lanes_from r keys starts) k no_lane).slots ≡ []) × ((slice_index_or (lanes_from r keys starts) k no_lane).next ≡ (slice_index_or (lanes_from r keys starts) k no_lane).start)
 first-at r [] starts k = (refl, refl)
 first-at r (x ∷ keys) starts zero = (refl, refl)
 first-at r (x ∷ keys) starts (suc k) = first-at (r + 1) keys starts k

@@ -3,6 +3,7 @@ use Rattle.std.proofs.Common.{◌≡◌, ◌⊎◌, inl, inr, ◌∙◌, ℕ, �
 use Rattle.std.specs.Prelude.{if◌then◌else◌, slice_get, map}
 use Rattle.std.proofs.lemmas.List.{length-set}
 use Rattle.cutter.specs.Plans.{SegmentPlan}
+use Rattle.segment_job.specs.Rotation.{KeyRotation}
 use Rattle.segment_job.specs.Segments.{SealedSegment, sealed_segment}
 use Rattle.flow_core.specs.declared.fault.CollectFault.{CollectFault}
 use Rattle.flow_core.specs.declared.fault.CollectFault.TheVariants.{Stray as IsStray, Double as IsDouble, NoMemory as IsNoMemory}
@@ -11,14 +12,15 @@ use Rattle.flow_core.specs.declared.piece.Outcome.TheVariants.{Sealed, Refused, 
 use Rattle.flow_core.specs.declared.piece.Finished.{Finished}
 use Rattle.flow_core.specs.Slots.{leading}
 use Rattle.flow_core.specs.Lanes.{LaneValue, IsRight, GivesBack, with_plan, with_piece, passed, ready}
-use Rattle.flow_core.specs.Gatherings.{Gathering, lane_at, with_lane}
+use Rattle.flow_core.specs.Gatherings.{Gathering, lane_at, with_lane, lanes_from}
 use Rattle.flow_core.specs.Arrivals.{StandsFor, piece_of, arrived}
-use Rattle.flow_core.specs.Queues.{QueueValue}
+use Rattle.flow_core.specs.Queues.{QueueValue, first_queue}
 use Rattle.flow_core.specs.Steps.{Feeds, Takes}
-use Rattle.flow_core.specs.Flows.{Setting, FlowValue, Feed, Take, Stray, Own, Publish, plans_of, pieces_of, ready_of, is_expected, IsDue}
-use Rattle.flow_core.specs.FlowStates.{FlowState, setting, setting_of, shown_by, flow_of, sealed_by, IsFlow, Goes, ShowsOne}
+use Rattle.flow_core.specs.Flows.{Setting, FlowValue, Feed, Take, Stray, Own, Publish, plans_of, pieces_of, ready_of, is_expected, IsDue, Event, Step, Runs, first_flow}
+use Rattle.flow_core.specs.FlowStates.{FlowState, setting, setting_of, shown_by, flow_of, sealed_by, IsFlow, Goes, ShowsOne, Went, EveryFlow, first_state}
+use Rattle.flow_core.proofs.EveryRun.{every-run}
 use Rattle.flow_core.proofs.Histories.{hands-out}
-use Rattle.flow_core.proofs.Flowing.{lane-same, flow-expects, flow-collects, flow-passes, expected-next, ready-told, inside, setting-kept, shown-kept, shown-set, right-due, due-right, come-wrong}
+use Rattle.flow_core.proofs.Flowing.{first-at, lane-same, flow-expects, flow-collects, flow-passes, expected-next, ready-told, inside, setting-kept, shown-kept, shown-set, right-due, due-right, come-wrong}
 
 pub sealed-add : (g : Setting) (plans : List SegmentPlan) (p : SegmentPlan) → sealed_by g (plans ++ p ∷ []) ≡ sealed_by g plans ++ sealed_segment (g.keys p.rendition) p ∷ []
 sealed-add g [] p = refl
@@ -192,3 +194,18 @@ all-shown s r h none =
     let lane : LaneValue = lane_at s.gathering r in
     let told = ready-told lane (plans_of r s.expected) (pieces_of r s.pieces) (h.stands r) in
     omega (arith, told, none, (h.stands r).next_is)
+
+-- events one after the other are a run
+went-runs : (g : Setting) (s t : FlowState) (events : List Event) → setting s ≡ g → Went s events t → Runs g (flow_of s) events (flow_of t)
+went-runs g s t [] same e = ap flow_of e
+went-runs g s t (e ∷ events) same k = (flow_of k.0, subst (λ x. Step x (flow_of s) e (flow_of k.0)) same k.1.step, went-runs g k.0 t events (k.1.same ∙ same) k.2)
+
+-- nothing is shown of a new flow
+begins-shown : (keys : List KeyRotation) (starts : List ℕ) (most : ℕ) → shown_by (record { most = most; lanes = lanes_from 0 keys starts }) ≡ (setting (first_state keys starts most)).start
+begins-shown keys starts most = λ i r. (first-at 0 keys starts r).1 i
+
+pub every-flow : EveryFlow
+every-flow keys starts most events s k =
+    let g : Setting = setting (first_state keys starts most) in
+    let first : flow_of (first_state keys starts most) ≡ first_flow g most = λ i. record { queue = first_queue most; expected = []; pieces = []; thrown = 0; shown = begins-shown keys starts most i } in
+    every-run g most events (flow_of s) (subst (λ x. Runs g x events (flow_of s)) first (went-runs g (first_state keys starts most) s events refl k))

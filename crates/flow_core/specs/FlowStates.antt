@@ -10,7 +10,7 @@ use Rattle.flow_core.specs.declared.flow.Taken.TheVariants.{Came, Thrown}
 use Rattle.flow_core.specs.Arrivals.{StandsFor, piece_of}
 use Rattle.flow_core.specs.Gatherings.{Gathering, lane_at, awaited, lanes_from}
 use Rattle.flow_core.specs.Queues.{QueueValue, first_queue}
-use Rattle.flow_core.specs.Flows.{Setting, FlowValue, plans_of, pieces_of, ready_of, unshown, IsDue, Event, Take, Publish, Step}
+use Rattle.flow_core.specs.Flows.{Setting, FlowValue, plans_of, pieces_of, ready_of, unshown, IsDue, Event, Take, Publish, Step, Promises}
 
 -- a queue and a collector, with all plans that were expected and all pieces that came, and how many were thrown away
 pub record FlowState : Type 0 where
@@ -86,3 +86,13 @@ TakesSome s Thrown t = TakesWrong s t
 pub record ShowsOne (s : FlowState) (r : ℕ) (piece : SealedSegment) (t : FlowState) : Type 0 where
   pub goes : Goes s (Publish r (shown_by s.gathering r + 1)) t
   pub came : piece_of (shown_by s.gathering r) (pieces_of r s.pieces) ≡ Some piece
+
+-- events one after the other
+abbrev pub Went : FlowState → List Event → FlowState → Type 0
+Went s [] t = s ≡ t
+Went s (e ∷ es) t = (mid : FlowState) × Goes s e mid × Went mid es t
+
+-- whatever events a new flow went through, it keeps what every run keeps
+abbrev pub EveryFlow : Type 0
+EveryFlow = (keys : List KeyRotation) (starts : List ℕ) (most : ℕ) (events : List Event) (s : FlowState) → Went (first_state keys starts most) events s
+    → Promises (setting (first_state keys starts most)) most events (flow_of s)

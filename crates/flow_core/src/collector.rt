@@ -63,6 +63,13 @@ impl<'s> Collector<'s> {
         })
     }
 
+    /// How many renditions it has.
+    pub fn renditions(&self) -> usize
+        ensures { result ≡ length self.now.lanes }
+    {
+        self.lanes.len()
+    }
+
     /// Whether one more plan may be expected: fewer than `most` are that weren't handed out.
     pub fn room(&self) -> bool
         ensures { Decides result (awaited self.now.lanes < self.now.most) }

@@ -199,6 +199,34 @@ impl<'s, L: Ledger, M: Ledger> Flow<'s, L, M> {
         Some(piece)
     }
 
+    /// Its queue.
+    pub fn queue(&self) -> &Queue<'s, L, M>
+        ensures { result.now ≡ self.now.queue }
+    {
+        &self.queue
+    }
+
+    /// Its collector.
+    pub fn collector(&self) -> &Collector<'s>
+        ensures { result.now ≡ self.now.gathering }
+    {
+        &self.collector
+    }
+
+    /// How many renditions it has.
+    pub fn renditions(&self) -> usize
+        ensures { result ≡ renditions self.now }
+    {
+        self.collector.renditions()
+    }
+
+    /// How many pieces were thrown away.
+    pub fn thrown(&self) -> u64
+        ensures { result ≡ self.now.thrown }
+    {
+        self.thrown
+    }
+
     /// No more plans are fed.
     pub fn close(&mut self)
         ensures { Goes self.old Closes self.new }

@@ -12,8 +12,12 @@ mod fault;
 #[cfg(test)]
 mod fixtures;
 mod flow;
+#[cfg(test)]
+mod flow_tests;
 mod lane;
 mod laws;
+#[cfg(test)]
+mod model;
 mod piece;
 mod queue;
 #[cfg(test)]
@@ -34,5 +38,5 @@ pub use laws::{
 };
 pub use piece::{Finished, Outcome, Piece};
 pub use queue::Queue;
-pub use runs::every_run;
+pub use runs::{every_flow, every_run};
 pub use slot::Slot;
