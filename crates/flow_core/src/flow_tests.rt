@@ -73,11 +73,20 @@ struct Bench<'s, L: Ledger, M: Ledger> {
 }
 
 impl<'s, L: Ledger, M: Ledger> Bench<'s, L, M> {
+    /// Feeds a plan, and once more where there was no memory, which changes nothing.
     fn feed(&mut self, plan: PlanRef<'s>) -> Result<Told, Fail> {
         if plan.rendition >= self.flow.renditions() || plan.number > 9 {
             return Err(Fail::from("no such rendition"));
         }
-        match self.flow.feed(plan) {
+        let seen = self.seen();
+        let mut fed = self.flow.feed(plan);
+        if let Err(FeedFault::NoMemory(_)) = fed {
+            if self.seen() != seen {
+                return Err(Fail::from("a refused plan changed something"));
+            }
+            fed = self.flow.feed(plan);
+        }
+        match fed {
             Ok(()) => Ok(Told::Done),
             Err(FeedFault::Full(_)) => Ok(Told::Full),
             Err(FeedFault::Closed(_)) => Ok(Told::Closed),
@@ -360,5 +369,25 @@ fn all_lists_in_a_queue_of_one(rt: HostRuntime) -> Result<(), Fail> {
 #[test]
 fn all_lists_in_a_queue_of_two(rt: HostRuntime) -> Result<(), Fail> {
     assert_eq!(rt; plays(rt.alloc(), 2)?, (600_450, true));
+    Ok(())
+}
+
+/// Plays one list, which feeds and expects a plan, and ends with its segment shown.
+fn plays_one(alloc: Global) -> Result<bool, Fail> {
+    let plans = plans_of(alloc, 0, &STREAM)?;
+    let things = Things {
+        alloc,
+        plans: &plans,
+        right: key_of(alloc, 7)?,
+        wrong: key_of(alloc, 8)?,
+    };
+    // fed, claimed, delivered, taken, closed and shown
+    let mut path = Vec::from_array(alloc, [0, 3, 5, 9, 13, 15])?;
+    play_with::<Brand, Brand>(Blank::new(1), Blank::new(1), &things, 1, &mut path)
+}
+
+#[test]
+fn a_plan_from_its_feed_to_its_show(rt: HostRuntime) -> Result<(), Fail> {
+    assert_eq!(rt; plays_one(rt.alloc())?, true);
     Ok(())
 }

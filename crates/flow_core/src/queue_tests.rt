@@ -62,8 +62,13 @@ struct Hands<'s, L: Ledger, M: Ledger> {
     ghost one_taker: { taker.parts ≡ 1 },
 }
 
+/// Feeds a plan, and once more where there was no memory.
 fn feed_to<'s, L: Ledger, M: Ledger>(queue: &mut Queue<'s, L, M>, plan: PlanRef<'s>) -> Fed {
-    match queue.feed(plan) {
+    let mut fed = queue.feed(plan);
+    if let Err(FeedFault::NoMemory(back)) = fed {
+        fed = queue.feed(back);
+    }
+    match fed {
         Ok(()) => Fed::Waits,
         Err(FeedFault::Full(back)) => Fed::Full(back.number),
         Err(FeedFault::Closed(back)) => Fed::Closed(back.number),
