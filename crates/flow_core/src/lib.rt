@@ -3,7 +3,8 @@
 //!
 //! A [`Queue`] hands plans to workers, and what became of them to the one who asked. A [`Collector`] is told which plans to
 //! expect, and takes the sealed segments that come for them in any order, from anyone. It keeps those that are right, gives
-//! back all others, and hands them out one rendition's in sequence.
+//! back all others, and hands them out one rendition's in sequence. A [`Flow`] is both together, one event a call, and
+//! [`every_run`] says what all lists of such events keep.
 #![tactic(auto)]
 
 mod claim;

@@ -1,6 +1,5 @@
-use Rattle.std.proofs.Common.{rules, ◌≡◌, ◌∙◌, [], ◌∷◌, ◌++◌, length, refl, sym, ap, subst, arith}
+use Rattle.std.proofs.Common.{rules, ◌≡◌, ◌∙◌, [], ◌∷◌, ◌++◌, sym, subst}
 use Rattle.std.specs.Prelude.{vec_capacity}
-use Rattle.cutter.specs.Lent.{lent}
 use Rattle.flow_core.specs.Queues.{QueueValue, Claimed, IsKept}
 use Rattle.flow_core.specs.Steps.{Claims}
 use Rattle.flow_core.proofs.Queueing.{claims-kept}

@@ -1,7 +1,7 @@
-use Rattle.std.proofs.Common.{rules, ◌≡◌, ◌∙◌, ◌+◌, ◌≤◌, [], ◌∷◌, ◌++◌, length, refl, sym, ap, subst, arith}
+use Rattle.std.proofs.Common.{rules, ◌≡◌, ◌+◌, ◌≤◌, [], ◌∷◌, ◌++◌, length, sym, subst}
 use Rattle.std.specs.Prelude.{vec_capacity}
 use Rattle.cutter.specs.Lent.{lent}
-use Rattle.flow_core.specs.Queues.{QueueValue, IsKept, outstanding}
+use Rattle.flow_core.specs.Queues.{QueueValue, outstanding}
 use Rattle.flow_core.specs.Steps.{MayFeed, Feeds}
 use Rattle.flow_core.proofs.Queueing.{feeds-kept}
 use Rattle.flow_core.proofs.queue.Queue.feed.Goals as goal

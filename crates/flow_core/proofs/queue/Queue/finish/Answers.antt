@@ -1,8 +1,6 @@
-use Rattle.std.proofs.Common.{rules, ◌≡◌, ◌∙◌, ◌+◌, [], ◌∷◌, ◌++◌, length, take, drop, suc, refl, sym, ap, subst, arith, Some, List}
+use Rattle.std.proofs.Common.{◌≡◌, ◌∙◌, ◌+◌, [], ◌∷◌, ◌++◌, take, drop, suc, refl, sym, ap, subst, arith, Some}
 use Rattle.std.specs.Prelude.{slice_get, vec_capacity}
 use Rattle.std.proofs.lemmas.Option.{get_or_from_slice_get}
-use Rattle.cutter.specs.Lent.{lent}
-use Rattle.flow_core.specs.declared.piece.Finished.{Finished}
 use Rattle.flow_core.specs.Lists.{In}
 use Rattle.flow_core.specs.Queues.{QueueValue, Claimed, IsKept}
 use Rattle.flow_core.specs.Steps.{Delivers}
