@@ -1,0 +1,161 @@
+//! A desk: a queue under a lock.
+
+ghost use Rattle.std.specs.Prelude.{◌≡◌, ◌+◌, ◌<◌, ℕ, Some, IfOk, OnOk, IfErr, IfSome, IfNone, vec_len, slice_get};
+ghost use Rattle.cutter.specs.Lent.{lent};
+ghost use Rattle.flow_core.specs.Queues.{IsOwnOutcome};
+ghost use Rattle.work_desk.specs.Waiting.{GivesBack};
+
+use crate::pass::Pass;
+use crate::steps::{claim, deliver, take, take_awaited, taker_waits, workers_wait};
+use cutter::PlanRef;
+use flow_core::{Claim, FeedFault, Outcome, Piece, Queue};
+use std::alloc::{AllocError, Global};
+use std::sync::ledger::{Blank, Ledger, Share};
+use std::sync::{Condvar, Mutex, Wait};
+
+/// A queue that many threads share. Each call takes its lock once and makes one step of it.
+#[derive(Drop)]
+pub struct Desk<'s, L: Ledger, M: Ledger> {
+    queue: Mutex<Queue<'s, L, M>>,
+    /// A plan was fed, or no more are.
+    fed: Condvar,
+    /// Something is done, or given up.
+    done: Condvar,
+}
+
+/// A desk that was opened, and who may use it.
+#[derive(Drop)]
+pub struct Opened<'s, L: Ledger, M: Ledger> {
+    pub desk: Desk<'s, L, M>,
+    /// A pass for each worker, by its number.
+    pub workers: Vec<Pass<L>>,
+    pub taker: Pass<M>,
+    /// A share with no part of the book of claims, to which those of the workers are merged.
+    pub rest: Share<L>,
+}
+
+/// A pass that wasn't used for each worker, by its number.
+fn new_passes<L: Ledger>(
+    alloc: Global,
+    workers: usize,
+    rest: &mut Share<L>,
+) -> Result<Vec<Pass<L>>, AllocError>
+    requires { (rest.old.parts ≡ workers) × (rest.old.amount ≡ 0) }
+    ensures rest { OnOk result ((rest.new.parts ≡ 0) × (rest.new.amount ≡ 0)) }
+    ensures passes { IfOk result (λ passes. vec_len passes ≡ workers) }
+    ensures numbers { IfOk result (λ passes. (i : ℕ) (pass : Pass L) → slice_get passes.items i ≡ Some pass → (pass.number ≡ i) × (pass.count ≡ 0)) }
+{
+    let mut passes = Vec::with_capacity(alloc, workers)?;
+    for number in 0..workers {
+        passes.push(Pass::new(number, rest.split_off(1, 0)))?;
+    }
+    Ok(passes)
+}
+
+impl<'s, L: Ledger, M: Ledger> Desk<'s, L, M> {
+    /// Opens a desk at which at most `queue` plans are outstanding, with two ledgers: of claims, with a part for each
+    /// worker, and of what is taken, with one part.
+    pub fn new(
+        alloc: Global,
+        queue: usize,
+        workers: usize,
+        claims: Blank,
+        takes: Blank,
+    ) -> Result<Opened<'s, L, M>, AllocError>
+        requires claims { (claims.name ≡ L.name) × (claims.parts ≡ L.parts) × (L.parts ≡ workers) }
+        requires takes { (takes.name ≡ M.name) × (takes.parts ≡ M.parts) × (M.parts ≡ 1) }
+        ensures passes { IfOk result (λ opened. vec_len opened.workers ≡ workers) }
+        ensures parts { IfOk result (λ opened. opened.rest.parts + vec_len opened.workers ≡ L.parts) }
+        ensures unused { IfOk result (λ opened. (opened.rest.amount ≡ 0) × (opened.taker.count ≡ 0)) }
+        ensures numbers { IfOk result (λ opened. (i : ℕ) (pass : Pass L) → slice_get opened.workers.items i ≡ Some pass → (pass.number ≡ i) × (pass.count ≡ 0)) }
+    {
+        let (claims, mut rest) = claims.open::<L>();
+        let (takes, share) = takes.open::<M>();
+        let workers_passes = new_passes(alloc, workers, &mut rest)?;
+        Ok(Opened {
+            desk: Desk {
+                queue: Mutex::new(Queue::new(alloc, queue, claims, takes)),
+                fed: Condvar::new(),
+                done: Condvar::new(),
+            },
+            workers: workers_passes,
+            taker: Pass::new(workers, share),
+            rest,
+        })
+    }
+
+    /// A plan waits for a worker from now on. Where it may not, it comes back.
+    pub fn feed<R: Wait>(&self, rt: &R, plan: PlanRef<'s>) -> Result<(), FeedFault<'s>>
+        ensures { IfErr result (GivesBack (lent plan.entry)) }
+    {
+        let answer = self.queue.lock(rt).feed(plan);
+        self.fed.notify_one();
+        answer
+    }
+
+    /// Waits for a plan, and claims the one that waits the longest. None where no more plans are fed and none waits.
+    pub fn claim<R: Wait>(&self, rt: &R, pass: &mut Pass<L>) -> Option<Claim<'s>>
+        ensures worker { IfSome result (λ claim. claim.worker ≡ pass.old.number) }
+        ensures counted { IfSome result (λ _. pass.new.count ≡ pass.old.count + 1) }
+        ensures uncounted { IfNone result (pass.new.count ≡ pass.old.count) }
+        ensures number { pass.new.number ≡ pass.old.number }
+    {
+        let locked = self.queue.lock(rt);
+        let mut queue = self.fed.wait_while(rt, locked, |queue| workers_wait(queue));
+        claim(&mut queue, pass)
+    }
+
+    /// Something became of a claimed plan, which was sealed if it is a segment of its own. Where nobody has that claim at
+    /// this desk, nothing changes.
+    pub fn deliver<R: Wait>(&self, rt: &R, claim: Claim<'s>, outcome: Outcome<'s>)
+        requires { IsOwnOutcome claim.plan outcome }
+    {
+        deliver(&mut self.queue.lock(rt), claim, outcome);
+        self.done.notify_one();
+    }
+
+    /// Takes something that is done; none where nothing is. It waits for the lock alone.
+    pub fn take_done<R: Wait>(&self, rt: &R, pass: &mut Pass<M>) -> Option<Piece<'s>>
+        ensures counted { IfSome result (λ _. pass.new.count ≡ pass.old.count + 1) }
+        ensures uncounted { IfNone result (pass.new.count ≡ pass.old.count) }
+        ensures number { pass.new.number ≡ pass.old.number }
+    {
+        take(&mut self.queue.lock(rt), pass)
+    }
+
+    /// Waits until something is done, and takes it. None where nothing is outstanding.
+    pub fn wait_done<R: Wait>(&self, rt: &R, pass: &mut Pass<M>) -> Option<Piece<'s>>
+        ensures counted { IfSome result (λ _. pass.new.count ≡ pass.old.count + 1) }
+        ensures uncounted { IfNone result (pass.new.count ≡ pass.old.count) }
+        ensures number { pass.new.number ≡ pass.old.number }
+    {
+        let locked = self.queue.lock(rt);
+        let mut queue = self.done.wait_while(rt, locked, |queue| taker_waits(queue));
+        take_awaited(&mut queue, pass)
+    }
+
+    /// No more plans are fed. Workers end when none waits.
+    pub fn close<R: Wait>(&self, rt: &R) {
+        self.queue.lock(rt).close();
+        self.fed.notify_all();
+    }
+
+    /// No more plans are fed, and those that wait are given up. What is claimed or done goes on.
+    pub fn stop<R: Wait>(&self, rt: &R) {
+        self.queue.lock(rt).stop();
+        self.fed.notify_all();
+        self.done.notify_all();
+    }
+
+    /// Compares the desk's books with the shares of all workers and the taker's: what was claimed is what was taken, and
+    /// what still stands in the desk, claimed or done, of which this tells the number.
+    pub fn settle<R: Wait>(&self, rt: &R, claimers: &mut Share<L>, takers: &mut Share<M>) -> usize
+        requires claims { claimers.old.parts ≡ L.parts }
+        requires takes { takers.old.parts ≡ M.parts }
+        ensures total { claimers.old.amount ≡ takers.old.amount + result }
+        ensures claims { (claimers.new.amount ≡ claimers.old.amount) × (claimers.new.parts ≡ claimers.old.parts) }
+        ensures takes { (takers.new.amount ≡ takers.old.amount) × (takers.new.parts ≡ takers.old.parts) }
+    {
+        self.queue.lock(rt).settle(claimers, takers)
+    }
+}

@@ -1,0 +1,25 @@
+//! What is asked before a segment is sealed.
+
+ghost use Rattle.std.specs.Prelude.{◌≡◌, ℕ, true};
+
+/// Who is asked before each segment is sealed. Many workers ask at once.
+pub trait Gate {
+    /// What holds of a segment, by its rendition and its number, that was let through.
+    ghost lets: { Self → ℕ → ℕ → Type 0 };
+
+    /// Whether the segment may be sealed.
+    fn pass(&self, rendition: usize, number: u64) -> bool
+        ensures { result ≡ true → lets self.now rendition number };
+}
+
+/// A gate that lets everything through.
+#[derive(Clone, Copy, Debug, Drop)]
+pub struct FreeGate;
+
+impl Gate for FreeGate {
+    ghost lets = { λ _ _ _. Unit {0} };
+
+    fn pass(&self, _rendition: usize, _number: u64) -> bool {
+        true
+    }
+}

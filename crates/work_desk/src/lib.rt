@@ -1,0 +1,24 @@
+//! A desk at which workers in threads of their own seal segments, while one thread feeds it with plans and takes what is
+//! done.
+//!
+//! [`Desk::new`] opens one, with a [`Pass`] for each worker and one for the taker. A worker is a thread that runs [`work`].
+//! Under the desk's lock stands a queue of `flow_core`, and each call makes one step of it: what can't be said of a call
+//! that takes a lock, the queue's own contract says. What comes of a call is known by its type: a claim is of one plan, a
+//! sealed piece is its own plan's, and the count of a pass is its share of the queue's books.
+#![tactic(auto)]
+
+mod desk;
+#[cfg(test)]
+mod fixtures;
+mod gate;
+mod pass;
+mod steps;
+#[cfg(test)]
+mod tests;
+mod worker;
+
+pub use desk::{Desk, Opened};
+pub use flow_core::{Claim, FeedFault, Outcome, Piece};
+pub use gate::{FreeGate, Gate};
+pub use pass::{Pass, Tally};
+pub use worker::work;

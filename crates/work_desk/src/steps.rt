@@ -1,0 +1,109 @@
+//! What the calls of a desk do to its queue, under the lock.
+
+ghost use Rattle.std.specs.Prelude.{◌≡◌, ◌+◌, ◌∷◌, [], IfSome, IfNone, true, Decides};
+ghost use Rattle.flow_core.specs.Lists.{In};
+ghost use Rattle.flow_core.specs.Queues.{outstanding, IsOwnOutcome};
+ghost use Rattle.flow_core.specs.Steps.{Claims, Delivers, Gives};
+ghost use Rattle.work_desk.specs.Waiting.{WorkersWait, TakerWaits};
+
+use crate::pass::Pass;
+use flow_core::{Claim, Outcome, Piece, Queue};
+use std::sync::ledger::Ledger;
+
+/// Whether workers wait.
+pub fn workers_wait<L: Ledger, M: Ledger>(queue: &Queue<'_, L, M>) -> bool
+    ensures { Decides result (WorkersWait queue.now) }
+{
+    if queue.is_closed() {
+        return false;
+    }
+    !queue.has_waiting()
+}
+
+/// Whether the taker waits.
+pub fn taker_waits<L: Ledger, M: Ledger>(queue: &Queue<'_, L, M>) -> bool
+    ensures { Decides result (TakerWaits queue.now) }
+{
+    if queue.has_done() {
+        return false;
+    }
+    queue.outstanding() > 0
+}
+
+/// Claims the plan that waits the longest; none where no more plans are fed and none waits.
+pub fn claim<'s, L: Ledger, M: Ledger>(
+    queue: &mut Queue<'s, L, M>,
+    pass: &mut Pass<L>,
+) -> Option<Claim<'s>>
+    requires { WorkersWait queue.old → ⊥ }
+    ensures some { IfSome result (λ claim. Claims queue.old claim queue.new) }
+    ensures first { IfSome result (λ claim. (claim.worker ≡ pass.old.number) × (queue.old.waiting ≡ claim.plan ∷ queue.new.waiting)) }
+    ensures none { IfNone result ((queue.new ≡ queue.old) × (queue.old.closed ≡ true) × (queue.old.waiting ≡ [])) }
+    ensures counted { IfSome result (λ _. pass.new.count ≡ pass.old.count + 1) }
+    ensures uncounted { IfNone result (pass.new.count ≡ pass.old.count) }
+    ensures number { pass.new.number ≡ pass.old.number }
+{
+    let Pass {
+        number,
+        count,
+        share,
+    } = pass;
+    let claim = queue.claim(*number, share)?;
+    *count += 1;
+    Some(claim)
+}
+
+/// Something became of a claimed plan. Nothing changes where nobody has that claim.
+pub fn deliver<'s, L: Ledger, M: Ledger>(
+    queue: &mut Queue<'s, L, M>,
+    claim: Claim<'s>,
+    outcome: Outcome<'s>,
+)
+    requires { IsOwnOutcome claim.plan outcome }
+    ensures yes { In claim.entry queue.old.claimed → Delivers queue.old claim.entry outcome.entry queue.new }
+    ensures no { (In claim.entry queue.old.claimed → ⊥) → queue.new ≡ queue.old }
+{
+    match outcome {
+        Outcome::Sealed(piece) => {
+            let _ = queue.deliver(claim, piece);
+        }
+        Outcome::Refused => {
+            let _ = queue.refuse(claim);
+        }
+        Outcome::Held => {
+            let _ = queue.hold(claim);
+        }
+    }
+}
+
+/// Takes something that is done; none where nothing is.
+pub fn take<'s, L: Ledger, M: Ledger>(
+    queue: &mut Queue<'s, L, M>,
+    pass: &mut Pass<M>,
+) -> Option<Piece<'s>>
+    ensures some { IfSome result (λ piece. Gives queue.old piece queue.new) }
+    ensures none { IfNone result ((queue.new ≡ queue.old) × (queue.old.done ≡ [])) }
+    ensures counted { IfSome result (λ _. pass.new.count ≡ pass.old.count + 1) }
+    ensures uncounted { IfNone result (pass.new.count ≡ pass.old.count) }
+    ensures number { pass.new.number ≡ pass.old.number }
+{
+    let Pass { count, share, .. } = pass;
+    let piece = queue.take(share)?;
+    *count += 1;
+    Some(piece)
+}
+
+/// Takes something that is done; none where nothing is outstanding.
+pub fn take_awaited<'s, L: Ledger, M: Ledger>(
+    queue: &mut Queue<'s, L, M>,
+    pass: &mut Pass<M>,
+) -> Option<Piece<'s>>
+    requires { TakerWaits queue.old → ⊥ }
+    ensures some { IfSome result (λ piece. Gives queue.old piece queue.new) }
+    ensures none { IfNone result ((queue.new ≡ queue.old) × (outstanding queue.old ≡ 0)) }
+    ensures counted { IfSome result (λ _. pass.new.count ≡ pass.old.count + 1) }
+    ensures uncounted { IfNone result (pass.new.count ≡ pass.old.count) }
+    ensures number { pass.new.number ≡ pass.old.number }
+{
+    take(queue, pass)
+}
