@@ -1,5 +1,12 @@
-use crate::fixtures::{Job, Told, run};
-use crate::{FreeGate, Gate};
+ghost use Rattle.std.specs.Prelude.{◌≡◌};
+
+use crate::fixtures::{Job, Told, plans, run};
+use crate::{Desk, FeedFault, FreeGate, Gate, Opened};
+use cutter::PlanRef;
+use std::alloc::Global;
+use std::marker::Brand;
+use std::sync::Wait;
+use std::sync::ledger::{Blank, Ledger};
 use std::test::Fail;
 
 /// How often each run is made, so that threads meet in many orders.
@@ -40,7 +47,7 @@ fn sixteen_workers_seal_each_plan_once(rt: HostRuntime) -> Result<(), Fail> {
         half: false,
         gate: &FreeGate,
     };
-    let told = run(&rt, rt.alloc(), &job, 10, sealed(1000))?;
+    let told = run(&rt, rt.alloc(), &job, TIMES, sealed(1000))?;
     assert_eq!(rt; told, sealed(1000));
     Ok(())
 }
@@ -92,5 +99,90 @@ fn a_run_goes_on_where_each_second_plan_is_refused(rt: HostRuntime) -> Result<()
     };
     let told = run(&rt, rt.alloc(), &job, TIMES, wanted)?;
     assert_eq!(rt; told, wanted);
+    Ok(())
+}
+
+/// What is told of a plan that is fed, and the number of the plan that comes back.
+fn feed<'s, L: Ledger, M: Ledger, R: Wait>(
+    rt: &R,
+    desk: &Desk<'s, L, M>,
+    plan: PlanRef<'s>,
+) -> (&'static str, u64) {
+    match desk.feed(rt, plan) {
+        Ok(()) => ("waits", plan.number),
+        Err(FeedFault::Full(back)) => ("full", back.number),
+        Err(FeedFault::Closed(back)) => ("closed", back.number),
+        Err(FeedFault::Twice(back)) => ("twice", back.number),
+        Err(FeedFault::NoMemory(back)) => ("no memory", back.number),
+    }
+}
+
+/// Feeds plan 0 twice and then plan 1, and plan 1 again where the desk was stopped. Tells each answer, and whether a claim
+/// and a piece come then.
+fn fed_with<'s, L: Ledger, M: Ledger, R: Wait>(
+    rt: &R,
+    alloc: Global,
+    claims: Blank,
+    takes: Blank,
+    queue: usize,
+    first: PlanRef<'s>,
+    second: PlanRef<'s>,
+) -> Result<(Vec<(&'static str, u64)>, bool, bool), Fail>
+    requires claims { (claims.name ≡ L.name) × (claims.parts ≡ L.parts) × (L.parts ≡ 1) }
+    requires takes { (takes.name ≡ M.name) × (takes.parts ≡ M.parts) × (M.parts ≡ 1) }
+{
+    let Opened {
+        desk,
+        mut workers,
+        mut taker,
+        ..
+    } = Desk::<'s, L, M>::new(alloc, queue, 1, claims, takes)?;
+    let Some(mut pass) = workers.pop() else {
+        return Err(Fail::from("no pass"));
+    };
+    let mut told = Vec::new(alloc);
+    told.push(feed(rt, &desk, first))?;
+    told.push(feed(rt, &desk, first))?;
+    told.push(feed(rt, &desk, second))?;
+    desk.stop(rt);
+    told.push(feed(rt, &desk, second))?;
+    let claimed = desk.claim(rt, &mut pass).is_some();
+    let done = desk.take_done(rt, &mut taker).is_some() || desk.wait_done(rt, &mut taker).is_some();
+    Ok((told, claimed, done))
+}
+
+/// The same, with books of its own.
+fn fed<R: Wait>(
+    rt: &R,
+    alloc: Global,
+    queue: usize,
+) -> Result<(Vec<(&'static str, u64)>, bool, bool), Fail> {
+    let plans = plans(alloc)?;
+    let Some(first) = plans.first() else {
+        return Err(Fail::from("no plan"));
+    };
+    let Some(second) = plans.last() else {
+        return Err(Fail::from("no plan"));
+    };
+    fed_with::<Brand, Brand, R>(
+        rt,
+        alloc,
+        Blank::new(1),
+        Blank::new(1),
+        queue,
+        first.lend(),
+        second.lend(),
+    )
+}
+
+#[test]
+fn a_plan_is_refused_with_its_reason(rt: HostRuntime) -> Result<(), Fail> {
+    let (told, claimed, done) = fed(&rt, rt.alloc(), 2)?;
+    let wanted = [("waits", 0), ("twice", 0), ("waits", 1), ("closed", 1)];
+    assert_eq!(rt; told.as_slice(), wanted.as_slice());
+    assert_eq!(rt; (claimed, done), (false, false));
+    let (told, _, _) = fed(&rt, rt.alloc(), 1)?;
+    let wanted = [("waits", 0), ("full", 0), ("full", 1), ("closed", 1)];
+    assert_eq!(rt; told.as_slice(), wanted.as_slice());
     Ok(())
 }
