@@ -1,5 +1,5 @@
 -- What a worker makes of a plan.
-use Rattle.std.specs.Prelude.{◌≡◌, ℕ, List, Option, Some, slice_get}
+use Rattle.std.specs.Prelude.{◌≡◌, ℕ, List, Some, slice_get}
 use Rattle.cutter.specs.Plans.{SegmentPlan}
 use Rattle.segment_job.specs.Rotation.{KeyRotation}
 use Rattle.segment_job.specs.Segments.{sealed_segment, SealedSegment}
@@ -13,8 +13,8 @@ pub record IsSealedWork (lets : ℕ → ℕ → Type 0) (keys : List KeyRotation
   pub stand : slice_get keys plan.rendition ≡ Some own_keys
   pub sealed : piece ≡ sealed_segment own_keys plan
 
--- a sealed segment is its plan's, which was let through; what is refused had been let through as well
-abbrev pub IsWork : (ℕ → ℕ → Type 0) → List KeyRotation → SegmentPlan → Outcome → Type 0
-IsWork lets keys plan (Sealed piece) = IsSealedWork lets keys plan piece
-IsWork lets keys plan Refused = lets plan.rendition plan.number
-IsWork lets keys plan Held = Unit {0}
+-- a sealed segment is its plan's, which was let through; what is refused had been let through as well, and what is held was stopped
+abbrev pub IsWork : (lets stops : ℕ → ℕ → Type 0) → List KeyRotation → SegmentPlan → Outcome → Type 0
+IsWork lets stops keys plan (Sealed piece) = IsSealedWork lets keys plan piece
+IsWork lets stops keys plan Refused = lets plan.rendition plan.number
+IsWork lets stops keys plan Held = stops plan.rendition plan.number

@@ -1,15 +1,19 @@
 //! What is asked before a segment is sealed.
 
-ghost use Rattle.std.specs.Prelude.{◌≡◌, ℕ, true};
+ghost use Rattle.std.specs.Prelude.{◌≡◌, ℕ, true, false};
 
 /// Who is asked before each segment is sealed. Many workers ask at once.
 pub trait Gate {
     /// What holds of a segment, by its rendition and its number, that was let through.
     ghost lets: { Self → ℕ → ℕ → Type 0 };
 
+    /// What holds of a segment that was held back.
+    ghost stops: { Self → ℕ → ℕ → Type 0 };
+
     /// Whether the segment may be sealed.
     fn pass(&self, rendition: usize, number: u64) -> bool
-        ensures { result ≡ true → lets self.now rendition number };
+        ensures passed { result ≡ true → lets self.now rendition number }
+        ensures held { result ≡ false → stops self.now rendition number };
 }
 
 /// A gate that lets everything through.
@@ -18,6 +22,8 @@ pub struct FreeGate;
 
 impl Gate for FreeGate {
     ghost lets = { λ _ _ _. Unit {0} };
+
+    ghost stops = { λ _ _ _. ⊥ };
 
     fn pass(&self, _rendition: usize, _number: u64) -> bool {
         true

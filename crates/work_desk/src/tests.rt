@@ -59,6 +59,8 @@ struct AllBut(u64);
 impl Gate for AllBut {
     ghost lets = { λ _ _ _. Unit {0} };
 
+    ghost stops = { λ _ _ _. Unit {0} };
+
     fn pass(&self, _rendition: usize, number: u64) -> bool {
         number != self.0
     }

@@ -44,7 +44,7 @@ pub fn work<'s, L: Ledger, M: Ledger, G: Gate, R: Wait>(
 /// What becomes of a plan.
 fn work_on<'s, G: Gate>(alloc: Global, plan: PlanRef<'s>, keys: &[Keys], gate: &G) -> Outcome<'s>
     ensures own { IsOwnOutcome (lent plan.entry) result }
-    ensures work { IsWork (G.lets gate.now) keys.now (lent plan.entry) result }
+    ensures work { IsWork (G.lets gate.now) (G.stops gate.now) keys.now (lent plan.entry) result }
 {
     if !gate.pass(plan.rendition, plan.number) {
         return Outcome::Held;
@@ -61,7 +61,7 @@ fn seal_passed<'s, G: Gate>(
 ) -> Outcome<'s>
     requires { G.lets gate.now plan.rendition plan.number }
     ensures own { IsOwnOutcome (lent plan.entry) result }
-    ensures work { IsWork (G.lets gate.now) keys.now (lent plan.entry) result }
+    ensures work { IsWork (G.lets gate.now) (G.stops gate.now) keys.now (lent plan.entry) result }
 {
     let Some(own) = keys.get(plan.rendition) else {
         return Outcome::Refused;

@@ -1,4 +1,4 @@
-use Rattle.std.proofs.Common.{◌≡◌, ◌∙◌, ◌+◌, ℕ, Some, length, slice_get, refl, ap, sym, length-append, arith}
+use Rattle.std.proofs.Common.{◌≡◌, ◌∙◌, ◌+◌, length, slice_get, ap, sym, length-append, arith}
 use Rattle.work_desk.proofs.Pushing.{pushed-each}
 use Rattle.work_desk.proofs.desk.new_passes.Goals as goal
 
