@@ -1,4 +1,5 @@
-ghost use Rattle.std.specs.Prelude.{◌≡◌, IfOk};
+ghost use Rattle.std.specs.Prelude.{◌≡◌, ◌⊎◌, IfOk, OnErr};
+ghost use Rattle.cutter.specs.declared.fault.CutFault.TheVariants.{NoMemory, Ended};
 ghost use Rattle.ingest.specs.Streams.{as_cut};
 
 use cutter::CutFault;
@@ -21,7 +22,8 @@ pub enum StreamFault {
 
 /// The fault of the stream that a cutter tells. Want of memory is none, and a cutter that goes on doesn't tell Ended.
 pub(crate) fn of_stream(fault: CutFault) -> Result<StreamFault, AllocError>
-    ensures { IfOk result (λ told. fault ≡ as_cut told) }
+    ensures told { IfOk result (λ told. fault ≡ as_cut told) }
+    ensures scarce { OnErr result ((fault ≡ NoMemory) ⊎ (fault ≡ Ended)) }
 {
     match fault {
         CutFault::NoProgram => Ok(StreamFault::NoProgram),
