@@ -9,7 +9,7 @@ ghost use Rattle.ladder_items.specs.Putting.{PutAll, PutSome, SaysFailures};
 ghost use Rattle.ladder_items.specs.Items.{segment_of, media_of, frames_of};
 
 use crate::fault::PackFault;
-use crate::master::master;
+use crate::master::ladder_master;
 use crate::playlists::Playlists;
 use crate::settings::Rendition;
 use item_io::{Item, Outlet};
@@ -135,7 +135,7 @@ pub fn put_master<O: Outlet>(
     ensures fault { IfErr result (λ fault. SaysFailures fault (O.failures outlet.old) (O.failures outlet.new)) }
 {
     let item = Item::Master {
-        text: master(alloc, renditions, playlists)?,
+        text: ladder_master(alloc, renditions, playlists)?,
     };
     put(outlet, &item)
 }
