@@ -1,0 +1,83 @@
+-- A piece is collected.
+use Rattle.std.proofs.Common.{◌≡◌, ◌∙◌, inl, inr, ℕ, zero, suc, ◌+◌, ◌-◌, ◌<◌, List, [], ◌∷◌, length, Some, None, refl, ap, sym, arith}
+use Rattle.std.specs.List.{slice_get, slice_set, slice_index_or}
+use Rattle.std.proofs.lemmas.List.{length-set}
+use Rattle.std.proofs.lemmas.Bool.{cases_eq}
+use Rattle.std.proofs.lemmas.Option.{get_or_from_slice_get}
+use Rattle.std.proofs.Math.Seq.{map-set_same}
+use Rattle.cutter.specs.Plans.{SegmentPlan}
+use Rattle.segment_job.specs.Segments.{SealedSegment}
+use Rattle.flow_core.specs.declared.slot.Slot.{Slot}
+use Rattle.flow_core.specs.Lanes.{LaneValue, IsRight, with_piece}
+use Rattle.flow_core.specs.Gatherings.{Gathering, no_lane, lane_at, with_lane}
+use Rattle.flow_core.proofs.Flowing.{lane-same, lane-other, inside}
+use Rattle.rounds.specs.Rounds.{Keeps, expected, pieces_of, pieces_in}
+
+pub keeps_same : (g h : Gathering) → h ≡ g → Keeps g h
+keeps_same g h is = record {
+  most = ap (λ (x : Gathering). x.most) is;
+  count = ap (λ (x : Gathering). length x.lanes) is;
+  each = λ k. (ap (λ (x : Gathering). (lane_at x k).keys) is, ap (λ (x : Gathering). (lane_at x k).next) is, ap (λ (x : Gathering). expected (lane_at x k)) is);
+}
+
+pub keeps_then : (f g h : Gathering) → Keeps f g → Keeps g h → Keeps f h
+keeps_then f g h a b = record {
+  most = b.most ∙ a.most;
+  count = b.count ∙ a.count;
+  each = λ k. let x = a.each k in let y = b.each k in (y.0 ∙ x.0, y.1 ∙ x.1, y.2 ∙ x.2);
+}
+
+-- a right piece stands in its place
+piece-expected : (lane : LaneValue) (piece : SealedSegment) → IsRight lane piece → expected (with_piece lane piece) ≡ expected lane
+piece-expected lane piece right =
+    let i = piece.plan.number - lane.next in
+    let slot : Slot = record { plan = piece.plan; piece = Some piece } in
+    map-set_same (λ (s : Slot). s.plan) lane.slots i slot slot (ap (λ (s : Slot). s.plan) (sym (get_or_from_slice_get lane.slots i (record { plan = piece.plan; piece = None }) slot right.expected)))
+
+pub keeps-piece : (g h : Gathering) (piece : SealedSegment) → IsRight (lane_at g piece.plan.rendition) piece
+    → h ≡ with_lane g piece.plan.rendition (with_piece (lane_at g piece.plan.rendition) piece) → Keeps g h
+keeps-piece g h piece right is =
+    let r = piece.plan.rendition in
+    let lane = lane_at g r in
+    let then = with_piece lane piece in
+    let within = inside g r (piece.plan.number - lane.next) _ right.expected in
+    let one : (k : ℕ) → ((lane_at (with_lane g r then) k).keys ≡ (lane_at g k).keys) × ((lane_at (with_lane g r then) k).next ≡ (lane_at g k).next) × (expected (lane_at (with_lane g r then) k) ≡ expected (lane_at g k)) =
+    λ k.
+    elim (cases_eq k r) as (λ _. ((lane_at (with_lane g r then) k).keys ≡ (lane_at g k).keys) × ((lane_at (with_lane g r then) k).next ≡ (lane_at g k).next) × (expected (lane_at (with_lane g r then) k) ≡ expected (lane_at g k))) [
+      | inl q ↦
+          let here = lane-same g r k then within q in
+          let was : lane ≡ lane_at g k = ap (lane_at g) (sym q) in (
+            ap (λ (l : LaneValue). l.keys) here ∙ ap (λ (l : LaneValue). l.keys) was,
+            ap (λ (l : LaneValue). l.next) here ∙ ap (λ (l : LaneValue). l.next) was,
+            ap expected here ∙ (piece-expected lane piece right ∙ ap expected was),
+          )
+      | inr q ↦
+          let there = lane-other g r k then q in
+          (ap (λ (l : LaneValue). l.keys) there, ap (λ (l : LaneValue). l.next) there, ap expected there)
+    ] in
+    keeps_then g (with_lane g r then) h (record { most = refl; count = length-set g.lanes r then; each = one }) (keeps_same (with_lane g r then) h is)
+
+-- one piece more
+pieces-set : (slots : List Slot) (i : ℕ) (plan : SegmentPlan) (slot : Slot) → slice_get slots i ≡ Some (record { plan = plan; piece = None }) → slot.piece ≡ None → (piece : SealedSegment)
+    → pieces_of (slice_set slots i (record { plan = plan; piece = Some piece })) ≡ pieces_of slots + 1
+pieces-set [] i plan slot at none piece = cc
+pieces-set (s ∷ slots) zero plan slot at none piece =
+    let none_here : (s ≡ record { plan = plan; piece = None }) = cc in
+    omega (arith, ap (λ (x : Slot). pieces_of (x ∷ [])) none_here)
+pieces-set (s ∷ slots) (suc i) plan slot at none piece = omega (arith, pieces-set slots i plan slot at none piece)
+
+pub pieces-lane : (lanes : List LaneValue) (r : ℕ) (lane d : LaneValue) → r < length lanes → pieces_in (slice_set lanes r lane) + pieces_of (slice_index_or lanes r d).slots ≡ pieces_in lanes + pieces_of lane.slots
+pieces-lane [] r lane d below = absurd (omega (arith, below))
+pieces-lane (l ∷ lanes) zero lane d below = omega arith
+pieces-lane (l ∷ lanes) (suc r) lane d below = omega (arith, pieces-lane lanes r lane d (omega (arith, below)))
+
+pub pieces-piece : (g h : Gathering) (piece : SealedSegment) → IsRight (lane_at g piece.plan.rendition) piece
+    → h ≡ with_lane g piece.plan.rendition (with_piece (lane_at g piece.plan.rendition) piece) → pieces_in h.lanes ≡ pieces_in g.lanes + 1
+pieces-piece g h piece right is =
+    let r = piece.plan.rendition in
+    let lane = lane_at g r in
+    let i = piece.plan.number - lane.next in
+    let within = inside g r i _ right.expected in
+    let moved = pieces-lane g.lanes r (with_piece lane piece) no_lane within in
+    let more = pieces-set lane.slots i piece.plan (record { plan = piece.plan; piece = None }) right.expected refl piece in
+    ap (λ (x : Gathering). pieces_in x.lanes) is ∙ omega (arith, moved, more)

@@ -1,0 +1,3 @@
+pub mod Snapshots
+pub mod Steps
+pub mod Collecting

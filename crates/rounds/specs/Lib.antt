@@ -1,0 +1,3 @@
+pub mod Showing
+pub mod Courses
+pub mod Rounds

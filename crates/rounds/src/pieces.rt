@@ -1,0 +1,107 @@
+ghost use Rattle.std.specs.Prelude.{◌≡◌, ◌≢◌, ◌<◌, ◌≤◌, ◌^◌, ◌+◌, [], true, false, IfErr, IfOk, OnErr, OnOk};
+ghost use Rattle.flow_core.specs.Gatherings.{missing_in};
+ghost use Rattle.flow_core.specs.declared.piece.Outcome.TheVariants.{Held as HeldBack};
+ghost use Rattle.ladder_items.specs.declared.fault.PackFault.TheVariants.{Held, NoMemory};
+ghost use Rattle.rounds.specs.Rounds.{Keeps, pieces_in};
+
+use cutter::PlanRef;
+use flow_core::{Collector, Outcome, Piece};
+use ladder_items::{PackFault, Settings};
+use segment_job::{Sealed, seal_plan};
+use std::alloc::Global;
+
+/// Collects a piece, and tells whether it was right.
+#[tactic(auto, using(crate::proofs::Collecting::keeps_same))]
+fn collect<'s>(collector: &mut Collector<'s>, piece: Sealed<'s>) -> bool
+    ensures keeps { Keeps collector.old collector.new }
+    ensures right { result ≡ true → pieces_in collector.new.lanes ≡ pieces_in collector.old.lanes + 1 }
+    ensures wrong { result ≡ false → collector.new ≡ collector.old }
+{
+    let Ok(_) = collector.collect(piece) else {
+        return false;
+    };
+    true
+}
+
+/// Takes in a piece. One that isn't right is thrown away, and so is a refusal. What was held stops the run.
+#[tactic(auto, using(crate::proofs::Collecting::keeps_same))]
+pub fn take_in<'s>(
+    collector: &mut Collector<'s>,
+    piece: Piece<'s>,
+    right: &mut u64,
+    thrown: &mut u64,
+) -> Result<(), PackFault>
+    requires few { right.old + thrown.old + 1 < 2 ^ 64 }
+    ensures keeps { Keeps collector.old collector.new }
+    ensures counted { right.new + thrown.new ≡ right.old + thrown.old + 1 }
+    ensures fair { right.new + pieces_in collector.old.lanes ≡ right.old + pieces_in collector.new.lanes }
+    ensures held { OnErr result (piece.entry.outcome ≡ HeldBack) }
+    ensures unheld { OnOk result (piece.entry.outcome ≢ HeldBack) }
+    ensures fault { IfErr result (λ fault. fault ≡ Held piece.entry.rendition piece.entry.number) }
+{
+    let Piece {
+        rendition,
+        number,
+        outcome,
+    } = piece;
+    match outcome {
+        Outcome::Sealed(sealed) => {
+            if collect(collector, sealed) {
+                *right += 1;
+                return Ok(());
+            }
+            *thrown += 1;
+            Ok(())
+        }
+        Outcome::Refused => {
+            *thrown += 1;
+            Ok(())
+        }
+        Outcome::Held => {
+            *thrown += 1;
+            Err(PackFault::Held(rendition, number))
+        }
+    }
+}
+
+/// Seals a plan on this thread, unless its piece came by now.
+#[tactic(auto, using(crate::proofs::Collecting::keeps_same))]
+pub fn seal_own<'s>(
+    alloc: Global,
+    settings: &Settings,
+    plan: PlanRef<'s>,
+    collector: &mut Collector<'s>,
+) -> Result<(), PackFault>
+    ensures keeps { Keeps collector.old collector.new }
+    ensures more { pieces_in collector.old.lanes ≤ pieces_in collector.new.lanes }
+    ensures fault { IfErr result (λ fault. fault ≡ NoMemory) }
+{
+    let Some(rendition) = settings.renditions.get(plan.rendition) else {
+        return Ok(());
+    };
+    let sealed = seal_plan(alloc, plan, &rendition.keys)?;
+    collect(collector, sealed);
+    Ok(())
+}
+
+/// Seals all that is missing on this thread, and tells whether anything was.
+#[tactic(auto, using(crate::proofs::Collecting::keeps_same))]
+pub fn seal_missing(
+    alloc: Global,
+    settings: &Settings,
+    collector: &mut Collector<'_>,
+) -> Result<bool, PackFault>
+    ensures keeps { Keeps collector.old collector.new }
+    ensures more { pieces_in collector.old.lanes ≤ pieces_in collector.new.lanes }
+    ensures none { IfOk result (λ any. any ≡ false → (collector.new ≡ collector.old) × (missing_in collector.old.lanes ≡ [])) }
+    ensures fault { IfErr result (λ fault. fault ≡ NoMemory) }
+{
+    let missing = collector.missing()?;
+    if missing.is_empty() {
+        return Ok(false);
+    }
+    for plan in &missing {
+        seal_own(alloc, settings, plan.plan(), collector)?;
+    }
+    Ok(true)
+}
