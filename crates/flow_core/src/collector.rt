@@ -77,6 +77,13 @@ impl<'s> Collector<'s> {
         self.held < self.most
     }
 
+    /// How many plans are expected that weren't handed out.
+    pub fn awaited(&self) -> usize
+        ensures { result ≡ awaited self.now.lanes }
+    {
+        self.held
+    }
+
     /// The number of the plan that a rendition expects next; none where there is no such rendition.
     pub fn following(&self, rendition: usize) -> Option<u64>
         ensures some { IfSome result (λ number. (rendition < length self.now.lanes) × (number ≡ following (lane_at self.now rendition))) }

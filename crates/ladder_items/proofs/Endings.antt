@@ -89,40 +89,44 @@ module _ (X Y : Type 0) (input : InputView X) (out : OutletView Y) (most_reads :
       → slice_get lanes r ≡ Some lane
       → ((k : ℕ) (earlier : Lane) → k < r → slice_get lanes k ≡ Some earlier → told_of k earlier.stop ≡ None)
       → ((k : ℕ) (lane : Lane) → slice_get lanes k ≡ Some lane → lane.stop ≡ None → rounds ≡ most_reads)
-      → rounds ≤ most_reads → IsAllowed ladder → NothingDue (run_of input out most_reads before now x y) ladder rounds 0 lanes shown → HasHalted (run_of input out most_reads before now x y) ladder r lane.stop
+      → rounds ≤ most_reads → IsAllowed ladder → (due : NothingDue (run_of input out most_reads before now x y) ladder rounds 0 lanes shown)
+      → (halted : HasHalted (run_of input out most_reads before now x y) ladder r lane.stop) × (halted.weave.events ≡ due.world.events)
   world-halted rounds before now lanes shown x y r lane f good limit few allowed due =
-      let w = due.world in
-      record {
-        streams = w.streams;
-        parts = parts-of ladder w.events;
-        items = blocks ladder (none_of ladder) w.events;
-        stops = stop_at lanes;
-        allowed = allowed;
-        same_now = w.same_now ∙ sym w.same_before;
-        weave = record { events = w.events; legal = w.legal; parts_are = refl; items_are = refl };
-        puts = w.puts;
-        each = λ k a d e h.
-            let within : k < length lanes = omega (arith, slice_get_within before k a e, w.same_before, w.same_lanes) in
-            let m = some-at lanes k within in
-            let u = w.each k a d m.0 e h m.1 in
-            subst (λ (q : Option Stop). IsLeft input most_reads ladder k a d q (stream_at w.streams k) (part_at (parts-of ladder w.events) k)) (sym (stop-of lanes k m.0 m.1))
-            (stage-left X input ladder most_reads k (turns_of rounds 0 k) a d m.0 _ _ (λ none.
-            let taken = u.reads_are none in
-            let turns = turns-none rounds k in
-            let all = limit k m.0 m.1 none in
-            omega (arith, taken, turns, all)) (omega (arith, turns-none rounds k, few)) (due.filled k m.0 m.1) (due.ended k m.0 m.1) u);
-        within = some-at before r (omega (arith, slice_get_within lanes r lane f, w.same_before, w.same_lanes));
-        at_r = stop-of lanes r lane f;
-        first = λ k below.
-            let m = some-at lanes k (omega (arith, below, slice_get_within lanes r lane f)) in
-            ap (told_of k) (stop-of lanes k m.0 m.1) ∙ good k m.0 below m.1;
-      }
+      let w = due.world in (
+        record {
+          streams = w.streams;
+          parts = parts-of ladder w.events;
+          items = blocks ladder (none_of ladder) w.events;
+          stops = stop_at lanes;
+          allowed = allowed;
+          same_now = w.same_now ∙ sym w.same_before;
+          weave = record { events = w.events; legal = w.legal; parts_are = refl; items_are = refl };
+          puts = w.puts;
+          each = λ k a d e h.
+              let within : k < length lanes = omega (arith, slice_get_within before k a e, w.same_before, w.same_lanes) in
+              let m = some-at lanes k within in
+              let u = w.each k a d m.0 e h m.1 in
+              subst (λ (q : Option Stop). IsLeft input most_reads ladder k a d q (stream_at w.streams k) (part_at (parts-of ladder w.events) k)) (sym (stop-of lanes k m.0 m.1))
+              (stage-left X input ladder most_reads k (turns_of rounds 0 k) a d m.0 _ _ (λ none.
+              let taken = u.reads_are none in
+              let turns = turns-none rounds k in
+              let all = limit k m.0 m.1 none in
+              omega (arith, taken, turns, all)) (omega (arith, turns-none rounds k, few)) (due.filled k m.0 m.1) (due.ended k m.0 m.1) u);
+          within = some-at before r (omega (arith, slice_get_within lanes r lane f, w.same_before, w.same_lanes));
+          at_r = stop-of lanes r lane f;
+          first = λ k below.
+              let m = some-at lanes k (omega (arith, below, slice_get_within lanes r lane f)) in
+              ap (told_of k) (stop-of lanes k m.0 m.1) ∙ good k m.0 below m.1;
+        },
+        refl,
+      )
 
   -- each rendition came to its good end
   pub world-packed : (rounds : ℕ) (before now : List X) (lanes : List Lane) (shown : List Shown) (x y : Y) (report : Report)
       → ((k : ℕ) (lane : Lane) → slice_get lanes k ≡ Some lane → told_of k lane.stop ≡ None)
       → IsReport shown (map (λ (l : Lane). gone_of l.stop) lanes) report
-      → rounds ≤ most_reads → NothingDue (run_of input out most_reads before now x y) ladder rounds 0 lanes shown → IsPacked (run_of input out most_reads before now x y) ladder report
+      → rounds ≤ most_reads → (due : NothingDue (run_of input out most_reads before now x y) ladder rounds 0 lanes shown)
+      → (packed : IsPacked (run_of input out most_reads before now x y) ladder report) × (packed.weave.events ≡ due.world.events)
   world-packed rounds before now lanes shown x y report good is few due =
       let w = due.world in
       let all : (k : ℕ) (a d : X) → slice_get before k ≡ Some a → slice_get now k ≡ Some d → (m : Lane) × (slice_get lanes k ≡ Some m)
@@ -137,26 +141,28 @@ module _ (X Y : Type 0) (input : InputView X) (out : OutletView Y) (most_reads :
       (stage-given X input ladder k _ a d m.0 _ _ (due.filled k m.0 m.1) (due.ended k m.0 m.1) u) u.says in
       let taken = u.few_reads in
       let turns = turns-none rounds k in
-      (m.0, m.1, part.0, u.bytes, u.read, part.1, part.2, omega (arith, taken, turns, few)) in
-      record {
-        streams = w.streams;
-        parts = parts-of ladder w.events;
-        items = blocks ladder (none_of ladder) w.events;
-        weave = record { events = w.events; legal = w.legal; parts_are = refl; items_are = refl };
-        puts = w.puts;
-        same_streams = w.same_streams;
-        same_now = w.same_now ∙ sym w.same_before;
-        each = λ k a d e h. let u = all k a d e h in (u.2.0, u.3, u.4, u.5, u.6, u.7);
-        report_is = rw (← w.shown_are) (subst (λ (gone : List ℕ). IsReport shown gone report)
-            (same-lists _ _ (length-map lanes _ ∙ (w.same_lanes ∙ (sym w.same_streams ∙ sym (length-map w.streams _)))) (λ k p q e h.
-            let m = map-at _ lanes k p e in
-            let s = map-at skipped w.streams k q h in
-            let below = slice_get_within lanes k m.0 m.1 in
-            let a = some-at before k (omega (arith, below, w.same_before, w.same_lanes)) in
-            let d = some-at now k (omega (arith, below, w.same_now, w.same_lanes)) in
-            let u = all k a.0 d.0 a.1 d.1 in
-            m.2 ∙ (ap (λ (l : Lane). gone_of l.stop) (same_Some _ _ (sym m.1 ∙ u.1)) ∙ (u.2.1 ∙ (ap skipped (get_or_from_slice_get w.streams k s.0 [] s.1) ∙ sym s.2))))) is);
-      }
+      (m.0, m.1, part.0, u.bytes, u.read, part.1, part.2, omega (arith, taken, turns, few)) in (
+        record {
+          streams = w.streams;
+          parts = parts-of ladder w.events;
+          items = blocks ladder (none_of ladder) w.events;
+          weave = record { events = w.events; legal = w.legal; parts_are = refl; items_are = refl };
+          puts = w.puts;
+          same_streams = w.same_streams;
+          same_now = w.same_now ∙ sym w.same_before;
+          each = λ k a d e h. let u = all k a d e h in (u.2.0, u.3, u.4, u.5, u.6, u.7);
+          report_is = rw (← w.shown_are) (subst (λ (gone : List ℕ). IsReport shown gone report)
+              (same-lists _ _ (length-map lanes _ ∙ (w.same_lanes ∙ (sym w.same_streams ∙ sym (length-map w.streams _)))) (λ k p q e h.
+              let m = map-at _ lanes k p e in
+              let s = map-at skipped w.streams k q h in
+              let below = slice_get_within lanes k m.0 m.1 in
+              let a = some-at before k (omega (arith, below, w.same_before, w.same_lanes)) in
+              let d = some-at now k (omega (arith, below, w.same_now, w.same_lanes)) in
+              let u = all k a.0 d.0 a.1 d.1 in
+              m.2 ∙ (ap (λ (l : Lane). gone_of l.stop) (same_Some _ _ (sym m.1 ∙ u.1)) ∙ (u.2.1 ∙ (ap skipped (get_or_from_slice_get w.streams k s.0 [] s.1) ∙ sym s.2))))) is);
+        },
+        refl,
+      )
 
   -- a fault that a rendition's end is told by
   pub halted-says : (before now : List X) (x y : Y) (r : ℕ) (stop : Option Stop) (e : PackFault) → told_of r stop ≡ Some e

@@ -1,5 +1,5 @@
 -- A run, step by step.
-use Rattle.std.proofs.Common.{◌≡◌, ◌∙◌, inl, inr, ℕ, zero, suc, ◌+◌, ◌<◌, ◌≤◌, ◌^◌, true, List, [], ◌++◌, length, get_or, replicate, Some, None, refl, ap, sym, subst, arith}
+use Rattle.std.proofs.Common.{◌≡◌, ◌∙◌, inl, inr, ℕ, zero, suc, ◌+◌, ◌<◌, ◌≤◌, ◌^◌, true, List, [], ◌++◌, length, get_or, replicate, Option, Some, None, refl, ap, sym, subst, arith}
 use Rattle.std.specs.List.{slice_get}
 use Rattle.std.specs.Io.KnownBytes.{Consumes}
 use Rattle.std.proofs.Math.ListN.{set}
@@ -10,11 +10,13 @@ use Rattle.std.proofs.lemmas.Bool.{cases_eq}
 use Rattle.aes_cbc.specs.Block.{AreBytes}
 use Rattle.ghost_list.specs.Lists.{IsBeginning}
 use Rattle.cutter.specs.Plans.{SegmentPlan}
+use Rattle.cutter.specs.Ordered.{IsPlan}
 use Rattle.item_io.specs.Items.{ItemValue}
 use Rattle.ingest.specs.declared.lane.Lane.{Lane}
+use Rattle.ingest.specs.declared.lane.Stop.{Stop}
 use Rattle.ingest.specs.Streams.{Taken, closed_of}
 use Rattle.ingest.specs.Inputs.{InputView, IsRead}
-use Rattle.ingest.specs.Lanes.{is_good, IsFirst, IsTurned}
+use Rattle.ingest.specs.Lanes.{made_of, is_good, IsFirst, IsTurned}
 use Rattle.ladder_items.specs.Ladder.{Ladder, IsAllowed}
 use Rattle.ladder_items.specs.Shown.{Shown}
 use Rattle.ladder_items.specs.Items.{Part, no_part, part_at, shown_all}
@@ -35,6 +37,10 @@ parts-of ladder events = after_all (none_of ladder) events
 
 pub parts-length : (ladder : Ladder) (events : List Event) → length (parts-of ladder events) ≡ length ladder.renditions
 parts-length ladder events = all-length (none_of ladder) events ∙ length-replicate (length ladder.renditions) no_part
+
+-- that what is closed is in order, of each stream
+abbrev pub InOrder : Ladder → Type 0
+InOrder ladder = (stop : Option Stop) (r : ℕ) (stream : List ℕ) (n : ℕ) (plan : SegmentPlan) → slice_get (made_of stop r ladder.cut stream) n ≡ Some plan → IsPlan r ladder.cut n plan
 
 -- a lane that wasn't changed
 pub put-back : {A : Type 0} (xs : List A) (i : ℕ) (x : A) → x ≡ get_or xs i x → set xs i x ≡ xs
@@ -274,23 +280,26 @@ module _ (X Y : Type 0) (input : InputView X) (out : OutletView Y) (most_reads :
   -- the run was stopped between two steps
   pub world-stop : (rounds next : ℕ) (before now : List X) (lanes : List Lane) (shown : List Shown) (waiting : ℕ → List SegmentPlan) (x y : Y) → ((k : ℕ) → turns_of rounds next k ≤ most_reads)
       → IsAllowed ladder → (w : World (run_of input out most_reads before now x y) ladder rounds next lanes shown waiting)
-      → CutBehind (run_of input out most_reads before now x y) ladder w.streams (blocks ladder (none_of ladder) w.events)
+      → (cut : CutBehind (run_of input out most_reads before now x y) ladder w.streams (blocks ladder (none_of ladder) w.events)) × (cut.cut.weave.events ≡ w.events)
   unfolding put-all
-  world-stop rounds next before now lanes shown waiting x y few allowed w = record {
-    cut = record {
-      streams = w.streams;
-      parts = parts-of ladder w.events;
-      items = blocks ladder (none_of ladder) w.events;
-      weave = record { events = w.events; legal = w.legal; parts_are = refl; items_are = refl };
-      some = put-all out x y _ w.puts;
-      allowed = inr allowed;
-      same_now = w.same_now ∙ sym w.same_before;
-      each = λ k a d e h. (stopped-at rounds next before now lanes shown waiting x y w k a d e h (few k)).0;
-      counts = λ k a d e h. (stopped-at rounds next before now lanes shown waiting x y w k a d e h (few k)).1;
-    };
-    streams_are = refl;
-    given = ([], sym (append-nil _));
-  }
+  world-stop rounds next before now lanes shown waiting x y few allowed w = (
+    record {
+      cut = record {
+        streams = w.streams;
+        parts = parts-of ladder w.events;
+        items = blocks ladder (none_of ladder) w.events;
+        weave = record { events = w.events; legal = w.legal; parts_are = refl; items_are = refl };
+        some = put-all out x y _ w.puts;
+        allowed = inr allowed;
+        same_now = w.same_now ∙ sym w.same_before;
+        each = λ k a d e h. (stopped-at rounds next before now lanes shown waiting x y w k a d e h (few k)).0;
+        counts = λ k a d e h. (stopped-at rounds next before now lanes shown waiting x y w k a d e h (few k)).1;
+      };
+      streams_are = refl;
+      given = ([], sym (append-nil _));
+    },
+    refl,
+  )
 
   -- want of memory stopped the run in a turn of rendition r, whose bytes were read
   pub world-unread : (rounds next r : ℕ) (before now : List X) (lanes : List Lane) (shown : List Shown) (waiting : ℕ → List SegmentPlan) (x y : Y) (b c : X) (lane : Lane) (piece : List ℕ)
@@ -298,7 +307,7 @@ module _ (X Y : Type 0) (input : InputView X) (out : OutletView Y) (most_reads :
       → ((s more : List ℕ) → IsBeginning (closed_of r ladder.cut s) (closed_of r ladder.cut (s ++ more)))
       → next ≡ r → rounds < most_reads → IsAllowed ladder
       → (w : World (run_of input out most_reads before now x y) ladder rounds next lanes shown waiting)
-      → CutBehind (run_of input out most_reads before (set now r c) x y) ladder (set w.streams r (stream_at w.streams r ++ piece)) (blocks ladder (none_of ladder) w.events)
+      → (cut : CutBehind (run_of input out most_reads before (set now r c) x y) ladder (set w.streams r (stream_at w.streams r ++ piece)) (blocks ladder (none_of ladder) w.events)) × (cut.cut.weave.events ≡ w.events)
   unfolding put-all
   world-unread rounds next r before now lanes shown waiting x y b c lane piece f g goes_on read unfailed grow here below allowed w =
       let s = stage-at rounds next before now lanes shown waiting x y w r b lane f g in
@@ -322,22 +331,24 @@ module _ (X Y : Type 0) (input : InputView X) (out : OutletView Y) (most_reads :
         | inr q ↦
             let u = stopped-at rounds next before now lanes shown waiting x y w k a d e (sym (set-elsewhere now r k c q) ∙ h) (omega (arith, turns-most rounds next k, below)) in
             subst (λ (l : List ℕ). Stopped k a d l (part_at (parts-of ladder w.events) k) × Counted a d) (sym (get_or-set_other w.streams r k stream [] q)) u
-      ] in
-      record {
-        cut = record {
-          streams = set w.streams r stream;
-          parts = parts-of ladder w.events;
-          items = blocks ladder (none_of ladder) w.events;
-          weave = record { events = w.events; legal = w.legal; parts_are = refl; items_are = refl };
-          some = put-all out x y _ w.puts;
-          allowed = inr allowed;
-          same_now = length-set _ _ _ ∙ (w.same_now ∙ sym w.same_before);
-          each = λ k a d e h. (one k a d e h).0;
-          counts = λ k a d e h. (one k a d e h).1;
-        };
-        streams_are = refl;
-        given = ([], sym (append-nil _));
-      }
+      ] in (
+        record {
+          cut = record {
+            streams = set w.streams r stream;
+            parts = parts-of ladder w.events;
+            items = blocks ladder (none_of ladder) w.events;
+            weave = record { events = w.events; legal = w.legal; parts_are = refl; items_are = refl };
+            some = put-all out x y _ w.puts;
+            allowed = inr allowed;
+            same_now = length-set _ _ _ ∙ (w.same_now ∙ sym w.same_before);
+            each = λ k a d e h. (one k a d e h).0;
+            counts = λ k a d e h. (one k a d e h).1;
+          };
+          streams_are = refl;
+          given = ([], sym (append-nil _));
+        },
+        refl,
+      )
 
   -- the run was stopped while events of rendition r were given
   pub world-ungiven : (rounds next r : ℕ) (before now : List X) (lanes : List Lane) (shown : List Shown) (waiting : ℕ → List SegmentPlan) (x y z : Y) (lane : Lane) (events : List Event)
@@ -345,7 +356,7 @@ module _ (X Y : Type 0) (input : InputView X) (out : OutletView Y) (most_reads :
       → (w : World (run_of input out most_reads before now x y) ladder rounds next lanes shown waiting)
       → AreOf r (parts-of ladder w.events) events → PutSome out y z (blocks ladder (parts-of ladder w.events) events)
       → BeginsMade lane.stop ladder r (stream_at w.streams r) (part_at (after_all (parts-of ladder w.events) events) r)
-      → CutBehind (run_of input out most_reads before now x z) ladder w.streams (blocks ladder (none_of ladder) w.events)
+      → (cut : CutBehind (run_of input out most_reads before now x z) ladder w.streams (blocks ladder (none_of ladder) w.events)) × (cut.cut.weave.events ≡ w.events ++ events)
   unfolding put-more
   world-ungiven rounds next r before now lanes shown waiting x y z lane events g few allowed w are_of puts begins =
       let all = after_all-append (none_of ladder) w.events events in
@@ -363,51 +374,55 @@ module _ (X Y : Type 0) (input : InputView X) (out : OutletView Y) (most_reads :
         | inr q ↦
             let part = ap (λ (ps : List Part). part_at ps k) all ∙ all-other r k (parts-of ladder w.events) events are_of.of_r q in
             subst (λ (p : Part). Stopped k a d (stream_at w.streams k) p × Counted a d) (sym part) u
-      ] in
-      record {
-        cut = record {
-          streams = w.streams;
-          parts = parts-of ladder (w.events ++ events);
-          items = blocks ladder (none_of ladder) (w.events ++ events);
-          weave = record { events = w.events ++ events; legal = legal-append (none_of ladder) w.events events w.legal are_of.legal; parts_are = refl; items_are = refl };
-          some = record {
-            given = some.given;
-            rest = some.rest;
-            all = blocks-append ladder (none_of ladder) w.events events ∙ some.all;
-            grows = some.grows;
-            stops = some.stops;
+      ] in (
+        record {
+          cut = record {
+            streams = w.streams;
+            parts = parts-of ladder (w.events ++ events);
+            items = blocks ladder (none_of ladder) (w.events ++ events);
+            weave = record { events = w.events ++ events; legal = legal-append (none_of ladder) w.events events w.legal are_of.legal; parts_are = refl; items_are = refl };
+            some = record {
+              given = some.given;
+              rest = some.rest;
+              all = blocks-append ladder (none_of ladder) w.events events ∙ some.all;
+              grows = some.grows;
+              stops = some.stops;
+            };
+            allowed = inr allowed;
+            same_now = w.same_now ∙ sym w.same_before;
+            each = λ k a d e h. (one k a d e h).0;
+            counts = λ k a d e h. (one k a d e h).1;
           };
-          allowed = inr allowed;
-          same_now = w.same_now ∙ sym w.same_before;
-          each = λ k a d e h. (one k a d e h).0;
-          counts = λ k a d e h. (one k a d e h).1;
-        };
-        streams_are = refl;
-        given = (puts.given, refl);
-      }
+          streams_are = refl;
+          given = (puts.given, refl);
+        },
+        refl,
+      )
 
   -- nothing was read or given
   pub nothing-given : (before : List X) (x : Y) → ((k : ℕ) → closed_of k ladder.cut [] ≡ [])
-      → CutBehind (run_of input out most_reads before before x x) ladder (replicate (length ladder.renditions) []) []
+      → (cut : CutBehind (run_of input out most_reads before before x x) ladder (replicate (length ladder.renditions) []) []) × (cut.cut.weave.events ≡ [])
   unfolding after_all blocks AreLegal put_none
   nothing-given before x none =
-      let n = length ladder.renditions in
-      record {
-        cut = record {
-          streams = replicate n [];
-          parts = none_of ladder;
-          items = [];
-          weave = record { events = []; legal = tt; parts_are = refl; items_are = refl };
-          some = put_none out x [];
-          allowed = inl refl;
-          same_now = refl;
-          each = λ k a d e h.
-              let one : a ≡ d = same_Some a d (sym e ∙ h) in
-              subst (λ (v : X). Stopped k a v (stream_at (replicate n []) k) (part_at (none_of ladder) k)) one
-              (subst (λ (l : List ℕ). Stopped k a a l (part_at (none_of ladder) k)) (sym (at-default n k []))
-              (subst (λ (p : Part). HasBegun ladder k (input.left a) [] p) (sym (at-default n k no_part)) (inr (record { plans = (closed_of k ladder.cut [], refl); ended = refl })), (λ i d below. absurd (omega (arith, below))), Consumes-nil (input.left a)));
-          counts = λ k a d e h. let one : a ≡ d = same_Some a d (sym e ∙ h) in (omega (arith, ap input.failures one), omega (arith, ap input.reads one));
-        };
-        streams_are = refl;
-        given = ([], refl);
-      }
+      let n = length ladder.renditions in (
+        record {
+          cut = record {
+            streams = replicate n [];
+            parts = none_of ladder;
+            items = [];
+            weave = record { events = []; legal = tt; parts_are = refl; items_are = refl };
+            some = put_none out x [];
+            allowed = inl refl;
+            same_now = refl;
+            each = λ k a d e h.
+                let one : a ≡ d = same_Some a d (sym e ∙ h) in
+                subst (λ (v : X). Stopped k a v (stream_at (replicate n []) k) (part_at (none_of ladder) k)) one
+                (subst (λ (l : List ℕ). Stopped k a a l (part_at (none_of ladder) k)) (sym (at-default n k []))
+                (subst (λ (p : Part). HasBegun ladder k (input.left a) [] p) (sym (at-default n k no_part)) (inr (record { plans = (closed_of k ladder.cut [], refl); ended = refl })), (λ i d below. absurd (omega (arith, below))), Consumes-nil (input.left a)));
+            counts = λ k a d e h. let one : a ≡ d = same_Some a d (sym e ∙ h) in (omega (arith, ap input.failures one), omega (arith, ap input.reads one));
+          };
+          streams_are = refl;
+          given = ([], refl);
+        },
+        refl,
+      )

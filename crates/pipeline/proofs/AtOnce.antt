@@ -79,7 +79,7 @@ module _ (X Y : Type 0) (input : InputView X) (out : OutletView Y) (most_reads :
       → IsAllowed ladder → NothingDue (run_of input out most_reads before now x y) ladder rounds 0 lanes shown → IsCutAtOnce (run_of input out most_reads before now x y) ladder
   stop-at-once rounds before now lanes shown x y few allowed d =
       let w = d.world in
-      let c = world-stop X Y input out most_reads ladder rounds 0 before now lanes shown _ x y (λ k. omega (arith, turns-none rounds k, few)) allowed w in
+      let c = (world-stop X Y input out most_reads ladder rounds 0 before now lanes shown _ x y (λ k. omega (arith, turns-none rounds k, few)) allowed w).0 in
       record {
         cut = c.cut;
         in_turn = 0;
@@ -99,7 +99,7 @@ module _ (X Y : Type 0) (input : InputView X) (out : OutletView Y) (most_reads :
   unfolding after_all blocks AreLegal
   none-at-once before x none =
       let n = length ladder.renditions in
-      let c = nothing-given X Y input out most_reads ladder before x none in
+      let c = (nothing-given X Y input out most_reads ladder before x none).0 in
       record {
         cut = c.cut;
         in_turn = 0;

@@ -22,10 +22,10 @@ use Rattle.ladder_items.specs.Giving.{AreNextPlans}
 use Rattle.ladder_items.specs.Runs.{OutletView, run_of}
 use Rattle.ladder_items.specs.Putting.{PutAll, PutSome}
 use Rattle.ladder_items.specs.World.{NothingDue, World, stream_at}
-use Rattle.ladder_items.proofs.Elsewhere.{set-here, set-elsewhere, all-other}
+use Rattle.ladder_items.proofs.Elsewhere.{set-here, set-elsewhere, set-there, all-other}
 use Rattle.ladder_items.proofs.Rows.{after_all-append}
 use Rattle.ladder_items.proofs.Stages.{turns-most}
-use Rattle.ladder_items.proofs.Worlds.{parts-of, parts-length, stage-at, world-read, world-gave, world-unread, world-ungiven, world-skip, world-round, world-first, at-default}
+use Rattle.ladder_items.proofs.Worlds.{InOrder, parts-of, parts-length, stage-at, world-read, world-gave, world-unread, world-ungiven, world-skip, world-round, world-first, at-default}
 use Rattle.pipeline.specs.Dues.{due}
 use Rattle.pipeline.specs.OneThread.{IsCutAtOnce}
 use Rattle.pipeline.proofs.Dues.{next-behind, due-are-of, due-part}
@@ -35,15 +35,6 @@ pub set-twice : {A : Type 0} (xs : List A) (r : ℕ) (x y : A) → set (set xs r
 set-twice [] r x y = refl
 set-twice (z ∷ xs) zero x y = refl
 set-twice (z ∷ xs) (suc r) x y = ap (λ l. z ∷ l) (set-twice xs r x y)
-
-pub set-there : {A : Type 0} (xs : List A) (r : ℕ) (x : A) → r < length xs → slice_get (set xs r x) r ≡ Some x
-set-there [] r x below = absurd (omega (arith, below))
-set-there (z ∷ xs) zero x below = refl
-set-there (z ∷ xs) (suc r) x below = set-there xs r x (omega (arith, below))
-
--- that what is closed is in order, of each stream
-abbrev pub InOrder : Ladder → Type 0
-InOrder ladder = (stop : Option Stop) (r : ℕ) (stream : List ℕ) (n : ℕ) (plan : SegmentPlan) → slice_get (made_of stop r ladder.cut stream) n ≡ Some plan → IsPlan r ladder.cut n plan
 
 module _ (X Y : Type 0) (input : InputView X) (out : OutletView Y) (most_reads : ℕ) (ladder : Ladder) where
   -- rendition r has read, and not given yet
@@ -143,9 +134,9 @@ module _ (X Y : Type 0) (input : InputView X) (out : OutletView Y) (most_reads :
       let parts = parts-of ladder w.events in
       let part = due-part ladder r parts shown moved h.next.goes_on in
       let whole = ap (λ (p : Part). p.plans) part ∙ (ap (λ (l : List SegmentPlan). l ++ moved.intake.filled) h.gap ∙ h.made) in
-      let cut = world-ungiven X Y input out most_reads ladder rounds (r + 1) r before (set now r c) (set lanes r moved) shown _ x y z moved (due r moved)
+      let cut = (world-ungiven X Y input out most_reads ladder rounds (r + 1) r before (set now r c) (set lanes r moved) shown _ x y z moved (due r moved)
       (set-there lanes r moved h.within) (λ k. omega (arith, turns-most rounds (r + 1) k, below)) allowed w (due-are-of ladder r parts shown moved h.next.goes_on) (given parts h.next)
-      (record { plans = ([], sym (append-nil _ ∙ whole)); ended = λ e. (sym (ap (λ (p : Part). p.ended) part) ∙ e, whole) }) in
+      (record { plans = ([], sym (append-nil _ ∙ whole)); ended = λ e. (sym (ap (λ (p : Part). p.ended) part) ∙ e, whole) })).0 in
       cut-at-once X Y input out most_reads ladder rounds r r before now (set now r c) lanes shown x y z piece d (omega (arith, h.within, d.world.same_lanes)) short
       (record {
         cut = cut.cut;
@@ -162,7 +153,7 @@ module _ (X Y : Type 0) (input : InputView X) (out : OutletView Y) (most_reads :
       → IsCutAtOnce (run_of input out most_reads before (set now r c) x y) ladder
   read-cut rounds r before now lanes shown x y b c lane piece f g goes_on read unfailed grow below allowed d =
       cut-at-once X Y input out most_reads ladder rounds r r before now (set now r c) lanes shown x y y piece d (omega (arith, slice_get_within lanes r lane g, d.world.same_lanes)) read.short
-      (world-unread X Y input out most_reads ladder rounds r r before now lanes shown _ x y b c lane piece f g goes_on read unfailed grow refl below allowed d.world)
+      (world-unread X Y input out most_reads ladder rounds r r before now lanes shown _ x y b c lane piece f g goes_on read unfailed grow refl below allowed d.world).0
 
   -- rendition r had stopped
   pub due-skip : (rounds r : ℕ) (before now : List X) (lanes : List Lane) (shown : List Shown) (x y : Y) (lane : Lane)

@@ -11,7 +11,7 @@ use Rattle.flow_core.specs.declared.slot.Slot.{Slot}
 use Rattle.flow_core.specs.Lanes.{LaneValue, IsRight, with_piece}
 use Rattle.flow_core.specs.Gatherings.{Gathering, no_lane, lane_at, with_lane}
 use Rattle.flow_core.proofs.Flowing.{lane-same, lane-other, inside}
-use Rattle.rounds.specs.Rounds.{Keeps, expected, pieces_of, pieces_in}
+use Rattle.rounds.specs.Rounds.{Keeps, expected, pieces_of, gathered}
 
 pub keeps_same : (g h : Gathering) → h ≡ g → Keeps g h
 keeps_same g h is = record {
@@ -66,18 +66,23 @@ pieces-set (s ∷ slots) zero plan slot at none piece =
     omega (arith, ap (λ (x : Slot). pieces_of (x ∷ [])) none_here)
 pieces-set (s ∷ slots) (suc i) plan slot at none piece = omega (arith, pieces-set slots i plan slot at none piece)
 
-pub pieces-lane : (lanes : List LaneValue) (r : ℕ) (lane d : LaneValue) → r < length lanes → pieces_in (slice_set lanes r lane) + pieces_of (slice_index_or lanes r d).slots ≡ pieces_in lanes + pieces_of lane.slots
-pieces-lane [] r lane d below = absurd (omega (arith, below))
-pieces-lane (l ∷ lanes) zero lane d below = omega arith
-pieces-lane (l ∷ lanes) (suc r) lane d below = omega (arith, pieces-lane lanes r lane d (omega (arith, below)))
+gathered-lane : (lanes : List LaneValue) (r : ℕ) (lane d : LaneValue) → r < length lanes
+    → gathered (slice_set lanes r lane) + ((slice_index_or lanes r d).next + pieces_of (slice_index_or lanes r d).slots) ≡ gathered lanes + (lane.next + pieces_of lane.slots)
+gathered-lane [] r lane d below = absurd (omega (arith, below))
+gathered-lane (l ∷ lanes) zero lane d below = omega arith
+gathered-lane (l ∷ lanes) (suc r) lane d below = omega (arith, gathered-lane lanes r lane d (omega (arith, below)))
 
-pub pieces-piece : (g h : Gathering) (piece : SealedSegment) → IsRight (lane_at g piece.plan.rendition) piece
-    → h ≡ with_lane g piece.plan.rendition (with_piece (lane_at g piece.plan.rendition) piece) → pieces_in h.lanes ≡ pieces_in g.lanes + 1
-pieces-piece g h piece right is =
+pub gathered-set : (g : Gathering) (r : ℕ) (lane : LaneValue) → r < length g.lanes
+    → gathered (with_lane g r lane).lanes + ((lane_at g r).next + pieces_of (lane_at g r).slots) ≡ gathered g.lanes + (lane.next + pieces_of lane.slots)
+gathered-set g r lane below = gathered-lane g.lanes r lane no_lane below
+
+pub gathered-piece : (g h : Gathering) (piece : SealedSegment) → IsRight (lane_at g piece.plan.rendition) piece
+    → h ≡ with_lane g piece.plan.rendition (with_piece (lane_at g piece.plan.rendition) piece) → gathered h.lanes ≡ gathered g.lanes + 1
+gathered-piece g h piece right is =
     let r = piece.plan.rendition in
     let lane = lane_at g r in
     let i = piece.plan.number - lane.next in
     let within = inside g r i _ right.expected in
-    let moved = pieces-lane g.lanes r (with_piece lane piece) no_lane within in
+    let moved = gathered-set g r (with_piece lane piece) within in
     let more = pieces-set lane.slots i piece.plan (record { plan = piece.plan; piece = None }) right.expected refl piece in
-    ap (λ (x : Gathering). pieces_in x.lanes) is ∙ omega (arith, moved, more)
+    ap (λ (x : Gathering). gathered x.lanes) is ∙ omega (arith, moved, more)

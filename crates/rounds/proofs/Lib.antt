@@ -1,3 +1,5 @@
 pub mod Snapshots
 pub mod Steps
 pub mod Collecting
+pub mod Running
+pub mod Rounding

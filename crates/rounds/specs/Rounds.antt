@@ -1,10 +1,18 @@
 -- A round: plans are expected, and pieces come for them.
-use Rattle.std.specs.Prelude.{◌≡◌, ℕ, ◌+◌, List, [], ◌∷◌, map, length}
+use Rattle.std.specs.Prelude.{◌≡◌, ℕ, ◌+◌, ◌<◌, List, [], ◌∷◌, ◌++◌, map, length, slice_index_or}
 use Rattle.cutter.specs.Plans.{SegmentPlan}
 use Rattle.flow_core.specs.declared.slot.Slot.{Slot}
 use Rattle.flow_core.specs.Slots.{one_more}
 use Rattle.flow_core.specs.Gatherings.{Gathering, lane_at}
 use Rattle.flow_core.specs.Lanes.{LaneValue}
+use Rattle.live_board.specs.Snapshots.{Known}
+use Rattle.ingest.specs.Inputs.{InputView}
+use Rattle.ladder_items.specs.declared.fault.PackFault.{PackFault}
+use Rattle.ladder_items.specs.Ladder.{Ladder, rendition_at}
+use Rattle.ladder_items.specs.Runs.{OutletView}
+use Rattle.rounds.specs.declared.course.Course.{Course}
+use Rattle.rounds.specs.Courses.{Start, IsOn, IsStopped}
+use Rattle.rounds.specs.Showing.{counts_of}
 
 -- the plans that a rendition of a collector expects, in order
 abbrev pub expected : LaneValue → List SegmentPlan
@@ -16,11 +24,41 @@ pub record Keeps (old new : Gathering) : Type 0 where
   pub count : length new.lanes ≡ length old.lanes
   pub each : (k : ℕ) → ((lane_at new k).keys ≡ (lane_at old k).keys) × ((lane_at new k).next ≡ (lane_at old k).next) × (expected (lane_at new k) ≡ expected (lane_at old k))
 
--- how many pieces stand in slots, and in the renditions of a collector
+-- how many pieces stand in slots
 abbrev pub pieces_of : List Slot → ℕ
 pieces_of [] = 0
 pieces_of (slot ∷ slots) = one_more slot.piece 0 + pieces_of slots
 
-abbrev pub pieces_in : List LaneValue → ℕ
-pieces_in [] = 0
-pieces_in (lane ∷ lanes) = pieces_of lane.slots + pieces_in lanes
+-- the numbers of the first plans that weren't handed out, and how many pieces came for plans from there on
+abbrev pub gathered : List LaneValue → ℕ
+gathered [] = 0
+gathered (lane ∷ lanes) = lane.next + pieces_of lane.slots + gathered lanes
+
+-- the plans of a rendition among lists of plans, one for each rendition
+abbrev pub unfed_of : List (List SegmentPlan) → ℕ → List SegmentPlan
+unfed_of unfed k = slice_index_or unfed k []
+
+-- A run in a round: what waits is what the collector expects, and behind it what isn't fed yet. Each rendition of the
+-- collector stands behind the segments that were given of it.
+pub record InRound {X Y : Type 0} (input : InputView X) (out : OutletView Y) (ladder : Ladder) (start : Start X Y) (unfed : List (List SegmentPlan)) (course : Course X Y) (shows : Known) (g : Gathering) : Type 0 where
+  pub waiting : ℕ → List SegmentPlan
+  pub on : IsOn input out ladder start 0 course shows waiting
+  pub waits : (k : ℕ) → waiting k ≡ expected (lane_at g k) ++ unfed_of unfed k
+  pub each : length g.lanes ≡ length ladder.renditions
+  pub all : length unfed ≡ length ladder.renditions
+  pub nexts : (k : ℕ) → k < length g.lanes → (lane_at g k).next ≡ slice_index_or (counts_of course.playlists.items) k 0
+  pub keys : (k : ℕ) → k < length g.lanes → (lane_at g k).keys ≡ (rendition_at ladder k).keys
+
+-- some run stands here
+abbrev pub IsSomewhere : {X Y : Type 0} → InputView X → OutletView Y → Ladder → Course X Y → Known → Gathering → Type 0
+IsSomewhere {X} {Y} input out ladder course shows g = (start : Start X Y) × (unfed : List (List SegmentPlan)) × InRound input out ladder start unfed course shows g
+
+-- each run that stands there stands here now
+abbrev pub Moves : {X Y : Type 0} → InputView X → OutletView Y → Ladder → Course X Y → Known → Gathering → Course X Y → Known → Gathering → Type 0
+Moves {X} {Y} input out ladder old shows_old g_old new shows_new g_new =
+    (start : Start X Y) (unfed : List (List SegmentPlan)) → InRound input out ladder start unfed old shows_old g_old → InRound input out ladder start unfed new shows_new g_new
+
+-- each run that stands there was stopped by a fault
+abbrev pub Breaks : {X Y : Type 0} → InputView X → OutletView Y → Ladder → Course X Y → Known → Gathering → Course X Y → Known → PackFault → Type 0
+Breaks {X} {Y} input out ladder old shows_old g_old new shows_new fault =
+    (start : Start X Y) (unfed : List (List SegmentPlan)) → InRound input out ladder start unfed old shows_old g_old → IsStopped input out ladder start new shows_new fault

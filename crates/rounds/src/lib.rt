@@ -4,7 +4,9 @@
 mod course;
 mod giving;
 mod pieces;
+mod ready;
 mod showing;
+mod taking;
 #[cfg(test)]
 mod tests;
 

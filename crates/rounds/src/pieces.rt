@@ -2,7 +2,7 @@ ghost use Rattle.std.specs.Prelude.{◌≡◌, ◌≢◌, ◌<◌, ◌≤◌, �
 ghost use Rattle.flow_core.specs.Gatherings.{missing_in};
 ghost use Rattle.flow_core.specs.declared.piece.Outcome.TheVariants.{Held as HeldBack};
 ghost use Rattle.ladder_items.specs.declared.fault.PackFault.TheVariants.{Held, NoMemory};
-ghost use Rattle.rounds.specs.Rounds.{Keeps, pieces_in};
+ghost use Rattle.rounds.specs.Rounds.{Keeps, gathered};
 
 use cutter::PlanRef;
 use flow_core::{Collector, Outcome, Piece};
@@ -14,7 +14,7 @@ use std::alloc::Global;
 #[tactic(auto, using(crate::proofs::Collecting::keeps_same))]
 fn collect<'s>(collector: &mut Collector<'s>, piece: Sealed<'s>) -> bool
     ensures keeps { Keeps collector.old collector.new }
-    ensures right { result ≡ true → pieces_in collector.new.lanes ≡ pieces_in collector.old.lanes + 1 }
+    ensures right { result ≡ true → gathered collector.new.lanes ≡ gathered collector.old.lanes + 1 }
     ensures wrong { result ≡ false → collector.new ≡ collector.old }
 {
     let Ok(_) = collector.collect(piece) else {
@@ -34,7 +34,7 @@ pub fn take_in<'s>(
     requires few { right.old + thrown.old + 1 < 2 ^ 64 }
     ensures keeps { Keeps collector.old collector.new }
     ensures counted { right.new + thrown.new ≡ right.old + thrown.old + 1 }
-    ensures fair { right.new + pieces_in collector.old.lanes ≡ right.old + pieces_in collector.new.lanes }
+    ensures fair { right.new + gathered collector.old.lanes ≡ right.old + gathered collector.new.lanes }
     ensures held { OnErr result (piece.entry.outcome ≡ HeldBack) }
     ensures unheld { OnOk result (piece.entry.outcome ≢ HeldBack) }
     ensures fault { IfErr result (λ fault. fault ≡ Held piece.entry.rendition piece.entry.number) }
@@ -73,7 +73,7 @@ pub fn seal_own<'s>(
     collector: &mut Collector<'s>,
 ) -> Result<(), PackFault>
     ensures keeps { Keeps collector.old collector.new }
-    ensures more { pieces_in collector.old.lanes ≤ pieces_in collector.new.lanes }
+    ensures more { gathered collector.old.lanes ≤ gathered collector.new.lanes }
     ensures fault { IfErr result (λ fault. fault ≡ NoMemory) }
 {
     let Some(rendition) = settings.renditions.get(plan.rendition) else {
@@ -92,7 +92,7 @@ pub fn seal_missing(
     collector: &mut Collector<'_>,
 ) -> Result<bool, PackFault>
     ensures keeps { Keeps collector.old collector.new }
-    ensures more { pieces_in collector.old.lanes ≤ pieces_in collector.new.lanes }
+    ensures more { gathered collector.old.lanes ≤ gathered collector.new.lanes }
     ensures none { IfOk result (λ any. any ≡ false → (collector.new ≡ collector.old) × (missing_in collector.old.lanes ≡ [])) }
     ensures fault { IfErr result (λ fault. fault ≡ NoMemory) }
 {

@@ -11,17 +11,17 @@ use Rattle.pipeline.proofs.serial.pack_serial_reads.Goals as goal
 pub returns-in_err-is_allowed-clause-fault : goal.returns-in_err-is_allowed-clause-fault
 returns-in_err-is_allowed-clause-fault g c =
     let told = err_from_is_err_and c.from_residual.result c.from_residual.ensures.1 in
-    rw (told.1, told.2) ((nothing-given _ _ _ _ _ _ _ _ (λ k. c.closed_plans_begin_all.ensures.none k c.args.settings.now.cut)).cut, refl)
+    rw (told.1, told.2) ((nothing-given _ _ _ _ _ _ _ _ (λ k. c.closed_plans_begin_all.ensures.none k c.args.settings.now.cut)).0.cut, refl)
 
 pub returns-in_err-lanes-clause-fault : goal.returns-in_err-lanes-clause-fault
 returns-in_err-lanes-clause-fault g c =
     let told = err_from_is_err_and c.from_residual-in_err-lanes.result c.from_residual-in_err-lanes.ensures.1 in
-    rw (told.1, told.2) ((nothing-given _ _ _ _ _ _ _ _ (λ k. c.closed_plans_begin_all.ensures.none k c.args.settings.now.cut)).cut, refl)
+    rw (told.1, told.2) ((nothing-given _ _ _ _ _ _ _ _ (λ k. c.closed_plans_begin_all.ensures.none k c.args.settings.now.cut)).0.cut, refl)
 
 pub returns-in_err-playlists-clause-fault : goal.returns-in_err-playlists-clause-fault
 returns-in_err-playlists-clause-fault g c =
     let told = err_from_is_err_and c.from_residual-in_err-playlists.result c.from_residual-in_err-playlists.ensures.1 in
-    rw (told.1, told.2) ((nothing-given _ _ _ _ _ _ _ _ (λ k. c.closed_plans_begin_all.ensures.none k c.args.settings.now.cut)).cut, refl)
+    rw (told.1, told.2) ((nothing-given _ _ _ _ _ _ _ _ (λ k. c.closed_plans_begin_all.ensures.none k c.args.settings.now.cut)).0.cut, refl)
 
 pub turns-requires-clause-start : goal.turns-requires-clause-start
 turns-requires-clause-start g c =
@@ -37,7 +37,7 @@ returns-in-Some-clause-fault g c =
     let some = c.in-Some.ensures.some in
     halted-says _ _ _ _ _ _ _ _ _ _ some.0 some.1.stop c.in-Some.fault some.3
     (world-halted _ _ _ _ _ _ ok.0 _ _ _ _ _ _ some.0 some.1 (ap (λ lanes. slice_get lanes some.0) (sym c.deref.ensures.value) ∙ some.2)
-    (λ k earlier below at. some.4 k earlier below (ap (λ lanes. slice_get lanes k) c.deref.ensures.value ∙ at)) ok.3 ok.1 allowed.0 ok.2)
+    (λ k earlier below at. some.4 k earlier below (ap (λ lanes. slice_get lanes k) c.deref.ensures.value ∙ at)) ok.3 ok.1 allowed.0 ok.2).0
 
 pub report_of-requires-clause-each : goal.report_of-requires-clause-each
 report_of-requires-clause-each g c =
@@ -67,9 +67,9 @@ returns-in_err-report_of-clause-fault g c =
 pub returns-clause-ok : goal.returns-clause-ok
 returns-clause-ok g c =
     let ok = c.in_ok-turns.ensures.ok in
-    world-packed _ _ _ _ _ _ ok.0 _ _ _ _ _ _ c.in_ok-report_of.field-0
+    (world-packed _ _ _ _ _ _ ok.0 _ _ _ _ _ _ c.in_ok-report_of.field-0
     (λ k lane at. c.in_default.ensures.none refl k lane (ap (λ lanes. slice_get lanes k) c.deref.ensures.value ∙ at))
-    (rw (c.deref-3.ensures.value, c.deref-2.ensures.value) at c.in_ok-report_of.ensures.numbers) ok.1 ok.2
+    (rw (c.deref-3.ensures.value, c.deref-2.ensures.value) at c.in_ok-report_of.ensures.numbers) ok.1 ok.2).0
 
 pub returns-in_err-is_allowed-clause-at_once : goal.returns-in_err-is_allowed-clause-at_once
 returns-in_err-is_allowed-clause-at_once g c =

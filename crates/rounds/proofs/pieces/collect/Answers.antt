@@ -1,8 +1,8 @@
-use Rattle.rounds.proofs.Collecting.{keeps-piece, pieces-piece}
+use Rattle.rounds.proofs.Collecting.{keeps-piece, gathered-piece}
 use Rattle.rounds.proofs.pieces.collect.Goals as goal
 
 pub returns-clause-keeps : goal.returns-clause-keeps
 returns-clause-keeps c = keeps-piece _ _ c.args.piece c.in-Ok.ensures.right c.in-Ok.ensures.ok
 
 pub returns-clause-right : goal.returns-clause-right
-returns-clause-right c told = pieces-piece _ _ c.args.piece c.in-Ok.ensures.right c.in-Ok.ensures.ok
+returns-clause-right c told = gathered-piece _ _ c.args.piece c.in-Ok.ensures.right c.in-Ok.ensures.ok

@@ -1,0 +1,82 @@
+ghost use Rattle.std.specs.Prelude.{◌≡◌, ◌<◌, IfErr, IfOk, OnOk, true};
+ghost use Rattle.flow_core.specs.Gatherings.{awaited};
+ghost use Rattle.ingest.specs.Inputs.{input_of};
+ghost use Rattle.ladder_items.specs.Runs.{outlet_of};
+ghost use Rattle.rounds.specs.Courses.{ReadsNone};
+ghost use Rattle.rounds.specs.Rounds.{IsSomewhere, Moves, Breaks, gathered};
+
+use crate::course::Course;
+use crate::giving::give_piece;
+use flow_core::Collector;
+use ingest::closed_plans_are_in_order;
+use item_io::{Outlet, Source};
+use ladder_items::{PackFault, Settings};
+use live_board::HeldPublisher;
+use std::alloc::Global;
+use std::sync::Wait;
+
+/// Gives the next segment of rendition `r` if its piece came, and tells whether it did.
+fn give_next<S: Source, O: Outlet, R: Wait>(
+    rt: &R,
+    alloc: Global,
+    settings: &Settings,
+    r: usize,
+    course: &mut Course<S, O>,
+    held: &mut HeldPublisher<'_, R>,
+    collector: &mut Collector<'_>,
+) -> Result<bool, PackFault>
+    requires somewhere { IsSomewhere (input_of S.remaining S.reads S.failures) (outlet_of O.holds O.broken O.failures) settings.now course.old held.old.publisher collector.old }
+    ensures ok { OnOk result (Moves (input_of S.remaining S.reads S.failures) (outlet_of O.holds O.broken O.failures) settings.now course.old held.old.publisher collector.old course.new held.new.publisher collector.new) }
+    ensures err { IfErr result (Breaks (input_of S.remaining S.reads S.failures) (outlet_of O.holds O.broken O.failures) settings.now course.old held.old.publisher collector.old course.new held.new.publisher) }
+    ensures none_read { ReadsNone course.old course.new }
+    ensures gathered { OnOk result (gathered collector.new.lanes ≡ gathered collector.old.lanes) }
+    ensures fewer { IfOk result (λ any. any ≡ true → awaited collector.new.lanes < awaited collector.old.lanes) }
+{
+    closed_plans_are_in_order();
+    let Some(piece) = collector.next(r) else {
+        return Ok(false);
+    };
+    give_piece(rt, alloc, settings, r, piece, course, held)?;
+    Ok(true)
+}
+
+/// Gives the segments of rendition `r` whose pieces stand without a gap.
+fn give_ready<S: Source, O: Outlet, R: Wait>(
+    rt: &R,
+    alloc: Global,
+    settings: &Settings,
+    r: usize,
+    course: &mut Course<S, O>,
+    held: &mut HeldPublisher<'_, R>,
+    collector: &mut Collector<'_>,
+) -> Result<(), PackFault>
+    requires somewhere { IsSomewhere (input_of S.remaining S.reads S.failures) (outlet_of O.holds O.broken O.failures) settings.now course.old held.old.publisher collector.old }
+    ensures ok { OnOk result (Moves (input_of S.remaining S.reads S.failures) (outlet_of O.holds O.broken O.failures) settings.now course.old held.old.publisher collector.old course.new held.new.publisher collector.new) }
+    ensures err { IfErr result (Breaks (input_of S.remaining S.reads S.failures) (outlet_of O.holds O.broken O.failures) settings.now course.old held.old.publisher collector.old course.new held.new.publisher) }
+    ensures none_read { ReadsNone course.old course.new }
+    ensures gathered { OnOk result (gathered collector.new.lanes ≡ gathered collector.old.lanes) }
+{
+    while give_next(rt, alloc, settings, r, course, held, collector)? {}
+    Ok(())
+}
+
+/// Gives the segments of all renditions whose pieces stand without a gap.
+pub fn give_all_ready<S: Source, O: Outlet, R: Wait>(
+    rt: &R,
+    alloc: Global,
+    settings: &Settings,
+    course: &mut Course<S, O>,
+    held: &mut HeldPublisher<'_, R>,
+    collector: &mut Collector<'_>,
+) -> Result<(), PackFault>
+    requires somewhere { IsSomewhere (input_of S.remaining S.reads S.failures) (outlet_of O.holds O.broken O.failures) settings.now course.old held.old.publisher collector.old }
+    ensures ok { OnOk result (Moves (input_of S.remaining S.reads S.failures) (outlet_of O.holds O.broken O.failures) settings.now course.old held.old.publisher collector.old course.new held.new.publisher collector.new) }
+    ensures err { IfErr result (Breaks (input_of S.remaining S.reads S.failures) (outlet_of O.holds O.broken O.failures) settings.now course.old held.old.publisher collector.old course.new held.new.publisher) }
+    ensures none_read { ReadsNone course.old course.new }
+    ensures gathered { OnOk result (gathered collector.new.lanes ≡ gathered collector.old.lanes) }
+{
+    for r in 0..settings.renditions.len() {
+        give_ready(rt, alloc, settings, r, course, held, collector)?;
+    }
+    Ok(())
+}
