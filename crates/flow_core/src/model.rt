@@ -237,10 +237,11 @@ impl Model {
     }
 
     fn take(&mut self) -> Result<Told, AllocError> {
-        match self.done.pop() {
-            Some((name, made)) => self.receive(name, made),
-            None => Ok(Told::Nothing),
+        if self.done.is_empty() {
+            return Ok(Told::Nothing);
         }
+        let (name, made) = self.done.remove(0);
+        self.receive(name, made)
     }
 
     fn own(&mut self, rendition: usize) -> Result<Told, AllocError> {

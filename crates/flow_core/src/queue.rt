@@ -5,7 +5,7 @@ ghost use Rattle.cutter.specs.Lent.{lent};
 ghost use Rattle.flow_core.specs.Lists.{In};
 ghost use Rattle.flow_core.specs.declared.piece.Outcome.TheVariants.{Sealed as IsSealed, Refused as IsRefused, Held as IsHeld};
 ghost use Rattle.flow_core.specs.Queues.{first_queue, outstanding, standing, IsOwnOutcome};
-ghost use Rattle.flow_core.specs.Steps.{MayFeed, Refuses, Feeds, Claims, Delivers, Gives, Unfeeds, closed_queue, stopped_queue};
+ghost use Rattle.flow_core.specs.Steps.{MayFeed, Refuses, Feeds, Claims, Delivers, Gives, IsFirst, Unfeeds, closed_queue, stopped_queue};
 
 use crate::claim::Claim;
 use crate::fault::FeedFault;
@@ -30,7 +30,7 @@ pub struct Queue<'s, L: Ledger, M: Ledger> {
     fed: u64,
     waiting: VecDeque<Lent<'s>>,
     claimed: Vec<Claim<'s>>,
-    done: Vec<Finished<'s>>,
+    done: VecDeque<Finished<'s>>,
     closed: bool,
     claims: Book<L>,
     takes: Book<M>,
@@ -38,13 +38,14 @@ pub struct Queue<'s, L: Ledger, M: Ledger> {
 
 impl<'s, L: Ledger, M: Ledger> Model for Queue<'s, L, M> {
     ghost use Rattle.std.specs.Prelude.{vec_capacity};
+    ghost use Rattle.std.specs.VecDeque.{deque_capacity};
     ghost use Rattle.flow_core.specs.Queues.{QueueValue, IsKept};
 
     ghost Value = { QueueValue };
 
     ghost view = { λ q. record { most = q.most; fed = q.fed; waiting = q.waiting.items; claimed = q.claimed.items; done = q.done.items; closed = q.closed; claims = q.claims.total; takes = q.takes.total } };
 
-    ghost invariant = { λ q. IsKept (record { most = q.most; fed = q.fed; waiting = q.waiting.items; claimed = q.claimed.items; done = q.done.items; closed = q.closed; claims = q.claims.total; takes = q.takes.total }) (vec_capacity q.claimed) (vec_capacity q.done) };
+    ghost invariant = { λ q. IsKept (record { most = q.most; fed = q.fed; waiting = q.waiting.items; claimed = q.claimed.items; done = q.done.items; closed = q.closed; claims = q.claims.total; takes = q.takes.total }) (vec_capacity q.claimed) (deque_capacity q.done) };
 }
 
 impl<'s, L: Ledger, M: Ledger> Queue<'s, L, M> {
@@ -59,7 +60,7 @@ impl<'s, L: Ledger, M: Ledger> Queue<'s, L, M> {
             fed: 0,
             waiting: VecDeque::new(alloc),
             claimed: Vec::new(alloc),
-            done: Vec::new(alloc),
+            done: VecDeque::new(alloc),
             closed: false,
             claims,
             takes,
@@ -178,17 +179,18 @@ impl<'s, L: Ledger, M: Ledger> Queue<'s, L, M> {
             return false;
         };
         let held = self.claimed.remove(at);
-        self.done.push_reserved(Finished {
+        self.done.push_back_reserved(Finished {
             plan: Lent::of(held.plan()),
             outcome,
         });
         true
     }
 
-    /// Something that is done leaves, and is counted; none where nothing is done.
+    /// What has been done the longest leaves, and is counted; none where nothing is done.
     pub fn take(&mut self, mine: &mut Share<M>) -> Option<Piece<'s>>
         requires { 0 < mine.old.parts }
         ensures some { IfSome result (λ piece. Gives self.old piece self.new) }
+        ensures first { IfSome result (λ piece. IsFirst piece self.old.done self.new.done) }
         ensures none { IfNone result ((self.new ≡ self.old) × (self.old.done ≡ [])) }
         ensures counted { IfSome result (λ _. mine.new.amount ≡ mine.old.amount + 1) }
         ensures uncounted { IfNone result (mine.new.amount ≡ mine.old.amount) }
@@ -196,7 +198,7 @@ impl<'s, L: Ledger, M: Ledger> Queue<'s, L, M> {
         ensures low { IfSome result (λ _. mine.new.amount < 2 ^ 64) }
     {
         let Queue { done, takes, .. } = self;
-        let Finished { plan, outcome } = done.pop()?;
+        let Finished { plan, outcome } = done.pop_front()?;
         takes.add(mine, 1);
         takes.audit(mine);
         let plan = plan.plan();

@@ -114,7 +114,7 @@ impl<'s, L: Ledger, M: Ledger> Desk<'s, L, M> {
         self.done.notify_one();
     }
 
-    /// Takes something that is done; none where nothing is. It waits for the lock alone.
+    /// Takes what has been done the longest; none where nothing is done. It waits for the lock alone.
     pub fn take_done<R: Wait>(&self, rt: &R, pass: &mut Pass<M>) -> Option<Piece<'s>>
         ensures counted { IfSome result (λ _. pass.new.count ≡ pass.old.count + 1) }
         ensures uncounted { IfNone result (pass.new.count ≡ pass.old.count) }
@@ -123,7 +123,7 @@ impl<'s, L: Ledger, M: Ledger> Desk<'s, L, M> {
         take(&mut self.queue.lock(rt), pass)
     }
 
-    /// Waits until something is done, and takes it. None where nothing is outstanding.
+    /// Waits until something is done, and takes what has been done the longest. None where nothing is outstanding.
     pub fn wait_done<R: Wait>(&self, rt: &R, pass: &mut Pass<M>) -> Option<Piece<'s>>
         ensures counted { IfSome result (λ _. pass.new.count ≡ pass.old.count + 1) }
         ensures uncounted { IfNone result (pass.new.count ≡ pass.old.count) }

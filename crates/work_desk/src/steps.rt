@@ -3,7 +3,7 @@
 ghost use Rattle.std.specs.Prelude.{◌≡◌, ◌+◌, ◌∷◌, [], IfSome, IfNone, true, Decides};
 ghost use Rattle.flow_core.specs.Lists.{In};
 ghost use Rattle.flow_core.specs.Queues.{outstanding, IsOwnOutcome};
-ghost use Rattle.flow_core.specs.Steps.{Claims, Delivers, Gives};
+ghost use Rattle.flow_core.specs.Steps.{Claims, Delivers, Gives, IsFirst};
 ghost use Rattle.work_desk.specs.Waiting.{WorkersWait, TakerWaits};
 
 use crate::pass::Pass;
@@ -76,12 +76,13 @@ pub fn deliver<'s, L: Ledger, M: Ledger>(
     }
 }
 
-/// Takes something that is done; none where nothing is.
+/// Takes what has been done the longest; none where nothing is done.
 pub fn take<'s, L: Ledger, M: Ledger>(
     queue: &mut Queue<'s, L, M>,
     pass: &mut Pass<M>,
 ) -> Option<Piece<'s>>
     ensures some { IfSome result (λ piece. Gives queue.old piece queue.new) }
+    ensures first { IfSome result (λ piece. IsFirst piece queue.old.done queue.new.done) }
     ensures none { IfNone result ((queue.new ≡ queue.old) × (queue.old.done ≡ [])) }
     ensures counted { IfSome result (λ _. pass.new.count ≡ pass.old.count + 1) }
     ensures uncounted { IfNone result (pass.new.count ≡ pass.old.count) }
@@ -93,13 +94,14 @@ pub fn take<'s, L: Ledger, M: Ledger>(
     Some(piece)
 }
 
-/// Takes something that is done; none where nothing is outstanding.
+/// Takes what has been done the longest; none where nothing is outstanding.
 pub fn take_awaited<'s, L: Ledger, M: Ledger>(
     queue: &mut Queue<'s, L, M>,
     pass: &mut Pass<M>,
 ) -> Option<Piece<'s>>
     requires { TakerWaits queue.old → ⊥ }
     ensures some { IfSome result (λ piece. Gives queue.old piece queue.new) }
+    ensures first { IfSome result (λ piece. IsFirst piece queue.old.done queue.new.done) }
     ensures none { IfNone result ((queue.new ≡ queue.old) × (outstanding queue.old ≡ 0)) }
     ensures counted { IfSome result (λ _. pass.new.count ≡ pass.old.count + 1) }
     ensures uncounted { IfNone result (pass.new.count ≡ pass.old.count) }
