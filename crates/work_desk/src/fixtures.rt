@@ -70,6 +70,8 @@ pub(crate) struct Job<'g, G> {
     pub(crate) plans: u64,
     /// Whether each second plan is of a rendition that has no keys.
     pub(crate) half: bool,
+    /// Whether a thread of its own stops the desk once all plans are fed. It is closed otherwise.
+    pub(crate) stops: bool,
     pub(crate) gate: &'g G,
 }
 
@@ -155,8 +157,8 @@ fn feed_one<'p, L: Ledger, M: Ledger, R: Wait>(
     }
 }
 
-/// Feeds all plans, closes the desk and takes what is left.
-fn drive<'p, L: Ledger, M: Ledger, G, R: Wait>(
+/// Feeds all plans.
+fn feed_all<'p, L: Ledger, M: Ledger, G, R: Wait>(
     rt: &R,
     desk: &Desk<'p, L, M>,
     taker: &mut Pass<M>,
@@ -176,13 +178,47 @@ fn drive<'p, L: Ledger, M: Ledger, G, R: Wait>(
         }
         feed_one(rt, desk, taker, plan, taken);
     }
-    desk.close(rt);
+}
+
+/// Takes what is left.
+fn take_all<L: Ledger, M: Ledger, R: Wait>(
+    rt: &R,
+    desk: &Desk<'_, L, M>,
+    taker: &mut Pass<M>,
+    taken: &mut Taken,
+) {
     for _ in rt.forever() {
         let Some(piece) = desk.wait_done(rt, taker) else {
             break;
         };
         taken.note(&piece);
     }
+}
+
+/// Closes the desk, or has a thread of its own stop it, and takes what is left.
+fn end<L: Ledger + Send + Sync, M: Ledger + Send + Sync, R: Threads + Wait + Sync>(
+    rt: &R,
+    desk: &Desk<'_, L, M>,
+    taker: Pass<M>,
+    taken: Taken,
+    stops: bool,
+) -> (Pass<M>, Taken) {
+    thread::scope(thread::scope_env(), rt, |scope| -> (Pass<M>, Taken) {
+        let (mut taker, mut taken) = (taker, taken);
+        let stopper = if stops {
+            scope.spawn(move || desk.stop(rt)).ok()
+        } else {
+            None
+        };
+        if stopper.is_none() {
+            desk.close(rt);
+        }
+        take_all(rt, desk, &mut taker, &mut taken);
+        if let Some(child) = stopper {
+            child.join(rt);
+        }
+        (taker, taken)
+    })
 }
 
 /// Joins each worker, and adds up what they claimed.
@@ -247,7 +283,8 @@ fn in_scope<
                     break;
                 }
             }
-            drive(rt, desk, &mut taker, plans, job, &mut taken);
+            feed_all(rt, desk, &mut taker, plans, job, &mut taken);
+            let (mut taker, taken) = end(rt, desk, taker, taken, job.stops);
             let started = running.len();
             let mut told = taken.told;
             told.claims = gather(rt, running, &mut rest);

@@ -31,6 +31,7 @@ fn two_workers_seal_both_plans(rt: HostRuntime) -> Result<(), Fail> {
         workers: 2,
         plans: 2,
         half: false,
+        stops: false,
         gate: &FreeGate,
     };
     let told = run(&rt, rt.alloc(), &job, TIMES, sealed(2))?;
@@ -45,6 +46,7 @@ fn sixteen_workers_seal_each_plan_once(rt: HostRuntime) -> Result<(), Fail> {
         workers: 16,
         plans: 1000,
         half: false,
+        stops: false,
         gate: &FreeGate,
     };
     let told = run(&rt, rt.alloc(), &job, TIMES, sealed(1000))?;
@@ -73,6 +75,7 @@ fn a_run_goes_on_behind_a_segment_that_is_held(rt: HostRuntime) -> Result<(), Fa
         workers: 2,
         plans: 3,
         half: false,
+        stops: false,
         gate: &AllBut(1),
     };
     let wanted = Told {
@@ -92,6 +95,7 @@ fn a_run_goes_on_where_each_second_plan_is_refused(rt: HostRuntime) -> Result<()
         workers: 2,
         plans: 8,
         half: true,
+        stops: false,
         gate: &FreeGate,
     };
     let wanted = Told {
@@ -101,6 +105,36 @@ fn a_run_goes_on_where_each_second_plan_is_refused(rt: HostRuntime) -> Result<()
     };
     let told = run(&rt, rt.alloc(), &job, TIMES, wanted)?;
     assert_eq!(rt; told, wanted);
+    Ok(())
+}
+
+#[test]
+fn a_stop_wakes_workers_that_wait(rt: HostRuntime) -> Result<(), Fail> {
+    let job = Job {
+        queue: 1,
+        workers: 4,
+        plans: 0,
+        half: false,
+        stops: true,
+        gate: &FreeGate,
+    };
+    let told = run(&rt, rt.alloc(), &job, TIMES, sealed(0))?;
+    assert_eq!(rt; told, sealed(0));
+    Ok(())
+}
+
+#[test]
+fn a_stop_wakes_a_taker_that_waits(rt: HostRuntime) -> Result<(), Fail> {
+    let job = Job {
+        queue: 1,
+        workers: 0,
+        plans: 1,
+        half: false,
+        stops: true,
+        gate: &FreeGate,
+    };
+    let told = run(&rt, rt.alloc(), &job, TIMES, sealed(0))?;
+    assert_eq!(rt; told, sealed(0));
     Ok(())
 }
 
