@@ -3,3 +3,8 @@ pub mod Steps
 pub mod Collecting
 pub mod Running
 pub mod Rounding
+pub mod Turning
+pub mod Expecting
+pub mod Closing
+pub mod Driven
+pub mod Answered

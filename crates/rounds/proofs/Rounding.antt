@@ -32,7 +32,7 @@ use Rattle.rounds.proofs.Steps.{counts-are}
 use Rattle.rounds.proofs.Running.{stage-of, stopped-here, first-next, waits-going, on-failures, on-gave, on-ungiven, row-moved, row-begins}
 
 -- how many segments a rendition shows
-count-at : (ladder : Ladder) (parts : List Part) (shown : List Shown) (k : ℕ) → length parts ≡ length ladder.renditions → k < length parts → shown ≡ shown_all ladder parts
+pub count-at : (ladder : Ladder) (parts : List Part) (shown : List Shown) (k : ℕ) → length parts ≡ length ladder.renditions → k < length parts → shown ≡ shown_all ladder parts
     → slice_index_or (counts_of shown) k 0 ≡ count (part_at parts k)
 count-at ladder parts shown k each below is =
     ap (λ (l : List ℕ). slice_index_or l k 0) (counts-are ladder parts shown each is) ∙ get_or-map count parts k no_part 0 below

@@ -1,5 +1,5 @@
 -- A run on its way on many threads.
-use Rattle.std.specs.Prelude.{◌≡◌, ◌⊎◌, ℕ, ◌+◌, ◌<◌, ◌≤◌, ◌^◌, Bool, List, [], ◌∷◌, ◌++◌, length, map, None, Some, slice_get}
+use Rattle.std.specs.Prelude.{◌≡◌, ◌≢◌, ◌⊎◌, ℕ, ◌+◌, ◌<◌, ◌≤◌, ◌^◌, Bool, List, [], ◌∷◌, ◌++◌, length, map, None, Some, slice_get}
 use Rattle.cutter.specs.Plans.{SegmentPlan}
 use Rattle.item_io.specs.Items.{ItemValue}
 use Rattle.live_board.specs.Snapshots.{SnapshotFacts, Known}
@@ -91,4 +91,12 @@ pub record IsStopped {X Y : Type 0} (input : InputView X) (out : OutletView Y) (
 
 -- no rendition is read any further: all have stopped, or had all their turns
 abbrev pub Rests : {X Y : Type 0} → Course X Y → Type 0
-Rests course = (course.turns ≡ course.reads) ⊎ ((k : ℕ) (lane : Lane) → slice_get course.lanes.items k ≡ Some lane → lane.stop ≡ None → ⊥)
+Rests course = (course.reads ≤ course.turns) ⊎ ((k : ℕ) (lane : Lane) → slice_get course.lanes.items k ≡ Some lane → lane.stop ≡ None → ⊥)
+
+-- a plan of some rendition is closed and not turned out
+abbrev pub HasClosed : List Lane → Type 0
+HasClosed lanes = (k : ℕ) × (lane : Lane) × (slice_get lanes k ≡ Some lane) × (lane.intake.filled ≢ [])
+
+-- some plans are closed, or no rendition is read any further
+abbrev pub HasEnough : {X Y : Type 0} → Course X Y → Type 0
+HasEnough course = HasClosed course.lanes.items ⊎ Rests course

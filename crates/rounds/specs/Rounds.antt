@@ -1,5 +1,5 @@
 -- A round: plans are expected, and pieces come for them.
-use Rattle.std.specs.Prelude.{◌≡◌, ℕ, ◌+◌, ◌<◌, List, [], ◌∷◌, ◌++◌, map, length, slice_index_or}
+use Rattle.std.specs.Prelude.{◌≡◌, ℕ, ◌+◌, ◌<◌, ◌≤◌, sum, List, [], ◌∷◌, ◌++◌, map, length, slice_index_or}
 use Rattle.cutter.specs.Plans.{SegmentPlan}
 use Rattle.flow_core.specs.declared.slot.Slot.{Slot}
 use Rattle.flow_core.specs.Slots.{one_more}
@@ -11,7 +11,8 @@ use Rattle.ladder_items.specs.declared.fault.PackFault.{PackFault}
 use Rattle.ladder_items.specs.Ladder.{Ladder, rendition_at}
 use Rattle.ladder_items.specs.Runs.{OutletView}
 use Rattle.rounds.specs.declared.course.Course.{Course}
-use Rattle.rounds.specs.Courses.{Start, IsOn, IsStopped}
+use Rattle.rounds.specs.declared.books.Books.{Books}
+use Rattle.rounds.specs.Courses.{Start, IsOn, IsStopped, HasEnough}
 use Rattle.rounds.specs.Showing.{counts_of}
 
 -- the plans that a rendition of a collector expects, in order
@@ -62,3 +63,23 @@ Moves {X} {Y} input out ladder old shows_old g_old new shows_new g_new =
 abbrev pub Breaks : {X Y : Type 0} → InputView X → OutletView Y → Ladder → Course X Y → Known → Gathering → Course X Y → Known → PackFault → Type 0
 Breaks {X} {Y} input out ladder old shows_old g_old new shows_new fault =
     (start : Start X Y) (unfed : List (List SegmentPlan)) → InRound input out ladder start unfed old shows_old g_old → IsStopped input out ladder start new shows_new fault
+
+-- What the calling thread made of each run that stood there with these full spools: all of them was given. It took no more right
+-- pieces than segments were given.
+pub record IsDriven {X Y : Type 0} (input : InputView X) (out : OutletView Y) (ladder : Ladder) (spools : List (List SegmentPlan)) (old : Course X Y) (shows : Known) (right : ℕ) (new : Course X Y) (shows_now : Known) (right_now : ℕ) : Type 0 where
+  pub on : (start : Start X Y) → IsOn input out ladder start 0 old shows (unfed_of spools) → IsOn input out ladder start 0 new shows_now (λ k. [])
+  pub enough : HasEnough new
+  pub turns : old.turns ≤ new.turns
+  pub stays : new.turns ≡ old.turns → new.lanes ≡ old.lanes
+  pub fair : right_now + sum (counts_of old.playlists.items) ≤ right + sum (counts_of new.playlists.items)
+
+-- a round whose numbers stand in the books
+pub record IsRound {X Y : Type 0} (input : InputView X) (out : OutletView Y) (ladder : Ladder) (spools : List (List SegmentPlan)) (old : Course X Y) (shows : Known) (books : Books) (new : Course X Y) (shows_now : Known) (books_now : Books) : Type 0 where
+  pub driven : IsDriven input out ladder spools old shows books.right new shows_now books_now.right
+  pub rounds : books_now.rounds ≡ books.rounds + 1
+  pub each : length books_now.workers.items ≡ length books.workers.items
+
+-- a round was stopped by a fault
+abbrev pub IsBroken : {X Y : Type 0} → InputView X → OutletView Y → Ladder → List (List SegmentPlan) → Course X Y → Known → Course X Y → Known → PackFault → Type 0
+IsBroken {X} {Y} input out ladder spools old shows new shows_now fault =
+    (start : Start X Y) → IsOn input out ladder start 0 old shows (unfed_of spools) → IsStopped input out ladder start new shows_now fault

@@ -75,6 +75,7 @@ pub fn give_its_end<S: Source, O: Outlet, R: Wait>(
         GaveSome (outlet_of O.holds O.broken O.failures) settings.now parts (End r) course.old course.new held.old.publisher.list held.new.publisher.list) }
     ensures board { held.new.publisher.board ≡ held.old.publisher.board }
     ensures none_read { ReadsNone course.old course.new }
+    ensures playlists { course.new.playlists ≡ course.old.playlists }
     ensures failures { OnOk result (O.failures course.new.outlet ≡ O.failures course.old.outlet) }
     ensures fault { IfErr result (λ fault. SaysFailures fault (O.failures course.old.outlet) (O.failures course.new.outlet)) }
 {

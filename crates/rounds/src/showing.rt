@@ -41,7 +41,7 @@ pub fn snapshot(
 }
 
 /// How many segments each rendition has.
-fn counts(alloc: Global, playlists: &[Playlists]) -> Result<Vec<u64>, AllocError>
+pub fn counts(alloc: Global, playlists: &[Playlists]) -> Result<Vec<u64>, AllocError>
     ensures { IfOk result (λ counts. counts.items ≡ counts_of playlists.now) }
 {
     let mut counts = Vec::new(alloc);

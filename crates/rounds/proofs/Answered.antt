@@ -1,0 +1,40 @@
+-- What the calling thread was told in a round is told, where the round is closed.
+use Rattle.std.proofs.Common.{◌≡◌, ◌∙◌, ℕ, ◌+◌, List, length, Result, ap, sym, subst, arith}
+use Rattle.std.specs.Prelude.{OnOk, IfErr}
+use Rattle.std.proofs.lemmas.Result.{on_ok_weaker}
+use Rattle.cutter.specs.Plans.{SegmentPlan}
+use Rattle.live_board.specs.Snapshots.{Known}
+use Rattle.ingest.specs.Inputs.{InputView}
+use Rattle.ladder_items.specs.declared.fault.PackFault.{PackFault}
+use Rattle.ladder_items.specs.Ladder.{Ladder}
+use Rattle.ladder_items.specs.Runs.{OutletView}
+use Rattle.rounds.specs.declared.books.Books.{Books}
+use Rattle.rounds.specs.declared.course.Course.{Course}
+use Rattle.rounds.specs.Rounds.{IsDriven, IsRound, IsBroken}
+
+module _ {X Y : Type 0} (input : InputView X) (out : OutletView Y) (ladder : Ladder) (spools : List (List SegmentPlan)) (old : Course X Y) (shows : Known)
+    (new closed : Course X Y) (shows_now shows_closed : Known) (answer told : Result (Unit {0}) PackFault) (same : told ≡ answer) (courses : closed ≡ new) (shown : shows_closed ≡ shows_now) where
+  round-made : (books mid books_now : Books) (right : ℕ)
+      → mid ≡ books → books_now.rounds ≡ mid.rounds + 1 → books_now.right ≡ mid.right + right → length books_now.workers.items ≡ length mid.workers.items
+      → IsDriven input out ladder spools old shows 0 new shows_now right → IsRound input out ladder spools old shows books new shows_now books_now
+  round-made books mid books_now right kept rounds more each d = record {
+    driven = record { on = d.on; enough = d.enough; turns = d.turns; stays = d.stays; fair = omega (arith, more, ap (λ (b : Books). b.right) kept, d.fair) };
+    rounds = rounds ∙ ap (λ (b : Books). b.rounds + 1) kept;
+    each = each ∙ ap (λ (b : Books). length b.workers.items) kept;
+  }
+
+  pub round-closed : (books mid books_now : Books) (right : ℕ)
+      → mid ≡ books → books_now.rounds ≡ mid.rounds + 1 → books_now.right ≡ mid.right + right → length books_now.workers.items ≡ length mid.workers.items
+      → OnOk answer (IsDriven input out ladder spools old shows 0 new shows_now right)
+      → OnOk told (IsRound input out ladder spools old shows books closed shows_closed books_now)
+  round-closed books mid books_now right kept rounds more each all =
+      subst (λ (r : Result (Unit {0}) PackFault). OnOk r (IsRound input out ladder spools old shows books closed shows_closed books_now)) (sym same)
+      (subst (λ (d : Course X Y). OnOk answer (IsRound input out ladder spools old shows books d shows_closed books_now)) (sym courses)
+      (subst (λ (k : Known). OnOk answer (IsRound input out ladder spools old shows books new k books_now)) (sym shown)
+      (on_ok_weaker {Q = IsRound input out ladder spools old shows books new shows_now books_now} answer (round-made books mid books_now right kept rounds more each) all)))
+
+  pub break-closed : IfErr answer (IsBroken input out ladder spools old shows new shows_now) → IfErr told (IsBroken input out ladder spools old shows closed shows_closed)
+  break-closed all =
+      subst (λ (r : Result (Unit {0}) PackFault). IfErr r (IsBroken input out ladder spools old shows closed shows_closed)) (sym same)
+      (subst (λ (d : Course X Y). IfErr answer (IsBroken input out ladder spools old shows d shows_closed)) (sym courses)
+      (subst (λ (k : Known). IfErr answer (IsBroken input out ladder spools old shows new k)) (sym shown) all))

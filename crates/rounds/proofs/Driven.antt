@@ -1,0 +1,140 @@
+-- A round from its beginning to its end.
+use Rattle.std.proofs.Common.{◌≡◌, ◌∙◌, inl, inr, ℕ, zero, suc, ◌+◌, ◌<◌, List, [], ◌∷◌, ◌++◌, length, map, drop, refl, ap, sym, subst, arith}
+use Rattle.std.specs.Prelude.{sum}
+use Rattle.std.specs.List.{slice_get, slice_index_or}
+use Rattle.std.proofs.Math.Seq.{drop-cons}
+use Rattle.std.proofs.lemmas.List.{length-map, get_or-map, drop_all, nil_from_length}
+use Rattle.std.proofs.lemmas.List.Sums.{sum_by-cons}
+use Rattle.cutter.specs.Plans.{SegmentPlan}
+use Rattle.segment_job.specs.Rotation.{KeyRotation}
+use Rattle.flow_core.specs.Lanes.{LaneValue, first_lane}
+use Rattle.flow_core.specs.Gatherings.{Gathering, no_lane, awaited, lanes_from}
+use Rattle.flow_core.proofs.Gathering.{lanes-count}
+use Rattle.live_board.specs.Snapshots.{Known}
+use Rattle.ingest.specs.Inputs.{InputView}
+use Rattle.ladder_items.specs.Ladder.{Ladder, RenditionValue, no_rendition, rendition_at}
+use Rattle.ladder_items.specs.Shown.{Shown}
+use Rattle.ladder_items.specs.Runs.{OutletView}
+use Rattle.ladder_items.proofs.Blocks.{shown-each}
+use Rattle.ladder_items.proofs.Worlds.{parts-of, parts-length}
+use Rattle.rounds.specs.declared.course.Course.{Course}
+use Rattle.rounds.specs.Showing.{counts_of}
+use Rattle.rounds.specs.Courses.{Start, IsOn, ReadsNone, HasEnough}
+use Rattle.rounds.specs.Rounds.{InRound, expected, unfed_of, pieces_of, gathered}
+
+-- nothing was read, so that enough is closed still
+pub enough-read : {X Y : Type 0} (old new : Course X Y) → ReadsNone old new → HasEnough old → HasEnough new
+enough-read old new none (inl x) = inl (x.0, x.1, ap (λ l. slice_get l.items x.0) none.lanes ∙ x.2, x.3)
+enough-read old new none (inr (inl x)) = inr (inl (omega (arith, x, none.turns, none.reads)))
+enough-read old new none (inr (inr x)) = inr (inr (λ k lane at. x k lane (ap (λ l. slice_get l.items k) (sym none.lanes) ∙ at)))
+
+-- the keys of all renditions
+abbrev pub keys-of : Ladder → List KeyRotation
+keys-of ladder = map (λ (r : RenditionValue). r.keys) ladder.renditions
+
+-- a rendition of a new collector
+lanes-at : (r : ℕ) (keys : List KeyRotation) (starts : List ℕ) (k : ℕ) (d : KeyRotation) → k < length keys
+    → (n : ℕ) → n ≡ r + k → slice_index_or (lanes_from r keys starts) k no_lane ≡ first_lane n (slice_index_or keys k d) (slice_index_or starts n 0)
+lanes-at r [] starts k d below n is = absurd (omega (arith, below))
+lanes-at r (x ∷ keys) starts zero d below n is = let same : r ≡ n = omega (arith, is) in ap (λ (m : ℕ). first_lane m x (slice_index_or starts m 0)) same
+lanes-at r (x ∷ keys) starts (suc k) d below n is = lanes-at (r + 1) keys starts k d (omega (arith, below)) n (omega (arith, is))
+
+-- it expects nothing
+expects-none : (r : ℕ) (keys : List KeyRotation) (starts : List ℕ) (k : ℕ) → expected (slice_index_or (lanes_from r keys starts) k no_lane) ≡ []
+expects-none r [] starts k = refl
+expects-none r (x ∷ keys) starts zero = refl
+expects-none r (x ∷ keys) starts (suc k) = expects-none (r + 1) keys starts k
+
+-- and has gathered what was given before it
+gathered-from : (r : ℕ) (keys : List KeyRotation) (starts : List ℕ) → r + length keys ≡ length starts → gathered (lanes_from r keys starts) ≡ sum (drop r starts)
+gathered-from r [] starts each = sym (ap sum (drop_all r starts (omega (arith, each))))
+gathered-from r (x ∷ keys) starts each =
+    let more : suc r ≡ r + 1 = omega arith in
+    let rest = gathered-from (r + 1) keys starts (omega (arith, each)) in
+    let here = ap sum (drop-cons starts r 0 (omega (arith, each))) ∙ sum_by-cons (λ n. n) (slice_index_or starts r 0) (drop (suc r) starts) in
+    let same = ap (λ (n : ℕ). sum (drop n starts)) more in
+    omega (arith, rest, here, same)
+
+-- nothing is awaited
+awaits-none : (lanes : List LaneValue) (k : ℕ) → awaited lanes ≡ 0 → expected (slice_index_or lanes k no_lane) ≡ []
+awaits-none [] k none = refl
+awaits-none (l ∷ lanes) zero none = ap (map (λ slot. slot.plan)) (nil_from_length l.slots (omega (arith, none)))
+awaits-none (l ∷ lanes) (suc k) none = awaits-none lanes k (omega (arith, none))
+
+gathered-none : (lanes : List LaneValue) (counts : List ℕ) → length lanes ≡ length counts → awaited lanes ≡ 0
+    → ((k : ℕ) → k < length lanes → (slice_index_or lanes k no_lane).next ≡ slice_index_or counts k 0) → gathered lanes ≡ sum counts
+gathered-none [] [] each none nexts = refl
+gathered-none [] (n ∷ counts) each none nexts = absurd (omega (arith, each))
+gathered-none (l ∷ lanes) [] each none nexts = absurd (omega (arith, each))
+gathered-none (l ∷ lanes) (n ∷ counts) each none nexts =
+    let rest = gathered-none lanes counts (omega (arith, each)) (omega (arith, none)) (λ k below. nexts (suc k) (omega (arith, below))) in
+    let first : l.next ≡ n = nexts zero (omega arith) in
+    let pieces : pieces_of l.slots ≡ 0 = ap pieces_of (nil_from_length l.slots (omega (arith, none))) in
+    let all = sum_by-cons (λ n. n) n counts in
+    omega (arith, rest, first, pieces, all)
+
+module _ (X Y : Type 0) (input : InputView X) (out : OutletView Y) (ladder : Ladder) (start : Start X Y) where
+  -- how many renditions show something
+  counts-each : (next : ℕ) (course : Course X Y) (shows : Known) (waiting : ℕ → List SegmentPlan) → IsOn input out ladder start next course shows waiting
+      → length (counts_of course.playlists.items) ≡ length ladder.renditions
+  counts-each next course shows waiting on =
+      let parts = parts-of ladder on.world.events in
+      let each = parts-length ladder on.world.events in
+      length-map course.playlists.items (λ (s : Shown). length s.rows) ∙ shown-each ladder parts course.playlists.items each on.world.shown_are
+
+  -- a round begins
+  pub in-first : (spools : List (List SegmentPlan)) (course : Course X Y) (shows : Known) (g : Gathering) → length spools ≡ length ladder.renditions
+      → g.lanes ≡ lanes_from 0 (keys-of ladder) (counts_of course.playlists.items)
+      → IsOn input out ladder start 0 course shows (unfed_of spools) → InRound input out ladder start spools course shows g
+  in-first spools course shows g each is on =
+      let counts = counts_of course.playlists.items in
+      let keys = keys-of ladder in
+      let size : length g.lanes ≡ length ladder.renditions = ap length is ∙ (lanes-count 0 keys counts ∙ length-map ladder.renditions (λ (r : RenditionValue). r.keys)) in
+      record {
+        waiting = unfed_of spools;
+        on = on;
+        waits = λ k. ap (λ (l : List SegmentPlan). l ++ unfed_of spools k) (sym (ap (λ (ls : List LaneValue). expected (slice_index_or ls k no_lane)) is ∙ expects-none 0 keys counts k));
+        each = size;
+        all = each;
+        nexts = λ k below.
+            ap (λ (ls : List LaneValue). (slice_index_or ls k no_lane).next) is
+            ∙ ap (λ (l : LaneValue). l.next) (lanes-at 0 keys counts k (rendition_at ladder k).keys (omega (arith, below, size, length-map ladder.renditions (λ (r : RenditionValue). r.keys))) k (omega arith));
+        keys = λ k below.
+            ap (λ (ls : List LaneValue). (slice_index_or ls k no_lane).keys) is
+            ∙ (ap (λ (l : LaneValue). l.keys) (lanes-at 0 keys counts k (rendition_at ladder k).keys (omega (arith, below, size, length-map ladder.renditions (λ (r : RenditionValue). r.keys))) k (omega arith))
+            ∙ get_or-map (λ (r : RenditionValue). r.keys) ladder.renditions k no_rendition (rendition_at ladder k).keys (omega (arith, below, size)));
+      }
+
+  pub in-begun : (course : Course X Y) (shows : Known) (waiting : ℕ → List SegmentPlan) (g : Gathering) → g.lanes ≡ lanes_from 0 (keys-of ladder) (counts_of course.playlists.items)
+      → IsOn input out ladder start 0 course shows waiting → gathered g.lanes ≡ sum (counts_of course.playlists.items)
+  in-begun course shows waiting g is on =
+      let counts = counts_of course.playlists.items in
+      let keys = keys-of ladder in
+      ap gathered is ∙ gathered-from 0 keys counts (omega (arith, length-map ladder.renditions (λ (r : RenditionValue). r.keys), counts-each 0 course shows waiting on))
+
+  -- renditions had their turns
+  pub in-read : (unfed : List (List SegmentPlan)) (course now : Course X Y) (shows : Known) (g : Gathering)
+      → ((waiting : ℕ → List SegmentPlan) → IsOn input out ladder start 0 course shows waiting → IsOn input out ladder start 0 now shows waiting) → now.playlists ≡ course.playlists
+      → InRound input out ladder start unfed course shows g → InRound input out ladder start unfed now shows g
+  in-read unfed course now shows g moves same i = record {
+    waiting = i.waiting;
+    on = moves i.waiting i.on;
+    waits = i.waits;
+    each = i.each;
+    all = i.all;
+    nexts = λ k below. i.nexts k below ∙ ap (λ p. slice_index_or (counts_of p.items) k 0) (sym same);
+    keys = i.keys;
+  }
+
+  -- it ends
+  pub in-last : (left : List (List SegmentPlan)) (course : Course X Y) (shows : Known) (g : Gathering) → awaited g.lanes ≡ 0 → ((k : ℕ) → unfed_of left k ≡ [])
+      → InRound input out ladder start left course shows g → IsOn input out ladder start 0 course shows (λ k. [])
+  in-last left course shows g none fed i =
+      let all : (k : ℕ) → i.waiting k ≡ [] = λ k. i.waits k ∙ (ap (λ (l : List SegmentPlan). l ++ unfed_of left k) (awaits-none g.lanes k none) ∙ fed k) in
+      let path : i.waiting ≡ (λ k. []) = λ j k. all k j in
+      subst (λ (w : ℕ → List SegmentPlan). IsOn input out ladder start 0 course shows w) path i.on
+
+  pub in-given : (left : List (List SegmentPlan)) (course : Course X Y) (shows : Known) (g : Gathering) → awaited g.lanes ≡ 0
+      → InRound input out ladder start left course shows g → gathered g.lanes ≡ sum (counts_of course.playlists.items)
+  in-given left course shows g none i =
+      gathered-none g.lanes (counts_of course.playlists.items) (i.each ∙ sym (counts-each 0 course shows i.waiting i.on)) none (λ k below. i.nexts k below)

@@ -1,0 +1,17 @@
+use Rattle.std.proofs.Common.{◌∙◌, ◌+◌, refl, ap}
+use Rattle.rounds.proofs.Answered.{round-closed, break-closed}
+use Rattle.rounds.proofs.Running.{stopped-here}
+use Rattle.rounds.proofs.scoped.fn.in_scope.scope.Goals as goal
+
+pub returns-then-len-workers : goal.returns-then-len-workers
+returns-then-len-workers g c = record { ok = tt; err = λ start on. stopped-here _ _ _ _ _ start 0 _ _ _ _ refl on }
+
+pub returns : goal.returns
+returns g c =
+    let d = c.driven-going.ensures in
+    let e = c.closed.ensures in
+    let right = e.right ∙ ap (λ n. c.driven-going.result.going.books.right + n) c.settled-left.ensures.right in
+    record {
+      ok = round-closed _ _ _ _ _ _ _ _ _ _ _ _ e.answer e.course e.held _ _ _ _ d.books e.rounds right e.each d.ok;
+      err = break-closed _ _ _ _ _ _ _ _ _ _ _ _ e.answer e.course e.held d.err;
+    }
