@@ -74,6 +74,17 @@ says-as s t Outlet refused halted unput wanting held says = unput says
 says-as s t NoMemory refused halted unput wanting held says = wanting says
 says-as s t (HeldBack r n) refused halted unput wanting held says = held r n refl says
 
+-- a rendition's end says what its fault says
+pub halted-said : (s : Sayings) (r : ℕ) (stop : Option Stop) (e : PackFault) → told_of r stop ≡ Some e → s.halted r stop → Says s e
+halted-said s r None e t h = subst (Says s) (same_Some _ _ t) h
+halted-said s r (Some (Good n)) e t h = cc
+halted-said s r (Some ReadFailed) e t h = subst (Says s) (same_Some _ _ t) h
+halted-said s r (Some (Cut HasNoProgram)) e t h = subst (Says s) (same_Some _ _ t) h
+halted-said s r (Some (Cut HasNoStart)) e t h = subst (Says s) (same_Some _ _ t) h
+halted-said s r (Some (Cut (IsLong n))) e t h = subst (Says s) (same_Some _ _ t) h
+halted-said s r (Some (Cut (IsBig n))) e t h = subst (Says s) (same_Some _ _ t) h
+halted-said s r (Some (Cut PassesLimit)) e t h = subst (Says s) (same_Some _ _ t) h
+
 module _ (X Y : Type 0) (input : InputView X) (out : OutletView Y) (most_reads : ℕ) (ladder : Ladder) where
   -- how the lanes ended
   abbrev pub stop_at : List Lane → ℕ → Option Stop
@@ -168,14 +179,7 @@ module _ (X Y : Type 0) (input : InputView X) (out : OutletView Y) (most_reads :
   pub halted-says : (before now : List X) (x y : Y) (r : ℕ) (stop : Option Stop) (e : PackFault) → told_of r stop ≡ Some e
       → HasHalted (run_of input out most_reads before now x y) ladder r stop
       → FaultSays (run_of input out most_reads before now x y) ladder e
-  halted-says before now x y r None e t h = subst (FaultSays (run_of input out most_reads before now x y) ladder) (same_Some _ _ t) h
-  halted-says before now x y r (Some (Good n)) e t h = cc
-  halted-says before now x y r (Some ReadFailed) e t h = subst (FaultSays (run_of input out most_reads before now x y) ladder) (same_Some _ _ t) h
-  halted-says before now x y r (Some (Cut HasNoProgram)) e t h = subst (FaultSays (run_of input out most_reads before now x y) ladder) (same_Some _ _ t) h
-  halted-says before now x y r (Some (Cut HasNoStart)) e t h = subst (FaultSays (run_of input out most_reads before now x y) ladder) (same_Some _ _ t) h
-  halted-says before now x y r (Some (Cut (IsLong n))) e t h = subst (FaultSays (run_of input out most_reads before now x y) ladder) (same_Some _ _ t) h
-  halted-says before now x y r (Some (Cut (IsBig n))) e t h = subst (FaultSays (run_of input out most_reads before now x y) ladder) (same_Some _ _ t) h
-  halted-says before now x y r (Some (Cut PassesLimit)) e t h = subst (FaultSays (run_of input out most_reads before now x y) ladder) (same_Some _ _ t) h
+  halted-says before now x y r stop e t h = halted-said (of_run (run_of input out most_reads before now x y) ladder) r stop e t h
 
   -- a fault that stopped the run at once
   pub at-once : (before now : List X) (x y : Y) (e : PackFault) → SaysFailures e (out.failures x) (out.failures y) → IsCutShort (run_of input out most_reads before now x y) ladder

@@ -38,6 +38,7 @@ pub record IsAlone (report : Report) : Type 0 where
   pub workers : report.workers.items ≡ []
   pub own : report.own ≡ sum report.counts.items
   pub thrown : report.thrown ≡ 0
+  pub rounds : report.rounds ≡ 0
 
 -- The run ended well: each input came to its end, the items put are a weave of the whole lists of all renditions, and the
 -- report tells their numbers.

@@ -26,6 +26,8 @@ pub struct Report {
     pub own: u128,
     /// How many sealed segments were thrown away.
     pub thrown: u128,
+    /// How many rounds of many threads there were.
+    pub rounds: u64,
 }
 
 /// The report of a run on one thread, in which each rendition came to its good end.
@@ -49,6 +51,7 @@ pub fn report_of(
         workers: Vec::new(alloc),
         own: 0,
         thrown: 0,
+        rounds: 0,
     };
     for r in 0..playlists.len() {
         add(&mut report, &playlists[r], gone(lanes[r].stop))?;

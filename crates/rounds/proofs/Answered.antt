@@ -1,7 +1,7 @@
 -- What the calling thread was told in a round is told, where the round is closed.
-use Rattle.std.proofs.Common.{◌≡◌, ◌∙◌, ℕ, ◌+◌, List, length, Result, ap, sym, subst, arith}
-use Rattle.std.specs.Prelude.{OnOk, IfErr}
-use Rattle.std.proofs.lemmas.Result.{on_ok_weaker}
+use Rattle.std.proofs.Common.{◌≡◌, ◌∙◌, ℕ, ◌+◌, List, [], length, Result, Ok, Err, ap, sym, subst, arith}
+use Rattle.std.specs.Prelude.{OnOk, IfOk, IfErr}
+use Rattle.std.proofs.lemmas.Result.{on_ok_weaker, IfErr-weaker}
 use Rattle.cutter.specs.Plans.{SegmentPlan}
 use Rattle.live_board.specs.Snapshots.{Known}
 use Rattle.ingest.specs.Inputs.{InputView}
@@ -10,6 +10,7 @@ use Rattle.ladder_items.specs.Ladder.{Ladder}
 use Rattle.ladder_items.specs.Runs.{OutletView}
 use Rattle.rounds.specs.declared.books.Books.{Books}
 use Rattle.rounds.specs.declared.course.Course.{Course}
+use Rattle.rounds.specs.Courses.{Start, IsOn, IsStopped}
 use Rattle.rounds.specs.Rounds.{IsDriven, IsRound, IsBroken}
 
 module _ {X Y : Type 0} (input : InputView X) (out : OutletView Y) (ladder : Ladder) (spools : List (List SegmentPlan)) (old : Course X Y) (shows : Known)
@@ -38,3 +39,24 @@ module _ {X Y : Type 0} (input : InputView X) (out : OutletView Y) (ladder : Lad
       subst (λ (r : Result (Unit {0}) PackFault). IfErr r (IsBroken input out ladder spools old shows closed shows_closed)) (sym same)
       (subst (λ (d : Course X Y). IfErr answer (IsBroken input out ladder spools old shows d shows_closed)) (sym courses)
       (subst (λ (k : Known). IfErr answer (IsBroken input out ladder spools old shows new k)) (sym shown) all))
+
+-- What is told of a run that stands here is told of one that stood before.
+module _ {X Y : Type 0} (input : InputView X) (out : OutletView Y) (ladder : Ladder) (old mid new : Course X Y) (shows shows_mid shows_new : Known) (answer : Result (Unit {0}) PackFault)
+    (moves : (start : Start X Y) → IsOn input out ladder start 0 old shows (λ k. []) → IsOn input out ladder start 0 mid shows_mid (λ k. [])) where
+  pub moved-ok : OnOk answer ((start : Start X Y) → IsOn input out ladder start 0 mid shows_mid (λ k. []) → IsOn input out ladder start 0 new shows_new (λ k. []))
+      → OnOk answer ((start : Start X Y) → IsOn input out ladder start 0 old shows (λ k. []) → IsOn input out ladder start 0 new shows_new (λ k. []))
+  moved-ok all =
+      on_ok_weaker {Q = (start : Start X Y) → IsOn input out ladder start 0 old shows (λ k. []) → IsOn input out ladder start 0 new shows_new (λ k. [])} answer
+      (λ f start on. f start (moves start on)) all
+
+  pub moved-err : IfErr answer (λ fault. (start : Start X Y) → IsOn input out ladder start 0 mid shows_mid (λ k. []) → IsStopped input out ladder start new shows_new fault)
+      → IfErr answer (λ fault. (start : Start X Y) → IsOn input out ladder start 0 old shows (λ k. []) → IsStopped input out ladder start new shows_new fault)
+  moved-err all =
+      IfErr-weaker answer (λ fault. (start : Start X Y) → IsOn input out ladder start 0 mid shows_mid (λ k. []) → IsStopped input out ladder start new shows_new fault)
+      (λ fault. (start : Start X Y) → IsOn input out ladder start 0 old shows (λ k. []) → IsStopped input out ladder start new shows_new fault)
+      (λ fault f start on. f start (moves start on)) all
+
+-- more is known of what an answer holds
+pub ok-weaker : {T E : Type 0} (r : Result T E) (P Q : T → Type 0) → ((x : T) → P x → Q x) → IfOk r P → IfOk r Q
+ok-weaker (Ok x) P Q f p = f x p
+ok-weaker (Err e) P Q f p = tt

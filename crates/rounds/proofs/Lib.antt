@@ -8,3 +8,5 @@ pub mod Expecting
 pub mod Closing
 pub mod Driven
 pub mod Answered
+pub mod Between
+pub mod Ending

@@ -113,6 +113,7 @@ module _ (X Y : Type 0) (input : InputView X) (out : OutletView Y) (ladder : Lad
         };
         says = subst (λ (n : ℕ). SaysSudden fault n (out.failures course.outlet)) w.puts.unfailed says;
         board = on.board;
+        limit = on.limit;
       }
 
   -- the stage of a rendition
@@ -197,6 +198,7 @@ module _ (X Y : Type 0) (input : InputView X) (out : OutletView Y) (ladder : Lad
           counts = ap counts_shown gave.shows ∙ (counts-last shows.list (snapshot_of ladder (after parts e)) ∙ ap counts_of (sym gave.shown));
           board = board ∙ on.board;
           allowed = on.allowed;
+          limit = on.limit;
           turns = on.turns;
           most = on.most;
           room = on.room;
@@ -229,6 +231,7 @@ module _ (X Y : Type 0) (input : InputView X) (out : OutletView Y) (ladder : Lad
         };
         says = says-sudden fault (out.failures start.outlet) (out.failures course.outlet) (out.failures now.outlet) w.puts.unfailed says;
         board = board ∙ on.board;
+        limit = on.limit;
       })
 
   -- the first plan that waits was given

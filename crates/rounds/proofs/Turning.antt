@@ -34,6 +34,7 @@ module _ (X Y : Type 0) (input : InputView X) (out : OutletView Y) (ladder : Lad
     counts = on.counts ∙ ap (λ p. counts_of p.items) (sym playlists);
     board = on.board;
     allowed = on.allowed;
+    limit = reads ∙ on.limit;
     turns = turns;
     most = rw reads on.most;
     room = rw reads on.room;
@@ -88,4 +89,5 @@ module _ (X Y : Type 0) (input : InputView X) (out : OutletView Y) (ladder : Lad
         });
         says = w.puts.unfailed;
         board = on.board;
+        limit = on.limit;
       })

@@ -1,11 +1,12 @@
 -- A run on its way on many threads.
-use Rattle.std.specs.Prelude.{◌≡◌, ◌≢◌, ◌⊎◌, ℕ, ◌+◌, ◌<◌, ◌≤◌, ◌^◌, Bool, List, [], ◌∷◌, ◌++◌, length, map, None, Some, slice_get}
+use Rattle.std.specs.Prelude.{◌≡◌, ◌≢◌, ◌⊎◌, ℕ, ◌+◌, ◌<◌, ◌≤◌, ◌^◌, Bool, List, [], ◌∷◌, ◌++◌, length, map, None, Some, slice_get, slice_index_or, false}
 use Rattle.cutter.specs.Plans.{SegmentPlan}
 use Rattle.item_io.specs.Items.{ItemValue}
 use Rattle.live_board.specs.Snapshots.{SnapshotFacts, Known}
 use Rattle.live_board.specs.Counts.{counts_shown}
 use Rattle.ingest.specs.Inputs.{InputView}
 use Rattle.ingest.specs.declared.lane.Lane.{Lane}
+use Rattle.ingest.specs.Lanes.{is_good}
 use Rattle.ladder_items.specs.declared.fault.PackFault.{PackFault}
 use Rattle.ladder_items.specs.Ladder.{Ladder, IsAllowed}
 use Rattle.ladder_items.specs.Items.{Part, shown_all}
@@ -41,11 +42,12 @@ pub record ReadsNone {X Y : Type 0} (old new : Course X Y) : Type 0 where
   pub turns : new.turns ≡ old.turns
   pub reads : new.reads ≡ old.reads
 
--- where a run began: its inputs, its outlet, and what its publisher had shown
+-- where a run began: its inputs, its outlet, what its publisher had shown, and how many reads of an input may give a byte
 pub record Start (X Y : Type 0) : Type 0 where
   pub sources : List X
   pub outlet : Y
   pub shows : Known
+  pub reads : ℕ
 
 -- A run on its way, in which the renditions before `next` had one turn more. `waiting` are the plans of each that were turned
 -- out and not given yet.
@@ -56,6 +58,7 @@ pub record IsOn {X Y : Type 0} (input : InputView X) (out : OutletView Y) (ladde
   pub counts : counts_shown shows.list ≡ counts_of course.playlists.items
   pub board : shows.board ≡ start.shows.board
   pub allowed : IsAllowed ladder
+  pub limit : course.reads ≡ start.reads
   pub turns : (k : ℕ) → turns_of course.turns next k ≤ course.reads
   pub most : course.reads ≤ 2 ^ 40
   pub room : HaveRoom input course.reads start.sources
@@ -87,6 +90,7 @@ SaysSudden fault old new = Says (of_sudden old new) fault
 pub record IsStopped {X Y : Type 0} (input : InputView X) (out : OutletView Y) (ladder : Ladder) (start : Start X Y) (course : Course X Y) (shows : Known) (fault : PackFault) : Type 0 where
   pub cut : IsCutShown (run_of input out course.reads start.sources course.sources.items start.outlet course.outlet) ladder start.shows.list shows.list
   pub says : SaysSudden fault (out.failures start.outlet) (out.failures course.outlet)
+  pub limit : course.reads ≡ start.reads
   pub board : shows.board ≡ start.shows.board
 
 -- no rendition is read any further: all have stopped, or had all their turns
@@ -100,3 +104,13 @@ HasClosed lanes = (k : ℕ) × (lane : Lane) × (slice_get lanes k ≡ Some lane
 -- some plans are closed, or no rendition is read any further
 abbrev pub HasEnough : {X Y : Type 0} → Course X Y → Type 0
 HasEnough course = HasClosed course.lanes.items ⊎ Rests course
+
+-- nothing is closed and not turned out
+abbrev pub NoneClosed : List Lane → Type 0
+NoneClosed lanes = (k : ℕ) (lane : Lane) → slice_get lanes k ≡ Some lane → lane.intake.filled ≡ []
+
+-- all that was read and closed was given, each good end too, and no rendition is read any further
+pub record IsAllGiven {X Y : Type 0} (course : Course X Y) : Type 0 where
+  pub rests : Rests course
+  pub filled : NoneClosed course.lanes.items
+  pub ended : (k : ℕ) (lane : Lane) → slice_get course.lanes.items k ≡ Some lane → slice_index_or course.ended.items k false ≡ is_good lane.stop

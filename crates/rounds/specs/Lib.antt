@@ -1,3 +1,5 @@
 pub mod Showing
 pub mod Courses
 pub mod Rounds
+pub mod Shown
+pub mod Begun

@@ -1,4 +1,4 @@
-//! A run of a ladder on many threads: its segments are sealed by workers, and given and shown in sequence.
+//! Packs a ladder on many threads: its segments are sealed by workers, and given and shown in sequence.
 #![tactic(auto)]
 
 mod books;
@@ -7,9 +7,12 @@ mod driving;
 mod drove;
 mod ends;
 mod feeding;
+mod first;
+mod fitting;
 mod giving;
 mod going;
 mod joining;
+mod packing;
 mod pieces;
 mod reading;
 mod ready;
@@ -19,9 +22,8 @@ mod showing;
 mod taking;
 #[cfg(test)]
 mod tests;
+mod told;
 mod turning_out;
+mod whole_run;
 
-pub use course::Course;
-pub use giving::{give_its_end, give_piece};
-pub use pieces::{seal_missing, take_in};
-pub use showing::{show, snapshot};
+pub use packing::{Ran, pack_parallel, pack_parallel_reads};

@@ -1,4 +1,4 @@
-use crate::{seal_missing, take_in};
+use crate::pieces::{seal_missing, take_in};
 use cutter::{CutSettings, Plan, PlanRef, cut_stream};
 use flow_core::{Collector, Outcome, Piece};
 use ladder_items::{Kind, PackFault, Rendition, Settings};
@@ -23,7 +23,7 @@ const CUT: CutSettings = CutSettings {
 };
 
 /// A packet that begins with these bytes and ends in bytes FF.
-fn filled(begin: &[u8]) -> [u8; 188] {
+pub(crate) fn filled(begin: &[u8]) -> [u8; 188] {
     let mut packet = [0xFF; 188];
     for (there, byte) in packet.iter_mut().zip(begin) {
         *there = *byte;
@@ -46,7 +46,7 @@ fn keys(alloc: Global) -> Result<Keys, Fail> {
     Ok(Keys::new(Vec::from_array(alloc, [[7; 16]])?, 1)?)
 }
 
-fn settings(alloc: Global) -> Result<Settings, Fail> {
+pub(crate) fn settings(alloc: Global) -> Result<Settings, Fail> {
     let mut renditions = Vec::new(alloc);
     renditions.push(Rendition {
         name: String::from_str(alloc, "v")?,

@@ -1,0 +1,54 @@
+-- How a run on many threads ends, and what it has shown then.
+use Rattle.std.specs.Prelude.{◌≡◌, ℕ, ◌+◌, ◌≤◌, List, [], ◌++◌, length, replicate, sum, Option}
+use Rattle.live_board.specs.Snapshots.{SnapshotFacts}
+use Rattle.live_board.specs.Counts.{counts_shown}
+use Rattle.ingest.specs.declared.lane.Stop.{Stop}
+use Rattle.ladder_items.specs.declared.fault.PackFault.{PackFault}
+use Rattle.ladder_items.specs.declared.report.Report.{Report}
+use Rattle.ladder_items.specs.Ladder.{Ladder, IsAllowed}
+use Rattle.ladder_items.specs.Weave.{none_of}
+use Rattle.ladder_items.specs.Runs.{Run}
+use Rattle.ladder_items.specs.Faults.{Sayings, Says}
+use Rattle.ladder_items.specs.Putting.{PutAll}
+use Rattle.ladder_items.specs.Packed.{IsPacked, HasHalted}
+use Rattle.rounds.specs.Showing.{shown_by}
+use Rattle.rounds.specs.Courses.{IsCutShown}
+
+-- The settings are within their limits, there are as many inputs as renditions, 1 to 64 workers, and the publisher shows as many
+-- renditions, of which none has a segment.
+abbrev pub Fits : Ladder → ℕ → ℕ → List ℕ → Type 0
+Fits ladder inputs workers counts =
+    IsAllowed ladder × (inputs ≡ length ladder.renditions) × ((1 ≤ workers) × (workers ≤ 64)) × (counts ≡ replicate (length ladder.renditions) 0)
+
+-- The run ended well. Behind each segment and each end one snapshot was shown, that of its moment, and no other. All that the
+-- workers claimed and the calling thread sealed was given, or thrown away.
+pub record IsPackedShown {X Y : Type 0} (run : Run X Y) (ladder : Ladder) (workers : ℕ) (old new : List SnapshotFacts) (report : Report) : Type 0 where
+  pub packed : IsPacked run ladder report
+  pub shown : new ≡ old ++ shown_by ladder (none_of ladder) packed.weave.events
+  pub each : length report.workers.items ≡ workers
+  pub total : sum report.workers.items + report.own ≡ sum report.counts.items + report.thrown
+
+-- Each rendition went to its end, rendition r to this one: behind each segment and each end one snapshot was shown.
+pub record IsHaltedShown {X Y : Type 0} (run : Run X Y) (ladder : Ladder) (r : ℕ) (stop : Option Stop) (old new : List SnapshotFacts) : Type 0 where
+  pub halted : HasHalted run ladder r stop
+  pub shown : new ≡ old ++ shown_by ladder (none_of ladder) halted.weave.events
+
+-- nothing was read, put or shown, since the run doesn't fit
+pub record IsUnfit {X Y : Type 0} (run : Run X Y) (ladder : Ladder) (workers : ℕ) (old new : List SnapshotFacts) : Type 0 where
+  pub unfit : Fits ladder (length run.before) workers (counts_shown old) → ⊥
+  pub unread : run.now ≡ run.before
+  pub unput : PutAll run.out run.outlet run.outlet_now []
+  pub unshown : new ≡ old
+
+-- what each fault says of a run, and of what it has shown
+abbrev pub of_shown : {X Y : Type 0} → Run X Y → Ladder → ℕ → List SnapshotFacts → List SnapshotFacts → Sayings
+of_shown run ladder workers old new = record {
+  refused = IsUnfit run ladder workers old new;
+  halted = λ r stop. IsHaltedShown run ladder r stop old new;
+  unput = IsCutShown run ladder old new × (run.out.failures run.outlet_now ≡ run.out.failures run.outlet + 1);
+  wanting = IsCutShown run ladder old new × (run.out.failures run.outlet_now ≡ run.out.failures run.outlet);
+  held = λ r n. IsCutShown run ladder old new × (run.out.failures run.outlet_now ≡ run.out.failures run.outlet);
+}
+
+abbrev pub FaultSaysShown : {X Y : Type 0} → Run X Y → Ladder → ℕ → List SnapshotFacts → List SnapshotFacts → PackFault → Type 0
+FaultSaysShown run ladder workers old new fault = Says (of_shown run ladder workers old new) fault

@@ -1,0 +1,42 @@
+ghost use Rattle.std.specs.Prelude.{◌≡◌, ◌≤◌, Decides, IfOk, length, replicate};
+ghost use Rattle.live_board.specs.Counts.{counts_shown};
+ghost use Rattle.rounds.specs.Shown.{Fits};
+
+use ladder_items::{Settings, is_allowed};
+use live_board::Publisher;
+use std::alloc::{AllocError, Global};
+
+/// Whether the settings are allowed, there are as many inputs as renditions, 1 to 64 workers, and the publisher shows as many
+/// renditions, of which none has a segment.
+pub fn fits(
+    alloc: Global,
+    settings: &Settings,
+    inputs: usize,
+    workers: usize,
+    publisher: &Publisher,
+) -> Result<bool, AllocError>
+    ensures { IfOk result (λ fits. Decides fits (Fits settings.now inputs workers (counts_shown publisher.now.list))) }
+{
+    if workers < 1 || workers > 64 {
+        return Ok(false);
+    }
+    if !shows_none(publisher.counts(), settings.renditions.len()) {
+        return Ok(false);
+    }
+    is_allowed(alloc, settings, inputs)
+}
+
+/// Whether these are the counts of so many renditions, of which none has a segment.
+fn shows_none(counts: &[u64], renditions: usize) -> bool
+    ensures { Decides result (counts.now ≡ replicate renditions 0) }
+{
+    if counts.len() != renditions {
+        return false;
+    }
+    for count in counts {
+        if *count != 0 {
+            return false;
+        }
+    }
+    true
+}
