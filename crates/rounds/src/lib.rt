@@ -17,6 +17,8 @@ mod pieces;
 mod reading;
 mod ready;
 mod round;
+#[cfg(test)]
+mod run_tests;
 mod scoped;
 mod showing;
 mod taking;
