@@ -1,3 +1,4 @@
+pub mod GoodEntries
 pub mod KeyLists
 pub mod SealedTexts
 pub mod LineRuns

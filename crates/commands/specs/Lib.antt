@@ -1,9 +1,11 @@
 pub mod Checking
 pub mod Counts
 pub mod Defaults
+pub mod Entries
 pub mod Hex
 pub mod KeyLists
 pub mod Packing
+pub mod Pools
 pub mod Ranges
 pub mod Settings
 pub mod Sizes

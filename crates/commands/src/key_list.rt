@@ -53,7 +53,7 @@ impl<T: Drop> From<AllocFailed<T>> for KeyListFault {
 }
 
 /// Whether each text between the `+` is 32 hex digits.
-fn are_keys(text: &str) -> bool
+pub(crate) fn are_keys(text: &str) -> bool
     ensures { result ≡ are_keys text.now }
 {
     text.split('+').all(|piece| block(piece).is_some())

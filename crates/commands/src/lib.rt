@@ -5,6 +5,7 @@
 mod check_options;
 mod checking;
 mod cipher;
+mod entry;
 mod files;
 mod frame_size;
 mod key_list;
@@ -14,6 +15,7 @@ mod opening;
 mod output;
 mod packets;
 mod packing;
+mod pool;
 mod reading;
 mod sealing;
 mod settings;
@@ -23,11 +25,12 @@ mod tests;
 pub use check_options::{CheckOptions, CheckWords, read_check_options};
 pub use checking::{CheckingFault, check};
 pub use cipher::{CipherFault, CipherOptions, CipherWords, read_cipher_options};
+pub use entry::{EntryWords, entries, first_bad};
 pub use files::{FileFault, FileReader};
 pub use key_list::KeyListFault;
 pub use limits::{
-    LEAST, MOST_FRAME, MOST_GAP, MOST_KEYS, MOST_PACKETS, MOST_PIXELS, MOST_PROGRAM, MOST_TARGET,
-    MOST_WINDOW, TICKS, ranges_are_those_of_a_run,
+    LEAST, MOST_FRAME, MOST_GAP, MOST_KEYS, MOST_PACKETS, MOST_PIXELS, MOST_PROGRAM, MOST_QUEUE,
+    MOST_TARGET, MOST_WINDOW, MOST_WORKERS, TICKS, ranges_are_those_of_a_run,
 };
 pub use numbers::{
     DEFAULT_FRAME, DEFAULT_GAP, DEFAULT_MOST, DEFAULT_NAME, DEFAULT_PERIOD, DEFAULT_TARGET,
@@ -35,5 +38,6 @@ pub use numbers::{
 };
 pub use opening::{OpeningFault, open};
 pub use packing::{Packed, one};
+pub use pool::{DEFAULT_QUEUE, DEFAULT_WORKERS, Pool, PoolWords};
 pub use sealing::{SealingFault, seal};
 pub use settings::{PackingWords, SettingsFault, read_settings};

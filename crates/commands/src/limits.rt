@@ -36,6 +36,12 @@ pub const MOST_KEYS: usize = 4_096;
 /// The greatest width and height of a picture.
 pub const MOST_PIXELS: u64 = 16_384;
 
+/// The most threads that seal.
+pub const MOST_WORKERS: u64 = 64;
+
+/// The most segments that may be on their way.
+pub const MOST_QUEUE: u64 = 256;
+
 /// These are the ranges outside which a run is refused.
 pub fn ranges_are_those_of_a_run()
     ensures cut { (cut : TheSettings.CutSettings) → IsCutAllowed cut ↔ AreInRange cut }

@@ -1,0 +1,5 @@
+use Rattle.commands.proofs.GoodEntries.{good-there}
+use Rattle.commands.proofs.entry.entries.Goals as goal
+
+pub unreachable-requires : goal.unreachable-requires
+unreachable-requires c = c.entry.ensures.none c.in_default.is (good-there c.args.texts.now c.loop-text.text-index _ c.loop-text-test.true c.requires.good).colons
