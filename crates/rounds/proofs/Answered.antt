@@ -60,3 +60,8 @@ module _ {X Y : Type 0} (input : InputView X) (out : OutletView Y) (ladder : Lad
 pub ok-weaker : {T E : Type 0} (r : Result T E) (P Q : T → Type 0) → ((x : T) → P x → Q x) → IfOk r P → IfOk r Q
 ok-weaker (Ok x) P Q f p = f x p
 ok-weaker (Err e) P Q f p = tt
+
+-- what is known of each fault is known of one that is told
+pub err-all : {T E : Type 0} (r : Result T E) (P : E → Type 0) → ((e : E) → P e) → IfErr r P
+err-all (Ok x) P all = tt
+err-all (Err e) P all = all e

@@ -1,9 +1,10 @@
 -- How a run on many threads ends, and what it has shown then.
-use Rattle.std.specs.Prelude.{◌≡◌, ℕ, ◌+◌, ◌≤◌, List, [], ◌++◌, length, replicate, sum, Option}
+use Rattle.std.specs.Prelude.{◌≡◌, ◌⊎◌, ℕ, ◌+◌, ◌≤◌, List, [], ◌++◌, false, length, replicate, sum, Option}
 use Rattle.live_board.specs.Snapshots.{SnapshotFacts}
 use Rattle.live_board.specs.Counts.{counts_shown}
 use Rattle.ingest.specs.declared.lane.Stop.{Stop}
 use Rattle.ladder_items.specs.declared.fault.PackFault.{PackFault}
+use Rattle.ladder_items.specs.declared.fault.PackFault.TheVariants.{NoMemory, Settings as SettingsFault}
 use Rattle.ladder_items.specs.declared.report.Report.{Report}
 use Rattle.ladder_items.specs.Ladder.{Ladder, IsAllowed}
 use Rattle.ladder_items.specs.Weave.{none_of}
@@ -13,6 +14,14 @@ use Rattle.ladder_items.specs.Putting.{PutAll}
 use Rattle.ladder_items.specs.Packed.{IsPacked, HasHalted}
 use Rattle.rounds.specs.Showing.{shown_by}
 use Rattle.rounds.specs.Courses.{IsCutShown}
+
+-- no rendition has a segment or an end, and no playlist a text
+abbrev pub none_shown : ℕ → SnapshotFacts
+none_shown n = record { counts = replicate n 0; ended = replicate n false; media = replicate n []; frames = replicate n []; master = [] }
+
+-- 1 to 64 workers, and the publisher shows as many renditions as the settings have, of which none has a segment
+abbrev pub FitsThreads : Ladder → ℕ → List ℕ → Type 0
+FitsThreads ladder workers counts = (1 ≤ workers) × (workers ≤ 64) × (counts ≡ replicate (length ladder.renditions) 0)
 
 -- The settings are within their limits, there are as many inputs as renditions, 1 to 64 workers, and the publisher shows as many
 -- renditions, of which none has a segment.
@@ -52,3 +61,9 @@ of_shown run ladder workers old new = record {
 
 abbrev pub FaultSaysShown : {X Y : Type 0} → Run X Y → Ladder → ℕ → List SnapshotFacts → List SnapshotFacts → PackFault → Type 0
 FaultSaysShown run ladder workers old new fault = Says (of_shown run ladder workers old new) fault
+
+-- A run that doesn't fit reads, puts and shows nothing: Settings is told, or want of memory, but only where workers and publisher fit.
+abbrev pub IsTurnedAway : {X Y : Type 0} → Run X Y → Ladder → ℕ → List SnapshotFacts → List SnapshotFacts → PackFault → Type 0
+IsTurnedAway run ladder workers old new fault =
+    (Fits ladder (length run.before) workers (counts_shown old) → ⊥) → ((fault ≡ SettingsFault) ⊎ ((fault ≡ NoMemory) × FitsThreads ladder workers (counts_shown old)))
+    × (run.now ≡ run.before) × PutAll run.out run.outlet run.outlet_now [] × (new ≡ old)

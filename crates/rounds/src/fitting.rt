@@ -1,6 +1,6 @@
-ghost use Rattle.std.specs.Prelude.{◌≡◌, ◌≤◌, Decides, IfOk, length, replicate};
+ghost use Rattle.std.specs.Prelude.{◌≡◌, ◌≤◌, Decides, IfOk, OnErr, length, replicate};
 ghost use Rattle.live_board.specs.Counts.{counts_shown};
-ghost use Rattle.rounds.specs.Shown.{Fits};
+ghost use Rattle.rounds.specs.Shown.{Fits, FitsThreads};
 
 use ladder_items::{Settings, is_allowed};
 use live_board::Publisher;
@@ -15,7 +15,8 @@ pub fn fits(
     workers: usize,
     publisher: &Publisher,
 ) -> Result<bool, AllocError>
-    ensures { IfOk result (λ fits. Decides fits (Fits settings.now inputs workers (counts_shown publisher.now.list))) }
+    ensures fits { IfOk result (λ fits. Decides fits (Fits settings.now inputs workers (counts_shown publisher.now.list))) }
+    ensures scarce { OnErr result (FitsThreads settings.now workers (counts_shown publisher.now.list)) }
 {
     if workers < 1 || workers > 64 {
         return Ok(false);

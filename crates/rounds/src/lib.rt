@@ -12,6 +12,7 @@ mod fitting;
 mod giving;
 mod going;
 mod joining;
+mod opening;
 mod packing;
 mod pieces;
 mod reading;
@@ -28,4 +29,5 @@ mod told;
 mod turning_out;
 mod whole_run;
 
-pub use packing::{Ran, pack_parallel, pack_parallel_reads};
+pub use opening::opening_board;
+pub use packing::{Ran, pack_in_batches, pack_parallel, pack_parallel_reads};

@@ -6,7 +6,7 @@ ghost use Rattle.ladder_items.specs.declared.fault.PackFault.TheVariants.{NoMemo
 ghost use Rattle.live_board.specs.Counts.{counts_shown};
 ghost use Rattle.rounds.specs.Begun.{IsBegun};
 ghost use Rattle.rounds.specs.Courses.{IsAllGiven, IsOn, IsStopped, Start};
-ghost use Rattle.rounds.specs.Shown.{FaultSaysShown, Fits, IsPackedShown};
+ghost use Rattle.rounds.specs.Shown.{FaultSaysShown, Fits, FitsThreads, IsPackedShown, IsTurnedAway};
 ghost use Rattle.rounds.specs.Showing.{counts_of};
 
 use crate::course::Course;
@@ -62,6 +62,7 @@ pub fn pack_parallel<S: Source + Drop, O: Outlet + Drop, G: Gate + Sync, R: Thre
     ensures fault { IfErr result.answer (FaultSaysShown (run_of (input_of S.remaining S.reads S.failures) (outlet_of O.holds O.broken O.failures) (2 ^ 40) sources.items result.sources.items outlet result.outlet) settings.now workers publisher.list result.publisher.list) }
     ensures board { result.publisher.board ≡ publisher.board }
     ensures fits { OnOk result.answer (Fits settings.now (length sources.items) workers (counts_shown publisher.list)) }
+    ensures breach { IfErr result.answer (IsTurnedAway (run_of (input_of S.remaining S.reads S.failures) (outlet_of O.holds O.broken O.failures) (2 ^ 40) sources.items result.sources.items outlet result.outlet) settings.now workers publisher.list result.publisher.list) }
 {
     pack_parallel_reads(
         rt, alloc, sources, settings, workers, gate, publisher, outlet, READS,
@@ -95,10 +96,49 @@ pub fn pack_parallel_reads<
     ensures fault { IfErr result.answer (FaultSaysShown (run_of (input_of S.remaining S.reads S.failures) (outlet_of O.holds O.broken O.failures) reads sources.items result.sources.items outlet result.outlet) settings.now workers publisher.list result.publisher.list) }
     ensures board { result.publisher.board ≡ publisher.board }
     ensures fits { OnOk result.answer (Fits settings.now (length sources.items) workers (counts_shown publisher.list)) }
+    ensures breach { IfErr result.answer (IsTurnedAway (run_of (input_of S.remaining S.reads S.failures) (outlet_of O.holds O.broken O.failures) reads sources.items result.sources.items outlet result.outlet) settings.now workers publisher.list result.publisher.list) }
+{
+    let batch = workers.min(settings.queue as usize);
+    pack_in_batches(
+        rt, alloc, sources, settings, workers, gate, publisher, outlet, reads, batch,
+    )
+}
+
+/// Packs as `pack_parallel_reads` does, with rounds of another length.
+///
+/// A round is read until `batch` segments are closed, over all renditions, and one at least; then they are sealed and given, while
+/// the next round is read. Where `batch` is 1, a segment of a live stream waits for no other one; where it is less than there are
+/// workers, some of them have nothing to do in most rounds.
+pub fn pack_in_batches<
+    S: Source + Drop,
+    O: Outlet + Drop,
+    G: Gate + Sync,
+    R: Threads + Wait + Sync,
+>(
+    rt: &R,
+    alloc: Global,
+    sources: Vec<S>,
+    settings: &Settings,
+    workers: usize,
+    gate: &G,
+    publisher: Publisher,
+    outlet: O,
+    reads: u64,
+    batch: usize,
+) -> Ran<S, O>
+    requires least { 1 ≤ reads }
+    requires most { reads ≤ 2 ^ 40 }
+    requires room { HaveRoom (input_of S.remaining S.reads S.failures) reads sources.items }
+    requires failures { O.failures outlet < 2 ^ 63 }
+    ensures ok { IfOk result.answer (IsPackedShown (run_of (input_of S.remaining S.reads S.failures) (outlet_of O.holds O.broken O.failures) reads sources.items result.sources.items outlet result.outlet) settings.now workers publisher.list result.publisher.list) }
+    ensures fault { IfErr result.answer (FaultSaysShown (run_of (input_of S.remaining S.reads S.failures) (outlet_of O.holds O.broken O.failures) reads sources.items result.sources.items outlet result.outlet) settings.now workers publisher.list result.publisher.list) }
+    ensures board { result.publisher.board ≡ publisher.board }
+    ensures fits { OnOk result.answer (Fits settings.now (length sources.items) workers (counts_shown publisher.list)) }
+    ensures breach { IfErr result.answer (IsTurnedAway (run_of (input_of S.remaining S.reads S.failures) (outlet_of O.holds O.broken O.failures) reads sources.items result.sources.items outlet result.outlet) settings.now workers publisher.list result.publisher.list) }
 {
     match begin(alloc, settings, sources.len(), workers, &publisher) {
         Ok(first) => packed(
-            rt, alloc, first, sources, settings, workers, gate, publisher, outlet, reads,
+            rt, alloc, first, sources, settings, workers, gate, publisher, outlet, reads, batch,
         ),
         Err(fault) => unbegun(fault, sources, settings, workers, publisher, outlet, reads),
     }
@@ -114,7 +154,7 @@ fn begin(
 ) -> Result<First, PackFault>
     ensures fits { OnOk result (Fits settings.now inputs workers (counts_shown publisher.now.list)) }
     ensures begun { IfOk result (IsBegun settings.now workers) }
-    ensures fault { IfErr result (λ fault. (fault ≡ SettingsFault) × (Fits settings.now inputs workers (counts_shown publisher.now.list) → ⊥) ⊎ (fault ≡ NoMemory)) }
+    ensures fault { IfErr result (λ fault. (fault ≡ SettingsFault) × (Fits settings.now inputs workers (counts_shown publisher.now.list) → ⊥) ⊎ ((fault ≡ NoMemory) × FitsThreads settings.now workers (counts_shown publisher.now.list))) }
 {
     if !fits(alloc, settings, inputs, workers, publisher)? {
         return Err(PackFault::Settings);
@@ -132,9 +172,10 @@ fn unbegun<S: Source, O: Outlet>(
     outlet: O,
     reads: u64,
 ) -> Ran<S, O>
-    requires fault { (fault ≡ SettingsFault) × (Fits settings.now (length sources.items) workers (counts_shown publisher.list) → ⊥) ⊎ (fault ≡ NoMemory) }
+    requires fault { (fault ≡ SettingsFault) × (Fits settings.now (length sources.items) workers (counts_shown publisher.list) → ⊥) ⊎ ((fault ≡ NoMemory) × FitsThreads settings.now workers (counts_shown publisher.list)) }
     ensures answer { result.answer ≡ Err fault }
     ensures fault { FaultSaysShown (run_of (input_of S.remaining S.reads S.failures) (outlet_of O.holds O.broken O.failures) reads sources.items result.sources.items outlet result.outlet) settings.now workers publisher.list result.publisher.list fault }
+    ensures breach { IsTurnedAway (run_of (input_of S.remaining S.reads S.failures) (outlet_of O.holds O.broken O.failures) reads sources.items result.sources.items outlet result.outlet) settings.now workers publisher.list result.publisher.list fault }
     ensures board { result.publisher.board ≡ publisher.board }
 {
     closed_plans_begin_all();
@@ -158,6 +199,7 @@ fn packed<S: Source + Drop, O: Outlet + Drop, G: Gate + Sync, R: Threads + Wait 
     publisher: Publisher,
     outlet: O,
     reads: u64,
+    batch: usize,
 ) -> Ran<S, O>
     requires most { reads ≤ 2 ^ 40 }
     requires room { HaveRoom (input_of S.remaining S.reads S.failures) reads sources.items }
@@ -190,7 +232,6 @@ fn packed<S: Source + Drop, O: Outlet + Drop, G: Gate + Sync, R: Threads + Wait 
         held: HeldPublisher { publisher, rt },
         books,
     };
-    let batch = workers.min(settings.queue as usize);
     let (going, answer) = run(
         rt, alloc, settings, workers, batch, &keys, gate, spare, going,
     );

@@ -1,7 +1,14 @@
-use Rattle.rounds.proofs.Ending.{unbegun-said}
+use Rattle.ingest.specs.Inputs.{input_of}
+use Rattle.ladder_items.specs.Runs.{outlet_of}
+use Rattle.rounds.proofs.Ending.{unbegun-said, turned-away}
 use Rattle.rounds.proofs.packing.unbegun.Goals as goal
 
 pub returns-clause-fault : goal.returns-clause-fault
 returns-clause-fault g c =
     unbegun-said _ _ _ _ c.args.settings.now (record { sources = c.args.sources.items; outlet = c.args.outlet; shows = c.args.publisher; reads = c.args.reads }) c.args.workers c.args.reads
     (λ k. c.closed_plans_begin_all.ensures.none k c.args.settings.now.cut) c.args.fault c.requires.fault
+
+pub returns-clause-breach : goal.returns-clause-breach
+returns-clause-breach g c =
+    turned-away _ _ (input_of g.S.Source.remaining g.S.Source.reads g.S.Source.failures) (outlet_of g.O.Outlet.holds g.O.Outlet.broken g.O.Outlet.failures) c.args.settings.now (record { sources = c.args.sources.items; outlet = c.args.outlet; shows = c.args.publisher; reads = c.args.reads }) c.args.workers c.args.reads
+    c.args.fault c.requires.fault
