@@ -4,6 +4,7 @@ pub mod Defaults
 pub mod Entries
 pub mod Hex
 pub mod KeyLists
+pub mod LadderOptions
 pub mod Packing
 pub mod Pools
 pub mod Ranges
@@ -11,4 +12,6 @@ pub mod Settings
 pub mod Sizes
 pub mod Statuses
 pub mod Streams
+pub mod SummaryLines
+pub mod Summaries
 pub mod Told

@@ -4,6 +4,8 @@ use Rattle.commands.specs.declared.cipher.CipherFault.{CipherFault}
 use Rattle.commands.specs.declared.cipher.CipherFault.TheVariants as cipher
 use Rattle.commands.specs.declared.key_list.KeyListFault.{KeyListFault}
 use Rattle.commands.specs.declared.key_list.KeyListFault.TheVariants as keys
+use Rattle.commands.specs.declared.ladder_fault.LadderFault.{LadderFault}
+use Rattle.commands.specs.declared.ladder_fault.LadderFault.TheVariants as ladder
 use Rattle.commands.specs.declared.settings.SettingsFault.{SettingsFault}
 use Rattle.commands.specs.declared.settings.SettingsFault.TheVariants as settings
 
@@ -23,3 +25,11 @@ settings_status settings.TooMany = 1
 settings_status settings.ZeroPeriod = 1
 settings_status settings.Settings = 1
 settings_status settings.NoMemory = 1
+
+abbrev pub ladder_status : LadderFault → ℕ
+ladder_status (ladder.BadEntry n) = 2
+ladder_status ladder.BadVector = 2
+ladder_status ladder.TooMany = 1
+ladder_status ladder.ZeroPeriod = 1
+ladder_status ladder.Settings = 1
+ladder_status ladder.NoMemory = 1

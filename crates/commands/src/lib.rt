@@ -9,6 +9,9 @@ mod entry;
 mod files;
 mod frame_size;
 mod key_list;
+mod ladder_fault;
+mod ladder_options;
+mod ladder_settings;
 mod limits;
 mod numbers;
 mod opening;
@@ -19,6 +22,8 @@ mod pool;
 mod reading;
 mod sealing;
 mod settings;
+mod summaries;
+mod summary_text;
 #[cfg(test)]
 mod tests;
 
@@ -28,6 +33,8 @@ pub use cipher::{CipherFault, CipherOptions, CipherWords, read_cipher_options};
 pub use entry::{EntryWords, entries, first_bad};
 pub use files::{FileFault, FileReader};
 pub use key_list::KeyListFault;
+pub use ladder_fault::LadderFault;
+pub use ladder_options::{LadderOptions, LadderWords, read_ladder_options};
 pub use limits::{
     LEAST, MOST_FRAME, MOST_GAP, MOST_KEYS, MOST_PACKETS, MOST_PIXELS, MOST_PROGRAM, MOST_QUEUE,
     MOST_TARGET, MOST_WINDOW, MOST_WORKERS, TICKS, ranges_are_those_of_a_run,
@@ -41,3 +48,4 @@ pub use packing::{Packed, one};
 pub use pool::{DEFAULT_QUEUE, DEFAULT_WORKERS, Pool, PoolWords};
 pub use sealing::{SealingFault, seal};
 pub use settings::{PackingWords, SettingsFault, read_settings};
+pub use summaries::summary;

@@ -105,7 +105,7 @@ impl From<KeyListFault> for SettingsFault {
 const QUEUE: u64 = 1;
 
 /// The salt of 32 hex digits, where there is one; BadVector for any other text.
-fn read_salt(text: Option<&str>) -> Result<Option<[u8; 16]>, SettingsFault>
+pub(crate) fn read_salt(text: Option<&str>) -> Result<Option<[u8; 16]>, SettingsFault>
     ensures ok { IfOk result (λ salt. chosen_salt (option_map (λ t. t.now) text.entry) ≡ Some salt) }
     ensures bad { IsErrOf result SettingsFault.BadVector ↔ (chosen_salt (option_map (λ t. t.now) text.entry) ≡ None) }
     ensures only { IsErr result → IsErrOf result SettingsFault.BadVector }
@@ -143,7 +143,7 @@ fn rotation(keys: Vec<[u8; 16]>, period: u64, salt: Option<[u8; 16]>) -> Result<
 /// The rendition of these words, its keys taking turns after as many segments as the period says.
 ///
 /// BadKey is told before BadSize, that before BadVector, and these before TooMany and ZeroPeriod.
-fn read_rendition(
+pub(crate) fn read_rendition(
     alloc: Global,
     words: PackingWords<'_>,
     period: u64,
@@ -172,7 +172,7 @@ fn read_rendition(
 }
 
 /// Playlists that slide, or those of an event.
-fn kind(event: bool) -> Kind
+pub(crate) fn kind(event: bool) -> Kind
     ensures { result ≡ kind_of event }
 {
     if event { Kind::Event } else { Kind::Live }

@@ -1,5 +1,6 @@
 mod check;
 mod fixtures;
+mod ladder;
 mod one;
 mod open;
 mod seal;

@@ -1,0 +1,101 @@
+//! The settings of a ladder, as words tell them.
+ghost use Rattle.std.specs.Prelude.{◌≡◌, ◌≢◌, ◌↔◌, ◌⊎◌, ℕ, map, All, IfOk, IfErr, IsErrOf, OnOk};
+ghost use Rattle.commands.specs.Defaults.{numbers_of};
+ghost use Rattle.commands.specs.Pools.{pool_of};
+ghost use Rattle.commands.specs.Entries.{entry_value, IsGood};
+ghost use Rattle.commands.specs.LadderOptions.{asked_of, IsBadEntry, HasBadSalt, HasTooMany, HasNoPeriod, HasTurns, IsOutside, AreOptionsOf};
+
+use crate::entry::{EntryWords, entries, first_bad};
+use crate::ladder_fault::LadderFault;
+use crate::ladder_settings::{has_too_many, ladder_settings};
+use crate::numbers::{NumberWords, Numbers};
+use crate::pool::{Pool, PoolWords};
+use crate::settings::read_salt;
+use pipeline::Settings;
+use std::alloc::{AllocError, Global};
+
+/// The words of a ladder, as they stand.
+#[derive(Clone, Copy, Debug, Drop)]
+pub struct LadderWords<'a> {
+    /// A text of five parts for each rendition: NAME:CODECS:WxH:KEY[+KEY..]:PATH.
+    pub entries: &'a [&'a str],
+    /// The salt of the vectors.
+    pub salt: Option<&'a str>,
+    /// Whether the playlists list all segments of an event.
+    pub event: bool,
+}
+
+/// What a ladder is packed by, and where its inputs are.
+#[derive(Drop)]
+pub struct LadderOptions<'a> {
+    pub settings: Settings,
+    pub pool: Pool,
+    /// The path of each rendition's input.
+    pub paths: Vec<&'a str>,
+}
+
+/// Looks at the texts and the period, before any memory is taken.
+fn look(words: LadderWords<'_>, numbers: Numbers, pool: Pool) -> Result<(), LadderFault>
+    ensures ok { OnOk result (HasTurns (asked_of words.entry numbers pool)) }
+    ensures bad_entry { (n : ℕ) → IsErrOf result (LadderFault.BadEntry n) ↔ IsBadEntry (asked_of words.entry numbers pool) n }
+    ensures bad_vector { IsErrOf result LadderFault.BadVector ↔ HasBadSalt (asked_of words.entry numbers pool) }
+    ensures too_many { IsErrOf result LadderFault.TooMany ↔ HasTooMany (asked_of words.entry numbers pool) }
+    ensures zero_period { IsErrOf result LadderFault.ZeroPeriod ↔ HasNoPeriod (asked_of words.entry numbers pool) }
+    ensures only { IfErr result (λ fault. (fault ≢ LadderFault.Settings) × (fault ≢ LadderFault.NoMemory)) }
+{
+    if let Some(place) = first_bad(words.entries) {
+        return Err(LadderFault::BadEntry(place + 1));
+    }
+    if read_salt(words.salt).is_err() {
+        return Err(LadderFault::BadVector);
+    }
+    if has_too_many(words.entries) {
+        return Err(LadderFault::TooMany);
+    }
+    if numbers.period == 0 {
+        return Err(LadderFault::ZeroPeriod);
+    }
+    Ok(())
+}
+
+/// The path of each entry.
+fn paths<'a>(alloc: Global, entries: &[EntryWords<'a>]) -> Result<Vec<&'a str>, AllocError>
+    ensures { IfOk result (λ paths. map (λ t. t.now) paths.items ≡ map (λ entry. (entry_value entry).path) entries.now) }
+{
+    let mut paths = Vec::new(alloc);
+    for entry in entries {
+        paths.push(entry.path)?;
+    }
+    Ok(paths)
+}
+
+/// The settings of a ladder, the numbers of its pool, and the paths of its inputs.
+///
+/// BadEntry is told before BadVector, that before TooMany, that before ZeroPeriod, and these before any memory is taken;
+/// then Settings, for which NoMemory may stand.
+pub fn read_ladder_options<'a>(
+    alloc: Global,
+    words: LadderWords<'a>,
+    numbers: NumberWords,
+    pool: PoolWords,
+) -> Result<LadderOptions<'a>, LadderFault>
+    ensures ok { IfOk result (λ options. AreOptionsOf (asked_of words.entry (numbers_of numbers) (pool_of pool)) options) }
+    ensures bad_entry { (n : ℕ) → IsErrOf result (LadderFault.BadEntry n) ↔ IsBadEntry (asked_of words.entry (numbers_of numbers) (pool_of pool)) n }
+    ensures bad_vector { IsErrOf result LadderFault.BadVector ↔ HasBadSalt (asked_of words.entry (numbers_of numbers) (pool_of pool)) }
+    ensures too_many { IsErrOf result LadderFault.TooMany ↔ HasTooMany (asked_of words.entry (numbers_of numbers) (pool_of pool)) }
+    ensures zero_period { IsErrOf result LadderFault.ZeroPeriod ↔ HasNoPeriod (asked_of words.entry (numbers_of numbers) (pool_of pool)) }
+    ensures settings { IsErrOf result LadderFault.Settings → IsOutside (asked_of words.entry (numbers_of numbers) (pool_of pool)) }
+    ensures outside { IsOutside (asked_of words.entry (numbers_of numbers) (pool_of pool)) → IsErrOf result LadderFault.Settings ⊎ IsErrOf result LadderFault.NoMemory }
+    ensures no_memory { IsErrOf result LadderFault.NoMemory → HasTurns (asked_of words.entry (numbers_of numbers) (pool_of pool)) }
+{
+    let numbers = numbers.numbers();
+    let pool = pool.pool();
+    look(words, numbers, pool)?;
+    let entries = entries(alloc, words.entries)?;
+    let settings = ladder_settings(alloc, words, &entries, numbers, pool)?;
+    Ok(LadderOptions {
+        settings,
+        pool,
+        paths: paths(alloc, &entries)?,
+    })
+}
