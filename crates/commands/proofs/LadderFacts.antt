@@ -1,5 +1,5 @@
 -- The ladder that is asked for is one.
-use Rattle.std.proofs.Common.{◌≡◌, ◌∙◌, ℕ, List, [], ◌∷◌, ◌++◌, ◌+◌, ◌<◌, ◌≢◌, map, take, get_or, length, Option, Some, refl, ap, sym, arith}
+use Rattle.std.proofs.Common.{◌≡◌, ◌∙◌, ℕ, List, [], ◌∷◌, ◌++◌, ◌+◌, ◌<◌, ◌≢◌, map, take, get_or, length, Some, refl, ap, sym, arith}
 use Rattle.std.proofs.lemmas.List.{take_more, map-append}
 use Rattle.ladder_items.specs.Ladder.{Ladder, RenditionValue}
 use Rattle.commands.specs.declared.entry.EntryWords.{EntryWords}

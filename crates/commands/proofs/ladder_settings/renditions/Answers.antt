@@ -1,4 +1,3 @@
-use Rattle.std.proofs.Common.{map}
 use Rattle.std.specs.Option.{option_map}
 use Rattle.commands.specs.Entries.{entry_value}
 use Rattle.commands.specs.LadderOptions.{IsWhole, entry_words}
