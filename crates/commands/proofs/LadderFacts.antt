@@ -1,15 +1,15 @@
 -- The ladder that is asked for is one.
-use Rattle.std.proofs.Common.{◌≡◌, ◌∙◌, ℕ, List, [], ◌∷◌, ◌++◌, ◌+◌, ◌<◌, ◌≢◌, map, take, get_or, length, Some, refl, ap, sym, arith}
+use Rattle.std.proofs.Common.{◌≡◌, ◌∙◌, ℕ, List, [], ◌∷◌, ◌++◌, ◌+◌, ◌<◌, ◌≢◌, map, take, get_or, length, Some, refl, ap, sym, arith, ◌≤◌, All, Any, subst}
+use Rattle.std.proofs.lemmas.List.Elements.{All-map}
 use Rattle.std.proofs.lemmas.List.{take_more, map-append}
 use Rattle.ladder_items.specs.Ladder.{Ladder, RenditionValue}
 use Rattle.commands.specs.declared.entry.EntryWords.{EntryWords}
 use Rattle.commands.specs.declared.ladder_fault.LadderFault.{LadderFault}
 use Rattle.commands.specs.declared.ladder_fault.LadderFault.TheVariants.{BadEntry, BadVector, TooMany, ZeroPeriod, Settings as Outside, NoMemory}
-use Rattle.commands.specs.Entries.{Entry, entry_value}
-use Rattle.commands.specs.LadderOptions.{Asked, entry_words, AreRenditionsOf, IsAskedLadder, IsBadEntry, HasBadSalt, HasTooMany, HasNoPeriod, HasTurns, key_count}
+use Rattle.commands.specs.Entries.{Entry, entry_of, entry_value}
+use Rattle.commands.specs.LadderOptions.{Asked, entry_words, AreRenditionsOf, IsAskedLadder, IsBadEntry, HasBadSalt, HasTooMany, HasNoPeriod, HasTurns, IsWhole, key_count}
 use Rattle.commands.specs.Settings.{Words, IsRenditionOf}
 use Rattle.commands.proofs.GoodEntries.{none-bad}
-use Rattle.commands.proofs.TextFacts.{not-both}
 
 one-some : {X : Type 0} (a b : X) → Some a ≡ Some b → a ≡ b
 one-some a b same = cc same
@@ -76,6 +76,17 @@ rendition-more words turns entries i d made new next inside are is pushed =
     let taken : map entry_value (take (i + 1) entries) ≡ map entry_value (take i entries) ++ entry_value (get_or entries i d) ∷ [] =
     ap (map entry_value) (take_more entries i d inside) ∙ map-append entry_value (take i entries) (get_or entries i d ∷ []) in
     rw (taken, pushed) (one-more words turns (map entry_value (take i entries)) made (entry_value (get_or entries i d)) next are is)
+
+-- what a ladder's entries tell has good parts and few keys
+pub whole-entries : (asked : Asked) → HasTurns asked → All IsWhole (map entry_of asked.entries)
+whole-entries asked turns = All-map IsWhole entry_of asked.entries (λ k d below. record {
+  parts = (turns.keys.texts.good k d below).parts;
+  few = turns.keys.few k d below;
+})
+
+-- none has too many keys where each has few
+pub not-both : (texts : List (List ℕ)) (count : List ℕ → ℕ) → Any (λ text. 4096 < count text) texts → All (λ text. count text ≤ 4096) texts → ⊥
+not-both texts count (k, x, below, is, many) few = let small : count x ≤ 4096 = subst (λ t. count t ≤ 4096) is (few k x below) in omega (arith, many, small)
 
 -- where a fault of the texts or the period is told, the keys don't take turns
 pub no-turns : (asked : Asked) (fault : LadderFault) → ((n : ℕ) → fault ≡ BadEntry n → IsBadEntry asked n) → (fault ≡ BadVector → HasBadSalt asked)

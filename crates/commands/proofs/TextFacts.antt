@@ -1,10 +1,7 @@
 -- What holds of some texts, one by one.
-use Rattle.std.proofs.Common.{◌≡◌, ℕ, ◌+◌, ◌<◌, ◌≤◌, List, Bor, All, Any, map, length, get_or, subst, sym, arith, inl, inr}
+use Rattle.std.proofs.Common.{◌≡◌, ℕ, ◌+◌, ◌<◌, List, Bor, All, Any, map, length, get_or, subst, sym, arith, inl, inr}
 use Rattle.std.proofs.lemmas.Bool.{cases_lt}
 use Rattle.std.proofs.lemmas.List.{get_or-map, length-map}
-use Rattle.std.proofs.lemmas.List.Elements.{All-map}
-use Rattle.commands.specs.Entries.{entry_of}
-use Rattle.commands.specs.LadderOptions.{Asked, HasTurns, IsWhole}
 
 pub there : (P : List ℕ → Type 0) (texts : List (Bor (List ℕ))) (place : ℕ) (e : Bor (List ℕ)) (d : List ℕ) → place < length texts → P (get_or texts place e).now
     → P (get_or (map (λ t. t.now) texts) place d)
@@ -22,17 +19,6 @@ pub some-there : (P : List ℕ → Type 0) (texts : List (Bor (List ℕ))) (plac
     → Any P (map (λ t. t.now) texts)
 some-there P texts place e inside holds =
     (place, (get_or texts place e).now, omega (arith, inside, length-map texts (λ t. t.now)), get_or-map (λ t. t.now) texts place e _ inside, holds)
-
--- what a ladder's entries tell has good parts and few keys
-pub whole-entries : (asked : Asked) → HasTurns asked → All IsWhole (map entry_of asked.entries)
-whole-entries asked turns = All-map IsWhole entry_of asked.entries (λ k d below. record {
-  parts = (turns.keys.texts.good k d below).parts;
-  few = turns.keys.few k d below;
-})
-
--- none has too many keys where each has few
-pub not-both : (texts : List (List ℕ)) (count : List ℕ → ℕ) → Any (λ text. 4096 < count text) texts → All (λ text. count text ≤ 4096) texts → ⊥
-not-both texts count (k, x, below, is, many) few = let small : count x ≤ 4096 = subst (λ t. count t ≤ 4096) is (few k x below) in omega (arith, many, small)
 
 -- what holds of all that is told of a list holds of what is told of one
 pub at-map : {X Y : Type 0} (P : Y → Type 0) (f : X → Y) (xs : List X) (i : ℕ) (d : X) → i < length xs → All P (map f xs) → P (f (get_or xs i d))

@@ -1,11 +1,11 @@
 use Rattle.std.proofs.Common.{◌≤◌, map}
+use Rattle.commands.specs.Entries.{IsGood}
 use Rattle.commands.specs.LadderOptions.{key_count}
-use Rattle.commands.proofs.GoodEntries.{good-there}
-use Rattle.commands.proofs.TextFacts.{there, one-further}
+use Rattle.commands.proofs.TextFacts.{there, one-further, at-map}
 use Rattle.commands.proofs.ladder_settings.has_too_many.Goals as goal
 
 pub has_many_keys-requires : goal.has_many_keys-requires
-has_many_keys-requires c = good-there c.args.texts.now c.loop-place.place _ c.loop-place-test.true c.requires
+has_many_keys-requires c = at-map IsGood (λ t. t.now) c.args.texts.now c.loop-place.place _ c.loop-place-test.true c.requires
 
 pub loop-place-preserved : goal.loop-place-preserved
 loop-place-preserved c = one-further (λ text. key_count text ≤ 4096) (map (λ t. t.now) c.args.texts.now) c.loop-place.place c.loop-place.invariant

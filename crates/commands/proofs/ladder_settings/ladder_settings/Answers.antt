@@ -1,8 +1,7 @@
 use Rattle.std.proofs.Common.{◌≡◌, All, length, refl, rules, subst, sym}
 use Rattle.ladder_items.specs.Ladder.{Ladder, IsAllowed}
 use Rattle.commands.specs.LadderOptions.{asked_of, IsAskedLadder, IsWhole}
-use Rattle.commands.proofs.LadderFacts.{one-ladder}
-use Rattle.commands.proofs.TextFacts.{whole-entries}
+use Rattle.commands.proofs.LadderFacts.{one-ladder, whole-entries}
 use Rattle.commands.proofs.ladder_settings.ladder_settings.Goals as goal
 
 pub renditions-requires-clause-whole : goal.renditions-requires-clause-whole
