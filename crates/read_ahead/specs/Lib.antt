@@ -1,0 +1,4 @@
+pub mod Blocks
+pub mod Shares
+pub mod Sources
+pub mod Steps

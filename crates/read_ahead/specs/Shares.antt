@@ -1,0 +1,21 @@
+-- Fair turns: sources that are read in turn and are behind by very different numbers of bytes catch up together.
+use Rattle.std.specs.Prelude.{ℕ, ◌+◌, ◌-◌, ◌/◌, List, [], ◌∷◌, length, max, min, nat_lt, nat_le, ◌==◌, ◌||◌, Bool, if◌then◌else◌}
+use Rattle.read_ahead.specs.declared.lane.Lane.{Lane}
+
+-- so many things in parts of this size: how many parts they are, the last of which may be smaller
+abbrev pub parts : ℕ → ℕ → ℕ
+parts count size = (count + (size - 1)) / size
+
+-- how many turns a source of so many takes has to count with, 1 at least: those in which any source gives all of its
+-- bytes that lie ready, in reads of 18,800. A source that was read less often is left out: it's read no more.
+abbrev pub turns : ℕ → List Lane → ℕ
+turns takes [] = 1
+turns takes (lane ∷ lanes) = max (if nat_lt lane.takes takes then 1 else parts (length lane.ready) 18800) (turns takes lanes)
+
+-- how many of its bytes a source gives, in so many turns, at a read with this much room
+abbrev pub share : ℕ → ℕ → ℕ → ℕ
+share ready turns room = min (parts ready turns) room
+
+-- bytes may be put behind those that lie ready: none do, or all then have room
+abbrev pub has_room : ℕ → ℕ → ℕ → Bool
+has_room room ready count = (ready == 0) || nat_le (ready + count) room

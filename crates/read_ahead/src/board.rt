@@ -1,0 +1,71 @@
+ghost use Rattle.std.specs.Prelude.{◌≡◌, ◌≢◌, ◌≤◌, ℕ, [], Some, true, false, All, length, slice_get, IfOk, IfSome, IsErr};
+ghost use Rattle.read_ahead.specs.Shares.{turns};
+ghost use Rattle.read_ahead.specs.Steps.{Puts, Takes};
+ghost use Rattle.read_ahead.specs.declared.lane.Lane.{Lane};
+
+use crate::lane::Lane;
+use crate::shares::turns_of;
+use item_io::ReadFault;
+use std::alloc::{AllocError, Global};
+
+/// All inputs that are read in turn, by number.
+#[derive(Drop)]
+pub struct Board {
+    pub lanes: Vec<Lane>,
+    /// The most bytes of an input that lie ready, but for those that were put where none did.
+    pub room: usize,
+}
+
+impl Board {
+    /// So many inputs, of which none gave anything yet.
+    pub fn new(alloc: Global, count: usize, room: usize) -> Result<Board, AllocError>
+        ensures count { IfOk result (λ board. length board.lanes.items ≡ count) }
+        ensures room { IfOk result (λ board. board.room ≡ room) }
+        ensures none { IfOk result (λ board. All (λ lane. (lane.ready ≡ []) × (lane.closed ≡ false) × (lane.takes ≡ 0)) board.lanes.items) }
+    {
+        let mut lanes = Vec::with_capacity(alloc, count)?;
+        for _ in 0..count {
+            lanes.push(Lane::new(alloc))?;
+        }
+        Ok(Board { lanes, room })
+    }
+
+    /// Puts bytes behind the last of an input, and answers true; false where there is no room for them.
+    pub fn put(&mut self, number: usize, bytes: &[u8]) -> Result<bool, AllocError>
+        ensures own { (was is : Lane) → slice_get self.old.lanes.items number ≡ Some was → slice_get self.new.lanes.items number ≡ Some is → Puts self.old.room bytes.now was is result }
+        ensures others { (k : ℕ) → k ≢ number → slice_get self.new.lanes.items k ≡ slice_get self.old.lanes.items k }
+        ensures missing { length self.old.lanes.items ≤ number → IsErr result }
+        ensures same { (length self.new.lanes.items ≡ length self.old.lanes.items) × (self.new.room ≡ self.old.room) }
+    {
+        if number >= self.lanes.len() {
+            return Err(AllocError);
+        }
+        self.lanes[number].put(self.room, bytes)
+    }
+
+    /// No more bytes of an input come, since a read failed or its end was reached.
+    pub fn close(&mut self, number: usize, failed: bool)
+        ensures own { (was is : Lane) → slice_get self.old.lanes.items number ≡ Some was → slice_get self.new.lanes.items number ≡ Some is → is ≡ record was { closed = true; failed = failed } }
+        ensures others { (k : ℕ) → k ≢ number → slice_get self.new.lanes.items k ≡ slice_get self.old.lanes.items k }
+        ensures same { (length self.new.lanes.items ≡ length self.old.lanes.items) × (self.new.room ≡ self.old.room) }
+    {
+        if number < self.lanes.len() {
+            self.lanes[number].close(failed);
+        }
+    }
+
+    /// Answers a read of an input with a fair share of its bytes.
+    pub fn take(&mut self, number: usize, buffer: &mut [u8]) -> Result<Option<usize>, ReadFault>
+        ensures own { (was is : Lane) → slice_get self.old.lanes.items number ≡ Some was → slice_get self.new.lanes.items number ≡ Some is → Takes (turns was.takes self.old.lanes.items) (length buffer.old) buffer.new was is result }
+        ensures others { (k : ℕ) → k ≢ number → slice_get self.new.lanes.items k ≡ slice_get self.old.lanes.items k }
+        ensures missing { length self.old.lanes.items ≤ number → IsErr result }
+        ensures within { IfOk result (λ answer. IfSome answer (λ count. count ≤ length buffer.new)) }
+        ensures same { (length self.new.lanes.items ≡ length self.old.lanes.items) × (self.new.room ≡ self.old.room) }
+    {
+        if number >= self.lanes.len() {
+            return Err(ReadFault);
+        }
+        let turns = turns_of(self.lanes[number].takes, &self.lanes);
+        self.lanes[number].take(turns, buffer)
+    }
+}

@@ -1,0 +1,105 @@
+ghost use Rattle.std.specs.Prelude.{◌≡◌, All, vec_len, length, IfOk};
+
+use crate::ahead::Ahead;
+use crate::board::Board;
+use crate::doors::Doors;
+use crate::limits::ROOM;
+use crate::line::Line;
+use crate::reading::read_ahead;
+use std::alloc::{AllocError, Global};
+use std::fs::File;
+use std::rt::Files;
+use std::sync::{Arc, Mutex, Wait};
+use std::thread;
+use std::thread::Threads;
+use thiserror::Error;
+
+/// Why inputs can't be read ahead.
+#[derive(Clone, Copy, Debug, PartialEq, Eq, Error)]
+pub enum OpenFault {
+    /// One of them can't be opened.
+    #[error("an input can't be opened")]
+    Unread,
+    /// Memory, or a thread, is refused.
+    #[error("out of memory")]
+    NoMemory,
+}
+
+impl From<AllocError> for OpenFault {
+    fn from(_: AllocError) -> OpenFault {
+        OpenFault::NoMemory
+    }
+}
+
+/// Opens the input of each path in a thread of its own, which then reads it ahead, and waits until all are open. Where one
+/// can't be opened, others may wait for their writers as long as the program runs.
+pub fn open_all<R: Files + Threads + Wait + Copy + Send + 'static>(
+    rt: R,
+    alloc: Global,
+    paths: &[String],
+) -> Result<Vec<Ahead<R>>, OpenFault>
+where
+    R::File: Send + 'static,
+    R::Dir: Send + 'static,
+    ensures count { IfOk result (λ sources. vec_len sources ≡ length paths.now) }
+    ensures unread { IfOk result (λ sources. All (λ source. (source.reads ≡ 0) × (source.failures ≡ 0)) sources.items) }
+{
+    let (doors, sources) = start_all(rt, alloc, paths)?;
+    if doors.wait(&rt) {
+        Ok(sources)
+    } else {
+        Err(OpenFault::Unread)
+    }
+}
+
+/// Starts a thread for each path, and answers their sources, beside the doors that tell when they are open.
+fn start_all<R: Files + Threads + Wait + Copy + Send + 'static>(
+    rt: R,
+    alloc: Global,
+    paths: &[String],
+) -> Result<(Arc<Doors, Global>, Vec<Ahead<R>>), AllocError>
+where
+    R::File: Send + 'static,
+    R::Dir: Send + 'static,
+    ensures count { IfOk result (λ started. vec_len started.1 ≡ length paths.now) }
+    ensures unread { IfOk result (λ started. All (λ source. (source.reads ≡ 0) × (source.failures ≡ 0)) started.1.items) }
+{
+    let doors = Arc::new(alloc, Doors::new(paths.len()))?;
+    let board = Arc::new(alloc, Mutex::new(Board::new(alloc, paths.len(), ROOM)?))?;
+    let mut sources = Vec::with_capacity(alloc, paths.len())?;
+    for path in paths {
+        let line = Line::new(alloc, &board, sources.len())?;
+        start_one(rt, alloc, &doors, line.again()?, path)?;
+        sources.push(Ahead::new(rt, line))?;
+    }
+    Ok((doors, sources))
+}
+
+/// Starts a thread that opens an input and reads it ahead.
+fn start_one<R: Files + Threads + Wait + Copy + Send + 'static>(
+    rt: R,
+    alloc: Global,
+    doors: &Arc<Doors, Global>,
+    line: Line,
+    path: &String,
+) -> Result<(), AllocError>
+where
+    R::File: Send + 'static,
+    R::Dir: Send + 'static,
+{
+    let doors = Arc::try_clone(doors)?;
+    let path = path.clone()?;
+    thread::spawn(&rt, move || open_one(&rt, alloc, &doors, &line, &path))?;
+    Ok(())
+}
+
+/// Opens an input, and reads it ahead.
+fn open_one<R: Files + Wait>(rt: &R, alloc: Global, doors: &Doors, line: &Line, path: &str) {
+    match File::open(rt, path) {
+        Ok(input) => {
+            doors.open(rt);
+            read_ahead(rt, alloc, line, input);
+        }
+        Err(_) => doors.refuse(rt),
+    }
+}

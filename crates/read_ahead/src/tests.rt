@@ -1,0 +1,4 @@
+mod ahead;
+mod fixtures;
+mod opening;
+mod shares;

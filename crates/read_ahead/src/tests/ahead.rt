@@ -1,0 +1,64 @@
+use super::fixtures::{Given, Pattern, drain, new_lines};
+use crate::ahead::Ahead;
+use crate::reading::read_ahead;
+use std::alloc::{AllocError, Global};
+use std::sync::Wait;
+use std::test::Fail;
+use std::thread;
+use std::thread::Threads;
+
+/// What comes of a reader that is read ahead, of which `room` bytes lie ready at the most, in reads of `size`.
+fn run<R: Threads + Wait + Copy + Send + 'static>(
+    rt: &R,
+    alloc: Global,
+    input: Pattern,
+    room: usize,
+    size: usize,
+) -> Result<Option<Given>, AllocError> {
+    let mut lines = new_lines(alloc, 1, room)?;
+    let Some(line) = lines.pop() else {
+        return Ok(None);
+    };
+    let theirs = line.again()?;
+    let handle = *rt;
+    let reader = thread::spawn(rt, move || read_ahead(&handle, alloc, &theirs, input))?;
+    let given = drain(alloc, &mut Ahead::new(*rt, line), size)?;
+    reader.join(rt);
+    Ok(Some(given))
+}
+
+#[test]
+fn bytes_come_in_order(rt: HostRuntime) -> Result<(), Fail> {
+    for (len, piece, room, size) in [
+        (0, 1, 100, 10),
+        (1, 1, 100, 10),
+        (1000, 1, 100, 7),
+        (1000, 7, 100, 1000),
+        (1000, 300, 100, 18_800),
+        (300_000, 1316, 20_000, 18_800),
+        (300_000, 70_000, 1, 18_800),
+        (300_000, 1316, 32 << 20, 18_800),
+        (3_000_000, 70_000, 200_000, 100_000),
+    ] {
+        for fails in [false, true] {
+            for falters in [false, true] {
+                let input = Pattern {
+                    at: 0,
+                    len,
+                    piece,
+                    fails,
+                    falters,
+                    faltered: false,
+                };
+                let want = Given {
+                    count: len,
+                    wrong: 0,
+                    failed: fails,
+                };
+                let given = run(&rt, rt.alloc(), input, room, size)?;
+                assert_eq!(rt; given, Some(want), "{len} in {piece}, room {room}, {size}");
+            }
+        }
+    }
+    Ok(())
+}
