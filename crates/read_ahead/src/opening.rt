@@ -36,7 +36,7 @@ impl From<AllocError> for OpenFault {
 pub fn open_all<R: Files + Threads + Wait + Copy + Send + 'static>(
     rt: R,
     alloc: Global,
-    paths: &[String],
+    paths: &[&str],
 ) -> Result<Vec<Ahead<R>>, OpenFault>
 where
     R::File: Send + 'static,
@@ -56,7 +56,7 @@ where
 fn start_all<R: Files + Threads + Wait + Copy + Send + 'static>(
     rt: R,
     alloc: Global,
-    paths: &[String],
+    paths: &[&str],
 ) -> Result<(Arc<Doors, Global>, Vec<Ahead<R>>), AllocError>
 where
     R::File: Send + 'static,
@@ -81,14 +81,14 @@ fn start_one<R: Files + Threads + Wait + Copy + Send + 'static>(
     alloc: Global,
     doors: &Arc<Doors, Global>,
     line: Line,
-    path: &String,
+    path: &str,
 ) -> Result<(), AllocError>
 where
     R::File: Send + 'static,
     R::Dir: Send + 'static,
 {
     let doors = Arc::try_clone(doors)?;
-    let path = path.clone()?;
+    let path = String::from_str(alloc, path)?;
     thread::spawn(&rt, move || open_one(&rt, alloc, &doors, &line, &path))?;
     Ok(())
 }

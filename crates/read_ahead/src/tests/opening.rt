@@ -1,36 +1,12 @@
-ghost use Rattle.std.specs.Prelude.{◌≡◌, All, IfOk};
-
 use super::fixtures::drain;
-use crate::{Ahead, OpenFault, open_all};
-use std::alloc::{AllocError, Global};
+use crate::{OpenFault, open_all};
 use std::fs;
-use std::rt::Files;
-use std::sync::Wait;
 use std::test::Fail;
-use std::thread::Threads;
-
-/// Opens paths.
-fn open<R: Files + Threads + Wait + Copy + Send + 'static>(
-    rt: &R,
-    alloc: Global,
-    paths: &[&str],
-) -> Result<Result<Vec<Ahead<R>>, OpenFault>, AllocError>
-where
-    R::File: Send + 'static,
-    R::Dir: Send + 'static,
-    ensures { IfOk result (λ opened. IfOk opened (λ sources. All (λ source. (source.reads ≡ 0) × (source.failures ≡ 0)) sources.items)) }
-{
-    let mut owned = Vec::new(alloc);
-    for path in paths {
-        owned.push(String::from_str(alloc, path)?)?;
-    }
-    Ok(open_all(*rt, alloc, &owned))
-}
 
 #[test]
 fn a_path_that_cannot_be_opened(rt: HostRuntime) -> Result<(), Fail> {
     for paths in [["missing", "."], [".", "missing"], ["missing", "gone"]] {
-        let opened = open(&rt, rt.alloc(), &paths)?;
+        let opened = open_all(rt, rt.alloc(), &paths);
         assert_eq!(rt; opened.err(), Some(OpenFault::Unread), "{paths:?}");
     }
     Ok(())
@@ -41,7 +17,7 @@ fn a_folder_fails_and_a_file_goes_on(rt: HostRuntime) -> Result<(), Fail> {
     fs::write(&rt, "pattern", b"\x00\x01\x02\x03".as_slice())?;
     let mut counts = Vec::new(rt.alloc());
     let mut failures = Vec::new(rt.alloc());
-    if let Ok(sources) = open(&rt, rt.alloc(), &[".", "pattern"])? {
+    if let Ok(sources) = open_all(rt, rt.alloc(), &[".", "pattern"]) {
         for source in sources {
             let mut source = source;
             let given = drain(rt.alloc(), &mut source, 100)?;
@@ -56,7 +32,7 @@ fn a_folder_fails_and_a_file_goes_on(rt: HostRuntime) -> Result<(), Fail> {
 
 #[test]
 fn no_paths_give_no_sources(rt: HostRuntime) -> Result<(), Fail> {
-    let opened = open(&rt, rt.alloc(), &[])?;
+    let opened = open_all(rt, rt.alloc(), &[]);
     assert_eq!(rt; opened.ok().map(|sources| sources.len()), Some(0));
     Ok(())
 }
