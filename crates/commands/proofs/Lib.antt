@@ -2,6 +2,7 @@ pub mod GoodEntries
 pub mod KeyLists
 pub mod SealedTexts
 pub mod LineRuns
+pub mod LadderEnds
 pub mod LadderFacts
 pub mod TextFacts
 pub mod SegmentFiles

@@ -5,6 +5,7 @@ pub mod Entries
 pub mod Hex
 pub mod KeyLists
 pub mod LadderOptions
+pub mod LadderPacking
 pub mod Packing
 pub mod Pools
 pub mod Ranges

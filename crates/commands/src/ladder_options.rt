@@ -16,9 +16,9 @@ use std::alloc::{AllocError, Global};
 
 /// The words of a ladder, as they stand.
 #[derive(Clone, Copy, Debug, Drop)]
-pub struct LadderWords<'a> {
+pub struct LadderWords<'b, 'a> {
     /// A text of five parts for each rendition: NAME:CODECS:WxH:KEY[+KEY..]:PATH.
-    pub entries: &'a [&'a str],
+    pub entries: &'b [&'a str],
     /// The salt of the vectors.
     pub salt: Option<&'a str>,
     /// Whether the playlists list all segments of an event.
@@ -35,7 +35,7 @@ pub struct LadderOptions<'a> {
 }
 
 /// Looks at the texts and the period, before any memory is taken.
-fn look(words: LadderWords<'_>, numbers: Numbers, pool: Pool) -> Result<(), LadderFault>
+fn look(words: LadderWords<'_, '_>, numbers: Numbers, pool: Pool) -> Result<(), LadderFault>
     ensures ok { OnOk result (HasTurns (asked_of words.entry numbers pool)) }
     ensures bad_entry { (n : ℕ) → IsErrOf result (LadderFault.BadEntry n) ↔ IsBadEntry (asked_of words.entry numbers pool) n }
     ensures bad_vector { IsErrOf result LadderFault.BadVector ↔ HasBadSalt (asked_of words.entry numbers pool) }
@@ -75,7 +75,7 @@ fn paths<'a>(alloc: Global, entries: &[EntryWords<'a>]) -> Result<Vec<&'a str>, 
 /// then Settings, for which NoMemory may stand.
 pub fn read_ladder_options<'a>(
     alloc: Global,
-    words: LadderWords<'a>,
+    words: LadderWords<'_, 'a>,
     numbers: NumberWords,
     pool: PoolWords,
 ) -> Result<LadderOptions<'a>, LadderFault>

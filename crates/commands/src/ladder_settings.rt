@@ -45,7 +45,7 @@ pub(crate) fn has_too_many(texts: &[&str]) -> bool
 /// The rendition of an entry.
 fn rendition(
     alloc: Global,
-    words: LadderWords<'_>,
+    words: LadderWords<'_, '_>,
     entry: EntryWords<'_>,
     period: u64,
 ) -> Result<Rendition, AllocError>
@@ -72,7 +72,7 @@ fn rendition(
 /// The rendition of each entry, in their order.
 fn renditions(
     alloc: Global,
-    words: LadderWords<'_>,
+    words: LadderWords<'_, '_>,
     entries: &[EntryWords<'_>],
     period: u64,
 ) -> Result<Vec<Rendition>, AllocError>
@@ -91,7 +91,7 @@ fn renditions(
 /// The settings of the ladder that is asked for; Settings where it isn't within its limits.
 pub(crate) fn ladder_settings(
     alloc: Global,
-    words: LadderWords<'_>,
+    words: LadderWords<'_, '_>,
     entries: &[EntryWords<'_>],
     numbers: Numbers,
     pool: Pool,

@@ -11,6 +11,7 @@ mod frame_size;
 mod key_list;
 mod ladder_fault;
 mod ladder_options;
+mod ladder_packing;
 mod ladder_settings;
 mod limits;
 mod numbers;
@@ -35,6 +36,7 @@ pub use files::{FileFault, FileReader};
 pub use key_list::KeyListFault;
 pub use ladder_fault::LadderFault;
 pub use ladder_options::{LadderOptions, LadderWords, read_ladder_options};
+pub use ladder_packing::{LadderPackingFault, PackedLadder, pack};
 pub use limits::{
     LEAST, MOST_FRAME, MOST_GAP, MOST_KEYS, MOST_PACKETS, MOST_PIXELS, MOST_PROGRAM, MOST_QUEUE,
     MOST_TARGET, MOST_WINDOW, MOST_WORKERS, TICKS, ranges_are_those_of_a_run,

@@ -3,5 +3,6 @@ mod fixtures;
 mod ladder;
 mod one;
 mod open;
+mod pack;
 mod seal;
 mod words;

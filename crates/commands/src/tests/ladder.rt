@@ -16,7 +16,7 @@ const NO_SIZE: &str = "c:avc1.4d401e:640:000102030405060708090a0b0c0d0e0f:c.ts";
 const NO_PIXELS: &str = "c:avc1.4d401e:0x360:000102030405060708090a0b0c0d0e0f:c.ts";
 
 /// Entries with a salt or none.
-fn words<'a>(entries: &'a [&'a str], salt: Option<&'a str>) -> LadderWords<'a> {
+fn words<'a>(entries: &'a [&'a str], salt: Option<&'a str>) -> LadderWords<'a, 'a> {
     LadderWords {
         entries,
         salt,

@@ -1,0 +1,25 @@
+-- How a run of `pack` ends behind a ladder that was packed.
+use Rattle.std.proofs.Common.{◌≡◌, ◌⊎◌, inl, inr, ℕ, List, Option, Result, sym, subst}
+use Rattle.std.specs.Prelude.{IfErr}
+use Rattle.std.specs.Io.KnownBytes.{Keeps}
+use Rattle.std.proofs.lemmas.Result.{IfErr-weaker}
+use Rattle.live_board.specs.Snapshots.{SnapshotFacts}
+use Rattle.ladder_items.specs.declared.report.Report.{Report}
+use Rattle.ladder_items.specs.Ladder.{Ladder}
+use Rattle.ladder_items.specs.Runs.{Run}
+use Rattle.rounds.specs.Shown.{IsPackedShown}
+use Rattle.commands.specs.LadderPacking.{BeginsSummary, LadderSays}
+use Rattle.commands.specs.declared.ladder_packing.LadderPackingFault.{LadderPackingFault}
+use Rattle.commands.specs.declared.ladder_packing.LadderPackingFault.TheVariants.{NoMemory, Unwritten}
+
+module _ {X Y : Type 0} (run : Run X Y) (ladder : Ladder) (workers : ℕ) (old new : List SnapshotFacts) (held held_then : Option (List ℕ)) (report : Report)
+    (packed : IsPackedShown run ladder workers old new report) where
+  unwritten : (fault : LadderPackingFault) → ((fault ≡ Unwritten) × BeginsSummary ladder report held held_then) ⊎ ((fault ≡ NoMemory) × Keeps held held_then)
+      → LadderSays run ladder workers old new held held_then fault
+  unwritten fault (inl x) = subst (LadderSays run ladder workers old new held held_then) (sym x.0) (record { report = report; packed = packed; begun = x.1 })
+  unwritten fault (inr x) = subst (LadderSays run ladder workers old new held held_then) (sym x.0) (record { report = report; packed = packed; unwritten = x.1 })
+
+  -- a summary that wasn't written tells that all was packed
+  pub summary-unwritten : (r : Result Report LadderPackingFault) → IfErr r (λ fault. ((fault ≡ Unwritten) × BeginsSummary ladder report held held_then) ⊎ ((fault ≡ NoMemory) × Keeps held held_then))
+      → IfErr r (LadderSays run ladder workers old new held held_then)
+  summary-unwritten r all = IfErr-weaker r (λ fault. ((fault ≡ Unwritten) × BeginsSummary ladder report held held_then) ⊎ ((fault ≡ NoMemory) × Keeps held held_then)) (LadderSays run ladder workers old new held held_then) unwritten all

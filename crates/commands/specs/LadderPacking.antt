@@ -1,0 +1,42 @@
+-- How a run of `pack` ends that didn't do its work.
+use Rattle.std.specs.Prelude.{ℕ, List, Option}
+use Rattle.std.specs.Io.KnownBytes.{Appends, Keeps}
+use Rattle.item_io.specs.Writing.{WritesBeginning}
+use Rattle.live_board.specs.Snapshots.{SnapshotFacts}
+use Rattle.ladder_items.specs.declared.report.Report.{Report}
+use Rattle.ladder_items.specs.Ladder.{Ladder}
+use Rattle.ladder_items.specs.Runs.{Run}
+use Rattle.rounds.specs.Shown.{FaultSaysShown, IsPackedShown}
+use Rattle.commands.specs.Summaries.{IsSummaryOf}
+use Rattle.commands.specs.declared.ladder_packing.LadderPackingFault.{LadderPackingFault}
+use Rattle.commands.specs.declared.ladder_packing.LadderPackingFault.TheVariants.{Packing, Unwritten, NoMemory}
+
+-- the writer got the summary
+pub record WritesSummary (ladder : Ladder) (report : Report) (held held_then : Option (List ℕ)) : Type 0 where
+  pub text : List ℕ
+  pub is : IsSummaryOf ladder report text
+  pub written : Appends held held_then text
+
+-- the writer got a beginning of it
+pub record BeginsSummary (ladder : Ladder) (report : Report) (held held_then : Option (List ℕ)) : Type 0 where
+  pub text : List ℕ
+  pub is : IsSummaryOf ladder report text
+  pub begun : WritesBeginning held held_then text
+
+-- all was packed and shown, and the writer got a beginning of the summary
+pub record EndsUnwritten {X Y : Type 0} (run : Run X Y) (ladder : Ladder) (workers : ℕ) (old new : List SnapshotFacts) (held held_then : Option (List ℕ)) : Type 0 where
+  pub report : Report
+  pub packed : IsPackedShown run ladder workers old new report
+  pub begun : BeginsSummary ladder report held held_then
+
+-- all was packed and shown, and nothing was written
+pub record EndsUntold {X Y : Type 0} (run : Run X Y) (ladder : Ladder) (workers : ℕ) (old new : List SnapshotFacts) (held held_then : Option (List ℕ)) : Type 0 where
+  pub report : Report
+  pub packed : IsPackedShown run ladder workers old new report
+  pub unwritten : Keeps held held_then
+
+-- what each fault says of the run, and of what its writer got
+abbrev pub LadderSays : {X Y : Type 0} → Run X Y → Ladder → ℕ → List SnapshotFacts → List SnapshotFacts → Option (List ℕ) → Option (List ℕ) → LadderPackingFault → Type 0
+LadderSays run ladder workers old new held held_then (Packing fault) = FaultSaysShown run ladder workers old new fault × Keeps held held_then
+LadderSays run ladder workers old new held held_then Unwritten = EndsUnwritten run ladder workers old new held held_then
+LadderSays run ladder workers old new held held_then NoMemory = EndsUntold run ladder workers old new held held_then

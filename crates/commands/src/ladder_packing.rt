@@ -1,0 +1,125 @@
+ghost use Rattle.std.specs.Prelude.{◌≡◌, ◌⊎◌, ◌<◌, ◌^◌, IfOk, IfErr, OnOk, length};
+ghost use Rattle.std.specs.Io.KnownBytes.{Keeps};
+ghost use Rattle.ingest.specs.Inputs.{input_of};
+ghost use Rattle.ladder_items.specs.Runs.{outlet_of, run_of};
+ghost use Rattle.ladder_items.specs.World.{HaveRoom};
+ghost use Rattle.live_board.specs.Counts.{counts_shown};
+ghost use Rattle.rounds.specs.Shown.{Fits, IsPackedShown};
+ghost use Rattle.commands.specs.LadderPacking.{BeginsSummary, LadderSays, WritesSummary};
+ghost use Rattle.commands.specs.declared.ladder_packing.LadderPackingFault.TheVariants.{NoMemory, Unwritten};
+
+use crate::output::write_all;
+use crate::pool::Pool;
+use crate::summaries::summary;
+use item_io::{Outlet, READS, Source};
+use ladder_items::{PackFault, Report, Settings};
+use live_board::Publisher;
+use rounds::{Ran, pack_in_batches};
+use std::alloc::Global;
+use std::io::Write;
+use std::sync::Wait;
+use std::thread::Threads;
+use thiserror::Error;
+use work_desk::FreeGate;
+
+/// Why `pack` ends without having done its work.
+#[derive(Clone, Copy, Debug, PartialEq, Eq, Error)]
+pub enum LadderPackingFault {
+    /// The ladder wasn't packed.
+    #[error("{0}")]
+    Packing(PackFault),
+    /// All was packed, and a beginning of the summary was written.
+    #[error("the summary can't be written")]
+    Unwritten,
+    /// All was packed, and there was no memory for the summary.
+    #[error("out of memory")]
+    NoMemory,
+}
+
+/// What a run of `pack` gives back, whatever its answer.
+pub struct PackedLadder<S, O> {
+    pub sources: Vec<S>,
+    pub publisher: Publisher,
+    pub outlet: O,
+    pub answer: Result<Report, LadderPackingFault>,
+}
+
+/// The command `pack`: packs a ladder on many threads, one source for each rendition, puts its segments and playlists into the
+/// outlet, and writes a line for each rendition when all of it is packed.
+///
+/// Before the whole ladder is packed nothing is written. What was put before a fault stands.
+pub fn pack<S: Source + Drop, O: Outlet + Drop, W: Write, R: Threads + Wait + Sync>(
+    rt: &R,
+    alloc: Global,
+    sources: Vec<S>,
+    settings: &Settings,
+    pool: Pool,
+    publisher: Publisher,
+    outlet: O,
+    output: &mut W,
+) -> PackedLadder<S, O>
+    requires room { HaveRoom (input_of S.remaining S.reads S.failures) (2 ^ 40) sources.items }
+    requires failures { O.failures outlet < 2 ^ 63 }
+    ensures ok { IfOk result.answer (IsPackedShown (run_of (input_of S.remaining S.reads S.failures) (outlet_of O.holds O.broken O.failures) (2 ^ 40) sources.items result.sources.items outlet result.outlet) settings.now pool.workers publisher.list result.publisher.list) }
+    ensures written { IfOk result.answer (λ report. WritesSummary settings.now report (W.contents output.old) (W.contents output.new)) }
+    ensures fault { IfErr result.answer (LadderSays (run_of (input_of S.remaining S.reads S.failures) (outlet_of O.holds O.broken O.failures) (2 ^ 40) sources.items result.sources.items outlet result.outlet) settings.now pool.workers publisher.list result.publisher.list (W.contents output.old) (W.contents output.new)) }
+    ensures board { result.publisher.board ≡ publisher.board }
+    ensures fits { OnOk result.answer (Fits settings.now (length sources.items) pool.workers (counts_shown publisher.list)) }
+{
+    let Ran {
+        sources,
+        publisher,
+        outlet,
+        answer,
+    } = pack_in_batches(
+        rt,
+        alloc,
+        sources,
+        settings,
+        pool.workers as usize,
+        &FreeGate,
+        publisher,
+        outlet,
+        READS,
+        batch(pool),
+    );
+    match answer {
+        Err(fault) => PackedLadder {
+            sources,
+            publisher,
+            outlet,
+            answer: Err(LadderPackingFault::Packing(fault)),
+        },
+        Ok(report) => PackedLadder {
+            sources,
+            publisher,
+            outlet,
+            answer: write_summary(alloc, settings, report, output),
+        },
+    }
+}
+
+/// With how many segments a round ends: as many as there are workers, where it isn't told, and no more than may be on their way.
+fn batch(pool: Pool) -> usize {
+    pool.batch.unwrap_or(pool.workers.min(pool.queue)) as usize
+}
+
+/// Writes the summary of a run, and gives the report back.
+fn write_summary<W: Write>(
+    alloc: Global,
+    settings: &Settings,
+    report: Report,
+    output: &mut W,
+) -> Result<Report, LadderPackingFault>
+    ensures same { IfOk result (λ given. given ≡ report) }
+    ensures ok { IfOk result (λ given. WritesSummary settings.now given (W.contents output.old) (W.contents output.new)) }
+    ensures fault { IfErr result (λ fault. ((fault ≡ Unwritten) × BeginsSummary settings.now report (W.contents output.old) (W.contents output.new)) ⊎ ((fault ≡ NoMemory) × Keeps (W.contents output.old) (W.contents output.new))) }
+{
+    let Ok(text) = summary(alloc, settings, &report) else {
+        return Err(LadderPackingFault::NoMemory);
+    };
+    match write_all(output, text.as_bytes()) {
+        Ok(()) => Ok(report),
+        Err(_) => Err(LadderPackingFault::Unwritten),
+    }
+}
