@@ -1,8 +1,8 @@
 -- What faults of the program stand for.
 use Rattle.std.specs.Prelude.{ℕ}
-use Rattle.commands.specs.Statuses.{cipher_status, key_list_status, settings_status}
+use Rattle.commands.specs.Statuses.{cipher_status, key_list_status, ladder_status, settings_status}
 use Rattle.tshls.specs.declared.fault.Fault.{Fault}
-use Rattle.tshls.specs.declared.fault.Fault.TheVariants.{Usage, NotUtf8, Cipher, Settings, KeyList, NoMemory, Sealing, Opening, Packing, Checking}
+use Rattle.tshls.specs.declared.fault.Fault.TheVariants.{Usage, NotUtf8, Cipher, Settings, KeyList, Ladder, NoMemory, Sealing, Opening, Unopened, Packing, LadderPacking, Checking}
 
 -- the status that the process ends with
 abbrev pub status_of : Fault → ℕ
@@ -11,10 +11,13 @@ status_of NotUtf8 = 2
 status_of (Cipher fault) = cipher_status fault
 status_of (Settings fault) = settings_status fault
 status_of (KeyList fault) = key_list_status fault
+status_of (Ladder fault) = ladder_status fault
 status_of NoMemory = 1
 status_of (Sealing fault) = 1
 status_of (Opening fault) = 1
+status_of (Unopened fault) = 1
 status_of (Packing fault) = 1
+status_of (LadderPacking fault) = 1
 status_of (Checking fault) = 1
 
 -- a refused command line, or want of memory: nothing was read or written
@@ -24,8 +27,11 @@ IsOfCommandLine NotUtf8 = Unit {0}
 IsOfCommandLine (Cipher fault) = Unit {0}
 IsOfCommandLine (Settings fault) = Unit {0}
 IsOfCommandLine (KeyList fault) = Unit {0}
+IsOfCommandLine (Ladder fault) = Unit {0}
 IsOfCommandLine NoMemory = Unit {0}
 IsOfCommandLine (Sealing fault) = ⊥
 IsOfCommandLine (Opening fault) = ⊥
+IsOfCommandLine (Unopened fault) = ⊥
 IsOfCommandLine (Packing fault) = ⊥
+IsOfCommandLine (LadderPacking fault) = ⊥
 IsOfCommandLine (Checking fault) = ⊥

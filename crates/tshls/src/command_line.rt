@@ -8,10 +8,12 @@ use crate::options::{
     check_words, cipher_words, number_words, packing_words, with_check_options,
     with_cipher_options, with_numbers, with_rendition,
 };
-use clap::Command;
+use crate::pack_options::{entry_words, pool_words, with_ladder};
 use clap::error::ErrorKind;
+use clap::{ArgMatches, Command};
 use commands::{
-    CheckOptions, CipherOptions, read_check_options, read_cipher_options, read_settings,
+    CheckOptions, CipherOptions, LadderOptions, LadderWords, read_check_options,
+    read_cipher_options, read_ladder_options, read_settings,
 };
 use pipeline::Settings;
 use std::alloc::{AllocError, Global};
@@ -19,7 +21,15 @@ use std::convert::AsStr;
 
 /// A command with its options.
 #[derive(Drop)]
-pub enum Job {
+pub enum Job<'a> {
+    Stream(StreamJob),
+    /// `pack`: reads the transport streams of a ladder, and writes their segments and playlists as files of a folder.
+    Ladder(LadderJob<'a>),
+}
+
+/// A command that reads one stream, or one playlist.
+#[derive(Drop)]
+pub enum StreamJob {
     /// Reads a transport stream and writes its packets, sealed, as one line of hex digits.
     Seal(CipherOptions),
     /// Reads a line of hex digits and writes what was sealed, as one line of hex digits.
@@ -30,9 +40,16 @@ pub enum Job {
     Check(CheckOptions),
 }
 
+/// A ladder, and the folder that it goes to.
+#[derive(Drop)]
+pub struct LadderJob<'a> {
+    pub options: LadderOptions<'a>,
+    pub folder: &'a str,
+}
+
 /// The job that the words of a command line ask for, the program's name first. No fault of the command line comes
 /// after a read or a write.
-pub fn line<'a, S: AsStr>(alloc: Global, words: &'a [S]) -> Result<Job, Fault>
+pub fn line<'a, S: AsStr>(alloc: Global, words: &'a [S]) -> Result<Job<'a>, Fault>
     ensures { IfErr result IsOfCommandLine }
 {
     let mut command = program(alloc)?;
@@ -40,23 +57,41 @@ pub fn line<'a, S: AsStr>(alloc: Global, words: &'a [S]) -> Result<Job, Fault>
     match matches.subcommand() {
         Some(("seal", options)) => {
             let options = read_cipher_options(cipher_words(options))?;
-            return Ok(Job::Seal(options));
+            return Ok(Job::Stream(StreamJob::Seal(options)));
         }
         Some(("open", options)) => {
             let options = read_cipher_options(cipher_words(options))?;
-            return Ok(Job::Open(options));
+            return Ok(Job::Stream(StreamJob::Open(options)));
         }
         Some(("one", options)) => {
             let settings = read_settings(alloc, packing_words(options), number_words(options))?;
-            return Ok(Job::One(settings));
+            return Ok(Job::Stream(StreamJob::One(settings)));
         }
+        Some(("pack", options)) => return Ok(Job::Ladder(ladder_job(alloc, options)?)),
         Some(("check", options)) => {
             let options = read_check_options(alloc, check_words(options))?;
-            return Ok(Job::Check(options));
+            return Ok(Job::Stream(StreamJob::Check(options)));
         }
         _ => {}
     }
     Err(Fault::from(command.error(ErrorKind::MissingSubcommand, "a command is wanted")?))
+}
+
+/// The ladder that the words of `pack` tell.
+fn ladder_job<'a>(alloc: Global, options: &ArgMatches<'a>) -> Result<LadderJob<'a>, Fault>
+    ensures { IfErr result IsOfCommandLine }
+{
+    let entries = entry_words(alloc, options)?;
+    let words = LadderWords {
+        entries: &entries,
+        salt: options.get_str("salt"),
+        event: options.get_flag("event"),
+    };
+    let ladder = read_ladder_options(alloc, words, number_words(options), pool_words(options))?;
+    Ok(LadderJob {
+        options: ladder,
+        folder: options.get_str("out").unwrap_or(""),
+    })
 }
 
 fn program<'a>(alloc: Global) -> Result<Command<'a>, AllocError> {
@@ -71,6 +106,11 @@ fn program<'a>(alloc: Global) -> Result<Command<'a>, AllocError> {
             "Read a transport stream, and print its segments, sealed, and its playlists as lines",
         )
         .after_help(help::ONE);
+    let pack = Command::new(alloc, "pack")
+        .about(
+            "Read the transport streams of a ladder, and write its segments, sealed, and its playlists as files of a folder",
+        )
+        .after_help(help::PACK);
     let check = Command::new(alloc, "check")
         .about(
             "Read a media playlist and the segments beside it, and print how many bytes they unpack to",
@@ -84,5 +124,6 @@ fn program<'a>(alloc: Global) -> Result<Command<'a>, AllocError> {
         .subcommand(with_cipher_options(alloc, seal)?)?
         .subcommand(with_cipher_options(alloc, open)?)?
         .subcommand(with_numbers(alloc, with_rendition(alloc, one)?)?)?
+        .subcommand(with_numbers(alloc, with_ladder(alloc, pack)?)?)?
         .subcommand(with_check_options(alloc, check)?)
 }

@@ -1,12 +1,13 @@
 ghost use Rattle.std.specs.Prelude.{◌≡◌};
 
 use commands::{
-    CheckingFault, CipherFault, KeyListFault, OpeningFault, SealingFault, SettingsFault,
+    CheckingFault, CipherFault, KeyListFault, LadderFault, LadderPackingFault, OpeningFault,
+    SealingFault, SettingsFault,
 };
-use hls_check::{CheckFault, ListFault, UnpackFault};
+use live_board::BoardFault;
 use pipeline::PackFault;
+use read_ahead::OpenFault;
 use std::alloc::{AllocError, AllocFailed};
-use std::fmt;
 
 /// Why the program ends without having done its work. It prints as the line that standard error gets.
 #[derive(Debug, Drop)]
@@ -21,11 +22,16 @@ pub enum Fault {
     Settings(SettingsFault),
     /// They tell no keys.
     KeyList(KeyListFault),
+    /// They tell no ladder.
+    Ladder(LadderFault),
     /// Memory for the command line was refused.
     NoMemory,
     Sealing(SealingFault),
     Opening(OpeningFault),
+    /// A stream of a ladder can't be opened.
+    Unopened(OpenFault),
     Packing(PackFault),
+    LadderPacking(LadderPackingFault),
     Checking(CheckingFault),
 }
 
@@ -41,85 +47,9 @@ impl Fault {
             Fault::Cipher(fault) => fault.status(),
             Fault::Settings(fault) => fault.status(),
             Fault::KeyList(fault) => fault.status(),
+            Fault::Ladder(fault) => fault.status(),
             _ => 1,
         }
-    }
-}
-
-impl fmt::Display for Fault {
-    fn fmt<W: fmt::Write>(&self, f: &mut fmt::Formatter<W>) -> fmt::Result {
-        if let Fault::Usage(error) = self {
-            return write!(f, "{error}");
-        }
-        f.write_str("tshls: ")?;
-        match self {
-            Fault::Packing(fault) => write_packing(f, *fault)?,
-            Fault::Checking(fault) => write_checking(f, *fault)?,
-            _ => f.write_str(name_of(self))?,
-        }
-        f.write_str("\n")
-    }
-}
-
-/// The name of a fault that has no numbers.
-fn name_of(fault: &Fault) -> &'static str {
-    match fault {
-        Fault::NotUtf8 => "NotUtf8",
-        Fault::Cipher(CipherFault::BadKey) => "BadKey",
-        Fault::Cipher(CipherFault::BadVector) => "BadVector",
-        Fault::KeyList(KeyListFault::BadKey) => "BadKey",
-        Fault::Settings(SettingsFault::BadKey) => "BadKey",
-        Fault::Settings(SettingsFault::BadSize) => "BadSize",
-        Fault::Settings(SettingsFault::BadVector) => "BadVector",
-        Fault::Settings(SettingsFault::TooMany) => "TooMany",
-        Fault::Settings(SettingsFault::ZeroPeriod) => "ZeroPeriod",
-        Fault::Settings(SettingsFault::Settings) => "Settings",
-        Fault::Sealing(SealingFault::Unread) | Fault::Opening(OpeningFault::Unread) => "Unread",
-        Fault::Sealing(SealingFault::ReadLimit) => "ReadLimit",
-        Fault::Opening(OpeningFault::ReadLimit) => "ReadLimit",
-        Fault::Sealing(SealingFault::Unwritten) => "Unwritten",
-        Fault::Opening(OpeningFault::Unwritten) => "Unwritten",
-        Fault::Opening(OpeningFault::BadHex) => "BadHex",
-        Fault::Opening(OpeningFault::NotBlocks) => "NotBlocks",
-        Fault::Opening(OpeningFault::BadPadding) => "BadPadding",
-        _ => "NoMemory",
-    }
-}
-
-/// A packager's fault: its name, and then the rendition's number and the segment's, where it has them.
-fn write_packing<W: fmt::Write>(f: &mut fmt::Formatter<W>, fault: PackFault) -> fmt::Result {
-    match fault {
-        PackFault::Settings => write!(f, "Settings"),
-        PackFault::Read(r) => write!(f, "Read {r}"),
-        PackFault::ReadLimit(r) => write!(f, "ReadLimit {r}"),
-        PackFault::NoProgram(r) => write!(f, "NoProgram {r}"),
-        PackFault::NoStart(r) => write!(f, "NoStart {r}"),
-        PackFault::LongSegment(r, n) => write!(f, "LongSegment {r} {n}"),
-        PackFault::BigSegment(r, n) => write!(f, "BigSegment {r} {n}"),
-        PackFault::Limit(r) => write!(f, "Limit {r}"),
-        PackFault::Outlet => write!(f, "Outlet"),
-        PackFault::NoMemory => write!(f, "NoMemory"),
-        PackFault::Held(r, n) => write!(f, "Held {r} {n}"),
-    }
-}
-
-/// A fault of `check`: its name, and then the number of the first wrong line, or the place of the first such entry,
-/// counted from 0.
-fn write_checking<W: fmt::Write>(f: &mut fmt::Formatter<W>, fault: CheckingFault) -> fmt::Result {
-    match fault {
-        CheckingFault::Unread => write!(f, "Unread"),
-        CheckingFault::Unwritten => write!(f, "Unwritten"),
-        CheckingFault::NoMemory => write!(f, "NoMemory"),
-        CheckingFault::Faulty(CheckFault::Text(why)) => match why {
-            ListFault::NotProfile(line) => write!(f, "NotProfile {line}"),
-            ListFault::NoMemory => write!(f, "NoMemory"),
-        },
-        CheckingFault::Faulty(CheckFault::Segments(why)) => match why {
-            UnpackFault::Missing(i) => write!(f, "Missing {i}"),
-            UnpackFault::Closed(i) => write!(f, "Closed {i}"),
-            UnpackFault::NoHead(i) => write!(f, "NoHead {i}"),
-            UnpackFault::NoMemory => write!(f, "NoMemory"),
-        },
     }
 }
 
@@ -223,5 +153,46 @@ impl From<CheckingFault> for Fault {
 
     fn from(why: CheckingFault) -> Fault {
         Fault::Checking(why)
+    }
+}
+
+impl From<LadderFault> for Fault {
+    ghost use Rattle.tshls.specs.declared.fault.Fault.TheVariants.{Ladder};
+
+    ghost from_gives = { λ why fault. fault ≡ Ladder why };
+
+    fn from(why: LadderFault) -> Fault {
+        Fault::Ladder(why)
+    }
+}
+
+impl From<OpenFault> for Fault {
+    ghost use Rattle.tshls.specs.declared.fault.Fault.TheVariants.{Unopened};
+
+    ghost from_gives = { λ why fault. fault ≡ Unopened why };
+
+    fn from(why: OpenFault) -> Fault {
+        Fault::Unopened(why)
+    }
+}
+
+impl From<LadderPackingFault> for Fault {
+    ghost use Rattle.tshls.specs.declared.fault.Fault.TheVariants.{LadderPacking};
+
+    ghost from_gives = { λ why fault. fault ≡ LadderPacking why };
+
+    fn from(why: LadderPackingFault) -> Fault {
+        Fault::LadderPacking(why)
+    }
+}
+
+/// One viewer always finds a place.
+impl From<BoardFault> for Fault {
+    ghost use Rattle.tshls.specs.declared.fault.Fault.TheVariants.{NoMemory};
+
+    ghost from_gives = { λ _ fault. fault ≡ NoMemory };
+
+    fn from(_: BoardFault) -> Fault {
+        Fault::NoMemory
     }
 }

@@ -48,6 +48,31 @@ Ticks are 1/90000 s. Faults, as 'tshls: NAME NUMBERS' on standard error; what wa
   Read         Standard input couldn't be read.   ReadLimit   2^40 reads didn't come to its end.
   Outlet       Standard output can't be written.  NoMemory    Memory was refused.";
 
+/// The faults of `pack`.
+pub const PACK: &str = "\
+Each segment and playlist is written to a file of its name in DIR, whole at any time, an older file replaced; nothing else
+there is touched. When all streams have ended one line a rendition is printed, by name: NAME SEGMENTS SECONDS PEAK AVERAGE.
+
+A live stream: give --batch 1, so that a segment is listed as soon as its last packet has come; otherwise it waits for as
+many more as there are workers. The paths may be FIFOs of one encoder: they are read ahead, 32 MiB each. A new run begins
+at segment 0 again: draw new keys for it, or a new --salt.
+
+Faults, as 'tshls: NAME NUMBERS' on standard error. R counts the renditions from 0, in the order of the entries; at a fault
+of its stream the others are packed to their ends. What was written before a fault stands.
+  LongSegment R N  This segment would last longer than the target: see 'tshls one --help'
+  NoProgram R      No tables                                    NoStart R      No key frame to begin at
+  BigSegment R N   This segment has more packets than --most    Limit R        The last number or time is passed
+  Read R           The stream couldn't be read                  ReadLimit R    2^40 reads didn't come to its end
+  BadEntry N       Entry N, counted from 1, hasn't four colons, or its size isn't WIDTHxHEIGHT, or a key isn't 32 hex digits
+  BadVector        --salt isn't 32 hex digits
+  TooMany          A rendition has more than 4096 keys          ZeroPeriod     --period is 0
+  Settings         An option, a name, codecs or a side of a size is out of its range, two names are the same, or there are
+                   more than 32 renditions
+  Unread           A path can't be opened; nothing was written
+  Outlet           A file can't be written: DIR isn't there, or full; the packager stopped
+  Unwritten        All was packed, and standard output can't be written
+  NoMemory         Memory was refused; the packager stopped";
+
 /// The faults of `check`.
 pub const CHECK: &str = "\
 Faults, as 'tshls: NAME NUMBER' on standard error:

@@ -3,13 +3,17 @@
 
 mod command_line;
 mod fault;
+mod fault_text;
 mod help;
+mod ladder;
 mod options;
+mod pack_options;
 #[cfg(test)]
 mod tests;
 
-use crate::command_line::{Job, line};
+use crate::command_line::{Job, StreamJob, line};
 use crate::fault::Fault;
+use crate::ladder::pack_into_folder;
 use commands::{Packed, check, one, open, seal};
 use item_io::ReaderSource;
 use std::process::ExitCode;
@@ -23,29 +27,35 @@ fn unread_words(error: io::Error) -> Fault {
     }
 }
 
-fn run(rt: &HostRuntime) -> Result<(), Fault> {
-    let words: Vec<String> = env::args(rt).map_err(unread_words)?.collect(rt.alloc())?;
-    match line(rt.alloc(), words.as_slice())? {
-        Job::Seal(options) => seal(
-            rt.alloc(),
+/// The words of the command line.
+fn words(rt: &HostRuntime) -> Result<Vec<String>, Fault> {
+    Ok(env::args(rt).map_err(unread_words)?.collect(rt.alloc())?)
+}
+
+/// Does what a command asks for that reads in the calling thread alone.
+fn run(rt: &HostRuntime, job: StreamJob) -> Result<(), Fault> {
+    let alloc = rt.alloc();
+    match job {
+        StreamJob::Seal(options) => seal(
+            alloc,
             &options.key,
             &options.vector,
             &mut ReaderSource::new(rt.stdin()),
             &mut rt.stdout(),
         )?,
-        Job::Open(options) => open(
-            rt.alloc(),
+        StreamJob::Open(options) => open(
+            alloc,
             &options.key,
             &options.vector,
             &mut ReaderSource::new(rt.stdin()),
             &mut rt.stdout(),
         )?,
-        Job::One(settings) => {
-            let Packed { answer, .. } = one(rt.alloc(), &settings, rt.stdin(), rt.stdout());
+        StreamJob::One(settings) => {
+            let Packed { answer, .. } = one(alloc, &settings, rt.stdin(), rt.stdout());
             answer?
         }
-        Job::Check(options) => check(
-            rt.alloc(),
+        StreamJob::Check(options) => check(
+            alloc,
             rt,
             &options.keys,
             &options.playlist,
@@ -55,12 +65,26 @@ fn run(rt: &HostRuntime) -> Result<(), Fault> {
     Ok(())
 }
 
-fn main(rt: HostRuntime) -> ExitCode {
-    match run(&rt) {
+/// Tells how the program ends.
+fn ended(rt: &HostRuntime, answer: Result<(), Fault>) -> ExitCode {
+    match answer {
         Ok(()) => ExitCode::SUCCESS,
         Err(fault) => {
             let _ = rt.eprint(&fault);
             ExitCode::from(fault.status())
         }
     }
+}
+
+fn main(rt: HostRuntime) -> ExitCode {
+    let words = match words(&rt) {
+        Ok(words) => words,
+        Err(fault) => return ended(&rt, Err(fault)),
+    };
+    let answer = match line(rt.alloc(), words.as_slice()) {
+        Ok(Job::Stream(job)) => run(&rt, job),
+        Ok(Job::Ladder(job)) => pack_into_folder(rt, rt.alloc(), &job, &mut rt.stdout()),
+        Err(fault) => Err(fault),
+    };
+    ended(&rt, answer)
 }

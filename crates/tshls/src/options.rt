@@ -31,6 +31,16 @@ pub fn with_rendition<'a>(alloc: Global, command: Command<'a>) -> Result<Command
     let size = "The width and the height of the pictures, 1 to 16384 pixels each";
     let keys = "The keys, 32 hex digits each, 1 to 4096 of them";
     let name = "The name of the rendition";
+    let command = command
+        .arg(text(alloc, "codecs", "CODECS", codecs).required(true))?
+        .arg(text(alloc, "size", "WIDTHxHEIGHT", size).required(true))?
+        .arg(text(alloc, "keys", "KEY[+KEY..]", keys).required(true))?
+        .arg(text(alloc, "name", "NAME", name).default_value("v"))?;
+    with_forms(alloc, command)
+}
+
+/// The command with the options of vectors, and of which segments are listed.
+pub fn with_forms<'a>(alloc: Global, command: Command<'a>) -> Result<Command<'a>, AllocError> {
     let salt =
         "A salt of the segments' vectors, 32 hex digits: each is then the salt xor the number, and is listed";
     let event = "List all segments, as those of an event";
@@ -38,13 +48,7 @@ pub fn with_rendition<'a>(alloc: Global, command: Command<'a>) -> Result<Command
         .long("event")
         .action(ArgAction::SetTrue)
         .help(event);
-    command
-        .arg(text(alloc, "codecs", "CODECS", codecs).required(true))?
-        .arg(text(alloc, "size", "WIDTHxHEIGHT", size).required(true))?
-        .arg(text(alloc, "keys", "KEY[+KEY..]", keys).required(true))?
-        .arg(text(alloc, "name", "NAME", name).default_value("v"))?
-        .arg(text(alloc, "salt", "HEX", salt))?
-        .arg(event)
+    command.arg(text(alloc, "salt", "HEX", salt))?.arg(event)
 }
 
 /// The words of a rendition.
@@ -123,7 +127,7 @@ pub fn check_words<'a>(options: &ArgMatches<'a>) -> CheckWords<'a> {
 }
 
 /// An option of this name.
-fn text<'a>(alloc: Global, name: &'a str, value: &'a str, help: &'a str) -> Arg<'a> {
+pub(crate) fn text<'a>(alloc: Global, name: &'a str, value: &'a str, help: &'a str) -> Arg<'a> {
     Arg::new(alloc, name)
         .long(name)
         .value_name(value)
@@ -131,7 +135,7 @@ fn text<'a>(alloc: Global, name: &'a str, value: &'a str, help: &'a str) -> Arg<
 }
 
 /// An option of this name, whose value is a u64.
-fn number<'a>(alloc: Global, name: &'a str, value: &'a str, help: &'a str) -> Arg<'a> {
+pub(crate) fn number<'a>(alloc: Global, name: &'a str, value: &'a str, help: &'a str) -> Arg<'a> {
     text(alloc, name, value, help).value_parser(clap::value_parser!(u64))
 }
 
@@ -141,7 +145,7 @@ fn is_given(options: &ArgMatches<'_>, name: &str) -> bool {
 }
 
 /// The number of an option that was given.
-fn given_number(options: &ArgMatches<'_>, name: &str) -> Option<u64> {
+pub(crate) fn given_number(options: &ArgMatches<'_>, name: &str) -> Option<u64> {
     if is_given(options, name) {
         options.get_one::<u64>(name)
     } else {

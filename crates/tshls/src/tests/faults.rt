@@ -1,9 +1,11 @@
 use crate::fault::Fault;
 use commands::{
-    CheckingFault, CipherFault, KeyListFault, OpeningFault, SealingFault, SettingsFault,
+    CheckingFault, CipherFault, KeyListFault, LadderFault, LadderPackingFault, OpeningFault,
+    SealingFault, SettingsFault,
 };
 use hls_check::{CheckFault, ListFault, UnpackFault};
 use pipeline::PackFault;
+use read_ahead::OpenFault;
 use std::alloc::{AllocError, Global};
 use std::test::Fail;
 
@@ -30,40 +32,71 @@ fn of_the_line(rt: HostRuntime) -> Result<(), Fail> {
             "tshls: NoMemory\n",
             1,
         ),
-        (Fault::Settings(SettingsFault::BadKey), "tshls: BadKey\n", 2),
-        (
-            Fault::Settings(SettingsFault::BadSize),
-            "tshls: BadSize\n",
-            2,
-        ),
-        (
-            Fault::Settings(SettingsFault::BadVector),
-            "tshls: BadVector\n",
-            2,
-        ),
-        (
-            Fault::Settings(SettingsFault::TooMany),
-            "tshls: TooMany\n",
-            1,
-        ),
-        (
-            Fault::Settings(SettingsFault::ZeroPeriod),
-            "tshls: ZeroPeriod\n",
-            1,
-        ),
-        (
-            Fault::Settings(SettingsFault::Settings),
-            "tshls: Settings\n",
-            1,
-        ),
-        (
-            Fault::Settings(SettingsFault::NoMemory),
-            "tshls: NoMemory\n",
-            1,
-        ),
     ];
     for (fault, text, status) in table {
         assert!(rt; is_told(rt.alloc(), fault, text, status)?, "at {text}");
+    }
+    Ok(())
+}
+
+#[test]
+fn of_settings(rt: HostRuntime) -> Result<(), Fail> {
+    let table = [
+        (SettingsFault::BadKey, "tshls: BadKey\n", 2),
+        (SettingsFault::BadSize, "tshls: BadSize\n", 2),
+        (SettingsFault::BadVector, "tshls: BadVector\n", 2),
+        (SettingsFault::TooMany, "tshls: TooMany\n", 1),
+        (SettingsFault::ZeroPeriod, "tshls: ZeroPeriod\n", 1),
+        (SettingsFault::Settings, "tshls: Settings\n", 1),
+        (SettingsFault::NoMemory, "tshls: NoMemory\n", 1),
+    ];
+    for (fault, text, status) in table {
+        assert!(rt;
+            is_told(rt.alloc(), Fault::from(fault), text, status)?,
+            "at {text}"
+        );
+    }
+    Ok(())
+}
+
+#[test]
+fn of_a_ladder(rt: HostRuntime) -> Result<(), Fail> {
+    let table = [
+        (LadderFault::BadEntry(3), "tshls: BadEntry 3\n", 2),
+        (LadderFault::BadVector, "tshls: BadVector\n", 2),
+        (LadderFault::TooMany, "tshls: TooMany\n", 1),
+        (LadderFault::ZeroPeriod, "tshls: ZeroPeriod\n", 1),
+        (LadderFault::Settings, "tshls: Settings\n", 1),
+        (LadderFault::NoMemory, "tshls: NoMemory\n", 1),
+    ];
+    for (fault, text, status) in table {
+        assert!(rt;
+            is_told(rt.alloc(), Fault::from(fault), text, status)?,
+            "at {text}"
+        );
+    }
+    let table = [
+        (
+            LadderPackingFault::Packing(PackFault::LongSegment(1, 2)),
+            "tshls: LongSegment 1 2\n",
+        ),
+        (LadderPackingFault::Unwritten, "tshls: Unwritten\n"),
+        (LadderPackingFault::NoMemory, "tshls: NoMemory\n"),
+    ];
+    for (fault, text) in table {
+        assert!(rt;
+            is_told(rt.alloc(), Fault::from(fault), text, 1)?,
+            "at {text}"
+        );
+    }
+    for (fault, text) in [
+        (OpenFault::Unread, "tshls: Unread\n"),
+        (OpenFault::NoMemory, "tshls: NoMemory\n"),
+    ] {
+        assert!(rt;
+            is_told(rt.alloc(), Fault::from(fault), text, 1)?,
+            "at {text}"
+        );
     }
     Ok(())
 }

@@ -1,15 +1,15 @@
 use super::words::told;
 use commands::{
-    DEFAULT_FRAME, DEFAULT_GAP, DEFAULT_MOST, DEFAULT_NAME, DEFAULT_PERIOD, DEFAULT_TARGET,
-    DEFAULT_WINDOW, LEAST, MOST_FRAME, MOST_GAP, MOST_KEYS, MOST_PACKETS, MOST_PIXELS,
-    MOST_PROGRAM, MOST_TARGET, MOST_WINDOW,
+    DEFAULT_FRAME, DEFAULT_GAP, DEFAULT_MOST, DEFAULT_NAME, DEFAULT_PERIOD, DEFAULT_QUEUE,
+    DEFAULT_TARGET, DEFAULT_WINDOW, DEFAULT_WORKERS, LEAST, MOST_FRAME, MOST_GAP, MOST_KEYS,
+    MOST_PACKETS, MOST_PIXELS, MOST_PROGRAM, MOST_QUEUE, MOST_TARGET, MOST_WINDOW, MOST_WORKERS,
 };
 use std::alloc::Global;
 use std::test::Fail;
 
-/// What help tells of an option of `one`.
-fn shown(alloc: Global, option: &str) -> Result<String, Fail> {
-    let help = told(alloc, &["tshls", "one", "--help"])?.0;
+/// What help tells of an option of a command.
+fn shown(alloc: Global, command: &str, option: &str) -> Result<String, Fail> {
+    let help = told(alloc, &["tshls", command, "--help"])?.0;
     for line in help.as_str().lines() {
         if line.trim_start().starts_with(option) {
             return Ok(String::from_str(alloc, line)?);
@@ -18,17 +18,17 @@ fn shown(alloc: Global, option: &str) -> Result<String, Fail> {
     Err(Fail::from("no such option"))
 }
 
-/// Whether help tells this range of an option of `one`.
-fn has_range(alloc: Global, option: &str, most: u64) -> Result<bool, Fail> {
+/// Whether help tells this range of an option of a command.
+fn has_range(alloc: Global, command: &str, option: &str, most: u64) -> Result<bool, Fail> {
     let range = format!(in alloc; "{LEAST} to {most}")?;
-    let line = shown(alloc, option)?;
+    let line = shown(alloc, command, option)?;
     Ok(line.as_str().contains(range.as_str()))
 }
 
-/// Whether help tells this default of an option of `one`.
-fn has_default(alloc: Global, option: &str, value: u64) -> Result<bool, Fail> {
+/// Whether help tells this default of an option of a command.
+fn has_default(alloc: Global, command: &str, option: &str, value: u64) -> Result<bool, Fail> {
     let text = format!(in alloc; "[default: {value}]")?;
-    let line = shown(alloc, option)?;
+    let line = shown(alloc, command, option)?;
     Ok(line.as_str().ends_with(text.as_str()))
 }
 
@@ -45,7 +45,7 @@ fn ranges(rt: HostRuntime) -> Result<(), Fail> {
         ("--keys <KEY[+KEY..]>", MOST_KEYS as u64),
     ];
     for (option, most) in table {
-        assert!(rt; has_range(rt.alloc(), option, most)?, "at {option}");
+        assert!(rt; has_range(rt.alloc(), "one", option, most)?, "at {option}");
     }
     Ok(())
 }
@@ -61,13 +61,36 @@ fn defaults(rt: HostRuntime) -> Result<(), Fail> {
         ("--period", DEFAULT_PERIOD),
     ];
     for (option, value) in table {
-        assert!(rt; has_default(rt.alloc(), option, value)?, "at {option}");
+        assert!(rt;
+            has_default(rt.alloc(), "one", option, value)?,
+            "at {option}"
+        );
     }
-    let name = shown(rt.alloc(), "--name")?;
+    let name = shown(rt.alloc(), "one", "--name")?;
     let text = format!(in rt.alloc(); "[default: {DEFAULT_NAME}]")?;
     assert!(rt; name.as_str().ends_with(text.as_str()));
-    let segment = shown(rt.alloc(), "--segment")?;
+    let segment = shown(rt.alloc(), "one", "--segment")?;
     assert!(rt; segment.as_str().ends_with("[default: the target]"));
+    Ok(())
+}
+
+#[test]
+fn of_a_pool(rt: HostRuntime) -> Result<(), Fail> {
+    let table = [
+        ("--workers <NUMBER>", MOST_WORKERS),
+        ("--queue <SEGMENTS>", MOST_QUEUE),
+        ("--batch <SEGMENTS>", MOST_QUEUE),
+        ("--target <SECONDS>", MOST_TARGET),
+    ];
+    for (option, most) in table {
+        assert!(rt; has_range(rt.alloc(), "pack", option, most)?, "at {option}");
+    }
+    for (option, value) in [("--workers", DEFAULT_WORKERS), ("--queue", DEFAULT_QUEUE)] {
+        assert!(rt;
+            has_default(rt.alloc(), "pack", option, value)?,
+            "at {option}"
+        );
+    }
     Ok(())
 }
 
@@ -77,6 +100,7 @@ fn each_command_tells_its_faults(rt: HostRuntime) -> Result<(), Fail> {
         ("seal", "\n  ReadLimit  "),
         ("open", "\n  BadPadding  "),
         ("one", "\n  LongSegment  "),
+        ("pack", "\n  BadEntry N  "),
         ("check", "\n  NotProfile  "),
     ];
     for (command, text) in table {

@@ -1,4 +1,4 @@
-use crate::command_line::{Job, line};
+use crate::command_line::{Job, StreamJob, line};
 use crate::fault::Fault;
 use commands::CheckOptions;
 use std::alloc::{AllocError, Global};
@@ -27,7 +27,7 @@ struct LineTold {
 
 fn line_told(alloc: Global, words: &[&str]) -> Result<LineTold, AllocError> {
     match line(alloc, words) {
-        Ok(Job::Check(options)) => {
+        Ok(Job::Stream(StreamJob::Check(options))) => {
             let CheckOptions { keys, playlist } = options;
             Ok(LineTold {
                 text: playlist,

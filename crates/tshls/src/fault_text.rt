@@ -1,0 +1,154 @@
+//! How faults print: their names, and the numbers that they have.
+use crate::fault::Fault;
+use commands::{
+    CheckingFault, CipherFault, KeyListFault, LadderFault, LadderPackingFault, OpeningFault,
+    SealingFault, SettingsFault,
+};
+use hls_check::{CheckFault, ListFault, UnpackFault};
+use pipeline::PackFault;
+use read_ahead::OpenFault;
+use std::fmt;
+
+impl fmt::Display for Fault {
+    fn fmt<W: fmt::Write>(&self, f: &mut fmt::Formatter<W>) -> fmt::Result {
+        if let Fault::Usage(error) = self {
+            return write!(f, "{error}");
+        }
+        f.write_str("tshls: ")?;
+        write_fault(f, self)?;
+        f.write_str("\n")
+    }
+}
+
+fn write_fault<W: fmt::Write>(f: &mut fmt::Formatter<W>, fault: &Fault) -> fmt::Result {
+    match fault {
+        Fault::Usage(error) => write!(f, "{error}"),
+        Fault::NotUtf8 => f.write_str("NotUtf8"),
+        Fault::NoMemory => f.write_str("NoMemory"),
+        Fault::Cipher(fault) => f.write_str(cipher_name(*fault)),
+        Fault::Settings(fault) => f.write_str(settings_name(*fault)),
+        Fault::KeyList(fault) => f.write_str(key_list_name(*fault)),
+        Fault::Ladder(fault) => write_ladder(f, *fault),
+        Fault::Sealing(fault) => f.write_str(sealing_name(*fault)),
+        Fault::Opening(fault) => f.write_str(opening_name(*fault)),
+        Fault::Unopened(fault) => f.write_str(unopened_name(*fault)),
+        Fault::Packing(fault) => write_packing(f, *fault),
+        Fault::LadderPacking(fault) => write_ladder_packing(f, *fault),
+        Fault::Checking(fault) => write_checking(f, *fault),
+    }
+}
+
+fn cipher_name(fault: CipherFault) -> &'static str {
+    match fault {
+        CipherFault::BadKey => "BadKey",
+        CipherFault::BadVector => "BadVector",
+    }
+}
+
+fn key_list_name(fault: KeyListFault) -> &'static str {
+    match fault {
+        KeyListFault::BadKey => "BadKey",
+        KeyListFault::NoMemory => "NoMemory",
+    }
+}
+
+fn settings_name(fault: SettingsFault) -> &'static str {
+    match fault {
+        SettingsFault::BadKey => "BadKey",
+        SettingsFault::BadSize => "BadSize",
+        SettingsFault::BadVector => "BadVector",
+        SettingsFault::TooMany => "TooMany",
+        SettingsFault::ZeroPeriod => "ZeroPeriod",
+        SettingsFault::Settings => "Settings",
+        SettingsFault::NoMemory => "NoMemory",
+    }
+}
+
+/// The name of a fault of the ladder's words, and the number of a bad entry.
+fn write_ladder<W: fmt::Write>(f: &mut fmt::Formatter<W>, fault: LadderFault) -> fmt::Result {
+    match fault {
+        LadderFault::BadEntry(number) => write!(f, "BadEntry {number}"),
+        LadderFault::BadVector => write!(f, "BadVector"),
+        LadderFault::TooMany => write!(f, "TooMany"),
+        LadderFault::ZeroPeriod => write!(f, "ZeroPeriod"),
+        LadderFault::Settings => write!(f, "Settings"),
+        LadderFault::NoMemory => write!(f, "NoMemory"),
+    }
+}
+
+fn sealing_name(fault: SealingFault) -> &'static str {
+    match fault {
+        SealingFault::Unread => "Unread",
+        SealingFault::ReadLimit => "ReadLimit",
+        SealingFault::Unwritten => "Unwritten",
+        SealingFault::NoMemory => "NoMemory",
+    }
+}
+
+fn opening_name(fault: OpeningFault) -> &'static str {
+    match fault {
+        OpeningFault::Unread => "Unread",
+        OpeningFault::ReadLimit => "ReadLimit",
+        OpeningFault::BadHex => "BadHex",
+        OpeningFault::NotBlocks => "NotBlocks",
+        OpeningFault::BadPadding => "BadPadding",
+        OpeningFault::Unwritten => "Unwritten",
+        OpeningFault::NoMemory => "NoMemory",
+    }
+}
+
+fn unopened_name(fault: OpenFault) -> &'static str {
+    match fault {
+        OpenFault::Unread => "Unread",
+        OpenFault::NoMemory => "NoMemory",
+    }
+}
+
+/// A packager's fault: its name, and then the rendition's number and the segment's, where it has them.
+fn write_packing<W: fmt::Write>(f: &mut fmt::Formatter<W>, fault: PackFault) -> fmt::Result {
+    match fault {
+        PackFault::Settings => write!(f, "Settings"),
+        PackFault::Read(r) => write!(f, "Read {r}"),
+        PackFault::ReadLimit(r) => write!(f, "ReadLimit {r}"),
+        PackFault::NoProgram(r) => write!(f, "NoProgram {r}"),
+        PackFault::NoStart(r) => write!(f, "NoStart {r}"),
+        PackFault::LongSegment(r, n) => write!(f, "LongSegment {r} {n}"),
+        PackFault::BigSegment(r, n) => write!(f, "BigSegment {r} {n}"),
+        PackFault::Limit(r) => write!(f, "Limit {r}"),
+        PackFault::Outlet => write!(f, "Outlet"),
+        PackFault::NoMemory => write!(f, "NoMemory"),
+        PackFault::Held(r, n) => write!(f, "Held {r} {n}"),
+    }
+}
+
+/// A fault of `check`: its name, and then the number of the first wrong line, or the place of the first such entry,
+/// counted from 0.
+fn write_checking<W: fmt::Write>(f: &mut fmt::Formatter<W>, fault: CheckingFault) -> fmt::Result {
+    match fault {
+        CheckingFault::Unread => write!(f, "Unread"),
+        CheckingFault::Unwritten => write!(f, "Unwritten"),
+        CheckingFault::NoMemory => write!(f, "NoMemory"),
+        CheckingFault::Faulty(CheckFault::Text(why)) => match why {
+            ListFault::NotProfile(line) => write!(f, "NotProfile {line}"),
+            ListFault::NoMemory => write!(f, "NoMemory"),
+        },
+        CheckingFault::Faulty(CheckFault::Segments(why)) => match why {
+            UnpackFault::Missing(i) => write!(f, "Missing {i}"),
+            UnpackFault::Closed(i) => write!(f, "Closed {i}"),
+            UnpackFault::NoHead(i) => write!(f, "NoHead {i}"),
+            UnpackFault::NoMemory => write!(f, "NoMemory"),
+        },
+    }
+}
+
+/// A fault of `pack`: that of its packager, or of its summary.
+fn write_ladder_packing<W: fmt::Write>(
+    f: &mut fmt::Formatter<W>,
+    fault: LadderPackingFault,
+) -> fmt::Result {
+    match fault {
+        LadderPackingFault::Packing(fault) => write_packing(f, fault),
+        LadderPackingFault::Unwritten => write!(f, "Unwritten"),
+        LadderPackingFault::NoMemory => write!(f, "NoMemory"),
+    }
+}

@@ -1,0 +1,50 @@
+//! The options of `pack`: how help shows them, and the words that were given.
+use crate::options::{given_number, number, text, with_forms};
+use clap::{Arg, ArgAction, ArgMatches, Command};
+use commands::PoolWords;
+use std::alloc::{AllocError, Global};
+
+/// The command with the options of a ladder and of the threads that seal it, and with its entries.
+pub fn with_ladder<'a>(alloc: Global, command: Command<'a>) -> Result<Command<'a>, AllocError> {
+    let out = "The folder that the files are written to, which has to be there";
+    let workers = "How many threads seal, 1 to 64";
+    let queue = "How many segments may be on their way, 1 to 256";
+    let batch =
+        "How many segments end a round, 1 to 256: 1 for a live stream [default: the workers, or the queue where that is less]";
+    let entry =
+        "A rendition: its name, codecs, size, keys and the path of its stream, with a colon between";
+    let entries = Arg::new(alloc, "entries")
+        .value_name("NAME:CODECS:WxH:KEY[+KEY..]:PATH")
+        .required(true)
+        .num_args(1..)
+        .action(ArgAction::Append)
+        .help(entry);
+    let command = command
+        .arg(text(alloc, "out", "DIR", out).required(true))?
+        .arg(number(alloc, "workers", "NUMBER", workers).default_value("4"))?
+        .arg(number(alloc, "queue", "SEGMENTS", queue).default_value("16"))?
+        .arg(number(alloc, "batch", "SEGMENTS", batch))?
+        .arg(entries)?;
+    with_forms(alloc, command)
+}
+
+/// The texts of a ladder's renditions.
+pub fn entry_words<'a>(
+    alloc: Global,
+    options: &ArgMatches<'a>,
+) -> Result<Vec<&'a str>, AllocError> {
+    let mut entries = Vec::new(alloc);
+    if let Some(texts) = options.get_strs("entries") {
+        entries.extend_from_slice(texts)?;
+    }
+    Ok(entries)
+}
+
+/// The numbers of the threads that seal, as they were given.
+pub fn pool_words(options: &ArgMatches<'_>) -> PoolWords {
+    PoolWords {
+        workers: given_number(options, "workers"),
+        queue: given_number(options, "queue"),
+        batch: given_number(options, "batch"),
+    }
+}
