@@ -1,5 +1,5 @@
 use super::words::KEY;
-use crate::command_line::{Job, line};
+use crate::command_line::{Job, StreamJob, line};
 use crate::fault::Fault;
 use pipeline::{Kind, Settings};
 use std::alloc::Global;
@@ -14,19 +14,11 @@ fn settings<'a>(alloc: Global, more: &[&'a str]) -> Result<Settings, Fault> {
 }
 
 /// The settings of the command `one`.
-fn one_of(job: Job) -> Result<Settings, Fault> {
+fn one_of(job: Job<'_>) -> Result<Settings, Fault> {
     match job {
-        Job::One(settings) => Ok(settings),
-        Job::Seal(options) => {
-            drop(options);
-            Err(Fault::NoMemory)
-        }
-        Job::Open(options) => {
-            drop(options);
-            Err(Fault::NoMemory)
-        }
-        Job::Check(options) => {
-            drop(options);
+        Job::Stream(StreamJob::One(settings)) => Ok(settings),
+        job => {
+            drop(job);
             Err(Fault::NoMemory)
         }
     }
