@@ -1,5 +1,5 @@
 -- Fair turns: sources that are read in turn and are behind by very different numbers of bytes catch up together.
-use Rattle.std.specs.Prelude.{ℕ, ◌+◌, ◌-◌, ◌/◌, List, [], ◌∷◌, length, max, min, nat_lt, nat_le, ◌==◌, ◌||◌, Bool, if◌then◌else◌}
+use Rattle.std.specs.Prelude.{ℕ, ◌+◌, ◌-◌, ◌/◌, List, [], ◌∷◌, length, max, min, nat_lt, nat_le, ◌==◌, ◌||◌, Bool, false, if◌then◌else◌}
 use Rattle.read_ahead.specs.declared.lane.Lane.{Lane}
 
 -- so many things in parts of this size: how many parts they are, the last of which may be smaller
@@ -11,6 +11,11 @@ parts count size = (count + (size - 1)) / size
 abbrev pub turns : ℕ → List Lane → ℕ
 turns takes [] = 1
 turns takes (lane ∷ lanes) = max (if nat_lt lane.takes takes then 1 else parts (length lane.ready) 18800) (turns takes lanes)
+
+-- a source of so many takes was overtaken: another was read twice more. Each is read once in turn, so it's read no more.
+abbrev pub is_overtaken : ℕ → List Lane → Bool
+is_overtaken takes [] = false
+is_overtaken takes (lane ∷ lanes) = nat_le 2 (lane.takes - takes) || is_overtaken takes lanes
 
 -- how many of its bytes a source gives, in so many turns, at a read with this much room
 abbrev pub share : ℕ → ℕ → ℕ → ℕ

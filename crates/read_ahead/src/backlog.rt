@@ -42,6 +42,14 @@ impl Backlog {
         self.count
     }
 
+    /// Throws all of them away.
+    pub fn clear(&mut self)
+        ensures { self.new ≡ [] }
+    {
+        self.blocks = Blocks::new(self.alloc);
+        self.count = 0;
+    }
+
     /// Adds bytes behind the last.
     pub fn add(&mut self, bytes: &[u8]) -> Result<(), AllocError>
         requires { length self.old + length bytes.now < 2 ^ 64 }

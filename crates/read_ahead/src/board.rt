@@ -1,10 +1,10 @@
-ghost use Rattle.std.specs.Prelude.{◌≡◌, ◌≢◌, ◌≤◌, ℕ, [], Some, true, false, All, length, slice_get, IfOk, IfSome, IsErr};
-ghost use Rattle.read_ahead.specs.Shares.{turns};
+ghost use Rattle.std.specs.Prelude.{◌≡◌, ◌≢◌, ◌≤◌, ℕ, [], Ok, Some, true, false, All, length, slice_get, IfOk, IfSome, IsErr};
+ghost use Rattle.read_ahead.specs.Shares.{is_overtaken, turns};
 ghost use Rattle.read_ahead.specs.Steps.{Puts, Takes};
 ghost use Rattle.read_ahead.specs.declared.lane.Lane.{Lane};
 
 use crate::lane::Lane;
-use crate::shares::turns_of;
+use crate::shares::{is_overtaken, turns_of};
 use item_io::ReadFault;
 use std::alloc::{AllocError, Global};
 
@@ -30,15 +30,29 @@ impl Board {
         Ok(Board { lanes, room })
     }
 
-    /// Puts bytes behind the last of an input, and answers true; false where there is no room for them.
+    /// Whether an input was overtaken.
+    pub fn is_overtaken(&self, number: usize) -> bool
+        ensures has { (lane : Lane) → slice_get self.now.lanes.items number ≡ Some lane → result ≡ is_overtaken lane.takes self.now.lanes.items }
+        ensures missing { length self.now.lanes.items ≤ number → result ≡ false }
+    {
+        number < self.lanes.len() && is_overtaken(self.lanes[number].takes, &self.lanes)
+    }
+
+    /// Puts bytes behind the last of an input, and answers true; false where there is no room for them. Of an input that was
+    /// overtaken all bytes are thrown away.
     pub fn put(&mut self, number: usize, bytes: &[u8]) -> Result<bool, AllocError>
-        ensures own { (was is : Lane) → slice_get self.old.lanes.items number ≡ Some was → slice_get self.new.lanes.items number ≡ Some is → Puts self.old.room bytes.now was is result }
+        ensures own { (was is : Lane) → slice_get self.old.lanes.items number ≡ Some was → slice_get self.new.lanes.items number ≡ Some is → is_overtaken was.takes self.old.lanes.items ≡ false → Puts self.old.room bytes.now was is result }
+        ensures left { (was is : Lane) → slice_get self.old.lanes.items number ≡ Some was → slice_get self.new.lanes.items number ≡ Some is → is_overtaken was.takes self.old.lanes.items ≡ true → (result ≡ Ok true) × (is ≡ record was { ready = [] }) }
         ensures others { (k : ℕ) → k ≢ number → slice_get self.new.lanes.items k ≡ slice_get self.old.lanes.items k }
         ensures missing { length self.old.lanes.items ≤ number → IsErr result }
         ensures same { (length self.new.lanes.items ≡ length self.old.lanes.items) × (self.new.room ≡ self.old.room) }
     {
         if number >= self.lanes.len() {
             return Err(AllocError);
+        }
+        if self.is_overtaken(number) {
+            self.lanes[number].clear();
+            return Ok(true);
         }
         self.lanes[number].put(self.room, bytes)
     }
@@ -54,15 +68,19 @@ impl Board {
         }
     }
 
-    /// Answers a read of an input with a fair share of its bytes.
+    /// Answers a read of an input with a fair share of its bytes. One that was overtaken gives none any more.
     pub fn take(&mut self, number: usize, buffer: &mut [u8]) -> Result<Option<usize>, ReadFault>
-        ensures own { (was is : Lane) → slice_get self.old.lanes.items number ≡ Some was → slice_get self.new.lanes.items number ≡ Some is → Takes (turns was.takes self.old.lanes.items) (length buffer.old) buffer.new was is result }
+        ensures own { (was is : Lane) → slice_get self.old.lanes.items number ≡ Some was → slice_get self.new.lanes.items number ≡ Some is → is_overtaken was.takes self.old.lanes.items ≡ false → Takes (turns was.takes self.old.lanes.items) (length buffer.old) buffer.new was is result }
+        ensures left { (was : Lane) → slice_get self.old.lanes.items number ≡ Some was → is_overtaken was.takes self.old.lanes.items ≡ true → IsErr result × (self.new ≡ self.old) }
         ensures others { (k : ℕ) → k ≢ number → slice_get self.new.lanes.items k ≡ slice_get self.old.lanes.items k }
         ensures missing { length self.old.lanes.items ≤ number → IsErr result }
         ensures within { IfOk result (λ answer. IfSome answer (λ count. count ≤ length buffer.new)) }
         ensures same { (length self.new.lanes.items ≡ length self.old.lanes.items) × (self.new.room ≡ self.old.room) }
     {
         if number >= self.lanes.len() {
+            return Err(ReadFault);
+        }
+        if self.is_overtaken(number) {
             return Err(ReadFault);
         }
         let turns = turns_of(self.lanes[number].takes, &self.lanes);

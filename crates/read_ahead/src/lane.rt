@@ -53,6 +53,13 @@ impl Lane {
         Ok(true)
     }
 
+    /// Throws away the bytes that lie ready.
+    pub fn clear(&mut self)
+        ensures { self.new ≡ record self.old { ready = [] } }
+    {
+        self.ready.clear();
+    }
+
     /// No more bytes come.
     pub fn close(&mut self, failed: bool)
         ensures { self.new ≡ record self.old { closed = true; failed = failed } }

@@ -7,78 +7,109 @@ use std::sync::{Arc, Condvar, Mutex, Wait};
 
 /// What is told of one input between the thread that reads it and the one that takes from it.
 #[derive(Drop)]
-pub struct Signals {
+struct Signals {
     /// Bytes came, or the end.
     came: Condvar,
-    /// Bytes were taken.
+    /// Bytes were taken, or none are taken any more.
     taken: Condvar,
+}
+
+/// The board, and what is told of each of its inputs.
+#[derive(Drop)]
+pub struct Shared {
+    board: Mutex<Board>,
+    signals: Vec<Signals>,
+}
+
+impl Shared {
+    /// So many inputs, of which `room` bytes lie ready at the most.
+    pub fn new(
+        alloc: Global,
+        count: usize,
+        room: usize,
+    ) -> Result<Arc<Shared, Global>, AllocError> {
+        let mut signals = Vec::with_capacity(alloc, count)?;
+        for _ in 0..count {
+            signals.push(Signals {
+                came: Condvar::new(),
+                taken: Condvar::new(),
+            })?;
+        }
+        let board = Mutex::new(Board::new(alloc, count, room)?);
+        Ok(Arc::new(alloc, Shared { board, signals })?)
+    }
+
+    /// Lets the threads go on that wait for room on an input that was overtaken.
+    fn wake_overtaken(&self, board: &Board) {
+        for number in 0..self.signals.len() {
+            if board.is_overtaken(number) {
+                self.signals[number].taken.notify_one();
+            }
+        }
+    }
 }
 
 /// One input on the board that all share. Each call makes one step of the board under its lock, once that needn't wait.
 #[derive(Drop)]
 pub struct Line {
-    board: Arc<Mutex<Board>, Global>,
-    signals: Arc<Signals, Global>,
+    shared: Arc<Shared, Global>,
     number: usize,
 }
 
 impl Line {
     /// The line of the input of this number.
-    pub fn new(
-        alloc: Global,
-        board: &Arc<Mutex<Board>, Global>,
-        number: usize,
-    ) -> Result<Line, AllocError> {
-        let signals = Signals {
-            came: Condvar::new(),
-            taken: Condvar::new(),
-        };
+    pub fn new(shared: &Arc<Shared, Global>, number: usize) -> Result<Line, AllocError> {
         Ok(Line {
-            board: Arc::try_clone(board)?,
-            signals: Arc::new(alloc, signals)?,
+            shared: Arc::try_clone(shared)?,
             number,
         })
     }
 
     /// The same line.
     pub fn again(&self) -> Result<Line, AllocError> {
-        Ok(Line {
-            board: Arc::try_clone(&self.board)?,
-            signals: Arc::try_clone(&self.signals)?,
-            number: self.number,
-        })
+        Line::new(&self.shared, self.number)
     }
 
-    /// Puts bytes behind the last, once there is room for them.
+    /// Puts bytes behind the last, once there is room for them or they are thrown away.
     pub fn put<R: Wait>(&self, rt: &R, bytes: &[u8]) -> Result<(), AllocError> {
-        let mut board = self.board.lock(rt);
+        let Some(signals) = self.shared.signals.get(self.number) else {
+            return Err(AllocError);
+        };
+        let mut board = self.shared.board.lock(rt);
         for _ in rt.forever() {
             if board.put(self.number, bytes)? {
-                self.signals.came.notify_one();
+                signals.came.notify_one();
                 return Ok(());
             }
-            board = self.signals.taken.wait(rt, board);
+            board = signals.taken.wait(rt, board);
         }
         unreachable!()
     }
 
     /// No more bytes come, since a read failed or the end was reached.
     pub fn close<R: Wait>(&self, rt: &R, failed: bool) {
-        self.board.lock(rt).close(self.number, failed);
-        self.signals.came.notify_one();
+        self.shared.board.lock(rt).close(self.number, failed);
+        if let Some(signals) = self.shared.signals.get(self.number) {
+            signals.came.notify_one();
+        }
     }
 
     /// Takes a fair share of the bytes, once there are any or none come any more.
     pub fn take<R: Wait>(&self, rt: &R, buffer: &mut [u8]) -> Result<usize, ReadFault>
         ensures { IfOk result (λ count. count ≤ length buffer.new) }
     {
-        let mut board = self.board.lock(rt);
+        let Some(signals) = self.shared.signals.get(self.number) else {
+            return Err(ReadFault);
+        };
+        let mut board = self.shared.board.lock(rt);
         for _ in rt.forever() {
-            if let Some(count) = board.take(self.number, buffer)? {
-                self.signals.taken.notify_one();
+            let answer = board.take(self.number, buffer);
+            self.shared.wake_overtaken(&board);
+            if let Some(count) = answer? {
+                signals.taken.notify_one();
                 return Ok(count);
             }
-            board = self.signals.came.wait(rt, board);
+            board = signals.came.wait(rt, board);
         }
         unreachable!()
     }

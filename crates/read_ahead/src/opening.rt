@@ -1,15 +1,14 @@
 ghost use Rattle.std.specs.Prelude.{◌≡◌, All, vec_len, length, IfOk};
 
 use crate::ahead::Ahead;
-use crate::board::Board;
 use crate::doors::Doors;
 use crate::limits::ROOM;
-use crate::line::Line;
+use crate::line::{Line, Shared};
 use crate::reading::read_ahead;
 use std::alloc::{AllocError, Global};
 use std::fs::File;
 use std::rt::Files;
-use std::sync::{Arc, Mutex, Wait};
+use std::sync::{Arc, Wait};
 use std::thread;
 use std::thread::Threads;
 use thiserror::Error;
@@ -65,10 +64,10 @@ where
     ensures unread { IfOk result (λ started. All (λ source. (source.reads ≡ 0) × (source.failures ≡ 0)) started.1.items) }
 {
     let doors = Arc::new(alloc, Doors::new(paths.len()))?;
-    let board = Arc::new(alloc, Mutex::new(Board::new(alloc, paths.len(), ROOM)?))?;
+    let shared = Shared::new(alloc, paths.len(), ROOM)?;
     let mut sources = Vec::with_capacity(alloc, paths.len())?;
     for path in paths {
-        let line = Line::new(alloc, &board, sources.len())?;
+        let line = Line::new(&shared, sources.len())?;
         start_one(rt, alloc, &doors, line.again()?, path)?;
         sources.push(Ahead::new(rt, line))?;
     }

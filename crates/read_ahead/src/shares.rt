@@ -1,5 +1,5 @@
 ghost use Rattle.std.specs.Prelude.{◌≡◌, ◌+◌, ◌<◌, ◌^◌, [], max, length};
-ghost use Rattle.read_ahead.specs.Shares.{parts, turns};
+ghost use Rattle.read_ahead.specs.Shares.{is_overtaken, parts, turns};
 
 use crate::lane::Lane;
 use item_io::PIECE;
@@ -12,8 +12,8 @@ pub fn parts_of(count: usize, size: usize) -> usize
     count.div_ceil(size)
 }
 
-#[tactic(auto, using(crate::proofs::Turns::turns_some))]
 /// How many turns a source of so many takes counts with.
+#[tactic(auto, using(crate::proofs::Turns::turns_some))]
 pub fn turns_of(takes: u64, lanes: &[Lane]) -> usize
     ensures is { result ≡ turns takes lanes.now }
     ensures some { 0 < result }
@@ -25,4 +25,16 @@ pub fn turns_of(takes: u64, lanes: &[Lane]) -> usize
         }
     }
     most
+}
+
+/// Whether a source of so many takes was overtaken.
+pub fn is_overtaken(takes: u64, lanes: &[Lane]) -> bool
+    ensures { result ≡ is_overtaken takes lanes.now }
+{
+    for lane in lanes {
+        if lane.takes.saturating_sub(takes) >= 2 {
+            return true;
+        }
+    }
+    false
 }

@@ -1,19 +1,17 @@
 ghost use Rattle.std.specs.Prelude.{◌≡◌, IfOk};
 
-use crate::board::Board;
-use crate::line::Line;
+use crate::line::{Line, Shared};
 use item_io::Source;
 use std::alloc::{AllocError, Global};
 use std::io;
 use std::io::{ErrorKind, Read};
-use std::sync::{Arc, Mutex};
 
 /// A line for each of so many inputs, of which `room` bytes lie ready at the most.
 pub(super) fn new_lines(alloc: Global, count: usize, room: usize) -> Result<Vec<Line>, AllocError> {
-    let board = Arc::new(alloc, Mutex::new(Board::new(alloc, count, room)?))?;
+    let shared = Shared::new(alloc, count, room)?;
     let mut lines = Vec::with_capacity(alloc, count)?;
     for number in 0..count {
-        lines.push(Line::new(alloc, &board, number)?)?;
+        lines.push(Line::new(&shared, number)?)?;
     }
     Ok(lines)
 }
