@@ -105,19 +105,18 @@ def bandwidths(pieces, target):
     return ceil(peak), ceil(rate(pieces))
 
 
-def master(rows, options):
-    name = escaped(options.name)
-    shown = f'CODECS="{options.codecs}",RESOLUTION={options.size}'
-    whole = bandwidths([(row.size, row.duration) for row in rows], options.target)
-    frames = bandwidths(
-        [(length, duration) for row in rows for _, length, duration in row.frames], options.target
-    )
-    return [
-        "#EXTM3U",
-        "#EXT-X-VERSION:4",
-        "#EXT-X-STREAM-INF:BANDWIDTH={},AVERAGE-BANDWIDTH={},{}".format(*whole, shown),
-        f"{name}.m3u8",
-        "#EXT-X-I-FRAME-STREAM-INF:BANDWIDTH={},AVERAGE-BANDWIDTH={},{},URI=\"{}.iframes.m3u8\"".format(
-            *frames, shown, name
-        ),
-    ]
+def master(variants):
+    """Of (rows, options) pairs: the streams of all, and behind them those of their I-frames."""
+    streams, frames = [], []
+    for rows, options in variants:
+        name = escaped(options.name)
+        shown = f'CODECS="{options.codecs}",RESOLUTION={options.size}'
+        whole = bandwidths([(row.size, row.duration) for row in rows], options.target)
+        own = bandwidths([(length, duration) for row in rows for _, length, duration in row.frames], options.target)
+        streams += ["#EXT-X-STREAM-INF:BANDWIDTH={},AVERAGE-BANDWIDTH={},{}".format(*whole, shown), f"{name}.m3u8"]
+        frames.append(
+            "#EXT-X-I-FRAME-STREAM-INF:BANDWIDTH={},AVERAGE-BANDWIDTH={},{},URI=\"{}.iframes.m3u8\"".format(
+                *own, shown, name
+            )
+        )
+    return ["#EXTM3U", "#EXT-X-VERSION:4", *streams, *frames]

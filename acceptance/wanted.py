@@ -46,22 +46,27 @@ def both_lists(rows, options, ended):
     ]
 
 
-def lines(data, options):
-    """The lines in order. At a fault of the stream it is raised behind the lines that come before it."""
-    rows = []
+def sealed_rows(data, options):
+    """The row and the sealed bytes of each segment. At a fault of the stream it is raised behind those that come before it."""
     for segment in segments.segments(data, options):
         key = segment.number // options.period % len(options.keys)
         head = segment.head()
         bytes_sealed = sealed(head + segment.body(), options.keys[key], playlists.vector(segment.number, options.salt))
         frames = [(len(head) + offset, length, duration) for offset, length, duration in segment.frames]
         duration = segments.micros(segment.ticks)
-        rows.append(
-            playlists.Row(segment.number, len(bytes_sealed), duration, key, segment.discontinuity, frames)
-        )
-        uri = f"{playlists.escaped(options.name)}.{segment.number}.ts"
+        row = playlists.Row(segment.number, len(bytes_sealed), duration, key, segment.discontinuity, frames)
+        yield row, bytes_sealed
+
+
+def lines(data, options):
+    """The lines in order. At a fault of the stream it is raised behind the lines that come before it."""
+    rows = []
+    for row, bytes_sealed in sealed_rows(data, options):
+        rows.append(row)
+        uri = f"{playlists.escaped(options.name)}.{row.number}.ts"
         yield from (f"segment {uri} {len(bytes_sealed)}", bytes_sealed.hex())
         yield from both_lists(rows, options, False)
-        yield from text_lines("master", "master.m3u8", playlists.master(rows, options))
+        yield from text_lines("master", "master.m3u8", playlists.master([(rows, options)]))
     yield from both_lists(rows, options, True)
 
 

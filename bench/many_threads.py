@@ -1,0 +1,90 @@
+"""How fast `pack` packs one large stream and a ladder of three, by 1, 2 and 4 workers, beside ffmpeg's own packager with a key
+file and beside `one`; what it takes of memory on 10 and on 1,000 segments; and how a longer input grows.
+
+The stream is the sample, looped by ffmpeg so that its times go on. What the calling thread takes is a run whose tables are
+broken, so that it is only read, and one without key frames, so that it is cut into nothing.
+"""
+
+import functools
+import pathlib
+import shutil
+
+from growth import SECONDS, peak_memory
+from main_job import break_table, changed, clear_random_access, looped
+from measuring import KEY, best_of, is_linear
+
+ROUNDS = 3
+best = functools.partial(best_of, ROUNDS)
+WORKERS = (1, 2, 4)
+
+
+def entry(name, stream):
+    return f"{name}:avc1.4d401e:320x180:{KEY}:{stream}"
+
+
+def pack(program, folder, entries, *options):
+    out = folder / "packed"
+    shutil.rmtree(out, ignore_errors=True)
+    out.mkdir()
+    return [program, "pack", "--out", str(out), "--target", "8", "--segment", "6", *options, *entries]
+
+
+def ffmpeg(folder, streams):
+    """One process that packs all streams, each into a playlist of its own."""
+    command = ["ffmpeg", "-nostdin", "-v", "error", "-y"]
+    for stream in streams:
+        command += ["-i", str(stream)]
+    for number in range(len(streams)):
+        command += ["-map", str(number), "-c", "copy", "-f", "hls", "-hls_time", "6", "-hls_list_size", "5"]
+        command += ["-hls_key_info_file", str(folder / "key_info"), str(folder / f"ffmpeg{number}.m3u8")]
+    return command
+
+
+def ratios(what, size, other, runs):
+    print(f"{what}, {size / 1e6:.1f} MB: ffmpeg {other.wall:.3f} s, {other.processor:.3f} s of processor")
+    for workers, run in runs.items():
+        print(
+            f"    pack, {workers} workers: {run.wall:.3f} s, {run.wall / other.wall:.2f} of ffmpeg's time, "
+            f"{run.processor / other.processor:.2f} of its processor time, {size / run.wall / 1e6:.0f} MB/s"
+        )
+
+
+def runs_of(program, folder, entries):
+    return {workers: best(pack(program, folder, entries, "--workers", str(workers))) for workers in WORKERS}
+
+
+def measure(program, sample, folder, megabytes):
+    """Prints the figures; answers whether 8 times the input takes at most 10 times the time."""
+    folder = pathlib.Path(folder)
+    small, large, unread, uncut = (folder / name for name in ("small.ts", "large.ts", "unread.ts", "uncut.ts"))
+    looped(sample, small, megabytes / 8)
+    looped(sample, large, megabytes)
+    changed(large, unread, break_table)
+    changed(large, uncut, clear_random_access)
+    (folder / "key").write_bytes(bytes.fromhex(KEY))
+    (folder / "key_info").write_text(f"key\n{folder / 'key'}\n{'0' * 32}\n")
+    size = large.stat().st_size
+
+    runs = runs_of(program, folder, [entry("v", large)])
+    ratios("one stream", size, best(ffmpeg(folder, [large])), runs)
+    one = best([program, "one", "--codecs", "avc1.4d401e", "--size", "320x180", "--keys", KEY, "--target", "8", "--segment", "6"], large)
+    print(f"    one takes {one.wall / runs[1].wall:.1f} times the time of pack with 1 worker, {one.wall / runs[4].wall:.1f} of that with 4")
+    for name, stream in (("reading and tables", unread), ("cuts besides", uncut)):
+        command = pack(program, folder, [entry("v", stream)])
+        print(f"    {name}: {best_of(ROUNDS, command, statuses=(1,)).wall:.3f} s")
+
+    three = [large, large, large]
+    entries = [entry(name, stream) for name, stream in zip("abc", three)]
+    ratios("a ladder of three", 3 * size, best(ffmpeg(folder, three)), runs_of(program, folder, entries))
+
+    memory = {}
+    for segments in (10, 1000):
+        file = folder / f"{segments}.ts"
+        looped(sample, file, sample.stat().st_size * segments / SECONDS / 1e6)
+        memory[segments] = peak_memory(pack(program, folder, [entry("v", file)], "--target", "2", "--segment", "1"), "/dev/null")
+        shutil.rmtree(folder / "packed")
+        file.unlink()
+    few, many = memory[10], memory[1000]
+    print(f"pack: peak memory {few / 1e6:.1f} MB on 10 segments, {many / 1e6:.1f} MB on 1,000: {(many - few) / 990:.0f} bytes a segment")
+
+    return is_linear("input takes", best(pack(program, folder, [entry("v", small)])), runs[4])
