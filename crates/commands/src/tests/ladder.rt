@@ -1,8 +1,5 @@
 use super::fixtures::{KEY, no_numbers};
-use crate::{
-    LadderFault, LadderOptions, LadderWords, MOST_KEYS, NumberWords, PoolWords,
-    read_ladder_options, summary,
-};
+use crate::{LadderFault, LadderOptions, LadderWords, PoolWords, read_ladder_options, summary};
 use pipeline::{Kind, Report};
 use std::alloc::Global;
 use std::test::Fail;
@@ -33,13 +30,6 @@ fn no_pool() -> PoolWords {
     }
 }
 
-/// No numbers but this period.
-fn period(period: u64) -> NumberWords {
-    let mut numbers = no_numbers();
-    numbers.period = Some(period);
-    numbers
-}
-
 /// The options of the entries b and a, in this order.
 fn two(alloc: Global) -> Result<LadderOptions<'static>, Fail> {
     let words = LadderWords {
@@ -63,40 +53,7 @@ fn a_ladder_of_two(rt: HostRuntime) -> Result<(), Fail> {
     assert!(rt; renditions[0].salt.is_some());
     assert!(rt; options.settings.kind == Kind::Event);
     assert_eq!(rt; (options.settings.queue, options.pool.workers), (16, 4));
-    assert_eq!(rt; options.paths.as_slice(), ["b.ts", "/in/a:1.ts"]);
-    Ok(())
-}
-
-#[test]
-fn faults_in_their_order(rt: HostRuntime) -> Result<(), Fail> {
-    let alloc = rt.alloc();
-    let mut many = String::from_str(alloc, "m:avc1.4d401e:640x360:")?;
-    for _ in 0..MOST_KEYS {
-        many.push_str(KEY)?;
-        many.push_str("+")?;
-    }
-    many.push_str(KEY)?;
-    many.push_str(":m.ts")?;
-    let many = many.as_str();
-    let table = [
-        (
-            &[A, NO_SIZE, "x"][..],
-            Some("0"),
-            0,
-            LadderFault::BadEntry(2),
-        ),
-        (&["a:b:1x1:00:p"][..], None, 1, LadderFault::BadEntry(1)),
-        (&[A, many][..], Some("0"), 0, LadderFault::BadVector),
-        (&[A, many][..], None, 0, LadderFault::TooMany),
-        (&[A, A][..], None, 0, LadderFault::ZeroPeriod),
-        (&[A, A][..], None, 1, LadderFault::Settings),
-        (&[A, NO_PIXELS][..], None, 1, LadderFault::Settings),
-        (&[][..], None, 1, LadderFault::Settings),
-    ];
-    for (entries, salt, turns, wanted) in table {
-        let told = read_ladder_options(alloc, words(entries, salt), period(turns), no_pool()).err();
-        assert!(rt; told == Some(wanted), "{wanted:?}");
-    }
+    assert_eq!(rt; options.paths.as_slice(), ["b.ts", "/in/a:1.ts"].as_slice());
     Ok(())
 }
 
