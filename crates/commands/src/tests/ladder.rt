@@ -8,10 +8,6 @@ const A: &str = "a:avc1.4d401e:640x360:000102030405060708090a0b0c0d0e0f:/in/a:1.
 
 const B: &str = "b:avc1.64001f:1280x720:000102030405060708090a0b0c0d0e0f:b.ts";
 
-const NO_SIZE: &str = "c:avc1.4d401e:640:000102030405060708090a0b0c0d0e0f:c.ts";
-
-const NO_PIXELS: &str = "c:avc1.4d401e:0x360:000102030405060708090a0b0c0d0e0f:c.ts";
-
 /// Entries with a salt or none.
 fn words<'a>(entries: &'a [&'a str], salt: Option<&'a str>) -> LadderWords<'a, 'a> {
     LadderWords {
