@@ -1,5 +1,8 @@
 use super::fixtures::{KEY, no_numbers};
-use crate::{LadderFault, LadderOptions, LadderWords, PoolWords, read_ladder_options, summary};
+use crate::{
+    LadderFault, LadderOptions, LadderWords, MOST_KEYS, NumberWords, PoolWords,
+    read_ladder_options, summary,
+};
 use pipeline::{Kind, Report};
 use std::alloc::Global;
 use std::test::Fail;
@@ -7,6 +10,10 @@ use std::test::Fail;
 const A: &str = "a:avc1.4d401e:640x360:000102030405060708090a0b0c0d0e0f:/in/a:1.ts";
 
 const B: &str = "b:avc1.64001f:1280x720:000102030405060708090a0b0c0d0e0f:b.ts";
+
+const NO_SIZE: &str = "c:avc1.4d401e:640:000102030405060708090a0b0c0d0e0f:c.ts";
+
+const NO_PIXELS: &str = "c:avc1.4d401e:0x360:000102030405060708090a0b0c0d0e0f:c.ts";
 
 /// Entries with a salt or none.
 fn words<'a>(entries: &'a [&'a str], salt: Option<&'a str>) -> LadderWords<'a, 'a> {
@@ -24,6 +31,13 @@ fn no_pool() -> PoolWords {
         queue: None,
         batch: None,
     }
+}
+
+/// No numbers but this period.
+fn period(period: u64) -> NumberWords {
+    let mut numbers = no_numbers();
+    numbers.period = Some(period);
+    numbers
 }
 
 /// The options of the entries b and a, in this order.
@@ -50,6 +64,45 @@ fn a_ladder_of_two(rt: HostRuntime) -> Result<(), Fail> {
     assert!(rt; options.settings.kind == Kind::Event);
     assert_eq!(rt; (options.settings.queue, options.pool.workers), (16, 4));
     assert_eq!(rt; options.paths.as_slice(), ["b.ts", "/in/a:1.ts"].as_slice());
+    Ok(())
+}
+
+/// Why these entries with this salt and this period tell no ladder.
+fn told<'a>(
+    alloc: Global,
+    entries: &'a [&'a str],
+    salt: Option<&'a str>,
+    turns: u64,
+) -> Option<LadderFault> {
+    read_ladder_options(alloc, words(entries, salt), period(turns), no_pool()).err()
+}
+
+#[test]
+fn faults_in_their_order(rt: HostRuntime) -> Result<(), Fail> {
+    let alloc = rt.alloc();
+    assert!(rt; told(alloc, &[A, NO_SIZE, "x"], Some("0"), 0) == Some(LadderFault::BadEntry(2)));
+    assert!(rt; told(alloc, &["a:b:1x1:00:p"], None, 1) == Some(LadderFault::BadEntry(1)));
+    assert!(rt; told(alloc, &[A], Some("0"), 0) == Some(LadderFault::BadVector));
+    assert!(rt; told(alloc, &[A, A], None, 0) == Some(LadderFault::ZeroPeriod));
+    assert!(rt; told(alloc, &[A, A], None, 1) == Some(LadderFault::Settings));
+    assert!(rt; told(alloc, &[A, NO_PIXELS], None, 1) == Some(LadderFault::Settings));
+    assert!(rt; told(alloc, &[], None, 1) == Some(LadderFault::Settings));
+    Ok(())
+}
+
+#[test]
+fn too_many_keys_before_no_period(rt: HostRuntime) -> Result<(), Fail> {
+    let alloc = rt.alloc();
+    let mut many = String::from_str(alloc, "m:avc1.4d401e:640x360:")?;
+    for _ in 0..MOST_KEYS {
+        many.push_str(KEY)?;
+        many.push_str("+")?;
+    }
+    many.push_str(KEY)?;
+    many.push_str(":m.ts")?;
+    let many = many.as_str();
+    assert!(rt; told(alloc, &[many], Some("0"), 0) == Some(LadderFault::BadVector));
+    assert!(rt; told(alloc, &[many], None, 0) == Some(LadderFault::TooMany));
     Ok(())
 }
 
