@@ -1,0 +1,149 @@
+//! Viewers that look all the time.
+
+use crate::run_jobs::{Ended, Job, SEVEN, WELL, nothing, pack, packed, settings_of};
+use item_io::Item;
+use ladder_items::Settings;
+use live_board::{HeldPublisher, Snapshot, Viewer, board};
+use std::alloc::Global;
+use std::sync::Wait;
+use std::test::Fail;
+use std::thread::{self, JoinHandle, Threads};
+use work_desk::FreeGate;
+
+/// How many viewers look.
+const VIEWERS: usize = 4;
+
+/// How often a run is watched, so that threads meet in many orders.
+const TIMES: u64 = 20;
+
+/// The first text of some, no text where there is none.
+fn first(texts: &[String]) -> &str {
+    match texts.first() {
+        Some(text) => text.as_str(),
+        None => "",
+    }
+}
+
+/// The media and the I-frame playlist of so many segments, and the last master playlist before. No text stands for none.
+fn texts_at(items: &[Item], wanted: u64, with_end: bool) -> (&str, &str, &str) {
+    let mut texts = ("", "", "");
+    let mut masters: u64 = 0;
+    for item in items {
+        match item {
+            Item::Media {
+                count,
+                ended,
+                text,
+                ..
+            } if *count == wanted && *ended == with_end => texts.0 = text,
+            Item::Frames {
+                count,
+                ended,
+                text,
+                ..
+            } if *count == wanted && *ended == with_end => texts.1 = text,
+            Item::Master { text } if masters < wanted => {
+                masters = masters.saturating_add(1);
+                texts.2 = text;
+            }
+            _ => {}
+        }
+    }
+    texts
+}
+
+/// Whether a snapshot has the texts of its count.
+fn has_its_texts(snapshot: &Snapshot, items: &[Item]) -> bool {
+    let count = snapshot.counts.first().copied().unwrap_or(0);
+    let ended = snapshot.ended.first().copied().unwrap_or(false);
+    let (media, frames, master) = texts_at(items, count, ended);
+    first(&snapshot.media) == media
+        && first(&snapshot.frames) == frames
+        && snapshot.master.as_str() == master
+}
+
+/// Looks until the rendition ended, and tells whether no count fell and each snapshot had the texts of its count.
+fn sees_the_run(viewer: Viewer, items: &[Item]) -> bool {
+    let mut viewer = viewer;
+    let mut last = 0;
+    for _ in 0..10_000_000 {
+        let Ok(view) = viewer.view() else {
+            return false;
+        };
+        let snapshot = view.snapshot();
+        let count = snapshot.counts.first().copied().unwrap_or(0);
+        let ended = snapshot.ended.first().copied().unwrap_or(false);
+        let right = last <= count && has_its_texts(snapshot, items);
+        viewer = view.close();
+        last = count;
+        if !right || ended {
+            return right;
+        }
+    }
+    false
+}
+
+/// Packs while each viewer looks in a thread of its own, and tells how many saw a beginning of what the run shows, up to its
+/// end.
+fn watched<'r, R: Threads + Wait + Sync>(
+    rt: &'r R,
+    alloc: Global,
+    job: &Job,
+    settings: &Settings,
+    items: &[Item],
+    held: HeldPublisher<'r, R>,
+    viewers: Vec<Viewer>,
+) -> (HeldPublisher<'r, R>, Option<Ended>, usize) {
+    thread::scope(
+        thread::scope_env(),
+        rt,
+        |scope| -> (HeldPublisher<'_, R>, Option<Ended>, usize) {
+            let mut running: Vec<JoinHandle<bool>> = Vec::new(alloc);
+            for viewer in viewers {
+                let Ok(child) = scope.spawn(move || sees_the_run(viewer, items)) else {
+                    break;
+                };
+                if running.push(child).is_err() {
+                    break;
+                }
+            }
+            let (publisher, ended) = pack(rt, alloc, job, settings, &FreeGate, held.release());
+            let mut right: usize = 0;
+            for child in running {
+                if child.join(rt) {
+                    right = right.saturating_add(1);
+                }
+            }
+            (HeldPublisher { publisher, rt }, ended, right)
+        },
+    )
+}
+
+#[test]
+fn viewers_see_beginnings_of_the_run(rt: HostRuntime) -> Result<(), Fail> {
+    let alloc = rt.alloc();
+    let job = Job {
+        stream: SEVEN,
+        piece: 188,
+        ..WELL
+    };
+    let (whole, _) = packed(&rt, alloc, &job, &FreeGate)?;
+    let settings = settings_of(alloc, &job)?;
+    for _ in 0..TIMES {
+        let (publisher, viewers) = board(&rt, alloc, nothing(alloc)?, VIEWERS)?;
+        let held = HeldPublisher { publisher, rt: &rt };
+        let (held, ended, right) = watched(
+            &rt,
+            alloc,
+            &job,
+            &settings,
+            whole.outlet.items(),
+            held,
+            viewers,
+        );
+        held.release().end(&rt);
+        assert_eq!(rt; right, VIEWERS);
+        assert!(rt; matches!(ended, Some(Ended { answer: Ok(_), .. })));
+    }
+    Ok(())
+}
