@@ -1,13 +1,17 @@
 //! Streams of one rendition: what is given of each, and the fault that is told.
 use crate::back::{first_lost, has_one_meaning_changed};
-use crate::run::{CUT, Ran, WELL, Ways, are_sizes, last_frames, last_media, run, settings, values};
+use crate::run::{
+    CUT, Ran, WELL, Ways, are_sizes, last_frames, last_media, run_each_way, settings, values,
+};
 use crate::stream::Video::{Key, Other};
 use crate::stream::{Change, TWO_SEGMENTS, Video, stream_of};
 use cutter::CutSettings;
 use item_io::Item;
 use pipeline::PackFault;
 use std::alloc::{AllocError, Global};
+use std::sync::Wait;
 use std::test::Fail;
+use std::thread::Threads;
 
 /// A stream, how it is packed, and what is wanted: the fault, how many items, the sizes of the segments, and what stands
 /// behind a tag of the last media and of the last I-frame playlist.
@@ -275,10 +279,14 @@ fn wrong(alloc: Global, case: &Case, items: &[Item]) -> Result<Option<&'static s
 }
 
 /// The first thing that isn't as wanted of a run of this case.
-fn wrong_in(alloc: Global, case: &Case) -> Result<Option<&'static str>, Fail> {
+fn wrong_in<R: Threads + Wait + Sync>(
+    rt: &R,
+    alloc: Global,
+    case: &Case,
+) -> Result<Option<&'static str>, Fail> {
     let stream = stream_of(alloc, case.frames, case.change)?;
     let settings = settings(alloc, &["v"], 1, 1, case.cut, case.window)?;
-    let Ran { answer, outlet } = run(alloc, &[&stream], case.ways, &settings)?;
+    let Ran { answer, outlet } = run_each_way(rt, alloc, &[&stream], case.ways, &settings)?;
     if answer.err() != case.fault {
         return Ok(Some("fault"));
     }
@@ -286,9 +294,13 @@ fn wrong_in(alloc: Global, case: &Case) -> Result<Option<&'static str>, Fail> {
 }
 
 /// The first of some cases that isn't as wanted.
-fn first_wrong(alloc: Global, cases: &[Case]) -> Result<Option<(usize, &'static str)>, Fail> {
+fn first_wrong<R: Threads + Wait + Sync>(
+    rt: &R,
+    alloc: Global,
+    cases: &[Case],
+) -> Result<Option<(usize, &'static str)>, Fail> {
     for (n, case) in cases.iter().enumerate() {
-        if let Some(wrong) = wrong_in(alloc, case)? {
+        if let Some(wrong) = wrong_in(rt, alloc, case)? {
             return Ok(Some((n, wrong)));
         }
     }
@@ -297,36 +309,36 @@ fn first_wrong(alloc: Global, cases: &[Case]) -> Result<Option<(usize, &'static 
 
 #[test]
 fn streams_with_damage(rt: HostRuntime) -> Result<(), Fail> {
-    assert_eq!(rt; first_wrong(rt.alloc(), &DAMAGED)?, None);
+    assert_eq!(rt; first_wrong(&rt, rt.alloc(), &DAMAGED)?, None);
     Ok(())
 }
 
 #[test]
 fn streams_are_cut(rt: HostRuntime) -> Result<(), Fail> {
-    assert_eq!(rt; first_wrong(rt.alloc(), &CUT_UP)?, None);
+    assert_eq!(rt; first_wrong(&rt, rt.alloc(), &CUT_UP)?, None);
     Ok(())
 }
 
 #[test]
 fn jumps_and_iframes(rt: HostRuntime) -> Result<(), Fail> {
-    assert_eq!(rt; first_wrong(rt.alloc(), &JUMPS)?, None);
+    assert_eq!(rt; first_wrong(&rt, rt.alloc(), &JUMPS)?, None);
     Ok(())
 }
 
 #[test]
 fn lists_and_limits(rt: HostRuntime) -> Result<(), Fail> {
-    assert_eq!(rt; first_wrong(rt.alloc(), &LISTED)?, None);
+    assert_eq!(rt; first_wrong(&rt, rt.alloc(), &LISTED)?, None);
     Ok(())
 }
 
 #[test]
 fn faults_of_streams(rt: HostRuntime) -> Result<(), Fail> {
-    assert_eq!(rt; first_wrong(rt.alloc(), &REFUSED)?, None);
+    assert_eq!(rt; first_wrong(&rt, rt.alloc(), &REFUSED)?, None);
     Ok(())
 }
 
 #[test]
 fn reads_and_puts_that_fail(rt: HostRuntime) -> Result<(), Fail> {
-    assert_eq!(rt; first_wrong(rt.alloc(), &STOPPED)?, None);
+    assert_eq!(rt; first_wrong(&rt, rt.alloc(), &STOPPED)?, None);
     Ok(())
 }

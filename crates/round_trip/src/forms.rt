@@ -4,7 +4,7 @@ use crate::back::first_lost;
 use crate::cases::SEVEN;
 use crate::ladder::SEVEN_BEHIND_A_JUMP;
 use crate::run::{
-    CUT, Form, PLAIN, Ran, WELL, last_frames, last_media, run, settings, settings_of,
+    CUT, Form, PLAIN, Ran, WELL, last_frames, last_media, run, run_each_way, settings, settings_of,
 };
 use crate::stream::{Change, TWO_SEGMENTS, stream_of};
 use item_io::Item;
@@ -58,7 +58,7 @@ v.1.ts
 fn two_segments_under_a_salt(rt: HostRuntime) -> Result<(), Fail> {
     let stream = stream_of(rt.alloc(), TWO_SEGMENTS, Change::None)?;
     let settings = settings_of(rt.alloc(), &["v"], (1, 1), CUT, 5, SALTED)?;
-    let Ran { answer, outlet } = run(rt.alloc(), &[&stream], WELL, &settings)?;
+    let Ran { answer, outlet } = run_each_way(&rt, rt.alloc(), &[&stream], WELL, &settings)?;
     assert_eq!(rt; answer.err(), None);
     let items = outlet.items();
     assert_eq!(rt; items.len(), 10);
@@ -72,7 +72,7 @@ fn two_segments_under_a_salt(rt: HostRuntime) -> Result<(), Fail> {
 fn keys_take_turns_under_a_salt(rt: HostRuntime) -> Result<(), Fail> {
     let stream = stream_of(rt.alloc(), SEVEN, Change::None)?;
     let settings = settings_of(rt.alloc(), &["v"], (2, 2), CUT, 3, SALTED)?;
-    let Ran { answer, outlet } = run(rt.alloc(), &[&stream], WELL, &settings)?;
+    let Ran { answer, outlet } = run_each_way(&rt, rt.alloc(), &[&stream], WELL, &settings)?;
     assert_eq!(rt; answer.err(), None);
     let keys = [[0; 16], [1; 16]];
     assert_eq!(rt; first_lost(rt.alloc(), outlet.items(), 0, &keys)?, None);
@@ -83,7 +83,7 @@ fn keys_take_turns_under_a_salt(rt: HostRuntime) -> Result<(), Fail> {
 fn an_event_lists_all_segments(rt: HostRuntime) -> Result<(), Fail> {
     let stream = stream_of(rt.alloc(), SEVEN, Change::None)?;
     let settings = settings_of(rt.alloc(), &["v"], (1, 1), CUT, 1, EVENT)?;
-    let Ran { answer, outlet } = run(rt.alloc(), &[&stream], WELL, &settings)?;
+    let Ran { answer, outlet } = run_each_way(&rt, rt.alloc(), &[&stream], WELL, &settings)?;
     assert_eq!(rt; answer.err(), None);
     let items = outlet.items();
     let media = last_media(items);
@@ -107,7 +107,7 @@ fn times(text: &str, wanted: &str) -> usize {
 fn an_event_with_a_discontinuity(rt: HostRuntime) -> Result<(), Fail> {
     let stream = stream_of(rt.alloc(), SEVEN_BEHIND_A_JUMP, Change::None)?;
     let settings = settings_of(rt.alloc(), &["v"], (1, 1), CUT, 3, EVENT)?;
-    let Ran { answer, outlet } = run(rt.alloc(), &[&stream], WELL, &settings)?;
+    let Ran { answer, outlet } = run_each_way(&rt, rt.alloc(), &[&stream], WELL, &settings)?;
     assert_eq!(rt; answer.err(), None);
     for item in outlet.items() {
         if let Item::Media { count, text, .. } = item {
@@ -124,7 +124,7 @@ fn as_many_renditions_as_there_may_be(rt: HostRuntime) -> Result<(), Fail> {
     let stream = stream_of(rt.alloc(), TWO_SEGMENTS, Change::None)?;
     let inputs: [&[u8]; 32] = [stream.as_slice(); 32];
     let settings = settings(rt.alloc(), &NAMES[..32], 1, 1, CUT, 5)?;
-    let Ran { answer, outlet } = run(rt.alloc(), &inputs, WELL, &settings)?;
+    let Ran { answer, outlet } = run_each_way(&rt, rt.alloc(), &inputs, WELL, &settings)?;
     assert_eq!(rt; answer.err(), None);
     assert_eq!(rt; outlet.items().len(), 320);
     Ok(())

@@ -1,6 +1,6 @@
 //! Several renditions, keys that take turns, and a window that slides.
 use crate::back::first_lost;
-use crate::run::{CUT, Ran, WELL, last_master, last_media, run, settings, values};
+use crate::run::{CUT, Ran, WELL, last_master, last_media, run_each_way, settings, values};
 use crate::stream::Video::{Key, Other};
 use crate::stream::{Change, TWO_SEGMENTS, Video, stream_of};
 use item_io::Item;
@@ -22,7 +22,13 @@ hd%201.m3u8
 fn two_renditions_in_one_master(rt: HostRuntime) -> Result<(), Fail> {
     let stream = stream_of(rt.alloc(), TWO_SEGMENTS, Change::None)?;
     let settings = settings(rt.alloc(), &["a", "hd 1"], 1, 1, CUT, 5)?;
-    let Ran { answer, outlet } = run(rt.alloc(), &[&stream, &stream], WELL, &settings)?;
+    let Ran { answer, outlet } = run_each_way(
+        &rt,
+        rt.alloc(),
+        &[&stream, &stream],
+        WELL,
+        &settings,
+    )?;
     let items = outlet.items();
     assert_eq!(rt; answer.err(), None);
     assert_eq!(rt; items.len(), 20);
@@ -45,7 +51,8 @@ fn settings_that_are_not_allowed(rt: HostRuntime) -> Result<(), Fail> {
     let stream = stream_of(rt.alloc(), TWO_SEGMENTS, Change::None)?;
     for (name, inputs) in REFUSED {
         let settings = settings(rt.alloc(), &[name], 1, 1, CUT, 5)?;
-        let Ran { answer, outlet } = run(
+        let Ran { answer, outlet } = run_each_way(
+            &rt,
             rt.alloc(),
             &[stream.as_slice(), stream.as_slice()][..inputs.min(2)],
             WELL,
@@ -68,7 +75,7 @@ fn keys_take_turns(rt: HostRuntime) -> Result<(), Fail> {
     ];
     let stream = stream_of(rt.alloc(), &frames, Change::None)?;
     let settings = settings(rt.alloc(), &["v"], 2, 2, CUT, 5)?;
-    let Ran { answer, outlet } = run(rt.alloc(), &[&stream], WELL, &settings)?;
+    let Ran { answer, outlet } = run_each_way(&rt, rt.alloc(), &[&stream], WELL, &settings)?;
     assert_eq!(rt; answer.err(), None);
     let media = last_media(outlet.items());
     assert_eq!(rt;
@@ -134,7 +141,7 @@ pub const SEVEN_BEHIND_A_JUMP: &[Video] = &[
 fn a_window_slides_past_a_discontinuity(rt: HostRuntime) -> Result<(), Fail> {
     let stream = stream_of(rt.alloc(), SEVEN_BEHIND_A_JUMP, Change::None)?;
     let settings = settings(rt.alloc(), &["v"], 1, 1, CUT, 3)?;
-    let Ran { answer, outlet } = run(rt.alloc(), &[&stream], WELL, &settings)?;
+    let Ran { answer, outlet } = run_each_way(&rt, rt.alloc(), &[&stream], WELL, &settings)?;
     assert_eq!(rt; answer.err(), None);
     assert_eq!(rt; slides_of(rt.alloc(), outlet.items())?.as_str(), SLIDES);
     assert_eq!(rt;

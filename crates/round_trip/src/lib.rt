@@ -19,6 +19,8 @@ mod reads;
 #[cfg(test)]
 mod run;
 #[cfg(test)]
+mod same;
+#[cfg(test)]
 mod standard;
 #[cfg(test)]
 mod stream;

@@ -1,9 +1,17 @@
+ghost use Rattle.std.specs.Prelude.{◌≡◌, All, IfOk};
+
+use crate::same::first_other;
 use cutter::CutSettings;
 use item_io::{FailingOutlet, FailingReader, Item, Outlet};
+use live_board::{Snapshot, board};
 use pipeline::{Kind, PackFault, Rendition, Report, Settings, pack_serial};
+use rounds::pack_parallel;
 use segment_job::Keys;
 use std::alloc::{AllocError, Global};
+use std::sync::Wait;
 use std::test::Fail;
+use std::thread::Threads;
+use work_desk::FreeGate;
 
 /// Segments of six seconds.
 pub const CUT: CutSettings = CutSettings {
@@ -110,13 +118,10 @@ pub fn settings_of(
     })
 }
 
-/// Packs these inputs.
-pub fn run(
-    alloc: Global,
-    inputs: &[&[u8]],
-    ways: Ways,
-    settings: &Settings,
-) -> Result<Ran, AllocError> {
+/// The inputs as sources.
+fn sources_of(alloc: Global, inputs: &[&[u8]], ways: Ways) -> Result<Vec<FailingReader>, AllocError>
+    ensures { IfOk result (λ sources. All (λ source. (source.reads ≡ 0) × (source.failures ≡ 0)) sources.items) }
+{
     let mut sources = Vec::new(alloc);
     for (r, input) in inputs.iter().enumerate() {
         let mut bytes = Vec::new(alloc);
@@ -124,9 +129,81 @@ pub fn run(
         let failing_read = if r == 0 { ways.failing_read } else { 0 };
         sources.push(FailingReader::new(bytes, ways.piece.max(1), failing_read))?;
     }
+    Ok(sources)
+}
+
+/// Packs these inputs on one thread.
+pub fn run(
+    alloc: Global,
+    inputs: &[&[u8]],
+    ways: Ways,
+    settings: &Settings,
+) -> Result<Ran, AllocError> {
+    let mut sources = sources_of(alloc, inputs, ways)?;
     let mut outlet = FailingOutlet::new(alloc, ways.failing_put);
     let answer = pack_serial(alloc, &mut sources, settings, &mut outlet);
     Ok(Ran { answer, outlet })
+}
+
+/// A snapshot of so many renditions, none of which has a segment.
+fn nothing(alloc: Global, renditions: usize) -> Result<Snapshot, AllocError> {
+    let mut counts = Vec::new(alloc);
+    let mut ended = Vec::new(alloc);
+    for _ in 0..renditions {
+        counts.push(0)?;
+        ended.push(false)?;
+    }
+    Ok(Snapshot {
+        counts,
+        ended,
+        media: Vec::new(alloc),
+        frames: Vec::new(alloc),
+        master: String::new(alloc),
+    })
+}
+
+/// Packs these inputs on many threads, so many of which seal.
+fn run_on<R: Threads + Wait + Sync>(
+    rt: &R,
+    alloc: Global,
+    inputs: &[&[u8]],
+    ways: Ways,
+    settings: &Settings,
+    workers: usize,
+) -> Result<Ran, Fail> {
+    let sources = sources_of(alloc, inputs, ways)?;
+    let outlet = FailingOutlet::new(alloc, ways.failing_put);
+    let first = nothing(alloc, settings.renditions.len())?;
+    let (publisher, _viewers) = board(rt, alloc, first, 1)?;
+    let rounds::Ran {
+        sources: _,
+        publisher,
+        outlet,
+        answer,
+    } = pack_parallel(
+        rt, alloc, sources, settings, workers, &FreeGate, publisher, outlet,
+    );
+    publisher.end(rt);
+    Ok(Ran { answer, outlet })
+}
+
+/// Packs these inputs on one thread, and on many with one worker and with four, where each rendition gets the same. Tells
+/// what one thread makes of them.
+pub fn run_each_way<R: Threads + Wait + Sync>(
+    rt: &R,
+    alloc: Global,
+    inputs: &[&[u8]],
+    ways: Ways,
+    settings: &Settings,
+) -> Result<Ran, Fail> {
+    let ran = run(alloc, inputs, ways, settings)?;
+    for workers in [1, 4] {
+        let many = run_on(rt, alloc, inputs, ways, settings, workers)?;
+        if let Some(other) = first_other(&ran, &many, inputs.len(), workers) {
+            return Err(Fail::new(other));
+        }
+    }
+    Ok(ran)
 }
 
 /// Whether the segments that were given have these sizes.

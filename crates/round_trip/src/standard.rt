@@ -1,6 +1,6 @@
 //! The standard stream of two segments, its texts byte for byte.
 use crate::run::{
-    CUT, Ran, WELL, Ways, are_sizes, last_frames, last_master, last_media, run, settings,
+    CUT, Ran, WELL, Ways, are_sizes, last_frames, last_master, last_media, run_each_way, settings,
 };
 use crate::stream::{Change, TWO_SEGMENTS, stream_of};
 use item_io::Item;
@@ -75,7 +75,8 @@ fn two_segments_in_pieces(rt: HostRuntime) -> Result<(), Fail> {
     let stream = stream_of(rt.alloc(), TWO_SEGMENTS, Change::None)?;
     let settings = settings(rt.alloc(), &["v"], 1, 1, CUT, 5)?;
     for piece in [1, 188, 1000, 18_800] {
-        let Ran { answer, outlet } = run(
+        let Ran { answer, outlet } = run_each_way(
+            &rt,
             rt.alloc(),
             &[&stream],
             Ways { piece, ..WELL },
@@ -96,7 +97,7 @@ fn two_segments_in_pieces(rt: HostRuntime) -> Result<(), Fail> {
 fn a_report(rt: HostRuntime) -> Result<(), Fail> {
     let stream = stream_of(rt.alloc(), TWO_SEGMENTS, Change::NoiseBefore)?;
     let settings = settings(rt.alloc(), &["v"], 1, 1, CUT, 5)?;
-    let Ran { answer, outlet: _ } = run(rt.alloc(), &[&stream], WELL, &settings)?;
+    let Ran { answer, outlet: _ } = run_each_way(&rt, rt.alloc(), &[&stream], WELL, &settings)?;
     let report = answer?;
     let numbers = (
         report.counts.get(0),

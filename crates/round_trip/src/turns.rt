@@ -1,6 +1,6 @@
 //! In which order renditions have their turns, and what a fault of one leaves of the others.
 use crate::back::first_lost;
-use crate::run::{CUT, Ran, WELL, Ways, last_media, run, settings, values};
+use crate::run::{CUT, Ran, WELL, Ways, last_media, run, run_each_way, settings, values};
 use crate::stream::Video::Key;
 use crate::stream::{Change, TWO_SEGMENTS, stream_of};
 use item_io::{FailingOutlet, Item, ReaderSource};
@@ -148,7 +148,13 @@ fn a_fault_ends_one_rendition_alone(rt: HostRuntime) -> Result<(), Fail> {
     ];
     let settings = settings(rt.alloc(), &["a", "b"], 1, 1, CUT, 5)?;
     for (first, ways, fault) in table {
-        let Ran { answer, outlet } = run(rt.alloc(), &[first, &whole], ways, &settings)?;
+        let Ran { answer, outlet } = run_each_way(
+            &rt,
+            rt.alloc(),
+            &[first, &whole],
+            ways,
+            &settings,
+        )?;
         let items = outlet.items();
         assert_eq!(rt; answer.err(), Some(fault));
         assert!(rt; b_is_whole(rt.alloc(), items)?);
