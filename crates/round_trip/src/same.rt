@@ -53,13 +53,13 @@ fn has_same_items(one: &[Item], other: &[Item], renditions: usize) -> bool {
 
 /// Whether this rendition has the same items in both.
 fn has_same_of(one: &[Item], other: &[Item], r: usize) -> bool {
-    let mut rest = other.iter().filter(|item| is_of(item, r));
+    let mut rest = other.iter();
     for item in one {
-        if is_of(item, r) && rest.next() != Some(item) {
+        if is_of(item, r) && rest.find(|item| is_of(item, r)) != Some(item) {
             return false;
         }
     }
-    rest.next().is_none()
+    !rest.any(|item| is_of(item, r))
 }
 
 /// Whether an item is of this rendition alone.
