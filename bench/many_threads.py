@@ -22,11 +22,12 @@ def entry(name, stream):
     return f"{name}:avc1.4d401e:320x180:{KEY}:{stream}"
 
 
-def pack(program, folder, entries, *options):
+def pack(program, folder, entries, *options, target=8, segment=6):
     out = folder / "packed"
     shutil.rmtree(out, ignore_errors=True)
     out.mkdir()
-    return [program, "pack", "--out", str(out), "--target", "8", "--segment", "6", *options, *entries]
+    cuts = ["--target", str(target), "--segment", str(segment)]
+    return [program, "pack", "--out", str(out), *cuts, *options, *entries]
 
 
 def ffmpeg(folder, streams):
@@ -81,7 +82,7 @@ def measure(program, sample, folder, megabytes):
     for segments in (10, 1000):
         file = folder / f"{segments}.ts"
         looped(sample, file, sample.stat().st_size * segments / SECONDS / 1e6)
-        memory[segments] = peak_memory(pack(program, folder, [entry("v", file)], "--target", "2", "--segment", "1"), "/dev/null")
+        memory[segments] = peak_memory(pack(program, folder, [entry("v", file)], target=2, segment=1), "/dev/null")
         shutil.rmtree(folder / "packed")
         file.unlink()
     few, many = memory[10], memory[1000]

@@ -2,5 +2,4 @@ mod cipher;
 mod faults;
 mod help;
 mod one;
-mod pack;
 mod words;
