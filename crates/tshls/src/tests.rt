@@ -2,4 +2,5 @@ mod cipher;
 mod faults;
 mod help;
 mod one;
+mod pack;
 mod words;
