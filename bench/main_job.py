@@ -39,9 +39,8 @@ def clear_random_access(data, at):
         data[at + 5] &= ~0x40
 
 
-def measure(program, sample, folder, megabytes):
-    """Prints the figures; answers whether 8 times the input takes at most 10 times the time."""
-    folder = pathlib.Path(folder)
+def streams(sample, folder, megabytes):
+    """An eighth, the whole, the whole with broken tables and without key frames; ffmpeg's key file stands beside them."""
     small, large, unread, uncut = (folder / name for name in ("small.ts", "large.ts", "unread.ts", "uncut.ts"))
     looped(sample, small, megabytes / 8)
     looped(sample, large, megabytes)
@@ -49,6 +48,13 @@ def measure(program, sample, folder, megabytes):
     changed(large, uncut, clear_random_access)
     (folder / "key").write_bytes(bytes.fromhex(KEY))
     (folder / "key_info").write_text(f"key\n{folder / 'key'}\n{'0' * 32}\n")
+    return small, large, unread, uncut
+
+
+def measure(program, sample, folder, megabytes):
+    """Prints the figures; answers whether 8 times the input takes at most 10 times the time."""
+    folder = pathlib.Path(folder)
+    small, large, unread, uncut = streams(sample, folder, megabytes)
 
     one = [program, "one", "--codecs", "avc1.4d401e", "--size", "320x180", "--keys", KEY, "--target", "8", "--segment", "6"]
     ffmpeg = ["ffmpeg", "-nostdin", "-v", "error", "-y", "-i", str(large), "-map", "0", "-c", "copy", "-f", "hls"]

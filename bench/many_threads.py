@@ -10,7 +10,7 @@ import pathlib
 import shutil
 
 from growth import SECONDS, peak_memory
-from main_job import break_table, changed, clear_random_access, looped
+from main_job import looped, streams
 from measuring import KEY, best_of, is_linear
 
 ROUNDS = 3
@@ -57,13 +57,7 @@ def runs_of(program, folder, entries):
 def measure(program, sample, folder, megabytes):
     """Prints the figures; answers whether 8 times the input takes at most 10 times the time."""
     folder = pathlib.Path(folder)
-    small, large, unread, uncut = (folder / name for name in ("small.ts", "large.ts", "unread.ts", "uncut.ts"))
-    looped(sample, small, megabytes / 8)
-    looped(sample, large, megabytes)
-    changed(large, unread, break_table)
-    changed(large, uncut, clear_random_access)
-    (folder / "key").write_bytes(bytes.fromhex(KEY))
-    (folder / "key_info").write_text(f"key\n{folder / 'key'}\n{'0' * 32}\n")
+    small, large, unread, uncut = streams(sample, folder, megabytes)
     size = large.stat().st_size
 
     runs = runs_of(program, folder, [entry("v", large)])
