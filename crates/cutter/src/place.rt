@@ -10,7 +10,7 @@ use crate::fault::CutFault;
 use crate::going::Going;
 use crate::point::{Mark, Point};
 use crate::reel::Reel;
-use crate::settings::CutSettings;
+use crate::settings::{CutSettings, TICKS};
 use psi_tables::Tables;
 
 /// Places a packet, by the tables before it, and says whether it closed a segment: its plan then stands last in the reel.
@@ -158,7 +158,7 @@ fn is_long(settings: CutSettings, ticks: u64) -> bool
     requires { ticks ≤ 2 ^ 63 + 900000 }
     ensures { result ≡ nat_lt settings.target (Segments.seconds ticks) }
 {
-    settings.target < (ticks + 45_000) / 90_000
+    settings.target < (ticks + TICKS / 2) / TICKS
 }
 
 /// Closes the last segment, at the end of the stream: its plan then stands last in the reel.

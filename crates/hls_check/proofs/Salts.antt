@@ -14,7 +14,8 @@ use Rattle.hex.specs.Hex.{upper_digits, encode_upper, encode_with, decode_sized,
 use Rattle.hex.proofs.HexLemmas.{IsDigits-upper_digits, length-encode_with, decode_of-encode_upper, decode_sized-twice}
 use Rattle.playlist_text.specs.Attributes.{hexadecimal}
 use Rattle.playlist_text.specs.Vectors.{salted_vector}
-use Rattle.playlist_text.proofs.SaltedVectors.{byte-small, salted-length, salted-small, salted-again}
+use Rattle.playlist_text.proofs.SaltedVectors.{salted-length, salted-small, salted-again}
+use Rattle.playlist_text.proofs.SixteenBytes.{byte-small}
 use Rattle.hls_check.specs.MediaTexts.{IsSalt}
 use Rattle.hls_check.specs.State.{is_quoted, vector_in, salt_in, key_line_under}
 use Rattle.hls_check.proofs.Found.{not-true}

@@ -1,10 +1,11 @@
 -- The plans of a stream of bytes can be sealed.
-use Rattle.std.proofs.Common.{ℕ, ◌%◌, ◌<◌, Bool, true, false, List, [], ◌∷◌, ◌++◌, map, drop, Option, Some, None, subst, sym}
+use Rattle.std.proofs.Common.{ℕ, ◌%◌, Bool, true, false, List, [], ◌∷◌, ◌++◌, map, drop, Option, Some, None, subst, sym}
 use Rattle.std.specs.Prelude.{if◌then◌else◌, is_none, nat_le}
 use Rattle.std.specs.List.{All}
 use Rattle.std.proofs.lemmas.List.Elements.{All-nil, All-cons, All-head, All-tail, All-append, All-push, All-same, All-take, All-drop}
 use Rattle.ts_packet.specs.Packets.{packet_at, ArePackets, packets}
-use Rattle.aes_cbc.specs.Block.{AreBytes}
+use Rattle.ghost_list.specs.Bytes.{IsByte, AreBytes}
+use Rattle.ghost_list.proofs.ByteLists.{both_bytes, no_bytes}
 use Rattle.psi_tables.specs.InForce.{InForce}
 use Rattle.psi_tables.specs.Head.{head}
 use Rattle.pes_time.specs.declared.clock.Stamp.{Stamp}
@@ -19,12 +20,9 @@ use Rattle.cutter.specs.Cuts.{Cuts, faulted, made, going_on, with_mark, first_se
 use Rattle.ingest.specs.Streams.{plans_of}
 use Rattle.ingest.specs.Sealable.{IsOfBytes}
 use Rattle.ingest.proofs.HeadBytes.{of-head}
-use Rattle.ingest.proofs.SectionBytes.{none, both, all_if}
+use Rattle.ingest.proofs.SectionBytes.{all_if}
 use Rattle.ingest.proofs.TableBytes.{IfThere, CanGo, Goods, can-go}
 use Rattle.ingest.proofs.Splitting.{on, stays, body-append}
-
-abbrev IsByte : ℕ → Type 0
-IsByte x = x < 256
 
 -- a packet of bytes, behind tables that can be sent
 record IsSound (f : Fact) : Type 0 where
@@ -55,7 +53,7 @@ record GoesOn (g : Segment) : Type 0 where
 
 of-plan : (r : ℕ) (s : CutSettings) (g : Segment) (next : Option Stamp) → GoesOn g → IsOfBytes (plan_of r s g next)
 unfolding plan_of
-of-plan r s g next ok = record { tables = ok.tables.tables; bytes = both (head g.head.tables (g.number % 16) (g.pmt_packets % 16)) (body_of g.marks) (of-head g.head.tables (g.number % 16) (g.pmt_packets % 16) ok.tables.bytes) ok.body }
+of-plan r s g next ok = record { tables = ok.tables.tables; bytes = both_bytes (head g.head.tables (g.number % 16) (g.pmt_packets % 16)) (body_of g.marks) (of-head g.head.tables (g.number % 16) (g.pmt_packets % 16) ok.tables.bytes) ok.body }
 
 record AreSound (a : Cuts) : Type 0 where
   plans_are : All IsOfBytes a.closed
@@ -79,12 +77,12 @@ of-on r s fs ih true top closed plan g all p ok = of-fault r s fs closed (BigSeg
 of-on r s fs ih false top closed plan g all p ok = ih top (Some g) (closed ++ made plan) ok (All-append IsOfBytes closed (made plan) all (of-made plan p))
 
 of-mark : (m : Mark) → AreBytes m.packet → AreBytes (body_of (m ∷ []))
-of-mark m b = both (bytes_of m) [] (all_if IsByte m.look.is_accepted m.packet b) none
+of-mark m b = both_bytes (bytes_of m) [] (all_if IsByte m.look.is_accepted m.packet b) no_bytes
 
 with-mark : (g : Segment) (m : Mark) → AreBytes m.packet → GoesOn g → GoesOn (with_mark g m)
 with-mark g m b ok = record {
   tables = ok.tables;
-  body = All-same IsByte (body_of (g.marks ++ m ∷ [])) (body_of g.marks ++ body_of (m ∷ [])) (body-append g.marks (m ∷ [])) (both (body_of g.marks) (body_of (m ∷ [])) ok.body (of-mark m b));
+  body = All-same IsByte (body_of (g.marks ++ m ∷ [])) (body_of g.marks ++ body_of (m ∷ [])) (body-append g.marks (m ∷ [])) (both_bytes (body_of g.marks) (body_of (m ∷ [])) ok.body (of-mark m b));
 }
 
 of-carried : (r : ℕ) (s : CutSettings) (fs : List Fact) → Sound r s fs → (top : Option Stamp) (closed : List SegmentPlan) (going : Option Segment) (m : Mark)

@@ -4,13 +4,10 @@ use Rattle.std.specs.Prelude.{if◌then◌else◌}
 use Rattle.std.specs.Int.{byte_at, bytes_high_first}
 use Rattle.std.proofs.lemmas.List.Elements.{All-nil, All-cons, All-append, All-take, All-drop, All-replicate}
 use Rattle.std.proofs.Math.Nat.{mod-lt}
-use Rattle.aes_cbc.specs.Block.{AreBytes}
+use Rattle.ghost_list.specs.Bytes.{IsByte, AreBytes}
 use Rattle.psi_tables.specs.InForce.{InForce}
 use Rattle.psi_tables.specs.Crc.{crc}
 use Rattle.psi_tables.specs.Head.{header, stuffed, packets, packet_count, section_packets, pat_fields, pat_section, head}
-
-abbrev IsByte : ℕ → Type 0
-IsByte x = x < 256
 
 record Bytes (xs : List ℕ) : Type 0 where
   are : AreBytes xs

@@ -7,4 +7,5 @@ pub mod HeadBytes
 pub mod SectionBytes
 pub mod TableBytes
 pub mod CutBytes
+pub mod Ordered
 pub mod Turning

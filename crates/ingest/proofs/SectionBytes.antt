@@ -1,23 +1,13 @@
 -- The sections of packets of bytes are made of bytes.
-use Rattle.std.proofs.Common.{ℕ, zero, suc, ◌+◌, ◌*◌, ◌<◌, Bool, true, false, List, [], ◌∷◌, ◌++◌, length, take, drop, get_or, Option, Some, None, inl, inr, arith}
+use Rattle.std.proofs.Common.{ℕ, zero, suc, ◌+◌, Bool, true, false, List, [], ◌∷◌, ◌++◌, length, take, drop, Option, Some, None}
 use Rattle.std.specs.Prelude.{if◌then◌else◌, nat_lt}
 use Rattle.std.specs.List.{All}
-use Rattle.std.proofs.lemmas.Bool.{cases_lt}
-use Rattle.std.proofs.lemmas.List.{get_or_past}
 use Rattle.std.proofs.lemmas.List.Elements.{All-nil, All-cons, All-head, All-tail, All-append, All-take, All-drop}
 use Rattle.ts_packet.specs.Fields.{continuity_counter, has_payload, has_adaptation_field, adaptation_field_length, payload}
-use Rattle.aes_cbc.specs.Block.{AreBytes}
+use Rattle.ghost_list.specs.Bytes.{IsByte, AreBytes}
+use Rattle.ghost_list.proofs.ByteLists.{both_bytes, no_bytes}
 use Rattle.psi_tables.specs.Section.{section_length}
 use Rattle.psi_tables.specs.Sections.{Carrier, carrier, carriers, is_taken, follows, pointer_field, pointed, behind_pointer, is_whole, first_section, begun_in, flow_behind, unfinished, is_given_up, opening, sections_in, sections}
-
-abbrev IsByte : ℕ → Type 0
-IsByte x = x < 256
-
-pub none : AreBytes []
-none = All-nil IsByte
-
-pub both : (xs ys : List ℕ) → AreBytes xs → AreBytes ys → AreBytes (xs ++ ys)
-both xs ys a b = All-append IsByte xs ys a b
 
 -- a list, or none
 pub all_if : {A : Type 0} (P : A → Type 0) (t : Bool) (xs : List A) → All P xs → All P (if t then xs else [])
@@ -51,11 +41,11 @@ of-pointed c all =
 
 of-flow : (counter : ℕ) (cs : List Carrier) → All Carries cs → AreBytes (flow_behind counter cs)
 unfolding flow_behind
-of-flow counter [] all = none
+of-flow counter [] all = no_bytes
 of-flow counter (c ∷ cs) all =
     all_if IsByte (follows counter c) (if c.starts then pointed c else c.payload ++ flow_behind c.counter cs)
     (either IsByte c.starts (pointed c) (c.payload ++ flow_behind c.counter cs) (of-pointed c (All-head Carries c cs all))
-    (both c.payload (flow_behind c.counter cs) (All-head Carries c cs all) (of-flow c.counter cs (All-tail Carries c cs all))))
+    (both_bytes c.payload (flow_behind c.counter cs) (All-head Carries c cs all) (of-flow c.counter cs (All-tail Carries c cs all))))
 
 of-begun : (left : ℕ) (bytes flow : List ℕ) → AreBytes bytes → AreBytes flow → All AreBytes (begun_in left bytes flow)
 unfolding begun_in
@@ -65,11 +55,11 @@ of-begun zero (b ∷ bytes) flow a f =
     let front = (b ∷ bytes) ++ flow in
     let rest = begun_in (2 + section_length front) bytes flow in
     all_if AreBytes (is_whole front) (first_section front ∷ rest)
-    (All-cons AreBytes (first_section front) rest (All-take IsByte (3 + section_length front) front (both (b ∷ bytes) flow a f))
+    (All-cons AreBytes (first_section front) rest (All-take IsByte (3 + section_length front) front (both_bytes (b ∷ bytes) flow a f))
     (of-begun (2 + section_length front) bytes flow (All-tail IsByte b bytes a) f))
 
 of-opening : (given_up : Bool) (c : Carrier) → Carries c → AreBytes (opening given_up c)
-of-opening given_up c all = either IsByte given_up [] (behind_pointer c) none (All-drop IsByte (1 + pointer_field c) c.payload all)
+of-opening given_up c all = either IsByte given_up [] (behind_pointer c) no_bytes (All-drop IsByte (1 + pointer_field c) c.payload all)
 
 of-sections_in : (given_up : Bool) (cs : List Carrier) → All Carries cs → All AreBytes (sections_in given_up cs)
 unfolding sections_in
@@ -88,13 +78,3 @@ of-sections_in given_up (c ∷ cs) all =
 pub of-sections : (on : ℕ) (ps : List (List ℕ)) → All AreBytes ps → All AreBytes (sections on ps)
 unfolding sections
 of-sections on ps all = of-sections_in false (carriers on None ps) (of-carriers on None ps all)
-
-byte-at : (s : List ℕ) (i : ℕ) → AreBytes s → get_or s i 0 < 256
-byte-at s i all = elim (cases_lt i (length s)) as (λ _. get_or s i 0 < 256) [
-  | inl below ↦ all i 0 below
-  | inr past ↦ omega (arith, get_or_past s i 0 past)
-]
-
--- the number of two bytes
-pub two-bytes : (s : List ℕ) (i : ℕ) → AreBytes s → get_or s i 0 * 256 + get_or s (i + 1) 0 < 65536
-two-bytes s i all = omega (arith, byte-at s i all, byte-at s (i + 1) all)

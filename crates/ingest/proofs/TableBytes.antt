@@ -3,14 +3,15 @@ use Rattle.std.proofs.Common.{◌≡◌, ℕ, zero, suc, ◌<◌, ◌^◌, Bool,
 use Rattle.std.specs.Prelude.{if◌then◌else◌, is_none, option_map}
 use Rattle.std.specs.List.{All, filter_map, cons_option}
 use Rattle.std.proofs.lemmas.List.Elements.{All-nil, All-cons, All-head, All-tail, All-append, All-take, All-drop}
-use Rattle.aes_cbc.specs.Block.{AreBytes}
+use Rattle.ghost_list.specs.Bytes.{AreBytes}
+use Rattle.ghost_list.proofs.ByteLists.{two_bytes}
 use Rattle.psi_tables.specs.declared.choice.Choice.{Choice}
 use Rattle.psi_tables.specs.Association.{association, pat_fault, chosen}
 use Rattle.psi_tables.specs.ProgramMap.{program_map, pmt_fault}
 use Rattle.psi_tables.specs.Sections.{sections}
 use Rattle.psi_tables.specs.Head.{IsSendable}
 use Rattle.psi_tables.specs.InForce.{InForce, IsGood, last_or, entry_choice, choice_of, choice, same_pid, since_change, completed_on, tables_of, put_in_force, tables_before, tables_behind}
-use Rattle.ingest.proofs.SectionBytes.{all_if, of-sections, two-bytes}
+use Rattle.ingest.proofs.SectionBytes.{all_if, of-sections}
 
 abbrev pub IfThere : {A : Type 0} → (A → Type 0) → Option A → Type 0
 IfThere P None = Unit {0}
@@ -48,7 +49,7 @@ of-choice wanted packets all =
     last-there IsNumbered None (filter_map (choice_of wanted) (sections 0 packets)) tt
     (all-filter_map AreBytes IsNumbered (choice_of wanted) (sections 0 packets)
     (λ s bytes. there-if IsNumbered (is_none (pat_fault s)) (option_map (entry_choice (association s).transport_stream_id) (chosen wanted (association s)))
-    (there-map IsNumbered (entry_choice (association s).transport_stream_id) (chosen wanted (association s)) (λ x. two-bytes s 3 bytes)))
+    (there-map IsNumbered (entry_choice (association s).transport_stream_id) (chosen wanted (association s)) (λ x. two_bytes s 3 bytes)))
     (of-sections 0 packets all))
 
 -- tables that were read of bytes
@@ -100,7 +101,7 @@ can-by goods wanted packets (Some t) e read =
     record {
       tables = record {
         stream_id = read.numbered;
-        program = omega (arith, good.of_program, two-bytes t.section 3 read.bytes);
+        program = omega (arith, good.of_program, two_bytes t.section 3 read.bytes);
         pmt_pid = good.pid;
         section = good.good;
       };

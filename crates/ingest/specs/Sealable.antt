@@ -1,5 +1,5 @@
 -- Plans that can be sealed.
-use Rattle.aes_cbc.specs.Block.{AreBytes}
+use Rattle.ghost_list.specs.Bytes.{AreBytes}
 use Rattle.psi_tables.specs.Head.{IsSendable}
 use Rattle.cutter.specs.Plans.{SegmentPlan}
 use Rattle.segment_job.specs.Segments.{plain}

@@ -133,10 +133,7 @@ pub fn closed_plans_begin_all()
     ensures none { (r : ℕ) (s : CutSettings) → closed_of r s [] ≡ [] }
     ensures begin { (r : ℕ) (s : CutSettings) (stream more : List ℕ) → IsBeginning (closed_of r s stream) (plans_of r s (stream ++ more)) }
     ensures grow { (r : ℕ) (s : CutSettings) (stream more : List ℕ) → IsBeginning (closed_of r s stream) (closed_of r s (stream ++ more)) }
-{
-    ts_packet::decided_is_the_longest();
-    cutter::plans_only_grow();
-}
+{}
 
 /// Pushes packets, and closes the segments that they close.
 fn push_all(cutter: &mut SpoolCutter, packets: &[[u8; 188]]) -> Result<(), CutFault>

@@ -1,7 +1,7 @@
 //! What is known of the plans of a stream of bytes.
 ghost use Rattle.std.specs.Prelude.{◌≡◌, ◌++◌, All, None, Some, ℕ, List, Option, slice_get};
 ghost use Rattle.ghost_list.specs.Lists.{IsBeginning};
-ghost use Rattle.aes_cbc.specs.Block.{AreBytes};
+ghost use Rattle.ghost_list.specs.Bytes.{AreBytes};
 ghost use Rattle.ts_packet.specs.Packets.{packets};
 ghost use Rattle.cutter.specs.declared.settings.CutSettings.{CutSettings};
 ghost use Rattle.cutter.specs.Plans.{SegmentPlan};
@@ -11,8 +11,6 @@ ghost use Rattle.ingest.specs.declared.lane.Stop.{Stop};
 ghost use Rattle.ingest.specs.Streams.{plans_of, fault_of};
 ghost use Rattle.ingest.specs.Lanes.{made_of};
 ghost use Rattle.ingest.specs.Output.{output, bodies, BeginWith};
-
-use crate::intake::closed_plans_begin_all;
 
 /// The bodies of a rendition's segments, joined, are the accepted packets of its stream from the first cut on: all of
 /// them where the stream has no fault, and a beginning of them in the segments of each beginning of its plans.
@@ -28,19 +26,13 @@ pub fn bodies_are_the_accepted_packets()
 pub fn plans_of_bytes_are_in_order()
     ensures { (r : ℕ) (s : CutSettings) (stream : List ℕ) (n : ℕ) (plan : SegmentPlan) →
         slice_get (plans_of r s stream) n ≡ Some plan → IsPlan r s n plan }
-{
-    cutter::plans_are_in_order();
-    ts_packet::packets_are_at_their_positions();
-}
+{}
 
 /// So are the plans that are closed where a rendition goes on or has stopped.
 pub fn closed_plans_are_in_order()
     ensures { (stop : Option Stop) (r : ℕ) (s : CutSettings) (stream : List ℕ) (n : ℕ) (plan : SegmentPlan) →
         slice_get (made_of stop r s stream) n ≡ Some plan → IsPlan r s n plan }
-{
-    plans_of_bytes_are_in_order();
-    closed_plans_begin_all();
-}
+{}
 
 /// Each plan of a stream of bytes can be sealed: its tables can be sent in a head, and its segment is made of bytes.
 pub fn plans_of_bytes_can_be_sealed()

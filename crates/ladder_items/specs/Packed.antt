@@ -2,7 +2,7 @@
 use Rattle.std.specs.Prelude.{◌≡◌, ℕ, ◌+◌, ◌<◌, ◌≤◌, ◌⊎◌, List, [], length, map, sum, Option, Some, None, slice_get}
 use Rattle.std.specs.Option.{unwrap_or}
 use Rattle.std.specs.Io.KnownBytes.{Consumes, IsAtEnd}
-use Rattle.aes_cbc.specs.Block.{AreBytes}
+use Rattle.ghost_list.specs.Bytes.{AreBytes}
 use Rattle.bandwidth.specs.Peaks.{peak_of, average_of}
 use Rattle.ingest.specs.declared.fault.StreamFault.{StreamFault}
 use Rattle.ingest.specs.declared.fault.StreamFault.TheVariants.{NoProgram as HasNoProgram, NoStart as HasNoStart, LongSegment as IsLong, BigSegment as IsBig, Limit as PassesLimit}

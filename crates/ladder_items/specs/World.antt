@@ -2,7 +2,7 @@
 use Rattle.std.specs.Prelude.{◌≡◌, ℕ, ◌+◌, ◌*◌, ◌<◌, ◌≤◌, ◌^◌, nat_lt, if◌then◌else◌, List, [], ◌++◌, length, None, get_or, All, slice_get, true}
 use Rattle.std.specs.Prelude.{Some}
 use Rattle.std.specs.Io.KnownBytes.{Consumes}
-use Rattle.aes_cbc.specs.Block.{AreBytes}
+use Rattle.ghost_list.specs.Bytes.{AreBytes}
 use Rattle.cutter.specs.Plans.{SegmentPlan}
 use Rattle.ingest.specs.declared.lane.Lane.{Lane}
 use Rattle.ingest.specs.Inputs.{InputView, SourceSays}

@@ -1,6 +1,5 @@
 ghost use Rattle.std.specs.Prelude.{◌≡◌, ◌+◌, ◌*◌, ◌<◌, ◌≤◌, ◌^◌, All, length, drop, IfOk};
 ghost use Rattle.cutter.specs.Ordered.{IsInside, end_before};
-ghost use Rattle.segment_job.specs.Segments.{plan_head};
 ghost use Rattle.playlist_text.specs.Numbers;
 ghost use Rattle.ladder_items.specs.Rows.{frame_row};
 ghost use Rattle.ladder_items.specs.Rows;
@@ -28,18 +27,8 @@ pub fn row_of(alloc: Global, sealed: &Sealed<'_>, keys: &Keys) -> Result<Row, Al
         micros: whole_micros(plan.ticks),
         key: keys.index(plan.number),
         discontinuity: plan.discontinuity,
-        frames: frame_rows(alloc, head_len(sealed), plan)?,
+        frames: frame_rows(alloc, sealed.head_len(), plan)?,
     })
-}
-
-/// How long the head of a segment is: one packet for its PAT, and at most six for its PMT.
-fn head_len(sealed: &Sealed<'_>) -> u64
-    ensures value { result ≡ length (plan_head sealed.now.plan) }
-    ensures short { result ≤ 188 * 7 }
-{
-    psi_tables::length_of_a_head();
-    let _ = sealed.plan().tables.section();
-    sealed.head_len()
 }
 
 /// The I-frames of a segment behind a head of so many bytes.

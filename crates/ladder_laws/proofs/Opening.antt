@@ -6,7 +6,7 @@ use Rattle.std.proofs.lemmas.Bool.{cases_eq, false≢true}
 use Rattle.std.proofs.lemmas.List.{append-nil, map-append, length-map, length-drop, drop-append-le, get_or-set_same, get_or-set_other, length-set}
 use Rattle.std.proofs.lemmas.Option.{get_or_from_slice_get, slice_get_within}
 use Rattle.ghost_list.specs.Lists.{IsBeginning}
-use Rattle.aes_cbc.specs.Block.{AreBytes}
+use Rattle.ghost_list.specs.Bytes.{AreBytes}
 use Rattle.aes_cbc.specs.Chain.{sealed_text}
 use Rattle.ts_packet.specs.Packets.{packets}
 use Rattle.cutter.specs.declared.settings.CutSettings.{CutSettings}

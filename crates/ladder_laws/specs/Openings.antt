@@ -3,7 +3,7 @@ use Rattle.std.specs.Prelude.{◌≡◌, ℕ, ◌+◌, ◌<◌, Bool, false, nat
 use Rattle.std.specs.List.{starts_with}
 use Rattle.ghost_list.specs.Lists.{IsBeginning}
 use Rattle.playlist_text.specs.Uris.{segment_uri}
-use Rattle.aes_cbc.specs.Block.{AreBytes}
+use Rattle.ghost_list.specs.Bytes.{AreBytes}
 use Rattle.cutter.specs.Plans.{SegmentPlan}
 use Rattle.playlist_text.specs.Vectors.{salted_vector}
 use Rattle.segment_job.specs.Rotation.{KeyRotation}

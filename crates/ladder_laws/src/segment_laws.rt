@@ -1,7 +1,7 @@
 //! What the segments of a rendition carry, and how a player opens them.
 ghost use Rattle.std.specs.Prelude.{◌≡◌, ◌∷◌, ◌++◌, All, None, Some, ℕ, List, map, slice_get};
 ghost use Rattle.ghost_list.specs.Lists.{IsBeginning};
-ghost use Rattle.aes_cbc.specs.Block.{AreBytes};
+ghost use Rattle.ghost_list.specs.Bytes.{AreBytes};
 ghost use Rattle.ts_packet.specs.Packets.{packets};
 ghost use Rattle.cutter.specs.declared.settings.CutSettings.{CutSettings};
 ghost use Rattle.cutter.specs.Plans.{SegmentPlan};

@@ -371,25 +371,32 @@ fn removed_frames_count(rt: HostRuntime) -> Result<(), Fail> {
 }
 
 #[test]
-fn refused_rows(rt: HostRuntime) -> Result<(), Fail> {
+fn refused_rows_out_of_order(rt: HostRuntime) -> Result<(), Fail> {
     let alloc = rt.alloc();
     let mut window = Window::new(alloc, "v", 6, 5)?;
     assert_eq!(rt;
         push(&rt, &mut window, row(alloc, 1, 6_000_000, 0, false)?).err(),
         Some(WindowFault::OutOfOrder)
     );
+    push(&rt, &mut window, row(alloc, 0, 6_499_999, 0, false)?)?;
     assert_eq!(rt;
-        push(&rt, &mut window, row(alloc, 0, 6_500_000, 0, false)?).err(),
-        Some(WindowFault::LongRow)
+        push(&rt, &mut window, row(alloc, 0, 6_000_000, 0, false)?).err(),
+        Some(WindowFault::OutOfOrder)
     );
-    assert_eq!(rt;
-        push(&rt, &mut window, row(alloc, 1, 6_500_000, 0, false)?).err(),
-        Some(WindowFault::LongRow)
-    );
-    assert_eq!(rt;
-        push(&rt, &mut window, row(alloc, 0, 0, 0, false)?).err(),
-        Some(WindowFault::LongRow)
-    );
+    push(&rt, &mut window, row(alloc, 1, 1, 0, false)?)?;
+    Ok(())
+}
+
+#[test]
+fn refused_long_rows(rt: HostRuntime) -> Result<(), Fail> {
+    let alloc = rt.alloc();
+    let mut window = Window::new(alloc, "v", 6, 5)?;
+    for (number, micros) in [(0, 6_500_000), (1, 6_500_000), (0, 0)] {
+        assert_eq!(rt;
+            push(&rt, &mut window, row(alloc, number, micros, 0, false)?).err(),
+            Some(WindowFault::LongRow)
+        );
+    }
     let mut apart = row(alloc, 0, 2_000_000, 0, false)?;
     apart.micros = 2_000_001;
     assert_eq!(rt;
@@ -404,11 +411,5 @@ fn refused_rows(rt: HostRuntime) -> Result<(), Fail> {
     );
     assert_eq!(rt; window.media_text(true)?.as_str(), "");
     assert_eq!(rt; window.row_count(), 0);
-    push(&rt, &mut window, row(alloc, 0, 6_499_999, 0, false)?)?;
-    assert_eq!(rt;
-        push(&rt, &mut window, row(alloc, 0, 6_000_000, 0, false)?).err(),
-        Some(WindowFault::OutOfOrder)
-    );
-    push(&rt, &mut window, row(alloc, 1, 1, 0, false)?)?;
     Ok(())
 }

@@ -11,7 +11,7 @@ ghost use Rattle.pipeline.specs.OneThread.{IsCutAtOnce};
 
 use crate::due::give_due;
 use cutter::Spool;
-use ingest::{Lane, closed_plans_are_in_order, closed_plans_begin_all};
+use ingest::Lane;
 use item_io::{Outlet, PIECE, READS, Source};
 use ladder_items::{
     PackFault, Playlists, Report, Settings, first_lanes, first_playlists, have_stopped, is_allowed,
@@ -77,7 +77,6 @@ pub fn pack_serial_reads<S: Source, O: Outlet>(
     ensures breach { IfErr result (λ fault. ((IsAllowed settings.now × (length sources.old.items ≡ length settings.now.renditions)) → ⊥) →
         ((fault ≡ SettingsFault) ⊎ (fault ≡ NoMemory)) × (sources.new.items ≡ sources.old.items) × PutAll (outlet_of O.holds O.broken O.failures) outlet.old outlet.new []) }
 {
-    closed_plans_begin_all();
     if !is_allowed(alloc, settings, sources.len())? {
         return Err(PackFault::Settings);
     }
@@ -119,8 +118,6 @@ fn turns<S: Source, O: Outlet>(
     ensures failures { OnOk result (O.failures outlet.new ≡ O.failures outlet.old) }
     ensures fault { IfErr result (λ fault. SaysFailures fault (O.failures outlet.old) (O.failures outlet.new)) }
 {
-    closed_plans_begin_all();
-    closed_plans_are_in_order();
     let mut buffer = [0; PIECE];
     let mut spare = Spool::new(alloc);
     for _ in 0..reads {

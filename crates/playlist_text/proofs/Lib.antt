@@ -1,4 +1,5 @@
 pub mod Escapes
 pub mod Joins
 pub mod TextLines
+pub mod SixteenBytes
 pub mod SaltedVectors

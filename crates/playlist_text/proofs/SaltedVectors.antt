@@ -1,104 +1,12 @@
 -- Vectors under a salt, and the salts that they tell.
-use Rattle.std.proofs.Common.{◌≡◌, ℕ, ◌+◌, ◌*◌, ◌/◌, ◌%◌, ◌<◌, ◌^◌, List, [], ◌∷◌, ◌++◌, length, get_or, take, drop, length-take, length-drop, inl, inr, Some, refl, sym, ap, ◌∙◌, arith}
-use Rattle.std.specs.Prelude.{All}
-use Rattle.std.specs.Int.{to_be_bytes, from_be_bytes, w64, w128}
-use Rattle.std.specs.Int.Bits.{bit_xor, xor_self, xor_zero_r, xor_assoc}
-use Rattle.std.proofs.lemmas.Nat.{be_bytes_8, from_be_bytes-to_be_bytes_8, xor_lt, div-mul-add, mod-mul-add}
-use Rattle.std.proofs.lemmas.Bool.{cases_lt}
-use Rattle.std.proofs.lemmas.List.{get_or_past, get_or-take, get_or-drop, take-append-drop}
+use Rattle.std.proofs.Common.{◌≡◌, ℕ, ◌/◌, ◌%◌, ◌<◌, ◌^◌, List, [], ◌∷◌, length, refl, sym, ap, ◌∙◌, arith}
+use Rattle.std.specs.Prelude.{All, Option, Some, None}
+use Rattle.std.specs.Int.{to_be_bytes, from_be_bytes, w128}
+use Rattle.std.specs.Int.Bits.{bit_xor, xor_self, xor_zero_l, xor_zero_r, xor_assoc}
+use Rattle.std.proofs.lemmas.Nat.{xor_lt, xor_mod}
 use Rattle.std.proofs.lemmas.List.Elements.{All-map}
-use Rattle.std.proofs.Math.Nat.{div-div-eq-div-mul}
 use Rattle.playlist_text.specs.Vectors.{salted_vector}
-
--- a byte of the high half, and one of the low half
-high : (n p : ℕ) → n / (2 ^ 64 * p) % 256 ≡ n / 2 ^ 64 / p % 256
-high n p = ap (λ m. m % 256) (sym (div-div-eq-div-mul n (2 ^ 64) p))
-
--- the bytes of a number are those of its halves
-halves : (n : ℕ) → to_be_bytes w128 n ≡ to_be_bytes w64 (n / 2 ^ 64) ++ to_be_bytes w64 (n % 2 ^ 64)
-halves n =
-    let low_7 : n / 72057594037927936 % 256 ≡ n % 2 ^ 64 / 72057594037927936 % 256 = omega arith in
-    let low_6 : n / 281474976710656 % 256 ≡ n % 2 ^ 64 / 281474976710656 % 256 = omega arith in
-    let low_5 : n / 1099511627776 % 256 ≡ n % 2 ^ 64 / 1099511627776 % 256 = omega arith in
-    let low_4 : n / 4294967296 % 256 ≡ n % 2 ^ 64 / 4294967296 % 256 = omega arith in
-    let low_3 : n / 16777216 % 256 ≡ n % 2 ^ 64 / 16777216 % 256 = omega arith in
-    let low_2 : n / 65536 % 256 ≡ n % 2 ^ 64 / 65536 % 256 = omega arith in
-    let low_1 : n / 256 % 256 ≡ n % 2 ^ 64 / 256 % 256 = omega arith in
-    let low_0 : n % 256 ≡ n % 2 ^ 64 % 256 = omega arith in
-    λ i. high n 72057594037927936 i ∷ high n 281474976710656 i ∷ high n 1099511627776 i ∷ high n 4294967296 i ∷ high n 16777216 i ∷ high n 65536 i ∷ high n 256 i ∷ (n / 18446744073709551616 % 256) ∷ low_7 i ∷ low_6 i ∷ low_5 i ∷ low_4 i ∷ low_3 i ∷ low_2 i ∷ low_1 i ∷ low_0 i ∷ []
-
--- a number of sixteen bytes, by its halves
-joined : (a b c d e f g h i j k l m n o p : ℕ) → from_be_bytes w128 (a ∷ b ∷ c ∷ d ∷ e ∷ f ∷ g ∷ h ∷ i ∷ j ∷ k ∷ l ∷ m ∷ n ∷ o ∷ p ∷ [])
-    ≡ from_be_bytes w64 (a ∷ b ∷ c ∷ d ∷ e ∷ f ∷ g ∷ h ∷ []) * 2 ^ 64 + from_be_bytes w64 (i ∷ j ∷ k ∷ l ∷ m ∷ n ∷ o ∷ p ∷ [])
-joined a b c d e f g h i j k l m n o p = omega arith
-
--- a number is read of its bytes
-pub from_be_bytes-to_be_bytes_16 : (n : ℕ) → n < 2 ^ 128 → from_be_bytes w128 (to_be_bytes w128 n) ≡ n
-from_be_bytes-to_be_bytes_16 n fits =
-    let h = n / 2 ^ 64 in
-    let l = n % 2 ^ 64 in
-    ap (from_be_bytes w128) (halves n)
-    ∙ joined _ _ _ _ _ _ _ _ _ _ _ _ _ _ _ _
-    ∙ omega (arith, from_be_bytes-to_be_bytes_8 h (omega (arith, fits)), from_be_bytes-to_be_bytes_8 l (omega arith))
-
--- each byte of a list of bytes, and none behind it
-pub byte-small : (bs : List ℕ) → All (λ b. b < 256) bs → (i : ℕ) → get_or bs i 0 < 256
-byte-small bs all i = elim (cases_lt i (length bs)) [
-  | inl within ↦ all i 0 within
-  | inr past ↦ let none = get_or_past bs i 0 (omega (arith, past)) in omega (arith, none)
-]
-
--- eight bytes are a number below 2^64
-eight-small : (l : List ℕ) → ((i : ℕ) → get_or l i 0 < 256) → from_be_bytes w64 l < 2 ^ 64
-eight-small l small = omega (arith, small 0, small 1, small 2, small 3, small 4, small 5, small 6, small 7)
-
--- the bytes of a number, by its halves
-halved : (x l : List ℕ) (n : ℕ) → length x ≡ 8 → length l ≡ 8 → ((i : ℕ) → get_or x i 0 < 256) → ((i : ℕ) → get_or l i 0 < 256)
-    → n ≡ from_be_bytes w64 x * 2 ^ 64 + from_be_bytes w64 l → to_be_bytes w128 n ≡ x ++ l
-halved x l n first second high low is =
-    let above = from_be_bytes w64 x in
-    let below = from_be_bytes w64 l in
-    let small = eight-small l low in
-    let quotient : n / 2 ^ 64 ≡ above = ap (λ m. m / 2 ^ 64) is ∙ div-mul-add above (2 ^ 64) below small in
-    let rest : n % 2 ^ 64 ≡ below = ap (λ m. m % 2 ^ 64) is ∙ mod-mul-add above (2 ^ 64) below small in
-    halves n
-    ∙ ap (λ xs. xs ++ to_be_bytes w64 (n % 2 ^ 64)) (be_bytes_8 x (n / 2 ^ 64) first high quotient)
-    ∙ ap (λ xs. x ++ xs) (be_bytes_8 l (n % 2 ^ 64) second low rest)
-
--- the number of sixteen bytes, by their halves
-parted : (bs : List ℕ) → from_be_bytes w128 bs ≡ from_be_bytes w64 (take 8 bs) * 2 ^ 64 + from_be_bytes w64 (drop 8 bs)
-parted bs =
-    let high_0 : get_or (take 8 bs) 0 0 ≡ get_or bs 0 0 = get_or-take 8 bs 0 0 (omega arith) in
-    let high_1 : get_or (take 8 bs) 1 0 ≡ get_or bs 1 0 = get_or-take 8 bs 1 0 (omega arith) in
-    let high_2 : get_or (take 8 bs) 2 0 ≡ get_or bs 2 0 = get_or-take 8 bs 2 0 (omega arith) in
-    let high_3 : get_or (take 8 bs) 3 0 ≡ get_or bs 3 0 = get_or-take 8 bs 3 0 (omega arith) in
-    let high_4 : get_or (take 8 bs) 4 0 ≡ get_or bs 4 0 = get_or-take 8 bs 4 0 (omega arith) in
-    let high_5 : get_or (take 8 bs) 5 0 ≡ get_or bs 5 0 = get_or-take 8 bs 5 0 (omega arith) in
-    let high_6 : get_or (take 8 bs) 6 0 ≡ get_or bs 6 0 = get_or-take 8 bs 6 0 (omega arith) in
-    let high_7 : get_or (take 8 bs) 7 0 ≡ get_or bs 7 0 = get_or-take 8 bs 7 0 (omega arith) in
-    let low_0 : get_or (drop 8 bs) 0 0 ≡ get_or bs 8 0 = get_or-drop 8 bs 0 0 in
-    let low_1 : get_or (drop 8 bs) 1 0 ≡ get_or bs 9 0 = get_or-drop 8 bs 1 0 in
-    let low_2 : get_or (drop 8 bs) 2 0 ≡ get_or bs 10 0 = get_or-drop 8 bs 2 0 in
-    let low_3 : get_or (drop 8 bs) 3 0 ≡ get_or bs 11 0 = get_or-drop 8 bs 3 0 in
-    let low_4 : get_or (drop 8 bs) 4 0 ≡ get_or bs 12 0 = get_or-drop 8 bs 4 0 in
-    let low_5 : get_or (drop 8 bs) 5 0 ≡ get_or bs 13 0 = get_or-drop 8 bs 5 0 in
-    let low_6 : get_or (drop 8 bs) 6 0 ≡ get_or bs 14 0 = get_or-drop 8 bs 6 0 in
-    let low_7 : get_or (drop 8 bs) 7 0 ≡ get_or bs 15 0 = get_or-drop 8 bs 7 0 in
-    omega arith
-
-front-small : (bs : List ℕ) → ((i : ℕ) → get_or bs i 0 < 256) → length (take 8 bs) ≡ 8 → (i : ℕ) → get_or (take 8 bs) i 0 < 256
-front-small bs small long i = elim (cases_lt i 8) [
-  | inl within ↦ let at = get_or-take 8 bs i 0 within in omega (arith, at, small i)
-  | inr past ↦ let none = get_or_past (take 8 bs) i 0 (omega (arith, past, long)) in omega (arith, none)
-]
-
--- bytes are given back by their number
-pub to_be_bytes-from_be_bytes_16 : (bs : List ℕ) → length bs ≡ 16 → ((i : ℕ) → get_or bs i 0 < 256) → to_be_bytes w128 (from_be_bytes w128 bs) ≡ bs
-to_be_bytes-from_be_bytes_16 bs long small =
-    let first : length (take 8 bs) ≡ 8 = omega (arith, long, length-take 8 bs) in
-    let second : length (drop 8 bs) ≡ 8 = omega (arith, long, length-drop 8 bs) in
-    halved (take 8 bs) (drop 8 bs) (from_be_bytes w128 bs) first second (front-small bs small first) (λ i. let at = get_or-drop 8 bs i 0 in omega (arith, at, small (8 + i))) (parted bs)
-    ∙ take-append-drop 8 bs
+use Rattle.playlist_text.proofs.SixteenBytes.{byte-small, from_be_bytes-to_be_bytes_16, sixteen-small, to_be_bytes-from_be_bytes_16, to_be_bytes_16-injective}
 
 -- the vector under a salt is sixteen bytes
 pub salted-length : (salt : List ℕ) (n : ℕ) → length (salted_vector (Some salt) n) ≡ 16
@@ -109,11 +17,6 @@ salted-small salt n =
     let x = bit_xor (from_be_bytes w128 salt) n in
     All-map (λ b. b < 256) (λ m. m % 256) (x / 256 ^ 15 ∷ x / 256 ^ 14 ∷ x / 256 ^ 13 ∷ x / 256 ^ 12 ∷ x / 256 ^ 11 ∷ x / 256 ^ 10 ∷ x / 256 ^ 9 ∷ x / 256 ^ 8 ∷ x / 256 ^ 7 ∷ x / 256 ^ 6 ∷ x / 256 ^ 5 ∷ x / 256 ^ 4 ∷ x / 256 ^ 3 ∷ x / 256 ^ 2 ∷ x / 256 ^ 1 ∷ x ∷ []) (λ k d lt. omega arith)
 
--- the salt is below 2^128 as a number
-sixteen-small : (bs : List ℕ) → ((i : ℕ) → get_or bs i 0 < 256) → from_be_bytes w128 bs < 2 ^ 128
-sixteen-small bs small =
-    omega (arith, small 0, small 1, small 2, small 3, small 4, small 5, small 6, small 7, small 8, small 9, small 10, small 11, small 12, small 13, small 14, small 15)
-
 -- the vector of a number tells the salt
 pub salted-again : (salt : List ℕ) (n : ℕ) → length salt ≡ 16 → All (λ b. b < 256) salt → n < 2 ^ 128 → salted_vector (Some (salted_vector (Some salt) n)) n ≡ salt
 salted-again salt n long small below =
@@ -122,3 +25,19 @@ salted-again salt n long small below =
     ap (λ m. to_be_bytes w128 (bit_xor m n)) (from_be_bytes-to_be_bytes_16 (bit_xor number n) (xor_lt 128 number n (sixteen-small salt each) below))
     ∙ ap (to_be_bytes w128) (xor_assoc number n n ∙ ap (bit_xor number) (xor_self n) ∙ xor_zero_r number)
     ∙ to_be_bytes-from_be_bytes_16 salt long each
+
+-- numbers whose sums with the same one are the same
+same_sums : (s m n : ℕ) → bit_xor s m % 2 ^ 128 ≡ bit_xor s n % 2 ^ 128 → m % 2 ^ 128 ≡ n % 2 ^ 128
+same_sums s m n same =
+    let twice : (a b : ℕ) → bit_xor a (bit_xor a b) ≡ b = λ a b. sym (xor_assoc a a b) ∙ ap (λ x. bit_xor x b) (xor_self a) ∙ xor_zero_l b in
+    let both : bit_xor (s % 2 ^ 128) (m % 2 ^ 128) ≡ bit_xor (s % 2 ^ 128) (n % 2 ^ 128)
+    = sym (xor_mod s m 128) ∙ same ∙ xor_mod s n 128 in
+    sym (twice (s % 2 ^ 128) (m % 2 ^ 128)) ∙ ap (bit_xor (s % 2 ^ 128)) both ∙ twice (s % 2 ^ 128) (n % 2 ^ 128)
+
+-- numbers below 2^64 whose vectors are the same, under any salt
+pub same_vectors : (salt : Option (List ℕ)) (m n : ℕ) → m < 2 ^ 64 → n < 2 ^ 64 → salted_vector salt m ≡ salted_vector salt n → m ≡ n
+same_vectors None m n small_m small_n same = let low = to_be_bytes_16-injective m n same in omega arith
+same_vectors (Some salt) m n small_m small_n same =
+    let s = from_be_bytes w128 salt in
+    let low = same_sums s m n (to_be_bytes_16-injective (bit_xor s m) (bit_xor s n) same) in
+    omega arith

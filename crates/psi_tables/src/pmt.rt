@@ -1,4 +1,4 @@
-ghost use Rattle.std.specs.Prelude.{◌≡◌, ◌==◌, ◌+◌, ◌<◌, ◌^◌, ◌⊎◌, length, Some, None, IfOk, OnOk, IfErr, IsSome, is_some};
+ghost use Rattle.std.specs.Prelude.{◌≡◌, ◌==◌, ◌+◌, ◌<◌, ◌^◌, ◌⊎◌, length, Some, None, IfOk, OnOk, IfErr, IsSome};
 ghost use Rattle.std.specs.List.{list_any};
 ghost use Rattle.psi_tables.specs.ProgramMap.{program_map, streams, pmt_fault, video_pid, carries};
 
@@ -42,15 +42,10 @@ impl Pmt {
         let (front, _) = section.split_at(section.len() - 4);
         let (_, body) = front.split_at(12);
         let descriptors = read_length(section, 10);
-        if !are_streams(body, descriptors) {
-            return Err(TableFault::BadLengths);
-        }
-        let program = read_number(section, 3);
-        let pcr_pid = read_pid(section, 8);
         let entries = read_streams(alloc, body, descriptors)?;
         Ok(Pmt {
-            program,
-            pcr_pid,
+            program: read_number(section, 3),
+            pcr_pid: read_pid(section, 8),
             entries,
         })
     }
@@ -99,38 +94,35 @@ fn lists(entries: &[StreamEntry], pid: u16) -> bool
     entries.iter().any(|entry| entry.pid == pid)
 }
 
-/// Whether these bytes are whole entries of a PMT behind this many bytes of descriptors.
-fn are_streams(bytes: &[u8], descriptors: usize) -> bool
-    requires few { length bytes.now < 4096 }
-    requires below { descriptors < 4096 }
-    ensures { result ≡ is_some (streams descriptors bytes.now) }
-{
-    let mut at = descriptors;
-    while at + 5 <= bytes.len() {
-        at += 5 + read_length(bytes, at + 3);
-    }
-    at == bytes.len()
-}
-
-/// The entries of a PMT that these bytes are behind this many bytes of descriptors.
+/// The entries of a PMT that these bytes are behind this many bytes of descriptors. Where they are none, want of memory
+/// isn't told.
 fn read_streams(
     alloc: Global,
     bytes: &[u8],
     descriptors: usize,
-) -> Result<Vec<StreamEntry>, AllocError>
+) -> Result<Vec<StreamEntry>, TableFault>
     requires few { length bytes.now < 4096 }
     requires below { descriptors < 4096 }
-    requires whole { IsSome (streams descriptors bytes.now) }
-    ensures { IfOk result (λ entries. streams descriptors bytes.now ≡ Some entries.items) }
+    ensures ok { IfOk result (λ entries. streams descriptors bytes.now ≡ Some entries.items) }
+    ensures err { IfErr result (λ fault. ((fault ≡ TableFault.BadLengths) × (streams descriptors bytes.now ≡ None))
+        ⊎ ((fault ≡ TableFault.NoMemory) × IsSome (streams descriptors bytes.now))) }
 {
     let mut entries = Vec::new(alloc);
+    let mut refused = false;
     let mut at = descriptors;
     while at + 5 <= bytes.len() {
-        entries.push(StreamEntry {
+        let entry = StreamEntry {
             stream_type: bytes[at],
             pid: read_pid(bytes, at + 1),
-        })?;
+        };
+        refused |= entries.push(entry).is_err();
         at += 5 + read_length(bytes, at + 3);
+    }
+    if at != bytes.len() {
+        return Err(TableFault::BadLengths);
+    }
+    if refused {
+        return Err(TableFault::NoMemory);
     }
     Ok(entries)
 }

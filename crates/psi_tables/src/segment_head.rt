@@ -1,7 +1,7 @@
 //! The head of a segment (RFC 8216, 3.2).
 
 ghost use Rattle.std.specs.Prelude.{◌≡◌, ◌+◌, ◌-◌, ◌*◌, ◌<◌, ◌≤◌, ◌^◌, ◌++◌, ◌/◌, false, length, replicate, vec_len, vec_capacity, IfOk, OnOk, OnErr};
-ghost use Rattle.psi_tables.specs.Head.{head, packet_count, packets, section_packets};
+ghost use Rattle.psi_tables.specs.Head.{head, packet_count, packets, section_packets, IsSendable};
 
 use crate::crc::crc_32;
 use crate::tables::Tables;
@@ -19,19 +19,21 @@ pub fn head(
     pat_counter: u8,
     pmt_counter: u8,
 ) -> Result<Vec<u8>, AllocError>
-    ensures { IfOk result (λ bytes. bytes.items ≡ head tables.now pat_counter pmt_counter) }
+    ensures bytes { IfOk result (λ bytes. bytes.items ≡ head tables.now pat_counter pmt_counter) }
+    ensures sendable { IsSendable tables.now }
 {
+    let section = tables.section();
     let pat = pat_section(tables.stream_id(), tables.program(), tables.pmt_pid());
     let mut bytes = Vec::new(alloc);
     append_section(&mut bytes, 0, pat_counter, &pat)?;
-    append_section(&mut bytes, tables.pmt_pid(), pmt_counter, tables.section())?;
+    append_section(&mut bytes, tables.pmt_pid(), pmt_counter, section)?;
     Ok(bytes)
 }
 
-/// How many packets of a head carry the PMT section, with the pointer_field in front of it.
+/// How many packets of a head carry the PMT section, with the pointer_field in front of it: at most six.
 pub fn pmt_packets(tables: &Tables) -> usize
     ensures count { result ≡ packet_count tables.now.section }
-    ensures few { result < 2 ^ 62 }
+    ensures few { result ≤ 6 }
 {
     packet_count(tables.section())
 }

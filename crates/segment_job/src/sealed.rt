@@ -1,6 +1,6 @@
 //! Segments that are sealed.
 
-ghost use Rattle.std.specs.Prelude.{◌≡◌, ◌↔◌, length, IsTrue, IfOk, OnOk};
+ghost use Rattle.std.specs.Prelude.{◌≡◌, ◌*◌, ◌≤◌, ◌↔◌, length, IsTrue, IfOk, OnOk};
 ghost use Rattle.cutter.specs.Lent.{lent};
 ghost use Rattle.aes_cbc.specs.Block.{IsBlock};
 ghost use Rattle.aes_cbc.specs.Opening.{Seals};
@@ -85,15 +85,13 @@ impl<'s> Sealed<'s> {
         &self.bytes
     }
 
-    /// How long its head is before it is sealed, in bytes.
+    /// How long its head is before it is sealed, in bytes: one packet for its PAT, and at most six for its PMT.
     pub fn head_len(&self) -> u64
-        ensures { result ≡ length (plan_head self.now.plan) }
+        ensures value { result ≡ length (plan_head self.now.plan) }
+        ensures short { result ≤ 188 * 7 }
     {
         length_of_a_head();
-        let tables = self.plan.tables;
-        // A proof learns here that the section has at most 1,024 bytes.
-        let _ = tables.section();
-        188 * (1 + pmt_packets(tables) as u64)
+        188 * (1 + pmt_packets(self.plan.tables) as u64)
     }
 
     /// Whether these keys sealed it: it is the segment that they make of its plan.

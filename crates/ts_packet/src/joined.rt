@@ -3,6 +3,9 @@ ghost use Rattle.std.specs.Prelude.{◌≡◌, ◌+◌, ◌<◌, ◌≤◌, ◌^
 use arrayvec::ArrayVec;
 use std::marker::Model;
 
+/// How many bytes a packet has (ISO/IEC 13818-1, 2.4.3.2).
+pub(crate) const PACKET: usize = 188;
+
 /// How many bytes a reader keeps at the most: with one more it could tell whether a packet begins at the first.
 pub(crate) const UNDECIDED: usize = 376;
 
@@ -94,6 +97,6 @@ fn first_packet(front: &[u8], back: &[u8]) -> [u8; 188]
     let mut packet = [0; 188];
     let (head, tail) = packet.split_at_mut(front.len());
     head.copy_from_slice(front);
-    tail.copy_from_slice(&back[..188 - front.len()]);
+    tail.copy_from_slice(&back[..PACKET - front.len()]);
     packet
 }

@@ -2,7 +2,7 @@ ghost use Rattle.std.specs.Prelude.{◌≡◌, ◌+◌, ◌<◌, ◌≤◌, ◌^
 ghost use Rattle.ts_packet.specs.Packets.{decided, packets, skipped};
 ghost use Rattle.ts_packet.specs.State.{GrowsAlike, IsKept};
 
-use crate::joined::{Joined, UNDECIDED};
+use crate::joined::{Joined, PACKET, UNDECIDED};
 use crate::scan::scan;
 use arrayvec::ArrayVec;
 use ghost_list::GhostList;
@@ -62,7 +62,7 @@ impl Reader {
         ensures err { OnErr result ((self.new ≡ self.old) × (out.new.items ≡ out.old.items)) }
     {
         let bytes = Joined::new(&self.rest, piece);
-        out.reserve(bytes.len() / 188)?;
+        out.reserve(bytes.len() / PACKET)?;
         let scanned = scan(&bytes, self.locked, false, out);
         let rest = bytes.rest(scanned.at);
         self.rest = rest;
@@ -81,7 +81,7 @@ impl Reader {
         ensures err { OnErr result ((self.new ≡ self.old) × (out.new.items ≡ out.old.items)) }
     {
         let bytes = Joined::new(&self.rest, &[]);
-        out.reserve(bytes.len() / 188)?;
+        out.reserve(bytes.len() / PACKET)?;
         let scanned = scan(&bytes, self.locked, true, out);
         let left = bytes.len() - scanned.at;
         let skipped = self.passed + scanned.passed as u64 + left as u64;

@@ -2,7 +2,7 @@ ghost use Rattle.std.specs.Prelude.{◌≡◌, ◌+◌, ◌-◌, ◌/◌, ◌<�
 ghost use Rattle.ts_packet.specs.Packets.{begins, is_sync_or_beyond};
 ghost use Rattle.ts_packet.specs.State.{needed, Scans};
 
-use crate::joined::Joined;
+use crate::joined::{Joined, PACKET};
 
 /// Where a scan ended: the place of the rest, whether a packet ends there, and how many bytes were passed over.
 #[derive(Clone, Copy)]
@@ -27,14 +27,18 @@ fn begins(bytes: &Joined<'_>, at: usize, locked: bool) -> bool
     if bytes.byte(at) != 0x47 {
         return false;
     }
-    locked || (is_sync_or_beyond(bytes, at + 188) && is_sync_or_beyond(bytes, at + 376))
+    locked || (is_sync_or_beyond(bytes, at + PACKET) && is_sync_or_beyond(bytes, at + 2 * PACKET))
 }
 
 /// How many bytes tell whether a packet begins at the first of them.
 fn needed(at_end: bool, locked: bool) -> usize
     ensures { result ≡ needed at_end locked }
 {
-    if at_end || locked { 188 } else { 377 }
+    if at_end || locked {
+        PACKET
+    } else {
+        2 * PACKET + 1
+    }
 }
 
 /// Appends the packets that these bytes tell, up to a rest of too few bytes.
@@ -56,7 +60,7 @@ pub(crate) fn scan(
     while bytes.len() - at >= needed(at_end, locked) {
         if begins(bytes, at, locked) {
             out.push_reserved(bytes.packet(at));
-            at += 188;
+            at += PACKET;
             locked = true;
             continue;
         }

@@ -1,5 +1,6 @@
 use Rattle.std.proofs.Common.{◌≡◌, ◌∙◌, length, slice_get, refl, ap, sym, arith, rules}
 use Rattle.std.proofs.lemmas.Result.{err_from_is_err_and}
+use Rattle.ingest.proofs.Ordered.{closed_of-none}
 use Rattle.ladder_items.specs.Ladder.{IsAllowed}
 use Rattle.ladder_items.proofs.Blocks.{shown-going, shown-each}
 use Rattle.ladder_items.proofs.Worlds.{nothing-given, parts-of, parts-length}
@@ -11,24 +12,24 @@ use Rattle.pipeline.proofs.serial.pack_serial_reads.Goals as goal
 pub returns-in_err-is_allowed-clause-fault : goal.returns-in_err-is_allowed-clause-fault
 returns-in_err-is_allowed-clause-fault g c =
     let told = err_from_is_err_and c.from_residual.result c.from_residual.ensures.1 in
-    rw (told.1, told.2) ((nothing-given _ _ _ _ _ _ _ _ (λ k. c.closed_plans_begin_all.ensures.none k c.args.settings.now.cut)).0.cut, refl)
+    rw (told.1, told.2) ((nothing-given _ _ _ _ _ _ _ _ (λ k. closed_of-none k c.args.settings.now.cut)).0.cut, refl)
 
 pub returns-in_err-lanes-clause-fault : goal.returns-in_err-lanes-clause-fault
 returns-in_err-lanes-clause-fault g c =
     let told = err_from_is_err_and c.from_residual-in_err-lanes.result c.from_residual-in_err-lanes.ensures.1 in
-    rw (told.1, told.2) ((nothing-given _ _ _ _ _ _ _ _ (λ k. c.closed_plans_begin_all.ensures.none k c.args.settings.now.cut)).0.cut, refl)
+    rw (told.1, told.2) ((nothing-given _ _ _ _ _ _ _ _ (λ k. closed_of-none k c.args.settings.now.cut)).0.cut, refl)
 
 pub returns-in_err-playlists-clause-fault : goal.returns-in_err-playlists-clause-fault
 returns-in_err-playlists-clause-fault g c =
     let told = err_from_is_err_and c.from_residual-in_err-playlists.result c.from_residual-in_err-playlists.ensures.1 in
-    rw (told.1, told.2) ((nothing-given _ _ _ _ _ _ _ _ (λ k. c.closed_plans_begin_all.ensures.none k c.args.settings.now.cut)).0.cut, refl)
+    rw (told.1, told.2) ((nothing-given _ _ _ _ _ _ _ _ (λ k. closed_of-none k c.args.settings.now.cut)).0.cut, refl)
 
 pub turns-requires-clause-start : goal.turns-requires-clause-start
 turns-requires-clause-start g c =
     let allowed : IsAllowed c.args.settings.now × (c.len.result ≡ length c.args.settings.now.renditions) = search rules in
     let whole : c.len.result ≡ length c.args.sources.now.items = search rules in
     due-first _ _ _ _ _ _ _ _ _ _ (sym whole ∙ allowed.1) c.in_ok-lanes.ensures.each c.in_ok-lanes.ensures.first c.in_ok-playlists.ensures
-    (λ k. c.closed_plans_begin_all.ensures.none k c.args.settings.now.cut)
+    (λ k. closed_of-none k c.args.settings.now.cut)
 
 pub returns-in-Some-clause-fault : goal.returns-in-Some-clause-fault
 returns-in-Some-clause-fault g c =
@@ -74,17 +75,17 @@ returns-clause-ok g c =
 pub returns-in_err-is_allowed-clause-at_once : goal.returns-in_err-is_allowed-clause-at_once
 returns-in_err-is_allowed-clause-at_once g c =
     let told = err_from_is_err_and c.from_residual.result c.from_residual.ensures.1 in
-    rw told.1 (λ sudden. none-at-once _ _ _ _ _ _ _ _ (λ k. c.closed_plans_begin_all.ensures.none k c.args.settings.now.cut))
+    rw told.1 (λ sudden. none-at-once _ _ _ _ _ _ _ _ (λ k. closed_of-none k c.args.settings.now.cut))
 
 pub returns-in_err-lanes-clause-at_once : goal.returns-in_err-lanes-clause-at_once
 returns-in_err-lanes-clause-at_once g c =
     let told = err_from_is_err_and c.from_residual-in_err-lanes.result c.from_residual-in_err-lanes.ensures.1 in
-    rw told.1 (λ sudden. none-at-once _ _ _ _ _ _ _ _ (λ k. c.closed_plans_begin_all.ensures.none k c.args.settings.now.cut))
+    rw told.1 (λ sudden. none-at-once _ _ _ _ _ _ _ _ (λ k. closed_of-none k c.args.settings.now.cut))
 
 pub returns-in_err-playlists-clause-at_once : goal.returns-in_err-playlists-clause-at_once
 returns-in_err-playlists-clause-at_once g c =
     let told = err_from_is_err_and c.from_residual-in_err-playlists.result c.from_residual-in_err-playlists.ensures.1 in
-    rw told.1 (λ sudden. none-at-once _ _ _ _ _ _ _ _ (λ k. c.closed_plans_begin_all.ensures.none k c.args.settings.now.cut))
+    rw told.1 (λ sudden. none-at-once _ _ _ _ _ _ _ _ (λ k. closed_of-none k c.args.settings.now.cut))
 
 pub returns-in-Some-clause-at_once : goal.returns-in-Some-clause-at_once
 returns-in-Some-clause-at_once g c sudden =

@@ -1,6 +1,7 @@
 use Rattle.std.proofs.Common.{◌∙◌, ◌<◌, length, slice_get, refl, ap, sym, arith}
 use Rattle.std.proofs.lemmas.Option.{slice_get_read}
 use Rattle.std.proofs.lemmas.Result.{err_from_is_err_and}
+use Rattle.ingest.proofs.Ordered.{closed_of-grow, made_of-at}
 use Rattle.ladder_items.proofs.Elsewhere.{none-there, some-there}
 use Rattle.ladder_items.proofs.Worlds.{put-back, parts-of, reads-fit, stage-at}
 use Rattle.pipeline.proofs.Stepping.{has-read, due-step, due-cut, read-cut, due-skip, due-round}
@@ -55,7 +56,7 @@ returns-in_err-turn-clause-err g c =
     (slice_get_read c.loop-r.sources.items _ c.loop-r.r c.index_mut.result.now (sym w.same_now) below c.index_mut.ensures.value)
     (slice_get_read c.loop-r.lanes.items _ c.loop-r.r c.index_mut-lane.result.now (sym w.same_lanes) below c.index_mut-lane.ensures.value)
     (none-there _ (sym c.if-is_some.ensures)) c.in_err-turn.ensures.err.1 c.in_err-turn.ensures.no_read_failed
-    (c.closed_plans_begin_all.ensures.grow c.loop-r.r c.args.settings.now.cut) c.loop-test.true c.requires.allowed c.loop-r.invariant.due)
+    (closed_of-grow c.loop-r.r c.args.settings.now.cut) c.loop-test.true c.requires.allowed c.loop-r.invariant.due)
 
 pub give_due-requires-clause-next : goal.give_due-requires-clause-next
 give_due-requires-clause-next g c =
@@ -64,7 +65,7 @@ give_due-requires-clause-next g c =
     let h = has-read _ _ _ _ _ _ _ c.loop-r.r _ _ _ _ _ _ c.index_mut.result.now c.turn.new.source c.index_mut-lane.result.now c.turn.new.self
     (slice_get_read c.loop-r.sources.items _ c.loop-r.r c.index_mut.result.now (sym w.same_now) below c.index_mut.ensures.value)
     (slice_get_read c.loop-r.lanes.items _ c.loop-r.r c.index_mut-lane.result.now (sym w.same_lanes) below c.index_mut-lane.ensures.value)
-    (none-there _ (sym c.if-is_some.ensures)) c.in_ok-turn.ensures.ok (λ stop r. c.closed_plans_are_in_order.ensures stop r c.args.settings.now.cut) c.loop-r.invariant.due in
+    (none-there _ (sym c.if-is_some.ensures)) c.in_ok-turn.ensures.ok (λ stop r. made_of-at stop r c.args.settings.now.cut) c.loop-r.invariant.due in
     (parts-of c.args.settings.now h.world.events, h.next)
 
 pub returns-in_err-give_due-clause-err : goal.returns-in_err-give_due-clause-err
@@ -75,7 +76,7 @@ returns-in_err-give_due-clause-err g c =
     let h = has-read _ _ _ _ _ _ _ c.loop-r.r _ _ _ _ _ _ c.index_mut.result.now c.turn.new.source c.index_mut-lane.result.now c.turn.new.self
     (slice_get_read c.loop-r.sources.items _ c.loop-r.r c.index_mut.result.now (sym w.same_now) below c.index_mut.ensures.value)
     (slice_get_read c.loop-r.lanes.items _ c.loop-r.r c.index_mut-lane.result.now (sym w.same_lanes) below c.index_mut-lane.ensures.value)
-    (none-there _ (sym c.if-is_some.ensures)) c.in_ok-turn.ensures.ok (λ stop r. c.closed_plans_are_in_order.ensures stop r c.args.settings.now.cut) c.loop-r.invariant.due in
+    (none-there _ (sym c.if-is_some.ensures)) c.in_ok-turn.ensures.ok (λ stop r. made_of-at stop r c.args.settings.now.cut) c.loop-r.invariant.due in
     rw told.1 (due-cut _ _ _ _ _ _ _ c.loop-r.r _ _ _ _ _ _ _ c.turn.new.source c.index_mut-lane.result.now c.turn.new.self c.loop-r.invariant.due _ c.in_ok-turn.ensures.ok.read.short h
     c.in_err-give_due.ensures.err c.loop-test.true c.requires.allowed)
 
@@ -97,7 +98,7 @@ loop-r-preserved g c =
     let h = has-read _ _ _ _ _ _ _ c.loop-r.r _ _ _ _ _ _ c.index_mut.result.now c.turn.new.source c.index_mut-lane.result.now c.turn.new.self
     (slice_get_read c.loop-r.sources.items _ c.loop-r.r c.index_mut.result.now (sym w.same_now) below c.index_mut.ensures.value)
     there
-    (none-there _ (sym c.if-is_some.ensures)) c.in_ok-turn.ensures.ok (λ stop r. c.closed_plans_are_in_order.ensures stop r c.args.settings.now.cut) c.loop-r.invariant.due in
+    (none-there _ (sym c.if-is_some.ensures)) c.in_ok-turn.ensures.ok (λ stop r. made_of-at stop r c.args.settings.now.cut) c.loop-r.invariant.due in
     record {
       failures = c.in_ok-give_due.ensures.failures ∙ c.loop-r.invariant.failures;
       due = due-step _ _ _ _ _ _ _ c.loop-r.r _ _ _ _ _ _ _ _ c.turn.new.source c.index_mut-lane.result.now c.turn.new.self c.give_due.new.lane

@@ -1,4 +1,4 @@
-use Rattle.std.proofs.Common.{◌≡◌, ◌+◌, ◌-◌, ◌*◌, ◌<◌, length}
+use Rattle.std.proofs.Common.{◌≡◌, ◌+◌, ◌-◌, ◌*◌, ◌<◌, false, length, is_some}
 use Rattle.psi_tables.specs.ProgramMap.{streams}
 use Rattle.psi_tables.proofs.Entries.{behind, streams_from}
 use Rattle.psi_tables.proofs.pmt.read_streams.Given as goal
@@ -6,7 +6,8 @@ use Rattle.psi_tables.proofs.pmt.read_streams.Given as goal
 abbrev pub invariant-loop-at : goal.invariant-loop-at
 invariant-loop-at l = record {
   below : l.at < 2 * 4096;
-  so_far : streams l.fn.descriptors l.bytes ≡ behind l.entries.items (streams_from l.at l.bytes);
+  whole : is_some (streams l.fn.descriptors l.bytes) ≡ is_some (streams_from l.at l.bytes);
+  so_far : l.refused ≡ false → streams l.fn.descriptors l.bytes ≡ behind l.entries.items (streams_from l.at l.bytes);
 }
 
 abbrev pub decreases-loop-at : goal.decreases-loop-at

@@ -1,4 +1,4 @@
-use Rattle.segment_job.proofs.Vectors.{same_vectors}
+use Rattle.playlist_text.proofs.SaltedVectors.{same_vectors}
 use Rattle.segment_job.proofs.laws.no_key_and_vector_come_twice.Goals as goal
 
 pub returns : goal.returns
