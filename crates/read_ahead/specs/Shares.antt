@@ -1,5 +1,5 @@
 -- Fair turns: sources that are read in turn and are behind by very different numbers of bytes catch up together.
-use Rattle.std.specs.Prelude.{ℕ, ◌+◌, ◌-◌, ◌/◌, List, [], ◌∷◌, length, max, min, nat_lt, nat_le, ◌==◌, ◌||◌, Bool, false, if◌then◌else◌}
+use Rattle.std.specs.Prelude.{◌≡◌, ℕ, ◌+◌, ◌-◌, ◌/◌, List, [], ◌∷◌, length, max, min, nat_lt, nat_le, ◌==◌, ◌||◌, Bool, true, false, if◌then◌else◌, Some, slice_get}
 use Rattle.read_ahead.specs.declared.lane.Lane.{Lane}
 
 -- so many things in parts of this size: how many parts they are, the last of which may be smaller
@@ -16,6 +16,11 @@ turns takes (lane ∷ lanes) = max (if nat_lt lane.takes takes then 1 else parts
 abbrev pub is_overtaken : ℕ → List Lane → Bool
 is_overtaken takes [] = false
 is_overtaken takes (lane ∷ lanes) = nat_le 2 (lane.takes - takes) || is_overtaken takes lanes
+
+-- What was overtaken stays so. Its bytes are thrown away, and none is ever given behind them.
+abbrev pub StayOvertaken : List Lane → List Lane → Type 0
+StayOvertaken old new =
+    (k : ℕ) (was is : Lane) → slice_get old k ≡ Some was → slice_get new k ≡ Some is → is_overtaken was.takes old ≡ true → is_overtaken is.takes new ≡ true
 
 -- how many of its bytes a source gives, in so many turns, at a read with this much room
 abbrev pub share : ℕ → ℕ → ℕ → ℕ

@@ -1,5 +1,5 @@
 ghost use Rattle.std.specs.Prelude.{◌≡◌, ◌≢◌, ◌≤◌, ℕ, [], Ok, Some, true, false, All, length, slice_get, IfOk, IfSome, IsErr};
-ghost use Rattle.read_ahead.specs.Shares.{is_overtaken, turns};
+ghost use Rattle.read_ahead.specs.Shares.{StayOvertaken, is_overtaken, turns};
 ghost use Rattle.read_ahead.specs.Steps.{Puts, Takes};
 ghost use Rattle.read_ahead.specs.declared.lane.Lane.{Lane};
 
@@ -46,6 +46,7 @@ impl Board {
         ensures others { (k : ℕ) → k ≢ number → slice_get self.new.lanes.items k ≡ slice_get self.old.lanes.items k }
         ensures missing { length self.old.lanes.items ≤ number → IsErr result }
         ensures same { (length self.new.lanes.items ≡ length self.old.lanes.items) × (self.new.room ≡ self.old.room) }
+        ensures overtaken { StayOvertaken self.old.lanes.items self.new.lanes.items }
     {
         if number >= self.lanes.len() {
             return Err(AllocError);
@@ -62,6 +63,7 @@ impl Board {
         ensures own { (was is : Lane) → slice_get self.old.lanes.items number ≡ Some was → slice_get self.new.lanes.items number ≡ Some is → is ≡ record was { closed = true; failed = failed } }
         ensures others { (k : ℕ) → k ≢ number → slice_get self.new.lanes.items k ≡ slice_get self.old.lanes.items k }
         ensures same { (length self.new.lanes.items ≡ length self.old.lanes.items) × (self.new.room ≡ self.old.room) }
+        ensures overtaken { StayOvertaken self.old.lanes.items self.new.lanes.items }
     {
         if number < self.lanes.len() {
             self.lanes[number].close(failed);
@@ -76,6 +78,7 @@ impl Board {
         ensures missing { length self.old.lanes.items ≤ number → IsErr result }
         ensures within { IfOk result (λ answer. IfSome answer (λ count. count ≤ length buffer.new)) }
         ensures same { (length self.new.lanes.items ≡ length self.old.lanes.items) × (self.new.room ≡ self.old.room) }
+        ensures overtaken { StayOvertaken self.old.lanes.items self.new.lanes.items }
     {
         if number >= self.lanes.len() {
             return Err(ReadFault);

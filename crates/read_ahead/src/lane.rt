@@ -83,6 +83,7 @@ impl Lane {
         ensures closed { self.new.closed ≡ self.old.closed }
         ensures failed { self.new.failed ≡ self.old.failed }
         ensures takes { result ≢ Ok None → self.new.takes ≡ min (self.old.takes + 1) (2 ^ 64 - 1) }
+        ensures rises { self.old.takes ≤ self.new.takes }
     {
         let ready = self.ready.count();
         if ready == 0 && !self.closed {
