@@ -14,7 +14,6 @@ use crate::pieces::seal_own;
 use crate::taking::{Taker, make_room};
 use cutter::{PlanRef, Spool};
 use flow_core::{Collector, FeedFault};
-use ingest::closed_plans_are_in_order;
 use item_io::{Outlet, Source};
 use ladder_items::{PackFault, Settings};
 use live_board::HeldPublisher;
@@ -79,7 +78,6 @@ fn feed_plan<'s, S: Source, O: Outlet, L: Ledger, M: Ledger, R: Wait>(
     ensures none_read { ReadsNone course.old course.new }
     ensures fair { OnOk result (taker.new.right + gathered collector.old.lanes ≤ taker.old.right + gathered collector.new.lanes) }
 {
-    closed_plans_are_in_order();
     make_room(rt, alloc, settings, desk, taker, course, held, collector)?;
     expect(collector, plan)?;
     offer(rt, alloc, settings, desk, plan, collector)?;

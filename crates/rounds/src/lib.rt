@@ -8,6 +8,7 @@ mod drove;
 mod ends;
 mod feeding;
 mod first;
+mod fitted;
 mod fitting;
 #[cfg(test)]
 mod gates;
@@ -17,6 +18,7 @@ mod joining;
 mod opening;
 mod packing;
 mod pieces;
+mod ran;
 mod reading;
 mod ready;
 mod round;
@@ -38,4 +40,5 @@ mod viewer_tests;
 mod whole_run;
 
 pub use opening::opening_board;
-pub use packing::{Ran, pack_in_batches, pack_parallel, pack_parallel_reads};
+pub use packing::{pack_in_batches, pack_parallel, pack_parallel_reads};
+pub use ran::Ran;

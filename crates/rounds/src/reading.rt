@@ -9,7 +9,7 @@ ghost use Rattle.live_board.specs.Snapshots.{Known};
 ghost use Rattle.rounds.specs.Courses.{HasClosed, HasEnough, IsOn, IsStopped, Start};
 
 use crate::course::Course;
-use ingest::{Lane, closed_plans_begin_all};
+use ingest::Lane;
 use item_io::{Outlet, Source};
 use ladder_items::have_stopped;
 use std::alloc::AllocError;
@@ -30,7 +30,6 @@ fn read_one<S: Source, O: Outlet>(
     ensures same { course.new ≡ record course.old { sources = course.new.sources; lanes = course.new.lanes } }
     ensures count { length course.new.lanes.items ≡ length course.old.lanes.items }
 {
-    closed_plans_begin_all();
     if course.lanes[r].stop.is_some() {
         return Ok(());
     }

@@ -8,7 +8,6 @@ ghost use Rattle.rounds.specs.Rounds.{IsSomewhere, Moves, Breaks, gathered};
 use crate::course::Course;
 use crate::giving::give_piece;
 use flow_core::Collector;
-use ingest::closed_plans_are_in_order;
 use item_io::{Outlet, Source};
 use ladder_items::{PackFault, Settings};
 use live_board::HeldPublisher;
@@ -32,7 +31,6 @@ fn give_next<S: Source, O: Outlet, R: Wait>(
     ensures gathered { OnOk result (gathered collector.new.lanes ≡ gathered collector.old.lanes) }
     ensures fewer { IfOk result (λ any. any ≡ true → awaited collector.new.lanes < awaited collector.old.lanes) }
 {
-    closed_plans_are_in_order();
     let Some(piece) = collector.next(r) else {
         return Ok(false);
     };

@@ -1,6 +1,7 @@
 use Rattle.std.proofs.Common.{◌≡◌, ◌∙◌, refl, ap, sym, subst, arith}
 use Rattle.std.proofs.lemmas.Result.{err_from_is_err_and}
 use Rattle.cutter.specs.Lent.{lent}
+use Rattle.ingest.proofs.Ordered.{made_of-at}
 use Rattle.flow_core.specs.Lanes.{following, with_plan}
 use Rattle.flow_core.specs.Gatherings.{lane_at, with_lane}
 use Rattle.ladder_items.proofs.Worlds.{InOrder}
@@ -19,7 +20,7 @@ returns-in_err-make_room-clause-err g c =
 pub expect-requires-clause-rendition : goal.expect-requires-clause-rendition
 expect-requires-clause-rendition g c =
     let some = c.requires.somewhere in
-    let order : InOrder c.args.settings.now = λ stop r. c.closed_plans_are_in_order.ensures stop r c.args.settings.now.cut in
+    let order : InOrder c.args.settings.now = λ stop r. made_of-at stop r c.args.settings.now.cut in
     let now = c.in_ok-make_room.ensures.ok some.0 some.1 some.3 in
     let p = plan-follows _ _ _ _ _ some.0 some.1 _ _ _ now c.args.r c.requires.within (lent c.args.plan) some.2 some.4 order in
     omega (arith, p.rendition, c.requires.within, now.each)
@@ -27,7 +28,7 @@ expect-requires-clause-rendition g c =
 pub expect-requires-clause-number : goal.expect-requires-clause-number
 expect-requires-clause-number g c =
     let some = c.requires.somewhere in
-    let order : InOrder c.args.settings.now = λ stop r. c.closed_plans_are_in_order.ensures stop r c.args.settings.now.cut in
+    let order : InOrder c.args.settings.now = λ stop r. made_of-at stop r c.args.settings.now.cut in
     let now = c.in_ok-make_room.ensures.ok some.0 some.1 some.3 in
     let p = plan-follows _ _ _ _ _ some.0 some.1 _ _ _ now c.args.r c.requires.within (lent c.args.plan) some.2 some.4 order in
     p.number ∙ ap (λ k. following (lane_at c.make_room.new.collector k)) (sym p.rendition)
@@ -35,7 +36,7 @@ expect-requires-clause-number g c =
 pub expect-requires-clause-low : goal.expect-requires-clause-low
 expect-requires-clause-low g c =
     let some = c.requires.somewhere in
-    let order : InOrder c.args.settings.now = λ stop r. c.closed_plans_are_in_order.ensures stop r c.args.settings.now.cut in
+    let order : InOrder c.args.settings.now = λ stop r. made_of-at stop r c.args.settings.now.cut in
     let now = c.in_ok-make_room.ensures.ok some.0 some.1 some.3 in
     let p = plan-follows _ _ _ _ _ some.0 some.1 _ _ _ now c.args.r c.requires.within (lent c.args.plan) some.2 some.4 order in
     omega (arith, p.number, p.below)
@@ -52,7 +53,7 @@ returns-in_err-offer-clause-err g c =
 
 pub returns-clause-ok : goal.returns-clause-ok
 returns-clause-ok g c start unfed left is old =
-    let order : InOrder c.args.settings.now = λ stop r. c.closed_plans_are_in_order.ensures stop r c.args.settings.now.cut in
+    let order : InOrder c.args.settings.now = λ stop r. made_of-at stop r c.args.settings.now.cut in
     let now = c.in_ok-make_room.ensures.ok start unfed old in
     let p = plan-follows _ _ _ _ _ start unfed _ _ _ now c.args.r c.requires.within (lent c.args.plan) left is order in
     let made = subst (λ k. c.expect.new.collector ≡ with_lane c.make_room.new.collector k (with_plan (lane_at c.make_room.new.collector k) (lent c.args.plan))) p.rendition c.in_ok-expect.ensures.ok in
@@ -61,7 +62,7 @@ returns-clause-ok g c start unfed left is old =
 pub returns-clause-fair : goal.returns-clause-fair
 returns-clause-fair g c =
     let some = c.requires.somewhere in
-    let order : InOrder c.args.settings.now = λ stop r. c.closed_plans_are_in_order.ensures stop r c.args.settings.now.cut in
+    let order : InOrder c.args.settings.now = λ stop r. made_of-at stop r c.args.settings.now.cut in
     let now = c.in_ok-make_room.ensures.ok some.0 some.1 some.3 in
     let p = plan-follows _ _ _ _ _ some.0 some.1 _ _ _ now c.args.r c.requires.within (lent c.args.plan) some.2 some.4 order in
     let same = expects-gathered _ _ _ _ (omega (arith, p.rendition, c.requires.within, now.each)) c.in_ok-expect.ensures.ok in

@@ -1,4 +1,5 @@
 use Rattle.ingest.specs.Inputs.{input_of}
+use Rattle.ingest.proofs.Ordered.{closed_of-none}
 use Rattle.ladder_items.specs.Runs.{outlet_of}
 use Rattle.rounds.proofs.Ending.{unbegun-said, turned-away}
 use Rattle.rounds.proofs.packing.unbegun.Goals as goal
@@ -6,7 +7,7 @@ use Rattle.rounds.proofs.packing.unbegun.Goals as goal
 pub returns-clause-fault : goal.returns-clause-fault
 returns-clause-fault g c =
     unbegun-said _ _ _ _ c.args.settings.now (record { sources = c.args.sources.items; outlet = c.args.outlet; shows = c.args.publisher; reads = c.args.reads }) c.args.workers c.args.reads
-    (λ k. c.closed_plans_begin_all.ensures.none k c.args.settings.now.cut) c.args.fault c.requires.fault
+    (λ k. closed_of-none k c.args.settings.now.cut) c.args.fault c.requires.fault
 
 pub returns-clause-breach : goal.returns-clause-breach
 returns-clause-breach g c =

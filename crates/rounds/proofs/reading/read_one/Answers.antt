@@ -2,6 +2,7 @@ use Rattle.std.proofs.Common.{◌≡◌, ◌∙◌, ◌<◌, None, refl, ap, sym
 use Rattle.std.proofs.lemmas.Option.{slice_get_read, same_Some}
 use Rattle.std.proofs.lemmas.Result.{err_from_is_err_and}
 use Rattle.ingest.specs.declared.lane.Lane.{Lane}
+use Rattle.ingest.proofs.Ordered.{closed_of-grow}
 use Rattle.ladder_items.proofs.Elsewhere.{none-there, some-there}
 use Rattle.ladder_items.proofs.Worlds.{stage-at, reads-fit}
 use Rattle.rounds.proofs.Turning.{on-read, on-skip, on-unread}
@@ -68,7 +69,7 @@ returns-in_err-turn-clause-err g c =
     on-unread _ _ _ _ _ start c.args.r _ _ shows waiting c.index_mut-2.result.now c.turn.new.source c.index_mut.result.now _
     (slice_get_read c.args.course.now.sources.items _ c.args.r c.index_mut-2.result.now (sym on.world.same_now) below c.index_mut-2.ensures.value)
     at none c.in_err-turn.ensures.err.1 c.in_err-turn.ensures.no_read_failed
-    (λ s more. c.closed_plans_begin_all.ensures.grow c.args.r ladder.cut s more) refl refl c.requires.below on)
+    (λ s more. closed_of-grow c.args.r ladder.cut s more) refl refl c.requires.below on)
 
 pub returns-clause-ok : goal.returns-clause-ok
 returns-clause-ok g c ladder start shows waiting on =

@@ -1,7 +1,7 @@
 use Rattle.std.proofs.Common.{[]}
 use Rattle.std.proofs.lemmas.Result.{IfErr-at_err, IfOk-at_ok}
 use Rattle.rounds.proofs.Answered.{moved-ok, moved-err}
-use Rattle.rounds.proofs.packing.run.Goals as goal
+use Rattle.rounds.proofs.fitted.run.Goals as goal
 
 pub returns-in-Err-clause-err : goal.returns-in-Err-clause-err
 returns-in-Err-clause-err g c start on = IfErr-at_err _ c.in-Err.is c.read_first-read.ensures.err c.args.settings.now start c.args.going.held.publisher (λ k. []) on

@@ -1,0 +1,82 @@
+use Rattle.std.proofs.Common.{◌∙◌, ap, sym, arith, length}
+use Rattle.std.proofs.lemmas.Result.{IfErr-at_err, IfErr-weaker, IfOk-at_ok}
+use Rattle.live_board.specs.Snapshots.{Known}
+use Rattle.ladder_items.proofs.Blocks.{shown-going, shown-each}
+use Rattle.ladder_items.proofs.Worlds.{parts-of, parts-length}
+use Rattle.rounds.specs.Courses.{Start}
+use Rattle.rounds.proofs.Answered.{ok-weaker}
+use Rattle.rounds.proofs.Ending.{stopped-shown, told-shown, packed-shown}
+use Rattle.rounds.proofs.fitted.pack_fitted.Goals as goal
+
+pub run-going-requires-clause-on : goal.run-going-requires-clause-on
+run-going-requires-clause-on g c κs within = (record { sources = c.args.sources.items; outlet = c.args.outlet; shows = c.args.publisher; reads = c.args.reads }, c.set_out-going.ensures.on c.args.settings.now c.args.workers c.requires.fits c.requires.begun)
+
+pub returns-in-Err-clause-fault : goal.returns-in-Err-clause-fault
+returns-in-Err-clause-fault g c =
+    let start : Start _ _ = record { sources = c.args.sources.items; outlet = c.args.outlet; shows = c.args.publisher; reads = c.args.reads } in
+    let on = c.set_out-going.ensures.on c.args.settings.now c.args.workers c.requires.fits c.requires.begun in
+    rw (c.give_back.ensures.answer, c.give_back.ensures.sources, c.give_back.ensures.outlet, c.give_back.ensures.publisher)
+    (stopped-shown _ _ _ _ _ start _ _ c.args.workers c.in-Err.fault (IfErr-at_err _ c.in-Err.is c.run-going.ensures.err start on))
+
+pub returns-in-Err-clause-board : goal.returns-in-Err-clause-board
+returns-in-Err-clause-board g c =
+    let start : Start _ _ = record { sources = c.args.sources.items; outlet = c.args.outlet; shows = c.args.publisher; reads = c.args.reads } in
+    let on = c.set_out-going.ensures.on c.args.settings.now c.args.workers c.requires.fits c.requires.begun in
+    ap (λ (k : Known). k.board) c.give_back.ensures.publisher ∙ (IfErr-at_err _ c.in-Err.is c.run-going.ensures.err start on).board
+
+pub told-answer-requires-clause-each : goal.told-answer-requires-clause-each
+told-answer-requires-clause-each g c =
+    let start : Start _ _ = record { sources = c.args.sources.items; outlet = c.args.outlet; shows = c.args.publisher; reads = c.args.reads } in
+    let on = c.set_out-going.ensures.on c.args.settings.now c.args.workers c.requires.fits c.requires.begun in
+    let done = IfOk-at_ok _ c.in_default.is c.run-going.ensures.ok start on in
+    let parts = parts-of c.args.settings.now done.world.events in
+    let each = parts-length c.args.settings.now done.world.events in
+    ap length c.deref-2.ensures.value ∙ (done.world.same_lanes ∙ (sym (shown-each c.args.settings.now parts _ each done.world.shown_are) ∙ ap length (sym c.deref-3.ensures.value)))
+
+pub told-answer-requires-clause-going : goal.told-answer-requires-clause-going
+told-answer-requires-clause-going g c =
+    let start : Start _ _ = record { sources = c.args.sources.items; outlet = c.args.outlet; shows = c.args.publisher; reads = c.args.reads } in
+    let on = c.set_out-going.ensures.on c.args.settings.now c.args.workers c.requires.fits c.requires.begun in
+    let done = IfOk-at_ok _ c.in_default.is c.run-going.ensures.ok start on in
+    let parts = parts-of c.args.settings.now done.world.events in
+    let each = parts-length c.args.settings.now done.world.events in
+    shown-going c.args.settings.now parts c.deref-3.result.now each (c.deref-3.ensures.value ∙ done.world.shown_are)
+
+pub told-answer-requires-clause-few : goal.told-answer-requires-clause-few
+told-answer-requires-clause-few g c =
+    let start : Start _ _ = record { sources = c.args.sources.items; outlet = c.args.outlet; shows = c.args.publisher; reads = c.args.reads } in
+    let on = c.set_out-going.ensures.on c.args.settings.now c.args.workers c.requires.fits c.requires.begun in
+    let done = IfOk-at_ok _ c.in_default.is c.run-going.ensures.ok start on in
+    let parts = parts-of c.args.settings.now done.world.events in
+    let each = parts-length c.args.settings.now done.world.events in
+    let size = shown-each c.args.settings.now parts c.deref-3.result.now each (c.deref-3.ensures.value ∙ done.world.shown_are) in
+    let few = c.requires.fits.0.renditions.1 in
+    omega (arith, size, few)
+
+pub returns-clause-ok : goal.returns-clause-ok
+returns-clause-ok g c =
+    let start : Start _ _ = record { sources = c.args.sources.items; outlet = c.args.outlet; shows = c.args.publisher; reads = c.args.reads } in
+    let on = c.set_out-going.ensures.on c.args.settings.now c.args.workers c.requires.fits c.requires.begun in
+    let done = IfOk-at_ok _ c.in_default.is c.run-going.ensures.ok start on in
+    let all = IfOk-at_ok _ c.in_default.is c.run-going.ensures.all in
+    rw (c.give_back-2.ensures.answer, c.give_back-2.ensures.sources, c.give_back-2.ensures.outlet, c.give_back-2.ensures.publisher)
+    (ok-weaker c.told-answer.result _ _ (λ report told.
+    packed-shown _ _ _ _ _ start _ _ done all c.args.workers c.run-going.result.0.books report (IfOk-at_ok _ c.in_default.is c.run-going.ensures.workers) (rw (← c.deref-2.ensures.value, ← c.deref-3.ensures.value) told))
+    c.told-answer.ensures.ok)
+
+pub returns-clause-fault : goal.returns-clause-fault
+returns-clause-fault g c =
+    let start : Start _ _ = record { sources = c.args.sources.items; outlet = c.args.outlet; shows = c.args.publisher; reads = c.args.reads } in
+    let on = c.set_out-going.ensures.on c.args.settings.now c.args.workers c.requires.fits c.requires.begun in
+    let done = IfOk-at_ok _ c.in_default.is c.run-going.ensures.ok start on in
+    let all = IfOk-at_ok _ c.in_default.is c.run-going.ensures.all in
+    rw (c.give_back-2.ensures.answer, c.give_back-2.ensures.sources, c.give_back-2.ensures.outlet, c.give_back-2.ensures.publisher)
+    (IfErr-weaker c.told-answer.result _ _ (λ fault told.
+    told-shown _ _ _ _ _ start _ _ done all c.args.workers fault (rw (← c.deref-2.ensures.value) told))
+    c.told-answer.ensures.fault)
+
+pub returns-clause-board : goal.returns-clause-board
+returns-clause-board g c =
+    let start : Start _ _ = record { sources = c.args.sources.items; outlet = c.args.outlet; shows = c.args.publisher; reads = c.args.reads } in
+    let on = c.set_out-going.ensures.on c.args.settings.now c.args.workers c.requires.fits c.requires.begun in
+    ap (λ (k : Known). k.board) c.give_back-2.ensures.publisher ∙ (IfOk-at_ok _ c.in_default.is c.run-going.ensures.ok start on).board
