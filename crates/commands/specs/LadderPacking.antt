@@ -1,12 +1,13 @@
 -- How a run of `pack` ends that didn't do its work.
-use Rattle.std.specs.Prelude.{ℕ, List, Option}
+use Rattle.std.specs.Prelude.{ℕ, List, Option, length}
 use Rattle.std.specs.Io.KnownBytes.{Appends, Keeps}
 use Rattle.item_io.specs.Writing.{WritesBeginning}
 use Rattle.live_board.specs.Snapshots.{SnapshotFacts}
+use Rattle.live_board.specs.Counts.{counts_shown}
 use Rattle.ladder_items.specs.declared.report.Report.{Report}
 use Rattle.ladder_items.specs.Ladder.{Ladder}
 use Rattle.ladder_items.specs.Runs.{Run}
-use Rattle.rounds.specs.Shown.{FaultSaysShown, IsPackedShown}
+use Rattle.rounds.specs.Shown.{FaultSaysShown, Fits, IsPackedShown, IsTurnedAway}
 use Rattle.commands.specs.Summaries.{IsSummaryOf}
 use Rattle.commands.specs.declared.ladder_packing.LadderPackingFault.{LadderPackingFault}
 use Rattle.commands.specs.declared.ladder_packing.LadderPackingFault.TheVariants.{Packing, Unwritten, NoMemory}
@@ -40,3 +41,9 @@ abbrev pub LadderSays : {X Y : Type 0} → Run X Y → Ladder → ℕ → List S
 LadderSays run ladder workers old new held held_then (Packing fault) = FaultSaysShown run ladder workers old new fault × Keeps held held_then
 LadderSays run ladder workers old new held held_then Unwritten = EndsUnwritten run ladder workers old new held held_then
 LadderSays run ladder workers old new held held_then NoMemory = EndsUntold run ladder workers old new held held_then
+
+-- A ladder that doesn't fit is turned away: the run tells so, and no summary is begun.
+abbrev pub TurnsAway : {X Y : Type 0} → Run X Y → Ladder → ℕ → List SnapshotFacts → List SnapshotFacts → LadderPackingFault → Type 0
+TurnsAway run ladder workers old new (Packing fault) = IsTurnedAway run ladder workers old new fault
+TurnsAway run ladder workers old new Unwritten = Fits ladder (length run.before) workers (counts_shown old)
+TurnsAway run ladder workers old new NoMemory = Fits ladder (length run.before) workers (counts_shown old)

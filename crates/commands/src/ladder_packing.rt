@@ -5,7 +5,7 @@ ghost use Rattle.ladder_items.specs.Runs.{outlet_of, run_of};
 ghost use Rattle.ladder_items.specs.World.{HaveRoom};
 ghost use Rattle.live_board.specs.Counts.{counts_shown};
 ghost use Rattle.rounds.specs.Shown.{Fits, IsPackedShown};
-ghost use Rattle.commands.specs.LadderPacking.{BeginsSummary, LadderSays, WritesSummary};
+ghost use Rattle.commands.specs.LadderPacking.{BeginsSummary, LadderSays, TurnsAway, WritesSummary};
 ghost use Rattle.commands.specs.declared.ladder_packing.LadderPackingFault.TheVariants.{NoMemory, Unwritten};
 
 use crate::output::write_all;
@@ -65,6 +65,7 @@ pub fn pack<S: Source + Drop, O: Outlet + Drop, W: Write, R: Threads + Wait + Sy
     ensures fault { IfErr result.answer (LadderSays (run_of (input_of S.remaining S.reads S.failures) (outlet_of O.holds O.broken O.failures) (2 ^ 40) sources.items result.sources.items outlet result.outlet) settings.now pool.workers publisher.list result.publisher.list (W.contents output.old) (W.contents output.new)) }
     ensures board { result.publisher.board ≡ publisher.board }
     ensures fits { OnOk result.answer (Fits settings.now (length sources.items) pool.workers (counts_shown publisher.list)) }
+    ensures breach { IfErr result.answer (TurnsAway (run_of (input_of S.remaining S.reads S.failures) (outlet_of O.holds O.broken O.failures) (2 ^ 40) sources.items result.sources.items outlet result.outlet) settings.now pool.workers publisher.list result.publisher.list) }
 {
     let Ran {
         sources,
