@@ -231,7 +231,7 @@ const STOPPED: [Case; 2] = [
         ways: Ways {
             piece: 940,
             failing_read: 2,
-            failing_put: 0,
+            ..WELL
         },
         fault: Some(PackFault::Read(0)),
         items: 4,

@@ -4,13 +4,16 @@ use crate::back::first_lost;
 use crate::cases::SEVEN;
 use crate::ladder::SEVEN_BEHIND_A_JUMP;
 use crate::run::{
-    CUT, Form, PLAIN, Ran, WELL, last_frames, last_media, run, run_each_way, settings, settings_of,
+    CUT, Form, PLAIN, Ran, WELL, last_frames, last_media, run_beside, run_each_way, settings,
+    settings_of,
 };
 use crate::stream::{Change, TWO_SEGMENTS, stream_of};
 use item_io::Item;
 use pipeline::{Kind, PackFault, Settings};
 use std::alloc::Global;
+use std::sync::Wait;
 use std::test::Fail;
+use std::thread::Threads;
 
 /// A salt of the bytes F0 to FF.
 const SALTED: Form = Form {
@@ -141,9 +144,14 @@ const BEGINNINGS: [(usize, Result<u128, PackFault>, usize); 6] = [
     (1128, Ok(9_040_000), 10),
 ];
 
-/// Whether these bytes as a whole input give what they should.
-fn is_as_wanted(alloc: Global, input: &[u8], settings: &Settings) -> Result<bool, Fail> {
-    let Ran { answer, outlet } = run(alloc, &[input], WELL, settings)?;
+/// Whether these bytes as a whole input give what they should, on one thread and with two workers.
+fn is_as_wanted<R: Threads + Wait + Sync>(
+    rt: &R,
+    alloc: Global,
+    input: &[u8],
+    settings: &Settings,
+) -> Result<bool, Fail> {
+    let Ran { answer, outlet } = run_beside(rt, alloc, &[input], WELL, settings, &[2])?;
     let micros = match answer {
         Ok(report) => Ok(report.micros.first().copied().unwrap_or(0)),
         Err(fault) => Err(fault),
@@ -164,7 +172,7 @@ fn each_beginning_of_a_stream(rt: HostRuntime) -> Result<(), Fail> {
     assert_eq!(rt; stream.len(), 1128);
     for len in 0..=1128 {
         let (input, _) = stream.split_at(stream.len().min(len));
-        assert!(rt; is_as_wanted(rt.alloc(), input, &settings)?, "{len}");
+        assert!(rt; is_as_wanted(&rt, rt.alloc(), input, &settings)?, "{len}");
     }
     Ok(())
 }

@@ -9,11 +9,19 @@ mod back;
 #[cfg(test)]
 mod cases;
 #[cfg(test)]
+mod damaged;
+#[cfg(test)]
+mod failing;
+#[cfg(test)]
 mod forms;
+#[cfg(test)]
+mod gates;
 #[cfg(test)]
 mod ladder;
 mod laws;
 mod made;
+#[cfg(test)]
+mod many;
 #[cfg(test)]
 mod reads;
 #[cfg(test)]

@@ -1,51 +1,42 @@
 //! Inputs that have all their reads.
-ghost use Rattle.std.specs.Prelude.{◌≤◌, ◌^◌};
+ghost use Rattle.std.specs.Prelude.{◌≡◌, All, IfOk};
 
-use crate::run::{CUT, are_sizes, settings};
+use crate::run::{CUT, Ran, WELL, Ways, are_sizes, run_each_way, settings};
 use crate::stream::{Change, TWO_SEGMENTS, stream_of};
-use item_io::{FailingOutlet, FailingReader, ReaderSource};
+use item_io::{FailingOutlet, ReaderSource};
 use pipeline::{PackFault, pack_serial_reads};
-use std::alloc::Global;
+use rounds::{opening_board, pack_parallel_reads};
+use std::alloc::{AllocError, Global};
 use std::io;
 use std::io::Read;
 use std::test::Fail;
+use work_desk::FreeGate;
 
-/// What a run answers whose one input gives a byte a read, and the items that its outlet holds.
-fn in_reads(
-    alloc: Global,
-    stream: &[u8],
-    reads: u64,
-) -> Result<(Option<PackFault>, FailingOutlet), Fail>
-    requires { (1 ≤ reads) × (reads ≤ 2 ^ 40) }
-{
-    let settings = settings(alloc, &["v"], 1, 1, CUT, 5)?;
-    let mut bytes = Vec::new(alloc);
-    bytes.extend_from_slice(stream)?;
-    let mut sources = Vec::new(alloc);
-    sources.push(FailingReader::new(bytes, 1, 0))?;
-    let mut outlet = FailingOutlet::new(alloc, 0);
-    let answer = pack_serial_reads(alloc, &mut sources, &settings, &mut outlet, reads);
-    Ok((answer.err(), outlet))
-}
-
-/// The stream has six packets. The end is met by one more read than its bytes take, and the packet behind the cut is whole
+/// A byte a read of a stream of two segments: how many reads it has, the fault, the items and the sizes of the segments. Its
+/// six packets are 1,128 bytes. The end is met by one more read than its bytes take, and the packet behind the cut is whole
 /// with byte 940.
+const READS: [(u64, Option<PackFault>, usize, &[usize]); 4] = [
+    (1129, None, 10, &[768, 768]),
+    (1128, Some(PackFault::ReadLimit(0)), 4, &[768]),
+    (940, Some(PackFault::ReadLimit(0)), 4, &[768]),
+    (939, Some(PackFault::ReadLimit(0)), 0, &[]),
+];
+
 #[test]
 fn a_byte_a_read(rt: HostRuntime) -> Result<(), Fail> {
     let stream = stream_of(rt.alloc(), TWO_SEGMENTS, Change::None)?;
-    let limit = Some(PackFault::ReadLimit(0));
-    let (answer, outlet) = in_reads(rt.alloc(), &stream, 1129)?;
-    assert_eq!(rt; answer, None);
-    assert_eq!(rt; outlet.items().len(), 10);
-    for reads in [1128, 940] {
-        let (answer, outlet) = in_reads(rt.alloc(), &stream, reads)?;
-        assert_eq!(rt; answer, limit, "{reads} reads");
-        assert_eq!(rt; outlet.items().len(), 4, "{reads} reads");
-        assert!(rt; are_sizes(outlet.items(), &[768]));
+    let settings = settings(rt.alloc(), &["v"], 1, 1, CUT, 5)?;
+    for (reads, fault, items, sizes) in READS {
+        let ways = Ways {
+            piece: 1,
+            reads,
+            ..WELL
+        };
+        let Ran { answer, outlet } = run_each_way(&rt, rt.alloc(), &[&stream], ways, &settings)?;
+        assert_eq!(rt; answer.err(), fault, "{reads} reads");
+        assert_eq!(rt; outlet.items().len(), items, "{reads} reads");
+        assert!(rt; are_sizes(outlet.items(), sizes), "{reads} reads");
     }
-    let (answer, outlet) = in_reads(rt.alloc(), &stream, 939)?;
-    assert_eq!(rt; answer, limit);
-    assert!(rt; outlet.items().is_empty());
     Ok(())
 }
 
@@ -62,19 +53,53 @@ impl Read for Endless {
     }
 }
 
+/// One input that never comes to an end.
+fn one_without_an_end(alloc: Global) -> Result<Vec<ReaderSource<Endless>>, AllocError>
+    ensures { IfOk result (λ sources. All (λ source. (source.reads ≡ 0) × (source.failures ≡ 0)) sources.items) }
+{
+    let mut sources = Vec::new(alloc);
+    sources.push(ReaderSource::new(Endless { reads: 0 }))?;
+    Ok(sources)
+}
+
+/// How often the last input was read.
+fn reads_of(sources: Vec<ReaderSource<Endless>>) -> Option<u64> {
+    let mut sources = sources;
+    let source = sources.pop()?;
+    Some(source.into_reader().reads)
+}
+
 #[test]
 fn an_input_without_an_end(rt: HostRuntime) -> Result<(), Fail> {
     let alloc = rt.alloc();
     let settings = settings(alloc, &["v"], 1, 1, CUT, 5)?;
-    let mut sources = Vec::new(alloc);
-    sources.push(ReaderSource::new(Endless { reads: 0 }))?;
+    let mut sources = one_without_an_end(alloc)?;
     let mut outlet = FailingOutlet::new(alloc, 0);
     let answer = pack_serial_reads(alloc, &mut sources, &settings, &mut outlet, 100);
     assert_eq!(rt; answer.err(), Some(PackFault::ReadLimit(0)));
     assert!(rt; outlet.items().is_empty());
-    let Some(source) = sources.pop() else {
-        return Err(Fail::from("no input"));
-    };
-    assert_eq!(rt; source.into_reader().reads, 100);
+    assert_eq!(rt; reads_of(sources), Some(100));
+    Ok(())
+}
+
+#[test]
+fn an_input_without_an_end_on_many_threads(rt: HostRuntime) -> Result<(), Fail> {
+    let alloc = rt.alloc();
+    let settings = settings(alloc, &["v"], 1, 1, CUT, 5)?;
+    let sources = one_without_an_end(alloc)?;
+    let outlet = FailingOutlet::new(alloc, 0);
+    let (publisher, _viewers) = opening_board(&rt, alloc, 1, 1)?;
+    let rounds::Ran {
+        sources,
+        publisher,
+        outlet,
+        answer,
+    } = pack_parallel_reads(
+        &rt, alloc, sources, &settings, 2, &FreeGate, publisher, outlet, 100,
+    );
+    publisher.end(&rt);
+    assert_eq!(rt; answer.err(), Some(PackFault::ReadLimit(0)));
+    assert!(rt; outlet.items().is_empty());
+    assert_eq!(rt; reads_of(sources), Some(100));
     Ok(())
 }

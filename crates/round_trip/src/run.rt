@@ -1,11 +1,10 @@
-ghost use Rattle.std.specs.Prelude.{◌≡◌, All, IfOk};
+ghost use Rattle.std.specs.Prelude.{◌≡◌, ◌≤◌, ◌^◌, All, IfOk};
 
+use crate::many::run_on;
 use crate::same::first_other;
 use cutter::CutSettings;
-use item_io::{FailingOutlet, FailingReader, Item, Outlet};
-use live_board::{Snapshot, board};
-use pipeline::{Kind, PackFault, Rendition, Report, Settings, pack_serial};
-use rounds::pack_parallel;
+use item_io::{FailingOutlet, FailingReader, Item, READS};
+use pipeline::{Kind, PackFault, Rendition, Report, Settings, pack_serial_reads};
 use segment_job::Keys;
 use std::alloc::{AllocError, Global};
 use std::sync::Wait;
@@ -30,11 +29,12 @@ pub struct Ran {
     pub outlet: FailingOutlet,
 }
 
-/// How inputs are read and items are put: the most bytes of a read, and which read of the first input and which put
-/// fails, counted from 1.
+/// How inputs are read and items are put: the most bytes of a read, how many reads an input has, and which read of the
+/// first input and which put fails, counted from 1.
 #[derive(Clone, Copy, Debug)]
 pub struct Ways {
     pub piece: usize,
+    pub reads: u64,
     pub failing_read: u64,
     pub failing_put: u64,
 }
@@ -42,9 +42,19 @@ pub struct Ways {
 /// All goes well, in reads of any length.
 pub const WELL: Ways = Ways {
     piece: 18_800,
+    reads: READS,
     failing_read: 0,
     failing_put: 0,
 };
+
+impl Ways {
+    /// How many reads an input has: at least one, and no more than an input may have.
+    pub fn reads(self) -> u64
+        ensures { (1 ≤ result) × (result ≤ 2 ^ 40) }
+    {
+        self.reads.clamp(1, READS)
+    }
+}
 
 /// Which segments are listed, and the salt of the vectors.
 #[derive(Clone, Copy, Debug)]
@@ -119,7 +129,11 @@ pub fn settings_of(
 }
 
 /// The inputs as sources.
-fn sources_of(alloc: Global, inputs: &[&[u8]], ways: Ways) -> Result<Vec<FailingReader>, AllocError>
+pub fn sources_of(
+    alloc: Global,
+    inputs: &[&[u8]],
+    ways: Ways,
+) -> Result<Vec<FailingReader>, AllocError>
     ensures { IfOk result (λ sources. All (λ source. (source.reads ≡ 0) × (source.failures ≡ 0)) sources.items) }
 {
     let mut sources = Vec::new(alloc);
@@ -141,54 +155,12 @@ pub fn run(
 ) -> Result<Ran, AllocError> {
     let mut sources = sources_of(alloc, inputs, ways)?;
     let mut outlet = FailingOutlet::new(alloc, ways.failing_put);
-    let answer = pack_serial(alloc, &mut sources, settings, &mut outlet);
+    let answer = pack_serial_reads(alloc, &mut sources, settings, &mut outlet, ways.reads());
     Ok(Ran { answer, outlet })
 }
 
-/// A snapshot of so many renditions, none of which has a segment.
-fn nothing(alloc: Global, renditions: usize) -> Result<Snapshot, AllocError> {
-    let mut counts = Vec::new(alloc);
-    let mut ended = Vec::new(alloc);
-    for _ in 0..renditions {
-        counts.push(0)?;
-        ended.push(false)?;
-    }
-    Ok(Snapshot {
-        counts,
-        ended,
-        media: Vec::new(alloc),
-        frames: Vec::new(alloc),
-        master: String::new(alloc),
-    })
-}
-
-/// Packs these inputs on many threads, so many of which seal.
-fn run_on<R: Threads + Wait + Sync>(
-    rt: &R,
-    alloc: Global,
-    inputs: &[&[u8]],
-    ways: Ways,
-    settings: &Settings,
-    workers: usize,
-) -> Result<Ran, Fail> {
-    let sources = sources_of(alloc, inputs, ways)?;
-    let outlet = FailingOutlet::new(alloc, ways.failing_put);
-    let first = nothing(alloc, settings.renditions.len())?;
-    let (publisher, _viewers) = board(rt, alloc, first, 1)?;
-    let rounds::Ran {
-        sources: _,
-        publisher,
-        outlet,
-        answer,
-    } = pack_parallel(
-        rt, alloc, sources, settings, workers, &FreeGate, publisher, outlet,
-    );
-    publisher.end(rt);
-    Ok(Ran { answer, outlet })
-}
-
-/// Packs these inputs on one thread, and on many with one worker and with four, where each rendition gets the same. Tells
-/// what one thread makes of them.
+/// Packs these inputs on one thread, and on many with one worker, with two and with four, where each rendition gets the
+/// same. Tells what one thread makes of them.
 pub fn run_each_way<R: Threads + Wait + Sync>(
     rt: &R,
     alloc: Global,
@@ -196,10 +168,22 @@ pub fn run_each_way<R: Threads + Wait + Sync>(
     ways: Ways,
     settings: &Settings,
 ) -> Result<Ran, Fail> {
+    run_beside(rt, alloc, inputs, ways, settings, &[1, 2, 4])
+}
+
+/// The same with other numbers of workers.
+pub fn run_beside<R: Threads + Wait + Sync>(
+    rt: &R,
+    alloc: Global,
+    inputs: &[&[u8]],
+    ways: Ways,
+    settings: &Settings,
+    numbers: &[usize],
+) -> Result<Ran, Fail> {
     let ran = run(alloc, inputs, ways, settings)?;
-    for workers in [1, 4] {
-        let many = run_on(rt, alloc, inputs, ways, settings, workers)?;
-        if let Some(other) = first_other(&ran, &many, inputs.len(), workers) {
+    for workers in numbers {
+        let many = run_on(rt, alloc, inputs, ways, settings, *workers, &FreeGate)?;
+        if let Some(other) = first_other(&ran, &many, inputs.len(), *workers) {
             return Err(Fail::new(other));
         }
     }

@@ -8,6 +8,21 @@ const PAT: &[u8] =
 const PMT: &[u8] =
     b"\x47\x50\x00\x10\x00\x02\xb0\x12\x00\x01\xc1\x00\x00\xe1\x00\xf0\x00\x1b\xe1\x00\xf0\x00\x15\xbd\x4d\x56";
 
+/// A section on the PMT's PID whose length, 1,022, is more than a section may have.
+const LONG_SECTION: &[u8] = b"\x47\x50\x00\x1f\x00\x02\xb3\xfe";
+
+/// Appends the PAT in two packets: behind 174 bytes of an adaptation field the first half of its section, and in the next
+/// packet, of this counter, the other.
+fn push_split_pat(stream: &mut Vec<u8>, counter: u8) -> Result<(), AllocError> {
+    stream.extend_from_slice(b"\x47\x40\x00\x30\xae\x00")?;
+    for _ in 0..173 {
+        stream.push(0xFF)?;
+    }
+    stream.extend_from_slice(b"\x00\x00\xb0\x0d\x00\x01\xc1\x00\x00")?;
+    let begin = [0x47, 0x00, 0x00, 0x10 + counter % 16];
+    push_packet(stream, &begin, b"\x00\x01\xf0\x00\x2a\xb1\x04\xb2")
+}
+
 /// A frame of video by its time in ticks: a key frame, with the indicator of random access, or another.
 #[derive(Clone, Copy, Debug)]
 pub enum Video {
@@ -16,8 +31,14 @@ pub enum Video {
 }
 
 /// Appends tables, and a packet for each frame.
-fn push_stream(stream: &mut Vec<u8>, frames: &[Video]) -> Result<(), AllocError> {
-    push_packet(stream, PAT, &[])?;
+fn push_stream(stream: &mut Vec<u8>, frames: &[Video], change: Change) -> Result<(), AllocError> {
+    match change {
+        Change::SplitPat(counter) => push_split_pat(stream, counter)?,
+        _ => push_packet(stream, PAT, &[])?,
+    }
+    if let Change::LongSection = change {
+        push_packet(stream, LONG_SECTION, &[])?;
+    }
     push_packet(stream, PMT, &[])?;
     for (n, frame) in frames.iter().enumerate() {
         push_frame(stream, *frame, (n % 16) as u8)?;
@@ -86,6 +107,10 @@ pub enum Change {
     LeaveOut(usize),
     /// The PAT's last byte, of its CRC, is another.
     BadCrc,
+    /// The PAT comes in two packets. The second has this counter, the first 0.
+    SplitPat(u8),
+    /// A section that is too long stands before the PMT.
+    LongSection,
     /// Nothing is left of it.
     Empty,
 }
@@ -93,7 +118,7 @@ pub enum Change {
 /// The stream of these frames, changed.
 pub fn stream_of(alloc: Global, frames: &[Video], change: Change) -> Result<Vec<u8>, AllocError> {
     let mut whole = Vec::new(alloc);
-    push_stream(&mut whole, frames)?;
+    push_stream(&mut whole, frames, change)?;
     let mut stream = Vec::new(alloc);
     if let Change::NoiseBefore = change {
         stream.extend_from_slice(&[0x00, 0x47, 0x00, 0x01, 0x02])?;

@@ -1,0 +1,81 @@
+//! Runs on many threads.
+use crate::run::{Ran, Ways, sources_of};
+use item_io::FailingOutlet;
+use live_board::Viewer;
+use pipeline::Settings;
+use rounds::{opening_board, pack_parallel_reads};
+use std::alloc::{AllocError, Global};
+use std::sync::Wait;
+use std::test::Fail;
+use std::thread::Threads;
+use work_desk::Gate;
+
+/// What a run made, and what a viewer saw at its end: how many segments each rendition had, and whether it had ended.
+#[derive(Drop)]
+pub struct Seen {
+    pub ran: Ran,
+    pub counts: Vec<u64>,
+    pub ended: Vec<bool>,
+}
+
+/// The counts and the ends that a viewer sees.
+fn look(alloc: Global, viewer: Viewer) -> Result<(Vec<u64>, Vec<bool>), AllocError> {
+    let mut counts = Vec::new(alloc);
+    let mut ended = Vec::new(alloc);
+    if let Ok(view) = viewer.view() {
+        let snapshot = view.snapshot();
+        let grown = counts.extend_from_slice(&snapshot.counts);
+        let also = ended.extend_from_slice(&snapshot.ended);
+        let _ = view.close();
+        grown?;
+        also?;
+    }
+    Ok((counts, ended))
+}
+
+/// Packs these inputs on many threads, so many of which seal what the gate lets through, before a viewer.
+pub fn run_seen<G: Gate + Sync, R: Threads + Wait + Sync>(
+    rt: &R,
+    alloc: Global,
+    inputs: &[&[u8]],
+    ways: Ways,
+    settings: &Settings,
+    workers: usize,
+    gate: &G,
+) -> Result<Seen, Fail> {
+    let sources = sources_of(alloc, inputs, ways)?;
+    let outlet = FailingOutlet::new(alloc, ways.failing_put);
+    let (publisher, mut viewers) = opening_board(rt, alloc, settings.renditions.len(), 1)?;
+    let reads = ways.reads();
+    let rounds::Ran {
+        sources: _,
+        publisher,
+        outlet,
+        answer,
+    } = pack_parallel_reads(
+        rt, alloc, sources, settings, workers, gate, publisher, outlet, reads,
+    );
+    let ran = Ran { answer, outlet };
+    let mut seen = Ok((Vec::new(alloc), Vec::new(alloc)));
+    if let Some(mut viewer) = viewers.pop() {
+        publisher.tell(&mut viewer);
+        seen = look(alloc, viewer);
+    }
+    publisher.end(rt);
+    let (counts, ended) = seen?;
+    Ok(Seen { ran, counts, ended })
+}
+
+/// The same without a look at its end.
+pub fn run_on<G: Gate + Sync, R: Threads + Wait + Sync>(
+    rt: &R,
+    alloc: Global,
+    inputs: &[&[u8]],
+    ways: Ways,
+    settings: &Settings,
+    workers: usize,
+    gate: &G,
+) -> Result<Ran, Fail> {
+    let seen = run_seen(rt, alloc, inputs, ways, settings, workers, gate)?;
+    Ok(seen.ran)
+}
