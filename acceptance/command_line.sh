@@ -7,6 +7,7 @@ check_commands() {
     check 'an unknown command' misused nothing "${options[@]}"
     check 'help as an option' misused --help
     check 'help as a command' misused help
+    check 'the examples of the documents' python3 "$here/examples.py" "$program" "$here/../docs/COMMANDS.md"
 }
 
 check_command_line() {

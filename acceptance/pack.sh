@@ -17,6 +17,7 @@ check_pack() {
     check_entries
     check_pack_settings
     check_pack_ends
+    check_no_threads
     check_served_ladder
     check_live_ladder
 }

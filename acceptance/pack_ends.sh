@@ -2,6 +2,7 @@
 # shellcheck shell=bash disable=SC2154
 
 check_pack_ends() {
+    local workers
     check 'pack: a stream with a fault, the others go on' packs_ladder -- "a:c:1x1:$key:$work/worked/standard.ts" \
         "b:c:1x1:$key:$work/worked/eight_seconds.ts" "d:c:1x1:$key:$work/worked/bad_crc.ts" "e:c:1x1:$key:$work/worked/seven_segments.ts"
     check "pack: a path that can't be read, the others go on" packs_beside_a_folder
@@ -12,7 +13,9 @@ check_pack_ends() {
     check 'pack: a closed standard output' leaves_all_where_output_is_closed
     check 'pack: it ends at once when it is told to' ends_at_a_signal
     check 'pack: killed at any moment' plays_when_killed
-    check 'pack: each allocation refused in turn' packs_without_memory
+    for workers in 1 2; do
+        check "pack: each allocation refused in turn, $workers workers" packs_without_memory $workers
+    done
     if mkdir -p "$work/small" && mount -t tmpfs -o size=256k none "$work/small" 2>"$work/mounted"; then
         check 'pack: a full disk' leaves_whole_files_on_a_full_disk
         umount "$work/small"
@@ -108,10 +111,11 @@ leaves_whole_files_on_a_full_disk() {
         is_line 'standard error' "$work/err" 'tshls: Outlet' && writes check --keys "$key" "$work/small/v.m3u8"
 }
 
-# With one allocation refused the program tells want of memory, a failed put or a failed read, or it packs all; what lies in
-# the folder is read back.
+# packs_without_memory WORKERS: with one allocation refused the program tells want of memory, a failed put or a failed read, or
+# it packs all; what lies in the folder is read back. Threads ask for more in one run than in another: the last allocation
+# is behind when five numbers in turn came to none.
 packs_without_memory() {
-    local number status words=(pack --workers 2 --out "$work/ladder" "$ladder_of_one:$work/worked/standard.ts")
+    local number status unmet=0 words=(pack --workers "$1" --out "$work/ladder" "$ladder_of_one:$work/worked/standard.ts")
     cc -shared -fPIC -o "$work/refuse_memory.so" "$here/refuse_memory.c" -ldl || return
     for ((number = 1; number <= 5000; number++)); do
         status=0
@@ -123,10 +127,9 @@ packs_without_memory() {
         *) echo "status $status, $(cat "$work/err")"; false ;;
         esac || { echo "at allocation $number"; return 1; }
         [ ! -e "$work/ladder/v.m3u8" ] || writes check --keys "$key" "$work/ladder/v.m3u8" || { echo "at allocation $number"; return 1; }
-        [ -e "$work/was_refused" ] && continue
-        [ "$number" -gt 1 ] && [ $status -eq 0 ] && return
-        echo "allocation $number wasn't refused, status $status"
-        return 1
+        [ -e "$work/was_refused" ] && unmet=0 && continue
+        [ "$number" -gt 1 ] && [ $status -eq 0 ] || { echo "allocation $number wasn't refused, status $status"; return 1; }
+        [ $((++unmet)) -lt 5 ] || return 0
     done
     echo 'more than 5,000 allocations'
     return 1

@@ -9,9 +9,9 @@
 
 static int is_numbered(void)
 {
-    static long made;
+    static atomic_long made;
     const char *refused = getenv("REFUSED");
-    return refused && ++made == atol(refused);
+    return refused && atomic_fetch_add(&made, 1) + 1 == atol(refused);
 }
 
 static int is_large(size_t size)

@@ -55,7 +55,7 @@ class Watcher:
 
 def main():
     watcher = Watcher(pathlib.Path(sys.argv[1]), sys.argv[2], sys.argv[3:])
-    while not select.select([sys.stdin], [], [], 0)[0]:
+    while not select.select([sys.stdin], [], [], 0.002)[0]:
         watcher.look()
     watcher.look()
     print(watcher.looks, len(watcher.opened))

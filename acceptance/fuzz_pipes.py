@@ -1,0 +1,60 @@
+"""Streams in random pieces through pipes, each fed by a thread of its own."""
+
+import contextlib
+import fcntl
+import os
+import threading
+
+
+def pieces(chance, data):
+    """The data in random pieces, of which a read of a pipe gets at most one."""
+    sizes, result = chance.choice(((4096,), (188,), (1, 187, 188, 189, 3), (1, 2, 7), (1000, 90), (4000, 1))), []
+    while data:
+        size = chance.choice(sizes) if len(result) < 100 else 4096
+        result.append(data[:size])
+        data = data[size:]
+    return result
+
+
+def feed(descriptor, parts):
+    """Writes the pieces to a pipe, which keeps them apart where the system can, until its reader is gone."""
+    with contextlib.suppress(OSError):
+        fcntl.fcntl(descriptor, fcntl.F_SETFL, os.O_DIRECT)
+    try:
+        for part in parts:
+            os.write(descriptor, part)
+    except BrokenPipeError:
+        pass
+    finally:
+        os.close(descriptor)
+
+
+def feed_fifo(path, parts):
+    feed(os.open(path, os.O_WRONLY), parts)
+
+
+def started(target, *arguments):
+    feeder = threading.Thread(target=target, args=arguments)
+    feeder.start()
+    return feeder
+
+
+def pipe_of(chance, data):
+    """The end of a pipe to read the data from, and the thread that feeds it."""
+    read_end, write_end = os.pipe()
+    return read_end, started(feed, write_end, pieces(chance, data))
+
+
+def fifo_of(path, chance, data):
+    """The thread that feeds a FIFO, which is made where it isn't there."""
+    if not path.exists():
+        os.mkfifo(path)
+    return started(feed_fifo, path, pieces(chance, data))
+
+
+def end(fifos):
+    """Waits for the feeders; one whose FIFO nobody has opened is let go."""
+    for path, feeder in fifos:
+        while feeder.is_alive():
+            os.close(os.open(path, os.O_RDONLY | os.O_NONBLOCK))
+            feeder.join(0.01)
