@@ -11,7 +11,7 @@ import shutil
 
 from growth import SECONDS, peak_memory
 from main_job import looped, streams
-from measuring import KEY, best_of, is_linear
+from measuring import KEY, best_of, calling_share, is_linear
 
 ROUNDS = 3
 best = functools.partial(best_of, ROUNDS)
@@ -50,8 +50,12 @@ def ratios(what, size, other, runs):
         )
 
 
+def with_workers(program, folder, entries, workers):
+    return pack(program, folder, entries, "--workers", str(workers))
+
+
 def runs_of(program, folder, entries):
-    return {workers: best(pack(program, folder, entries, "--workers", str(workers))) for workers in WORKERS}
+    return {workers: best(with_workers(program, folder, entries, workers)) for workers in WORKERS}
 
 
 def measure(program, sample, folder, megabytes):
@@ -62,6 +66,8 @@ def measure(program, sample, folder, megabytes):
 
     runs = runs_of(program, folder, [entry("v", large)])
     ratios("one stream", size, best(ffmpeg(folder, [large])), runs)
+    shares = (calling_share(with_workers(program, folder, [entry("v", large)], workers)) for workers in WORKERS)
+    print(f"    the calling thread takes {', '.join(f'{share:.2f}' for share in shares)} of pack's processor time")
     one = best([program, "one", "--codecs", "avc1.4d401e", "--size", "320x180", "--keys", KEY, "--target", "8", "--segment", "6"], large)
     print(f"    one takes {one.wall / runs[1].wall:.1f} times the time of pack with 1 worker, {one.wall / runs[4].wall:.1f} of that with 4")
     for name, stream in (("reading and tables", unread), ("cuts besides", uncut)):
