@@ -57,7 +57,8 @@ fn bytes_that_are_not_looked_at(rt: HostRuntime) -> Result<(), Fail> {
         (19, 0xC0),
     ];
     for (at, byte) in table {
-        let packet = Packet::parse(&key_frame_with(at, byte))?;
+        let bytes = key_frame_with(at, byte);
+        let packet = Packet::parse(&bytes)?;
         assert_eq!(rt; pts(&packet), Some(540_000), "{byte} at {at}");
     }
     Ok(())
@@ -89,7 +90,8 @@ fn packets_without_a_pts(rt: HostRuntime) -> Result<(), Fail> {
         (14, 0x04),
     ];
     for (at, byte) in table {
-        let packet = Packet::parse(&key_frame_with(at, byte))?;
+        let bytes = key_frame_with(at, byte);
+        let packet = Packet::parse(&bytes)?;
         assert_eq!(rt; pts(&packet), None, "{byte} at {at}");
     }
     Ok(())

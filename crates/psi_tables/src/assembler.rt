@@ -19,7 +19,7 @@ use ts_packet::Packet;
 pub struct Assembler {
     pid: u16,
     begun: Begun,
-    pushed: GhostList<Packet>,
+    pushed: GhostList<[u8; 188]>,
 }
 
 impl Model for Assembler {
@@ -114,6 +114,6 @@ impl Assembler {
         if let Some(begun) = begun {
             self.begun = begun;
         }
-        self.pushed.push(packet);
+        self.pushed.push(packet.bytes());
     }
 }

@@ -58,7 +58,8 @@ fn sections(alloc: Global, pid: u16, packets: &[Sent]) -> Result<Vec<Vec<u8>>, F
     let mut assembler = Assembler::new(alloc, pid);
     let mut found = Vec::new(alloc);
     for sent in packets {
-        let packet = Packet::parse(&bytes_of(*sent))?;
+        let bytes = bytes_of(*sent);
+        let packet = Packet::parse(&bytes)?;
         assembler.push(&packet, &mut found)?;
     }
     Ok(found)
@@ -120,7 +121,8 @@ pub(crate) fn watched(
 ) -> Result<Watch, Fail> {
     let mut watch = Watch::new(alloc, program);
     for sent in packets {
-        let packet = Packet::parse(&bytes_of(*sent))?;
+        let bytes = bytes_of(*sent);
+        let packet = Packet::parse(&bytes)?;
         watch.push(&packet)?;
     }
     Ok(watch)

@@ -118,7 +118,7 @@ fn gives_up(begun: &[u8], more: &[u8]) -> bool
 }
 
 /// The bytes of a packet with start indicator that belong to the section begun before it, and those behind them.
-fn split_at_pointer(packet: &Packet) -> (&[u8], &[u8])
+fn split_at_pointer<'a>(packet: &Packet<'a>) -> (&'a [u8], &'a [u8])
     ensures pointed { result.0.now ≡ pointed (carrier packet.now) }
     ensures behind { result.1.now ≡ behind_pointer (carrier packet.now) }
 {

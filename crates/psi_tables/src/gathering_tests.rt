@@ -375,7 +375,8 @@ fn kept(
 ) -> Result<[usize; 8], Fail> {
     let mut kept = [0; 8];
     for (there, sent) in kept.iter_mut().zip(packets) {
-        let packet = Packet::parse(&bytes_of(*sent))?;
+        let bytes = bytes_of(*sent);
+        let packet = Packet::parse(&bytes)?;
         assembler.push(&packet, found)?;
         *there = assembler.kept();
     }

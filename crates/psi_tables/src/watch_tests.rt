@@ -351,7 +351,8 @@ fn copied(watch: &Watch) -> Result<Tables, Fail> {
 fn changed(alloc: Global) -> Result<(Tables, Tables), Fail> {
     let mut watch = watched(alloc, None, &[PAT_PACKET, PMT_PACKET])?;
     let first = copied(&watch)?;
-    let packet = Packet::parse(&crate::fixtures::bytes_of(Carrying(0x1000, 1, PMT_WITH_SOUND)))?;
+    let bytes = crate::fixtures::bytes_of(Carrying(0x1000, 1, PMT_WITH_SOUND));
+    let packet = Packet::parse(&bytes)?;
     watch.push(&packet)?;
     Ok((first, copied(&watch)?))
 }

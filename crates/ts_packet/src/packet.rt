@@ -21,29 +21,27 @@ pub enum PacketFault {
     LongAdaptation,
 }
 
-/// A transport packet that isn't dropped. Clauses see it as its 188 bytes.
-#[derive(Clone, Copy, Debug, PartialEq, Eq)]
-pub struct Packet {
-    bytes: [u8; 188],
+/// A transport packet that isn't dropped, where its bytes lie. Clauses see it as its 188 bytes.
+#[derive(Debug, Drop)]
+pub struct Packet<'a> {
+    bytes: &'a [u8; 188],
 }
 
-impl Model for Packet {
+impl<'a> Model for Packet<'a> {
     ghost use Rattle.std.specs.Prelude.{◌≡◌, ℕ, List, None};
 
     ghost Value = { List ℕ };
 
     ghost use Rattle.ts_packet.specs.Fields.{fault_of};
 
-    ghost view = { λ p. p.bytes };
+    ghost view = { λ p. p.bytes.now };
 
-    ghost invariant = { λ p. fault_of p.bytes ≡ None };
-
-    ghost inverse = { λ bytes. record { bytes = bytes } };
+    ghost invariant = { λ p. fault_of p.bytes.now ≡ None };
 }
 
-impl Packet {
+impl<'a> Packet<'a> {
     /// The packet of 188 bytes, or why they are dropped (ISO/IEC 13818-1, 2.4.3.2 to 2.4.3.5).
-    pub fn parse(bytes: &[u8; 188]) -> Result<Packet, PacketFault>
+    pub fn parse(bytes: &'a [u8; 188]) -> Result<Packet<'a>, PacketFault>
         ensures taken { IsOk result ↔ (fault_of bytes.now ≡ None) }
         ensures whole { IfOk result (λ packet. packet ≡ bytes.now) }
         ensures fault { IfErr result (λ fault. fault_of bytes.now ≡ Some fault) }
@@ -60,21 +58,28 @@ impl Packet {
         if is_adaptation_long(bytes) {
             return Err(PacketFault::LongAdaptation);
         }
-        Ok(Packet { bytes: *bytes })
+        Ok(Packet { bytes })
+    }
+
+    /// The packet's bytes.
+    pub fn bytes(&self) -> &'a [u8; 188]
+        ensures { result.now ≡ self.now }
+    {
+        self.bytes
     }
 
     /// The packet's PID, 13 bits.
     pub fn pid(&self) -> u16
         ensures { result ≡ pid self.now }
     {
-        u16::from(self.bytes[1] & 0x1F) << 8 | u16::from(self.bytes[2])
+        read_pid(self.bytes)
     }
 
     /// payload_unit_start_indicator: a section or a PES packet begins in the payload.
     pub fn starts(&self) -> bool
         ensures { result ≡ payload_unit_start_indicator self.now }
     {
-        self.bytes[1] & 0x40 != 0
+        has_start(self.bytes)
     }
 
     /// transport_scrambling_control isn't 00.
@@ -95,23 +100,27 @@ impl Packet {
     pub fn random_access(&self) -> bool
         ensures { result ≡ random_access_indicator self.now }
     {
-        has_adaptation(&self.bytes) && self.bytes[4] > 0 && self.bytes[5] >> 6 & 1 == 1
+        has_adaptation(self.bytes) && self.bytes[4] > 0 && self.bytes[5] >> 6 & 1 == 1
     }
 
     /// The payload; empty where adaptation_field_control says that there is none.
-    pub fn payload(&self) -> &[u8]
+    pub fn payload(&self) -> &'a [u8]
         ensures { result.now ≡ payload self.now }
     {
-        if !has_payload(&self.bytes) {
-            return &[];
-        }
-        let start = if has_adaptation(&self.bytes) {
-            5 + usize::from(self.bytes[4])
-        } else {
-            4
-        };
-        &self.bytes[start..]
+        read_payload(self.bytes)
     }
+}
+
+fn read_pid(bytes: &[u8; 188]) -> u16
+    ensures { result ≡ pid bytes.now }
+{
+    u16::from(bytes[1] & 0x1F) << 8 | u16::from(bytes[2])
+}
+
+fn has_start(bytes: &[u8; 188]) -> bool
+    ensures { result ≡ payload_unit_start_indicator bytes.now }
+{
+    bytes[1] >> 6 & 1 == 1
 }
 
 fn has_adaptation(bytes: &[u8; 188]) -> bool
@@ -124,6 +133,21 @@ fn has_payload(bytes: &[u8; 188]) -> bool
     ensures { result ≡ Rattle.ts_packet.specs.Fields.has_payload bytes.now }
 {
     bytes[3] >> 4 & 1 == 1
+}
+
+fn read_payload(bytes: &[u8; 188]) -> &[u8]
+    requires { fault_of bytes.now ≡ None }
+    ensures { result.now ≡ payload bytes.now }
+{
+    if !has_payload(bytes) {
+        return &[];
+    }
+    let start = if has_adaptation(bytes) {
+        5 + usize::from(bytes[4])
+    } else {
+        4
+    };
+    &bytes[start..]
 }
 
 fn is_adaptation_long(bytes: &[u8; 188]) -> bool

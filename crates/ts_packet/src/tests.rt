@@ -27,14 +27,16 @@ const FRAME: [u8; 18] = [
 
 #[test]
 fn fields_of_a_key_frame(rt: HostRuntime) -> Result<(), Fail> {
-    let key_frame = Packet::parse(&packet(&KEY_FRAME))?;
+    let bytes = packet(&KEY_FRAME);
+    let key_frame = Packet::parse(&bytes)?;
     assert_eq!(rt; key_frame.pid(), 0x100);
     assert!(rt; key_frame.starts());
     assert!(rt; !key_frame.scrambled());
     assert_eq!(rt; key_frame.counter(), 0);
     assert!(rt; key_frame.random_access());
     assert_eq!(rt; key_frame.payload().len(), 182);
-    let frame = Packet::parse(&packet(&FRAME))?;
+    let bytes = packet(&FRAME);
+    let frame = Packet::parse(&bytes)?;
     assert_eq!(rt; frame.counter(), 1);
     assert!(rt; !frame.random_access());
     assert_eq!(rt; frame.payload().len(), 184);
