@@ -1,7 +1,8 @@
 -- The ranges that are told of a packager's numbers.
 use Rattle.std.specs.Prelude.{ℕ, ◌*◌, ◌≤◌, Option, Some, None}
 use Rattle.cutter.specs.declared.settings.CutSettings.{CutSettings}
-use Rattle.commands.specs.declared.limits.TheConstants.{TICKS, LEAST, MOST_TARGET, MOST_WINDOW, MOST_FRAME, MOST_GAP, MOST_PACKETS, MOST_PROGRAM}
+use Rattle.cutter.specs.declared.settings.TheConstants.{TICKS}
+use Rattle.commands.specs.declared.limits.TheConstants.{LEAST, MOST_TARGET, MOST_WINDOW, MOST_FRAME, MOST_GAP, MOST_PACKETS, MOST_PROGRAM}
 
 abbrev pub IsBetween : ℕ → ℕ → ℕ → Type 0
 IsBetween least most n = (least ≤ n) × (n ≤ most)

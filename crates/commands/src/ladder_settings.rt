@@ -8,12 +8,12 @@ ghost use Rattle.commands.specs.Settings.{IsRenditionOf};
 use crate::entry::{EntryWords, entry};
 use crate::ladder_fault::LadderFault;
 use crate::ladder_options::LadderWords;
-use crate::limits::MOST_KEYS;
 use crate::numbers::Numbers;
 use crate::pool::Pool;
 use crate::settings::{PackingWords, SettingsFault, kind, read_rendition};
 use ladder_items::is_allowed;
 use pipeline::{Rendition, Settings};
+use segment_job::MOST_KEYS;
 use std::alloc::{AllocError, Global};
 
 /// Whether an entry has more than 4,096 keys.

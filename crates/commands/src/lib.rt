@@ -31,6 +31,7 @@ mod tests;
 pub use check_options::{CheckOptions, CheckWords, read_check_options};
 pub use checking::{CheckingFault, check};
 pub use cipher::{CipherFault, CipherOptions, CipherWords, read_cipher_options};
+pub use cutter::TICKS;
 pub use entry::{EntryWords, entries, first_bad};
 pub use files::{FileFault, FileReader};
 pub use key_list::KeyListFault;
@@ -38,8 +39,8 @@ pub use ladder_fault::LadderFault;
 pub use ladder_options::{LadderOptions, LadderWords, read_ladder_options};
 pub use ladder_packing::{LadderPackingFault, PackedLadder, pack};
 pub use limits::{
-    LEAST, MOST_FRAME, MOST_GAP, MOST_KEYS, MOST_PACKETS, MOST_PIXELS, MOST_PROGRAM, MOST_QUEUE,
-    MOST_TARGET, MOST_WINDOW, MOST_WORKERS, TICKS, ranges_are_those_of_a_run,
+    LEAST, MOST_FRAME, MOST_GAP, MOST_PACKETS, MOST_PIXELS, MOST_PROGRAM, MOST_QUEUE, MOST_TARGET,
+    MOST_WINDOW, MOST_WORKERS, ranges_are_those_of_a_run,
 };
 pub use numbers::{
     DEFAULT_FRAME, DEFAULT_GAP, DEFAULT_MOST, DEFAULT_NAME, DEFAULT_PERIOD, DEFAULT_TARGET,
@@ -49,5 +50,6 @@ pub use opening::{OpeningFault, open};
 pub use packing::{Packed, one};
 pub use pool::{DEFAULT_QUEUE, DEFAULT_WORKERS, Pool, PoolWords};
 pub use sealing::{SealingFault, seal};
+pub use segment_job::MOST_KEYS;
 pub use settings::{PackingWords, SettingsFault, read_settings};
 pub use summaries::summary;

@@ -4,10 +4,7 @@ ghost use Rattle.cutter.specs.declared.settings.CutSettings as TheSettings;
 ghost use Rattle.ladder_items.specs.Ladder.{Ladder, IsCutAllowed, IsAllowed};
 ghost use Rattle.commands.specs.Ranges.{AreInRange, IsWindow};
 ghost use Rattle.commands.specs.Settings.{TakeTurns};
-ghost use Rattle.commands.specs.declared.limits.TheConstants.{MOST_KEYS};
-
-/// The ticks of a second: times are counted in 1/90000 s.
-pub const TICKS: u64 = 90_000;
+ghost use Rattle.segment_job.specs.declared.keys.TheConstants.{MOST_KEYS};
 
 /// The least of each number below.
 pub const LEAST: u64 = 1;
@@ -29,9 +26,6 @@ pub const MOST_PACKETS: u64 = 1_000_000;
 
 /// The last number of a program.
 pub const MOST_PROGRAM: u64 = 65_535;
-
-/// The most keys of a rendition.
-pub const MOST_KEYS: usize = 4_096;
 
 /// The greatest width and height of a picture.
 pub const MOST_PIXELS: u64 = 16_384;

@@ -4,8 +4,7 @@ ghost use Rattle.std.specs.Option.{option_map, unwrap_or};
 ghost use Rattle.commands.specs.Defaults.{numbers_of, name_of};
 ghost use Rattle.commands.specs.Settings.{cut_of, FitsCut};
 
-use crate::limits::TICKS;
-use cutter::CutSettings;
+use cutter::{CutSettings, TICKS};
 
 /// The target duration in seconds, where none is given.
 pub const DEFAULT_TARGET: u64 = 6;

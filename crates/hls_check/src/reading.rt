@@ -27,7 +27,7 @@ const NUMBERS: u64 = u32::MAX as u64;
 const DISCONTINUITIES: u64 = 1 << 32;
 
 /// The most keys of a rendition.
-const MOST_KEYS: u64 = 4096;
+const MOST_KEYS: u64 = segment_job::MOST_KEYS as u64;
 
 /// What the line of a key begins with, before the name.
 const KEY_BEGIN: &str = "#EXT-X-KEY:METHOD=AES-128,URI=\"";

@@ -10,7 +10,7 @@ use std::fmt::{self, Debug, Formatter, Write};
 use std::marker::Model;
 
 /// The most keys of a rendition.
-const MOST_KEYS: usize = 4096;
+pub const MOST_KEYS: usize = 4_096;
 
 /// The keys of a rendition, which take turns: each seals as many segments in a row as the period says, and behind the
 /// last one the first has its turn again. With them stands the salt of the rendition's vectors, where it has one.
@@ -61,7 +61,7 @@ impl Keys {
     }
 
     /// The same with a salt: a segment's vector is the salt xor its number. So a run that begins at segment 0 again, under
-    /// the same keys and another salt, does not meet the vectors of the run before.
+    /// the same keys and a salt that was drawn at random, meets a vector of the run before by chance alone.
     pub fn salted(keys: Vec<[u8; 16]>, period: u64, salt: [u8; 16]) -> Result<Keys, KeyFault>
         ensures ok { IfOk result (λ made. made ≡ record { keys = keys.items; period = period; salt = Some salt }) }
         ensures no_keys { IsErrOf result KeyFault.NoKeys ↔ (length keys.items ≡ 0) }

@@ -17,7 +17,7 @@ mod sealed;
 mod tests;
 
 pub use fault::{KeyFault, RangeFault};
-pub use keys::Keys;
+pub use keys::{Keys, MOST_KEYS};
 pub use laws::{
     bytes_open_to_one_segment, key_and_vector_make_one_segment, keys_take_turns,
     no_key_and_vector_come_twice, ranges_open_alone, two_numbers_have_two_vectors,
