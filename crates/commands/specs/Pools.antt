@@ -2,7 +2,6 @@
 use Rattle.std.specs.Option.{unwrap_or}
 use Rattle.commands.specs.declared.pool.Pool.{Pool}
 use Rattle.commands.specs.declared.pool.PoolWords.{PoolWords}
-use Rattle.commands.specs.declared.limits.TheConstants.{LEAST, MOST_WORKERS, MOST_QUEUE}
 use Rattle.commands.specs.Ranges.{IsBetween}
 
 -- four workers and sixteen segments, where no numbers are given
@@ -15,6 +14,6 @@ pool_of words = record {
 
 -- 1 to 64 workers; 1 to 256 segments on their way; a round that ends with 1 to 256, where that is asked for
 pub record IsPool (pool : Pool) : Type 0 where
-  pub workers_are : IsBetween LEAST MOST_WORKERS pool.workers
-  pub queue_is : IsBetween LEAST MOST_QUEUE pool.queue
-  pub batch_is : IsBetween LEAST MOST_QUEUE (unwrap_or pool.batch 1)
+  pub workers_are : IsBetween 1 64 pool.workers
+  pub queue_is : IsBetween 1 256 pool.queue
+  pub batch_is : IsBetween 1 256 (unwrap_or pool.batch 1)

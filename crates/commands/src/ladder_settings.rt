@@ -3,7 +3,8 @@ ghost use Rattle.std.specs.Option.{option_map};
 ghost use Rattle.commands.specs.Hex.{chosen_salt};
 ghost use Rattle.commands.specs.Entries.{entry_of, entry_value, IsGood};
 ghost use Rattle.commands.specs.LadderOptions.{asked_of, key_count, IsWhole, entry_words, HasTurns, AreRenditionsOf, IsAskedLadder, IsWithin, IsOutside};
-ghost use Rattle.commands.specs.Settings.{IsRenditionOf};
+ghost use Rattle.commands.specs.Pools.{IsPool};
+ghost use Rattle.commands.specs.Settings.{FitsCut, IsRenditionOf};
 
 use crate::entry::{EntryWords, entry};
 use crate::ladder_fault::LadderFault;
@@ -102,6 +103,8 @@ pub(crate) fn ladder_settings(
     ensures within { IfOk result (λ made. IsWithin (asked_of words.entry numbers pool) made) }
     ensures outside { IsErrOf result LadderFault.Settings → IsOutside (asked_of words.entry numbers pool) }
     ensures only { IfErr result (λ fault. (fault ≡ LadderFault.Settings) ⊎ (fault ≡ LadderFault.NoMemory)) }
+    ensures unfit { ¬ FitsCut numbers → IsErrOf result LadderFault.Settings }
+    ensures crowded { ¬ IsPool pool → IsErrOf result LadderFault.Settings }
 {
     let Some(cut) = numbers.cut_settings() else {
         return Err(LadderFault::Settings);

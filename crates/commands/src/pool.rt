@@ -25,7 +25,8 @@ pub struct Pool {
     pub workers: u64,
     /// The most segments that may be on their way, 1 to 256.
     pub queue: u64,
-    /// With how many segments a round ends, 1 to 256; as many as there are workers where it isn't given.
+    /// With how many segments a round ends, 1 to 256; where it isn't given as many as there are workers, or as the queue
+    /// holds, if that is less.
     pub batch: Option<u64>,
 }
 
