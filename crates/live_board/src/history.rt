@@ -1,6 +1,6 @@
 //! The history of a board: which snapshots it has shown, as proofs know it. All that is kept of it is its length.
 
-ghost use Rattle.std.specs.Prelude.{◌≡◌, ◌++◌, ◌∷◌, [], length, IfSome, IfNone};
+ghost use Rattle.std.specs.Prelude.{◌≡◌, ◌<◌, ◌++◌, ◌∷◌, [], length, IfSome, IfNone};
 ghost use Rattle.ghost_list.specs.Lists.{IsBeginning};
 ghost use Rattle.live_board.specs.Counts.{NeverFalls};
 ghost use Rattle.live_board.specs.Histories.{head_of};
@@ -123,7 +123,7 @@ impl History {
         ensures same { IfSome result (λ h. h ≡ self.now) }
         ensures begins { IfSome result (λ h. IsBeginning other.now.list h.list) }
         ensures rises { IfSome result (λ h. NeverFalls h.list) }
-        ensures shorter { IfNone result (IsBeginning self.now.list other.now.list) }
+        ensures shorter { IfNone result (IsBeginning self.now.list other.now.list × (length self.now.list < length other.now.list)) }
     {
         let mut both = self.seen.again();
         both.learn(&other.seen);
