@@ -27,7 +27,7 @@ use work_desk::Gate;
 /// with each answer.
 ///
 /// The publisher shows as many renditions as the settings have, none of which has a segment, and there are 1 to 64 workers;
-/// else Settings is told. The gate is asked before each segment is sealed: Held is told for one that it didn't let through.
+/// else Settings is told. A worker asks the gate before it seals a segment: Held is told for one that wasn't let through.
 /// Want of memory, a thread that can't be started among it, a failed put and a held segment stop the run at once. All threads
 /// that were started have ended when it answers.
 pub fn pack_parallel<S: Source + Drop, O: Outlet + Drop, G: Gate + Sync, R: Threads + Wait + Sync>(

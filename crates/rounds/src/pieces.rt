@@ -64,7 +64,7 @@ pub fn take_in<'s>(
     }
 }
 
-/// Seals a plan on this thread, unless its piece came by now.
+/// Seals a plan on this thread. Where its piece came by now, that one stays.
 #[tactic(auto, using(crate::proofs::Collecting::keeps_same))]
 pub fn seal_own<'s>(
     alloc: Global,

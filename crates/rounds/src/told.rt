@@ -54,6 +54,8 @@ pub fn told(
     ensures ok { IfOk result (IsTold playlists.now lanes.now books) }
     ensures fault { IfErr result (λ fault. (fault ≡ NoMemory) ⊎ ((r : ℕ) × (lane : Lane) × (slice_get lanes.now r ≡ Some lane) × (told_of r lane.stop ≡ Some fault)
         × ((k : ℕ) (earlier : Lane) → k < r → slice_get lanes.now k ≡ Some earlier → told_of k earlier.stop ≡ None))) }
+    ensures scarce { IfErr result (λ fault. ((r : ℕ) × (lane : Lane) × (slice_get lanes.now r ≡ Some lane) × (told_of r lane.stop ≡ Some fault))
+        ⊎ ((k : ℕ) (lane : Lane) → slice_get lanes.now k ≡ Some lane → told_of k lane.stop ≡ None)) }
 {
     if let Some(fault) = standing(lanes) {
         return Err(fault);
