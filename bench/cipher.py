@@ -59,10 +59,11 @@ fn main(rt: HostRuntime) -> io::Result<()> {
 def built(folder):
     """The program over the crate, and the C program."""
     crates = folder / "crates"
-    shutil.copytree(TOP / "crates" / "aes_cbc", crates / "aes_cbc")
+    for name in ("ghost_list", "aes_cbc"):
+        shutil.copytree(TOP / "crates" / name, crates / name)
     (crates / "cipher_speed" / "src").mkdir(parents=True)
     (crates / "cipher_speed" / "src" / "main.rt").write_text(PROGRAM)
-    (folder / "crates.txt").write_text("aes_cbc: thiserror\ncipher_speed: aes_cbc\n")
+    (folder / "crates.txt").write_text("ghost_list:\naes_cbc: ghost_list thiserror\ncipher_speed: ghost_list aes_cbc\n")
     subprocess.run(["git", "init", "-q"], cwd=folder, check=True)
     subprocess.run(["rt", "run"], cwd=crates / "cipher_speed", stdin=subprocess.DEVNULL, capture_output=True, check=True)
     tables = folder / "aes_tables"

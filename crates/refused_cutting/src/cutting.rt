@@ -2,18 +2,9 @@
 
 ghost use Rattle.std.specs.Prelude.{◌<◌, ◌^◌, length};
 
-use cutter::{CutFault, CutSettings, Cutter};
+use cutter::{CutFault, Cutter};
+use standard_stream::SETTINGS;
 use std::alloc::Global;
-
-/// Segments of six seconds.
-const SETTINGS: CutSettings = CutSettings {
-    program: None,
-    segment: 540_000,
-    target: 6,
-    gap: 900_000,
-    frame: 3600,
-    most: 1_000_000,
-};
 
 /// Tells of a cutter that answered this fault whether it has ended.
 fn refused(cutter: &mut Cutter, packet: &[u8; 188], fault: CutFault) -> &'static str

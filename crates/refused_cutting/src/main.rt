@@ -8,13 +8,12 @@
 mod cutting;
 mod listing;
 mod reading;
-mod stream;
 
 use cutting::cutting;
 use listing::listing;
 use reading::reading;
+use standard_stream::packets;
 use std::process::ExitCode;
-use stream::packets;
 
 fn main(rt: HostRuntime) -> ExitCode {
     let alloc = rt.alloc();

@@ -2,9 +2,9 @@
 
 ghost use Rattle.std.specs.Prelude.{◌≡◌};
 
-use crate::stream::keys;
 use cutter::{Plan, PlanRef};
 use flow_core::{FeedFault, Flow, Queue};
+use standard_stream::keys;
 use std::alloc::Global;
 use std::marker::Brand;
 use std::sync::ledger::{Blank, Ledger};

@@ -7,12 +7,11 @@
 
 mod collecting;
 mod feeding;
-mod stream;
 
 use collecting::{collecting, expecting};
 use feeding::{feeding, flowing};
+use standard_stream::plans;
 use std::process::ExitCode;
-use stream::plans;
 
 fn main(rt: HostRuntime) -> ExitCode {
     let alloc = rt.alloc();

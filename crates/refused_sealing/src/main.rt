@@ -5,16 +5,15 @@
 #![tactic(auto)]
 
 mod run;
-mod stream;
 
 use cutter::Plan;
 use run::{Told, run};
 use segment_job::Keys;
+use standard_stream::{keys, plans};
 use std::alloc::Global;
 use std::process::ExitCode;
 use std::sync::Wait;
 use std::thread::Threads;
-use stream::{keys, plans};
 
 const TIMES: u64 = 200;
 

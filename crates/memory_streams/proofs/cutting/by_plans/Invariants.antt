@@ -1,5 +1,5 @@
 use Rattle.std.proofs.Common.{◌≡◌, length}
-use Rattle.cut_streams.proofs.by_spools.Given as goal
+use Rattle.memory_streams.proofs.cutting.by_plans.Given as goal
 
 abbrev pub invariant-loop-n : goal.invariant-loop-n
 invariant-loop-n l = length l.cutter.list ≡ l.n
