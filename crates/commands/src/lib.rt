@@ -25,8 +25,6 @@ mod sealing;
 mod settings;
 mod summaries;
 mod summary_text;
-#[cfg(test)]
-mod tests;
 
 pub use check_options::{CheckOptions, CheckWords, read_check_options};
 pub use checking::{CheckingFault, check};

@@ -12,14 +12,6 @@ mod media_text;
 mod numbers;
 mod opening;
 mod reading;
-#[cfg(test)]
-mod reading_tests;
-#[cfg(test)]
-mod salted_tests;
-#[cfg(test)]
-mod tests;
-#[cfg(test)]
-mod text_tests;
 mod unpacking;
 
 pub use checking::{CheckFault, Checked, check, check_listing};

@@ -18,8 +18,6 @@ mod rule;
 mod shown;
 mod snapshot;
 mod steps;
-#[cfg(test)]
-mod tests;
 mod viewer;
 
 pub use fault::BoardFault;

@@ -10,8 +10,6 @@ mod feeding;
 mod first;
 mod fitted;
 mod fitting;
-#[cfg(test)]
-mod gates;
 mod giving;
 mod going;
 mod joining;
@@ -22,21 +20,11 @@ mod ran;
 mod reading;
 mod ready;
 mod round;
-#[cfg(test)]
-mod run_jobs;
-#[cfg(test)]
-mod run_tests;
 mod scoped;
 mod showing;
-#[cfg(test)]
-mod stop_tests;
 mod taking;
-#[cfg(test)]
-mod tests;
 mod told;
 mod turning_out;
-#[cfg(test)]
-mod viewer_tests;
 mod whole_run;
 
 pub use opening::opening_board;

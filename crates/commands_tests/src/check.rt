@@ -1,0 +1,224 @@
+use crate::fixtures::{FullWriter, settings, standard_stream};
+use commands::{CheckingFault, FileFault, FileReader, check};
+use hls_check::{CheckFault, ListFault, UnpackFault};
+use item_io::{Item, MemoryOutlet, ReaderSource};
+use pipeline::pack_serial;
+use std::alloc::{AllocError, Global};
+use std::fs;
+use std::test::Fail;
+
+const KEYS: [[u8; 16]; 1] = [[0, 1, 2, 3, 4, 5, 6, 7, 8, 9, 10, 11, 12, 13, 14, 15]];
+
+/// A file in memory.
+#[derive(Drop)]
+struct MemoryFile {
+    path: String,
+    bytes: Vec<u8>,
+}
+
+/// Files in memory.
+#[derive(Drop)]
+struct MemoryFiles {
+    files: Vec<MemoryFile>,
+}
+
+impl FileReader for MemoryFiles {
+    ghost use Rattle.std.specs.Prelude.{◌≡◌, ◌<◌, ⊤, ℕ, length, slice_index_or};
+    ghost use Rattle.std.specs.String.{string_bytes};
+
+    ghost gives = { λ f path bytes. (i : ℕ) × (file : _) × (i < length f.files.items) × (file ≡ slice_index_or f.files.items i file) × (string_bytes file.path ≡ path) × (file.bytes.items ≡ bytes) };
+
+    ghost refuses = { λ _ _. ⊤ };
+
+    fn read(&self, alloc: Global, path: &str) -> Result<Vec<u8>, FileFault> {
+        for file in &self.files {
+            if file.path.as_str() == path {
+                let mut bytes = Vec::new(alloc);
+                bytes.extend_from_slice(&file.bytes)?;
+                return Ok(bytes);
+            }
+        }
+        Err(FileFault::Unread)
+    }
+}
+
+impl MemoryFiles {
+    /// Writes a file, in place of an older one.
+    fn write(&mut self, alloc: Global, path: &str, bytes: &[u8]) -> Result<(), AllocError> {
+        self.remove(path);
+        let mut held = Vec::new(alloc);
+        held.extend_from_slice(bytes)?;
+        let path = String::from_str(alloc, path)?;
+        self.files.push(MemoryFile { path, bytes: held })?;
+        Ok(())
+    }
+
+    /// Removes a file.
+    fn remove(&mut self, path: &str) {
+        if let Some(place) = self.files.iter().position(|f| f.path.as_str() == path) {
+            self.files.remove(place);
+        }
+    }
+
+    /// Changes the last byte of a file.
+    fn damage(&mut self, path: &str) {
+        for file in &mut self.files {
+            if file.path.as_str() == path {
+                if let Some(byte) = file.bytes.last_mut() {
+                    *byte ^= 1;
+                }
+            }
+        }
+    }
+}
+
+/// The files of the standard stream, in the folder `hls`.
+fn packed(alloc: Global) -> Result<MemoryFiles, Fail> {
+    let settings = settings(alloc, "1x1")?;
+    let stream = standard_stream(alloc)?;
+    let mut sources = Vec::new(alloc);
+    sources.push(ReaderSource::new(stream.as_slice()))?;
+    let mut outlet = MemoryOutlet::new(alloc);
+    pack_serial(alloc, &mut sources, &settings, &mut outlet).map_err(|_| "packing")?;
+    let mut files = MemoryFiles {
+        files: Vec::new(alloc),
+    };
+    for item in outlet.items() {
+        match item {
+            Item::Segment { number, bytes, .. } => {
+                let path = format!(in alloc; "hls/v.{number}.ts")?;
+                files.write(alloc, path.as_str(), bytes)?;
+            }
+            Item::Media { text, .. } => files.write(alloc, "hls/v.m3u8", text.as_bytes())?,
+            _ => {}
+        }
+    }
+    Ok(files)
+}
+
+/// What `check` writes of a playlist, or its fault.
+type Told = Result<String, CheckingFault>;
+
+fn told<F: FileReader>(alloc: Global, files: &F, playlist: &str) -> Result<Told, Fail> {
+    let mut output = Vec::new(alloc);
+    match check(alloc, files, &KEYS, playlist, &mut output) {
+        Ok(()) => Ok(Ok(String::from_utf8(output).map_err(|_| "not UTF-8")?)),
+        Err(fault) => {
+            if !output.is_empty() {
+                return Err(Fail::from("written before a fault"));
+            }
+            Ok(Err(fault))
+        }
+    }
+}
+
+/// That the two segments of the standard stream unpack.
+fn is_whole(told: Told) -> bool {
+    match told {
+        Ok(text) => text.as_str() == "ok 2 752\n",
+        Err(_) => false,
+    }
+}
+
+/// That a fault is told.
+fn is_fault(told: Told, wanted: CheckingFault) -> bool {
+    match told {
+        Ok(_) => false,
+        Err(fault) => fault == wanted,
+    }
+}
+
+/// What is told of the entry of this place that doesn't open.
+fn closed(i: usize) -> CheckingFault {
+    CheckingFault::Faulty(CheckFault::Segments(UnpackFault::Closed(i)))
+}
+
+/// What is told of a wrong line.
+fn wrong_line(line: u64) -> CheckingFault {
+    CheckingFault::Faulty(CheckFault::Text(ListFault::NotProfile(line)))
+}
+
+#[test]
+fn a_whole_playlist(rt: HostRuntime) -> Result<(), Fail> {
+    let files = packed(rt.alloc())?;
+    assert!(rt; is_whole(told(rt.alloc(), &files, "hls/v.m3u8")?));
+    Ok(())
+}
+
+#[test]
+fn faults_in_their_order(rt: HostRuntime) -> Result<(), Fail> {
+    let alloc = rt.alloc();
+    let mut files = packed(alloc)?;
+    assert!(rt; is_fault(told(alloc, &files, "v.m3u8")?, CheckingFault::Unread));
+    files.damage("hls/v.1.ts");
+    assert!(rt; is_fault(told(alloc, &files, "hls/v.m3u8")?, closed(1)));
+    files.write(alloc, "hls/v.1.ts", &[])?;
+    assert!(rt; is_fault(told(alloc, &files, "hls/v.m3u8")?, closed(1)));
+    files.damage("hls/v.0.ts");
+    assert!(rt; is_fault(told(alloc, &files, "hls/v.m3u8")?, closed(0)));
+    files.remove("hls/v.1.ts");
+    assert!(rt; is_fault(told(alloc, &files, "hls/v.m3u8")?, CheckingFault::Unread));
+    files.write(alloc, "hls/v.m3u8", b"#EXTM3U\n#EXT-X-VERSION:3\n")?;
+    assert!(rt; is_fault(told(alloc, &files, "hls/v.m3u8")?, wrong_line(2)));
+    files.write(alloc, "hls/v.m3u8", b"#EXTM3U\n\xFF")?;
+    assert!(rt; is_fault(told(alloc, &files, "hls/v.m3u8")?, CheckingFault::Unread));
+    Ok(())
+}
+
+#[test]
+fn segments_lie_beside_their_playlist(rt: HostRuntime) -> Result<(), Fail> {
+    let alloc = rt.alloc();
+    let packed = packed(alloc)?;
+    for folder in ["", "./", "/", "a b/hls/", "../"] {
+        let mut files = MemoryFiles {
+            files: Vec::new(alloc),
+        };
+        for file in &packed.files {
+            let name = file.path.as_str().strip_prefix("hls/").unwrap_or("");
+            let path = format!(in alloc; "{folder}{name}")?;
+            files.write(alloc, path.as_str(), &file.bytes)?;
+        }
+        let playlist = format!(in alloc; "{folder}v.m3u8")?;
+        assert!(rt; is_whole(told(alloc, &files, playlist.as_str())?));
+    }
+    Ok(())
+}
+
+#[test]
+fn files_of_the_system(rt: HostRuntime) -> Result<(), Fail> {
+    let packed = packed(rt.alloc())?;
+    let _ = fs::remove_dir_all(&rt, "hls");
+    fs::create_dir(&rt, "hls")?;
+    assert!(rt; is_fault(told(rt.alloc(), &rt, "hls/v.m3u8")?, CheckingFault::Unread));
+    for file in &packed.files {
+        fs::write(&rt, file.path.as_str(), file.bytes.as_slice())?;
+    }
+    assert!(rt; is_whole(told(rt.alloc(), &rt, "hls/v.m3u8")?));
+    fs::remove_file(&rt, "hls/v.0.ts")?;
+    assert!(rt; is_fault(told(rt.alloc(), &rt, "hls/v.m3u8")?, CheckingFault::Unread));
+    fs::remove_dir_all(&rt, "hls")?;
+    Ok(())
+}
+
+#[test]
+fn a_failed_write_leaves_a_beginning(rt: HostRuntime) -> Result<(), Fail> {
+    let alloc = rt.alloc();
+    let files = packed(alloc)?;
+    for room in [0, 1, 8] {
+        let mut output = FullWriter {
+            taken: Vec::new(alloc),
+            room,
+        };
+        let answer = check(alloc, &files, &KEYS, "hls/v.m3u8", &mut output);
+        assert!(rt;
+            answer == Err(CheckingFault::Unwritten),
+            "with room for {room}"
+        );
+        assert_eq!(rt; output.taken.len(), room);
+        assert!(rt;
+            b"ok 2 752\n".starts_with(&output.taken),
+            "with room for {room}"
+        );
+    }
+    Ok(())
+}

@@ -1,0 +1,154 @@
+use crate::fixtures::{KEY, no_numbers};
+use commands::{
+    LadderFault, LadderOptions, LadderWords, MOST_KEYS, NumberWords, PoolWords,
+    read_ladder_options, summary,
+};
+use pipeline::{Kind, Report};
+use std::alloc::Global;
+use std::test::Fail;
+
+const A: &str = "a:avc1.4d401e:640x360:000102030405060708090a0b0c0d0e0f:/in/a:1.ts";
+
+const B: &str = "b:avc1.64001f:1280x720:000102030405060708090a0b0c0d0e0f:b.ts";
+
+const NO_SIZE: &str = "c:avc1.4d401e:640:000102030405060708090a0b0c0d0e0f:c.ts";
+
+const NO_PIXELS: &str = "c:avc1.4d401e:0x360:000102030405060708090a0b0c0d0e0f:c.ts";
+
+/// Entries with a salt or none.
+fn words<'a>(entries: &'a [&'a str], salt: Option<&'a str>) -> LadderWords<'a, 'a> {
+    LadderWords {
+        entries,
+        salt,
+        event: false,
+    }
+}
+
+/// None of a pool's numbers.
+fn no_pool() -> PoolWords {
+    PoolWords {
+        workers: None,
+        queue: None,
+        batch: None,
+    }
+}
+
+/// No numbers but this period.
+fn period(period: u64) -> NumberWords {
+    let mut numbers = no_numbers();
+    numbers.period = Some(period);
+    numbers
+}
+
+/// The options of the entries b and a, in this order.
+fn two(alloc: Global) -> Result<LadderOptions<'static>, Fail> {
+    let words = LadderWords {
+        entries: &[B, A],
+        salt: Some(KEY),
+        event: true,
+    };
+    Ok(read_ladder_options(alloc, words, no_numbers(), no_pool()).map_err(|_| "options")?)
+}
+
+#[test]
+fn a_ladder_of_two(rt: HostRuntime) -> Result<(), Fail> {
+    let options = two(rt.alloc())?;
+    let renditions = &options.settings.renditions;
+    assert_eq!(rt; renditions.len(), 2);
+    assert_eq!(rt;
+        (renditions[0].name.as_str(), renditions[1].name.as_str()),
+        ("b", "a")
+    );
+    assert_eq!(rt; (renditions[0].width, renditions[1].height), (1280, 360));
+    assert!(rt; renditions[0].salt.is_some());
+    assert!(rt; options.settings.kind == Kind::Event);
+    assert_eq!(rt; (options.settings.queue, options.pool.workers), (16, 4));
+    assert_eq!(rt; options.paths.as_slice(), ["b.ts", "/in/a:1.ts"].as_slice());
+    Ok(())
+}
+
+/// Why these entries with this salt and this period tell no ladder.
+fn told<'a>(
+    alloc: Global,
+    entries: &'a [&'a str],
+    salt: Option<&'a str>,
+    turns: u64,
+) -> Option<LadderFault> {
+    read_ladder_options(alloc, words(entries, salt), period(turns), no_pool()).err()
+}
+
+#[test]
+fn faults_in_their_order(rt: HostRuntime) -> Result<(), Fail> {
+    let alloc = rt.alloc();
+    assert!(rt; told(alloc, &[A, NO_SIZE, "x"], Some("0"), 0) == Some(LadderFault::BadEntry(2)));
+    assert!(rt; told(alloc, &["a:b:1x1:00:p"], None, 1) == Some(LadderFault::BadEntry(1)));
+    assert!(rt; told(alloc, &[A], Some("0"), 0) == Some(LadderFault::BadVector));
+    assert!(rt; told(alloc, &[A, A], None, 0) == Some(LadderFault::ZeroPeriod));
+    assert!(rt; told(alloc, &[A, A], None, 1) == Some(LadderFault::Settings));
+    assert!(rt; told(alloc, &[A, NO_PIXELS], None, 1) == Some(LadderFault::Settings));
+    assert!(rt; told(alloc, &[], None, 1) == Some(LadderFault::Settings));
+    Ok(())
+}
+
+#[test]
+fn too_many_keys_before_no_period(rt: HostRuntime) -> Result<(), Fail> {
+    let alloc = rt.alloc();
+    let mut many = String::from_str(alloc, "m:avc1.4d401e:640x360:")?;
+    for _ in 0..MOST_KEYS {
+        many.push_str(KEY)?;
+        many.push_str("+")?;
+    }
+    many.push_str(KEY)?;
+    many.push_str(":m.ts")?;
+    let many = many.as_str();
+    assert!(rt; told(alloc, &[many], Some("0"), 0) == Some(LadderFault::BadVector));
+    assert!(rt; told(alloc, &[many], None, 0) == Some(LadderFault::TooMany));
+    Ok(())
+}
+
+#[test]
+fn a_pool_out_of_range(rt: HostRuntime) -> Result<(), Fail> {
+    let mut pool = no_pool();
+    pool.workers = Some(65);
+    let told = read_ladder_options(rt.alloc(), words(&[A], None), no_numbers(), pool).err();
+    assert!(rt; told == Some(LadderFault::Settings));
+    let mut numbers = no_numbers();
+    numbers.segment = Some(u64::MAX);
+    let told = read_ladder_options(rt.alloc(), words(&[A], None), numbers, no_pool()).err();
+    assert!(rt; told == Some(LadderFault::Settings));
+    Ok(())
+}
+
+#[test]
+fn statuses_of_ladders(rt: HostRuntime) -> Result<(), Fail> {
+    assert_eq!(rt; LadderFault::BadEntry(3).status(), 2);
+    assert_eq!(rt; LadderFault::BadVector.status(), 2);
+    assert_eq!(rt; LadderFault::TooMany.status(), 1);
+    assert_eq!(rt; LadderFault::ZeroPeriod.status(), 1);
+    assert_eq!(rt; LadderFault::Settings.status(), 1);
+    assert_eq!(rt; LadderFault::NoMemory.status(), 1);
+    Ok(())
+}
+
+#[test]
+fn lines_in_byte_order_of_names(rt: HostRuntime) -> Result<(), Fail> {
+    let alloc = rt.alloc();
+    let options = two(alloc)?;
+    let report = Report {
+        counts: vec![in alloc; 2, 11]?,
+        micros: vec![in alloc; 9_040_000, 66_000_001]?,
+        peaks: vec![in alloc; 2022, 4044]?,
+        averages: vec![in alloc; 1360, 2720]?,
+        skipped: vec![in alloc; 0, 0]?,
+        workers: Vec::new(alloc),
+        own: 13,
+        thrown: 0,
+        rounds: 0,
+    };
+    let text = summary(alloc, &options.settings, &report)?;
+    assert_eq!(rt;
+        text.as_str(),
+        "a 11 66.000001 4044 2720\nb 2 9.040000 2022 1360\n"
+    );
+    Ok(())
+}

@@ -1,0 +1,132 @@
+use crate::fixtures::{BrokenReader, FullWriter, cipher, key_frame};
+use crate::seal::sealed;
+use aes_cbc::Key;
+use commands::{CipherOptions, OpeningFault, open};
+use item_io::ReaderSource;
+use std::alloc::Global;
+use std::test::Fail;
+
+/// What `open` writes of an input.
+fn opened(alloc: Global, cipher: &CipherOptions, input: &[u8]) -> Result<Vec<u8>, OpeningFault> {
+    let mut input = ReaderSource::new(input);
+    let mut output = Vec::new(alloc);
+    open(alloc, &cipher.key, &cipher.vector, &mut input, &mut output)?;
+    Ok(output)
+}
+
+#[test]
+fn opens_what_was_sealed(rt: HostRuntime) -> Result<(), Fail> {
+    let alloc = rt.alloc();
+    let cipher = cipher()?;
+    let empty = opened(alloc, &cipher, b"69c4e0d86a7b0430d8cdb78070b4c55a\n").map_err(|_| "empty")?;
+    assert_eq!(rt; empty.as_slice(), b"\n".as_slice());
+    let line = sealed(alloc, &key_frame())?;
+    let packet = opened(alloc, &cipher, &line).map_err(|_| "packet")?;
+    assert_eq!(rt; packet.len(), 377);
+    assert!(rt; packet.starts_with(b"474100300140000001e000008080052100010001ffff"));
+    assert!(rt; packet.ends_with(b"ffff\n"));
+    Ok(())
+}
+
+#[test]
+fn open_refuses_what_is_no_hex(rt: HostRuntime) -> Result<(), Fail> {
+    let cipher = cipher()?;
+    let table: [&[u8]; 7] = [
+        b"6",
+        b"\n\n",
+        b"69c4e0d86a7b0430d8cdb78070b4c55a\r\n",
+        b"69c4e0d86a7b0430d8cdb78070b4c55a\n\n",
+        b" 69c4e0d86a7b0430d8cdb78070b4c55a",
+        b"69c4e0d86a7b0430\nd8cdb78070b4c55a\n",
+        b"69c4e0d86a7b0430d8cdb78070b4c55g",
+    ];
+    for input in table {
+        match opened(rt.alloc(), &cipher, input) {
+            Ok(_) => return Err(Fail::from("opened")),
+            Err(fault) => assert!(rt; fault == OpeningFault::BadHex, "at {input:?}"),
+        }
+    }
+    Ok(())
+}
+
+#[test]
+fn open_refuses_what_was_not_sealed(rt: HostRuntime) -> Result<(), Fail> {
+    let alloc = rt.alloc();
+    let cipher = cipher()?;
+    let table: [(&[u8], OpeningFault); 4] = [
+        (b"", OpeningFault::NotBlocks),
+        (b"\n", OpeningFault::NotBlocks),
+        (b"69c4e0d86a7b0430d8cdb78070b4c5", OpeningFault::NotBlocks),
+        (
+            b"79c4e0d86a7b0430d8cdb78070b4c55a",
+            OpeningFault::BadPadding,
+        ),
+    ];
+    for (input, wanted) in table {
+        match opened(alloc, &cipher, input) {
+            Ok(_) => return Err(Fail::from("opened")),
+            Err(fault) => assert!(rt; fault == wanted, "at {input:?}"),
+        }
+    }
+    let other_vector = CipherOptions {
+        key: Key::new(*cipher.key.as_bytes()),
+        vector: [0; 16],
+    };
+    match opened(alloc, &other_vector, b"69c4e0d86a7b0430d8cdb78070b4c55a\n") {
+        Ok(_) => return Err(Fail::from("opened")),
+        Err(fault) => assert!(rt; fault == OpeningFault::BadPadding),
+    }
+    Ok(())
+}
+
+#[test]
+fn open_takes_either_case_and_a_missing_end(rt: HostRuntime) -> Result<(), Fail> {
+    let cipher = cipher()?;
+    let table: [&[u8]; 3] = [
+        b"69C4E0D86A7B0430d8cdb78070b4c55a",
+        b"69c4e0d86a7b0430d8cdb78070b4c55a",
+        b"69c4e0d86a7b0430d8cdb78070b4c55a\n",
+    ];
+    for input in table {
+        let plain = opened(rt.alloc(), &cipher, input).map_err(|_| "opening")?;
+        assert_eq!(rt; plain.as_slice(), b"\n".as_slice(), "at {input:?}");
+    }
+    Ok(())
+}
+
+#[test]
+fn open_tells_a_failed_read(rt: HostRuntime) -> Result<(), Fail> {
+    let alloc = rt.alloc();
+    let cipher = cipher()?;
+    let line = sealed(alloc, &key_frame())?;
+    let mut input = ReaderSource::new(BrokenReader { bytes: &line });
+    let mut output = Vec::new(alloc);
+    let answer = open(alloc, &cipher.key, &cipher.vector, &mut input, &mut output);
+    assert!(rt; answer == Err(OpeningFault::Unread));
+    assert!(rt; output.is_empty());
+    Ok(())
+}
+
+#[test]
+fn open_leaves_a_beginning(rt: HostRuntime) -> Result<(), Fail> {
+    let alloc = rt.alloc();
+    let cipher = cipher()?;
+    let line = sealed(alloc, &key_frame())?;
+    let whole = opened(alloc, &cipher, &line).map_err(|_| "opening")?;
+    assert_eq!(rt; whole.len(), 377);
+    for room in [0, 1, 376] {
+        let mut input = ReaderSource::new(line.as_slice());
+        let mut output = FullWriter {
+            taken: Vec::new(alloc),
+            room,
+        };
+        let answer = open(alloc, &cipher.key, &cipher.vector, &mut input, &mut output);
+        assert!(rt;
+            answer == Err(OpeningFault::Unwritten),
+            "with room for {room}"
+        );
+        assert_eq!(rt; output.taken.len(), room);
+        assert!(rt; whole.starts_with(&output.taken), "with room for {room}");
+    }
+    Ok(())
+}

@@ -1,0 +1,90 @@
+use crate::fixtures::{FullWriter, settings, standard_stream};
+use commands::{LadderPackingFault, PackedLadder, Pool, pack};
+use item_io::{FailingOutlet, FailingReader};
+use ladder_items::{PackFault, Report};
+use rounds::opening_board;
+use std::alloc::Global;
+use std::io::Write;
+use std::sync::Wait;
+use std::test::Fail;
+use std::thread::Threads;
+
+/// How a run ended, and how many items it put.
+#[derive(Drop)]
+struct Told {
+    answer: Result<Report, LadderPackingFault>,
+    items: usize,
+}
+
+/// Packs a stream by two workers.
+fn packed<W: Write, R: Threads + Wait + Sync>(
+    rt: &R,
+    alloc: Global,
+    stream: Vec<u8>,
+    output: &mut W,
+) -> Result<Told, Fail> {
+    let mut sources = Vec::new(alloc);
+    sources.push(FailingReader::new(stream, 188, 0))?;
+    let settings = settings(alloc, "640x360")?;
+    let pool = Pool {
+        workers: 2,
+        queue: 16,
+        batch: None,
+    };
+    let (publisher, _viewers) = opening_board(rt, alloc, 1, 1)?;
+    let PackedLadder {
+        sources: _,
+        publisher,
+        outlet,
+        answer,
+    } = pack(
+        rt,
+        alloc,
+        sources,
+        &settings,
+        pool,
+        publisher,
+        FailingOutlet::new(alloc, 0),
+        output,
+    );
+    publisher.end(rt);
+    Ok(Told {
+        answer,
+        items: outlet.items().len(),
+    })
+}
+
+#[test]
+fn a_line_of_the_standard_stream(rt: HostRuntime) -> Result<(), Fail> {
+    let alloc = rt.alloc();
+    let mut output = Vec::new(alloc);
+    let told = packed(&rt, alloc, standard_stream(alloc)?, &mut output)?;
+    assert!(rt; told.answer.is_ok());
+    assert_eq!(rt; told.items, 10);
+    assert!(rt; output.as_slice() == b"v 2 9.040000 2022 1360\n".as_slice());
+    Ok(())
+}
+
+#[test]
+fn no_line_after_a_fault(rt: HostRuntime) -> Result<(), Fail> {
+    let alloc = rt.alloc();
+    let mut output = Vec::new(alloc);
+    let told = packed(&rt, alloc, Vec::new(alloc), &mut output)?;
+    let fault = LadderPackingFault::Packing(PackFault::NoProgram(0));
+    assert!(rt; matches!(told.answer, Err(why) if why == fault));
+    assert!(rt; output.is_empty());
+    Ok(())
+}
+
+#[test]
+fn a_line_that_cannot_be_written(rt: HostRuntime) -> Result<(), Fail> {
+    let alloc = rt.alloc();
+    let mut output = FullWriter {
+        taken: Vec::new(alloc),
+        room: 5,
+    };
+    let told = packed(&rt, alloc, standard_stream(alloc)?, &mut output)?;
+    assert!(rt; matches!(told.answer, Err(LadderPackingFault::Unwritten)));
+    assert_eq!(rt; told.items, 10);
+    Ok(())
+}

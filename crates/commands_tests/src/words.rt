@@ -1,0 +1,177 @@
+use crate::fixtures::{KEY, VECTOR, no_numbers, words};
+use commands::{
+    CheckWords, CipherFault, CipherWords, DEFAULT_FRAME, DEFAULT_GAP, DEFAULT_MOST, DEFAULT_NAME,
+    DEFAULT_PERIOD, DEFAULT_TARGET, DEFAULT_WINDOW, EntryWords, KeyListFault, MOST_KEYS,
+    MOST_PIXELS, MOST_PROGRAM, NumberWords, SettingsFault, TICKS, entries, first_bad, one,
+    read_check_options, read_cipher_options, read_settings,
+};
+use pipeline::PackFault;
+use std::alloc::Global;
+use std::test::Fail;
+
+#[test]
+fn defaults(rt: HostRuntime) -> Result<(), Fail> {
+    let numbers = no_numbers().numbers();
+    assert_eq!(rt; (numbers.target, numbers.segment), (6, 6));
+    assert_eq!(rt; (numbers.window, numbers.frame), (5, 3600));
+    assert_eq!(rt; (numbers.gap, numbers.most), (900_000, 1_000_000));
+    assert_eq!(rt; numbers.period, 1);
+    assert!(rt; numbers.program.is_none());
+    assert_eq!(rt; (DEFAULT_TARGET, DEFAULT_WINDOW), (6, 5));
+    assert_eq!(rt; (DEFAULT_FRAME, DEFAULT_GAP), (3600, 900_000));
+    assert_eq!(rt; (DEFAULT_MOST, DEFAULT_PERIOD), (1_000_000, 1));
+    let settings = read_settings(rt.alloc(), words("1x1", KEY), no_numbers()).map_err(
+        |_| "settings",
+    )?;
+    assert_eq!(rt; settings.renditions[0].name.as_str(), DEFAULT_NAME);
+    assert_eq!(rt; settings.cut.segment, 6 * TICKS);
+    Ok(())
+}
+
+#[test]
+fn a_target_gives_the_segment(rt: HostRuntime) -> Result<(), Fail> {
+    let mut words = no_numbers();
+    words.target = Some(8);
+    assert_eq!(rt; words.numbers().segment, 8);
+    words.segment = Some(2);
+    assert_eq!(rt; words.numbers().segment, 2);
+    Ok(())
+}
+
+#[test]
+fn a_vector_is_given_in_one_way(rt: HostRuntime) -> Result<(), Fail> {
+    let table = [
+        (KEY, Some(7), None, None),
+        (KEY, None, Some(VECTOR), None),
+        (KEY, None, None, Some(CipherFault::BadVector)),
+        (KEY, Some(7), Some(VECTOR), Some(CipherFault::BadVector)),
+        (KEY, None, Some("00"), Some(CipherFault::BadVector)),
+        ("00", None, Some("00"), Some(CipherFault::BadKey)),
+    ];
+    for (key, seq, iv, wanted) in table {
+        let told = read_cipher_options(CipherWords { key, seq, iv }).err();
+        assert!(rt; told == wanted, "at {key}, {seq:?}, {iv:?}");
+    }
+    Ok(())
+}
+
+#[test]
+fn keys_and_a_playlist(rt: HostRuntime) -> Result<(), Fail> {
+    let words = CheckWords {
+        keys: KEY,
+        playlist: "a/v.m3u8",
+    };
+    let options = read_check_options(rt.alloc(), words).map_err(|_| "options")?;
+    assert_eq!(rt; options.playlist.as_str(), "a/v.m3u8");
+    assert_eq!(rt; (options.keys.len(), options.keys[0][15]), (1, 15));
+    let words = CheckWords {
+        keys: "00",
+        playlist: "v.m3u8",
+    };
+    let told = read_check_options(rt.alloc(), words).err();
+    assert!(rt; told == Some(KeyListFault::BadKey));
+    Ok(())
+}
+
+#[test]
+fn statuses(rt: HostRuntime) -> Result<(), Fail> {
+    assert_eq!(rt; CipherFault::BadKey.status(), 2);
+    assert_eq!(rt; CipherFault::BadVector.status(), 2);
+    assert_eq!(rt; KeyListFault::BadKey.status(), 2);
+    assert_eq!(rt; KeyListFault::NoMemory.status(), 1);
+    assert_eq!(rt; SettingsFault::BadKey.status(), 2);
+    assert_eq!(rt; SettingsFault::BadSize.status(), 2);
+    assert_eq!(rt; SettingsFault::BadVector.status(), 2);
+    assert_eq!(rt; SettingsFault::TooMany.status(), 1);
+    assert_eq!(rt; SettingsFault::ZeroPeriod.status(), 1);
+    assert_eq!(rt; SettingsFault::Settings.status(), 1);
+    assert_eq!(rt; SettingsFault::NoMemory.status(), 1);
+    Ok(())
+}
+
+#[test]
+fn as_many_keys_as_there_may_be(rt: HostRuntime) -> Result<(), Fail> {
+    let alloc = rt.alloc();
+    let mut keys = String::from_str(alloc, KEY)?;
+    for _ in 1..MOST_KEYS {
+        keys.push_str("+")?;
+        keys.push_str(KEY)?;
+    }
+    assert!(rt; read_settings(alloc, words("1x1", keys.as_str()), no_numbers()).is_ok());
+    keys.push_str("+")?;
+    keys.push_str(KEY)?;
+    let told = read_settings(alloc, words("1x1", keys.as_str()), no_numbers()).err();
+    assert!(rt; told == Some(SettingsFault::TooMany));
+    Ok(())
+}
+
+/// Whether settings of a size and a program are taken.
+fn is_taken(rt: &HostRuntime, size: &str, numbers: NumberWords) -> Result<bool, Fail> {
+    let settings = match read_settings(rt.alloc(), words(size, KEY), numbers) {
+        Ok(settings) => settings,
+        Err(fault) => return Ok(fault != SettingsFault::Settings),
+    };
+    let empty: &[u8] = &[];
+    let packed = one(rt.alloc(), &settings, empty, Vec::new(rt.alloc()));
+    Ok(packed.answer == Err(PackFault::NoProgram(0)))
+}
+
+#[test]
+fn the_ends_of_sizes_and_programs(rt: HostRuntime) -> Result<(), Fail> {
+    assert_eq!(rt; MOST_PIXELS, 16_384);
+    let table = [
+        ("1x1", true),
+        ("16384x16384", true),
+        ("16385x1", false),
+        ("1x16385", false),
+        ("0x1", false),
+    ];
+    for (size, wanted) in table {
+        assert_eq!(rt; is_taken(&rt, size, no_numbers())?, wanted, "at {size}");
+    }
+    let table = [
+        (1, true),
+        (MOST_PROGRAM, true),
+        (MOST_PROGRAM + 1, false),
+        (0, false),
+    ];
+    for (program, wanted) in table {
+        let mut numbers = no_numbers();
+        numbers.program = Some(program);
+        assert_eq!(rt; is_taken(&rt, "1x1", numbers)?, wanted, "at {program}");
+    }
+    Ok(())
+}
+
+/// The parts of a good entry.
+fn parts(alloc: Global, text: &str) -> Result<EntryWords<'_>, Fail> {
+    let texts = [text];
+    if first_bad(&texts).is_some() {
+        return Err(Fail::from("a bad entry"));
+    }
+    let mut read = entries(alloc, &texts)?;
+    match read.pop() {
+        Some(words) => Ok(words),
+        None => Err(Fail::from("no entry")),
+    }
+}
+
+#[test]
+fn entries_at_their_first_four_colons(rt: HostRuntime) -> Result<(), Fail> {
+    let good = "a %20:avc1:640x360:000102030405060708090a0b0c0d0e0f:/in/a:b.ts";
+    let read = parts(rt.alloc(), good)?;
+    assert_eq!(rt; (read.name, read.codecs), ("a %20", "avc1"));
+    assert_eq!(rt; (read.size, read.keys), ("640x360", KEY));
+    assert_eq!(rt; read.path, "/in/a:b.ts");
+    assert!(rt; first_bad(&[good]).is_none());
+    assert_eq!(rt; first_bad(&[good, "a:b:1x1:00:p", "a"]), Some(1));
+    assert_eq!(rt;
+        first_bad(&["a:b:1:000102030405060708090a0b0c0d0e0f:p"]),
+        Some(0)
+    );
+    assert_eq!(rt;
+        first_bad(&["a:b:1x1:000102030405060708090a0b0c0d0e0f"]),
+        Some(0)
+    );
+    Ok(())
+}

@@ -1,0 +1,11 @@
+//! Tests of `hls_check`: texts that list a playlist, texts that don't, and segments that open or don't.
+#![tactic(auto)]
+
+#[cfg(test)]
+mod reading_tests;
+#[cfg(test)]
+mod salted_tests;
+#[cfg(test)]
+mod text_tests;
+#[cfg(test)]
+mod unpacking_tests;

@@ -1,0 +1,5 @@
+//! Tests of `live_board`: what its viewers see, alone and beside a publisher in another thread.
+#![tactic(auto)]
+
+#[cfg(test)]
+mod tests;

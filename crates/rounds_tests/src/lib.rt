@@ -1,0 +1,15 @@
+//! Tests of `rounds`: whole runs on many threads, their gates, their stops and their viewers.
+#![tactic(auto)]
+
+#[cfg(test)]
+mod fixtures;
+#[cfg(test)]
+mod gates;
+#[cfg(test)]
+mod run_jobs;
+#[cfg(test)]
+mod run_tests;
+#[cfg(test)]
+mod stop_tests;
+#[cfg(test)]
+mod viewer_tests;

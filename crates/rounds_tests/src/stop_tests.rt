@@ -1,0 +1,133 @@
+//! Runs that a read, a put or a gate stops, and runs in which a later segment is sealed first.
+
+use crate::gates::{Behind, TURNS};
+use crate::run_jobs::{Job, SEVEN, TWO, WELL, packed};
+use item_io::FailingOutlet;
+use ladder_items::PackFault;
+use std::alloc::Global;
+use std::sync::Wait;
+use std::test::Fail;
+use std::thread::Threads;
+use work_desk::FreeGate;
+
+/// What one worker makes of a stream.
+fn by_one_worker<R: Threads + Wait + Sync>(
+    rt: &R,
+    alloc: Global,
+    stream: &'static [&'static [u8]],
+) -> Result<FailingOutlet, Fail> {
+    let job = Job {
+        stream,
+        workers: 1,
+        ..WELL
+    };
+    let (ended, _) = packed(rt, alloc, &job, &FreeGate)?;
+    Ok(ended.outlet)
+}
+
+/// Streams whose segment 0 is sealed behind another: how many workers there are, how many plans may be outstanding, and
+/// that other segment.
+const LATE: [(&[&[u8]], usize, u64, u64); 2] = [(TWO, 2, 2, 1), (SEVEN, 3, 3, 2)];
+
+#[test]
+fn items_come_in_sequence(rt: HostRuntime) -> Result<(), Fail> {
+    for (stream, workers, queue, other) in LATE {
+        let whole = by_one_worker(&rt, rt.alloc(), stream)?;
+        let job = Job {
+            stream,
+            workers,
+            queue,
+            ..WELL
+        };
+        let (ended, _) = packed(&rt, rt.alloc(), &job, &Behind::new(other, TURNS))?;
+        assert!(rt; matches!(ended.numbers(), Ok((_, _, 0, 0, _))));
+        assert!(rt; ended.outlet.items() == whole.items());
+    }
+    Ok(())
+}
+
+/// Where up to four segments end a round of two workers, how many rounds there are hangs on what is sealed first; what is given
+/// doesn't.
+#[test]
+fn longer_rounds_give_the_same(rt: HostRuntime) -> Result<(), Fail> {
+    let whole = by_one_worker(&rt, rt.alloc(), SEVEN)?;
+    for piece in [188, 18_800] {
+        let job = Job {
+            stream: SEVEN,
+            piece,
+            batch: 4,
+            ..WELL
+        };
+        let (ended, seen) = packed(&rt, rt.alloc(), &job, &FreeGate)?;
+        let Ok((7, 7, 0, 0, rounds)) = ended.numbers() else {
+            return Err(Fail::from("not seven segments by the workers"));
+        };
+        assert!(rt; 2 <= rounds && rounds <= 4);
+        assert!(rt; ended.outlet.items() == whole.items());
+        assert_eq!(rt; seen, 7);
+    }
+    Ok(())
+}
+
+/// Where two plans may be outstanding, segment 2 isn't sealed before segment 0 is given.
+#[test]
+fn a_segment_that_waits_too_long_is_held(rt: HostRuntime) -> Result<(), Fail> {
+    for piece in [188, 18_800] {
+        let job = Job {
+            stream: SEVEN,
+            piece,
+            queue: 2,
+            ..WELL
+        };
+        let (ended, seen) = packed(&rt, rt.alloc(), &job, &Behind::new(2, 100_000))?;
+        assert_eq!(rt; ended.numbers(), Err(PackFault::Held(0, 0)));
+        assert_eq!(rt; ended.outlet.items().len(), 0);
+        assert_eq!(rt; (ended.inputs, seen), (1, 0));
+    }
+    Ok(())
+}
+
+#[test]
+fn a_put_that_fails_stops_the_run(rt: HostRuntime) -> Result<(), Fail> {
+    let whole = by_one_worker(&rt, rt.alloc(), TWO)?;
+    for workers in [1, 2] {
+        for failing_put in 1..11 {
+            let job = Job {
+                workers,
+                failing_put,
+                ..WELL
+            };
+            let (ended, _) = packed(&rt, rt.alloc(), &job, &FreeGate)?;
+            assert_eq!(rt; ended.numbers(), Err(PackFault::Outlet));
+            assert_eq!(rt; ended.inputs, 1);
+            let items = ended.outlet.items();
+            assert_eq!(rt; items.len() as u64 + 1, failing_put);
+            assert!(rt; whole.items().starts_with(items));
+        }
+    }
+    Ok(())
+}
+
+/// The packet behind the cut is the fifth of six: what was closed before a read failed is given.
+#[test]
+fn a_read_that_fails_ends_an_input(rt: HostRuntime) -> Result<(), Fail> {
+    let whole = by_one_worker(&rt, rt.alloc(), TWO)?;
+    for workers in [1, 2] {
+        for failing_read in 1..8 {
+            let job = Job {
+                piece: 188,
+                workers,
+                failing_read,
+                ..WELL
+            };
+            let (ended, _) = packed(&rt, rt.alloc(), &job, &FreeGate)?;
+            assert_eq!(rt; ended.numbers(), Err(PackFault::Read(0)));
+            assert_eq!(rt; ended.inputs, 1);
+            let items = ended.outlet.items();
+            let count = if failing_read < 6 { 0 } else { 4 };
+            assert_eq!(rt; items.len(), count);
+            assert!(rt; whole.items().starts_with(items));
+        }
+    }
+    Ok(())
+}
