@@ -1,10 +1,10 @@
 //! The collector.
 
-ghost use Rattle.std.specs.Prelude.{◌≡◌, ◌+◌, ◌<◌, ◌≤◌, ◌^◌, ◌++◌, OnOk, OnErr, IfOk, IfErr, IfSome, IfNone, OnSome, Some, [], length, slice_get, slice_set, slice_index_or, Decides};
+ghost use Rattle.std.specs.Prelude.{◌≡◌, ◌+◌, ◌<◌, ◌≤◌, ◌^◌, ◌++◌, ℕ, OnOk, OnErr, IfOk, IfErr, IfSome, IfNone, OnSome, Some, [], length, slice_get, slice_set, slice_index_or, Decides};
 ghost use Rattle.cutter.specs.Lent.{lent};
 ghost use Rattle.segment_job.specs.Segments.{sealed_segment};
 ghost use Rattle.flow_core.specs.Slots.{leading};
-ghost use Rattle.flow_core.specs.Lanes.{IsRight, GivesBack, following, with_plan, with_piece, passed, ready};
+ghost use Rattle.flow_core.specs.Lanes.{IsRight, GivesBack, Lacks, LaneValue, following, with_plan, with_piece, passed, ready};
 ghost use Rattle.flow_core.specs.Gatherings.{lane_at, with_lane, awaited, missing_in, lanes_from, no_lane};
 
 use crate::fault::{CollectFault, Collected};
@@ -148,6 +148,14 @@ impl<'s> Collector<'s> {
         push_missing_in(&self.lanes, &mut plans)?;
         Ok(plans)
     }
+
+    /// The first plan expected for which no right piece came, of the first rendition that lacks one. It takes no memory.
+    pub fn first_missing(&self) -> Option<PlanRef<'s>>
+        ensures some { IfSome result (λ plan. Lacks (lane_at self.now plan.rendition) (lent plan)) }
+        ensures none { IfNone result (missing_in self.now.lanes ≡ []) }
+    {
+        first_missing_in(&self.lanes)
+    }
 }
 
 /// The renditions with these keys.
@@ -232,4 +240,17 @@ fn push_missing_in<'s>(lanes: &[Lane<'s>], plans: &mut Vec<Lent<'s>>) -> Result<
         lane.push_missing(plans)?;
     }
     Ok(())
+}
+
+fn first_missing_in<'s>(lanes: &[Lane<'s>]) -> Option<PlanRef<'s>>
+    requires placed { (k : ℕ) (lane : LaneValue) → slice_get lanes.now k ≡ Some lane → lane.rendition ≡ k }
+    ensures some { IfSome result (λ plan. Lacks (slice_index_or lanes.now plan.rendition no_lane) (lent plan)) }
+    ensures none { IfNone result (missing_in lanes.now ≡ []) }
+{
+    for r in 0..lanes.len() {
+        if let Some(plan) = lanes[r].first_missing() {
+            return Some(plan);
+        }
+    }
+    None
 }

@@ -1,13 +1,13 @@
 //! One rendition of a collector.
 
-ghost use Rattle.std.specs.Prelude.{◌≡◌, ◌+◌, ◌<◌, ◌^◌, ◌++◌, OnOk, OnErr, IfOk, IfErr, IfSome, IfNone, OnSome, Some, None, length, slice_get};
+ghost use Rattle.std.specs.Prelude.{◌≡◌, ◌+◌, ◌<◌, ◌^◌, ◌++◌, [], OnOk, OnErr, IfOk, IfErr, IfSome, IfNone, OnSome, Some, None, length, slice_get};
 ghost use Rattle.cutter.specs.Lent.{lent};
 ghost use Rattle.segment_job.specs.Segments.{sealed_segment};
 ghost use Rattle.flow_core.specs.Slots.{leading, lacking};
-ghost use Rattle.flow_core.specs.Lanes.{IsRight, GivesBack, first_lane, following, with_plan, with_piece, passed, ready};
+ghost use Rattle.flow_core.specs.Lanes.{IsRight, GivesBack, Lacks, first_lane, following, with_plan, with_piece, passed, ready};
 
 use crate::fault::{CollectFault, Collected};
-use crate::slot::{Slot, count_leading, push_lacking};
+use crate::slot::{Slot, count_leading, first_lacking, push_lacking};
 use cutter::{Lent, PlanRef};
 use segment_job::{Keys, Sealed};
 use std::alloc::{AllocError, Global};
@@ -133,5 +133,15 @@ impl<'s> Lane<'s> {
         ensures { OnOk result (plans.new.items ≡ plans.old.items ++ lacking self.now.slots) }
     {
         push_lacking(&self.slots, plans)
+    }
+
+    /// The first plan for which no right piece came.
+    pub(crate) fn first_missing(&self) -> Option<PlanRef<'s>>
+        ensures some { IfSome result (λ plan. Lacks self.now (lent plan)) }
+        ensures own { IfSome result (λ plan. plan.rendition ≡ self.now.rendition) }
+        ensures none { IfNone result (lacking self.now.slots ≡ []) }
+    {
+        let at = first_lacking(&self.slots)?;
+        Some(self.slots[at].plan.plan())
     }
 }
