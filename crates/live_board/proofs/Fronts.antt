@@ -24,8 +24,8 @@ begins-whole (x ∷ xs) (y ∷ ys) p le =
     cc (p.1, rest)
 
 -- each list begins itself
-pub begins-itself : {A : Type 0} (xs : List A) → IsBeginning xs xs
-begins-itself xs = ([], sym (append-nil xs))
+pub begins_itself : {A : Type 0} (xs : List A) → IsBeginning xs xs
+begins_itself xs = ([], sym (append-nil xs))
 
 -- what begins a beginning of a list begins the list
 pub begins-on : {A : Type 0} (xs ys zs : List A) → IsBeginning xs ys → IsBeginning ys zs → IsBeginning xs zs

@@ -7,7 +7,7 @@ use Rattle.left_right.specs.Register.{Admits, TurnsAt, Forks, Merges}
 use Rattle.atomic_table.proofs.Lists.{at_set, at_snoc}
 use Rattle.live_board.specs.declared.shown.Shown.{Shown}
 use Rattle.live_board.specs.declared.knowledge.Knowledge.{Knowledge}
-use Rattle.live_board.proofs.Fronts.{begins-itself, begins-on}
+use Rattle.live_board.proofs.Fronts.{begins_itself, begins-on}
 use Rattle.live_board.specs.State.{moment_of, IsLast, nothing_known, knowing, KnowsFront, Holds, GoesOn, Enters, Publishes, all_of_it, informed}
 
 off : {A : Type 0} → false ≡ true → A
@@ -30,7 +30,7 @@ pub admits : Admits Holds nothing_known
 admits x views k = (k.0, all_snoc x views nothing_known k.1 (knows_new x))
 
 knows_all : (x : Shown) → KnowsFront x (knowing (moment_of x).history)
-knows_all x e = (refl, begins-itself (moment_of x).history.list)
+knows_all x e = (refl, begins_itself (moment_of x).history.list)
 
 pub enters : (by : ℕ) (v : Knowledge) (x : Shown) → TurnsAt Holds by v x x Enters
 enters by v x views k at = let w = knowing (moment_of x).history in (w, (k.0, all_set x views by w k.1 (knows_all x)), (refl, k.0, k.1 by v at))

@@ -2,7 +2,7 @@
 
 use thiserror::Error;
 
-/// Why a board isn't made or a snapshot isn't shown. Of several, the first of these is told.
+/// Why a board isn't made or a snapshot isn't shown. Where several hold, the first of them, in this order, is told.
 #[derive(Clone, Copy, Debug, PartialEq, Eq, Error)]
 pub enum BoardFault {
     /// A count falls below the one that is shown, or the number of renditions is another.

@@ -9,9 +9,6 @@ use crate::snapshot::Snapshot;
 use logbook::{Gain, Offer, Plain, Play, Rule, Seen, Start, Word};
 use std::marker::Model;
 
-/// More snapshots than a board can show while it stands.
-const MOST: u64 = 1 << 62;
-
 /// What holds of a history: its word is its length.
 pub struct HistoryRule;
 
@@ -101,23 +98,21 @@ impl History {
         }
     }
 
-    /// The longer of two beginnings of one history.
+    /// A copy of the longer of two beginnings of one history.
+    #[tactic(auto, using(crate::proofs::Fronts::begins_itself))]
     pub fn longer(&self, other: &History) -> History
         requires { other.now.board ≡ self.now.board }
         ensures board { result.board ≡ self.now.board }
         ensures this { IsBeginning self.now.list result.list }
         ensures that { IsBeginning other.now.list result.list }
     {
-        let mut both = self.seen.again();
-        both.learn(&other.seen);
-        if self.count < other.count {
-            other.again()
-        } else {
-            self.again()
+        match self.after(other) {
+            Some(this) => this,
+            None => other.again(),
         }
     }
 
-    /// A copy. `None` where the other beginning of this history is longer.
+    /// A copy. `None` where the other one, a beginning of the same history, is longer.
     pub fn after(&self, other: &History) -> Option<History>
         requires { other.now.board ≡ self.now.board }
         ensures same { IfSome result (λ h. h ≡ self.now) }
@@ -134,14 +129,14 @@ impl History {
         }
     }
 
-    /// The history with one more snapshot. `None` where it is longer already.
+    /// The history with one more snapshot. `None` where it is longer already, or as long as can be counted.
     pub fn add(&self, head: &Head, snapshot: &Snapshot) -> Option<History>
         requires head { head.now ≡ head_of self.now.board }
         requires rises { NeverFalls (self.now.list ++ snapshot.now ∷ []) }
         ensures { IfSome result (λ h. (h.list ≡ self.now.list ++ snapshot.now ∷ []) × (h.board ≡ self.now.board)) }
     {
         let count = self.count;
-        if count >= MOST {
+        if count == u64::MAX {
             return None;
         }
         let mut seen = self.seen.again();

@@ -41,8 +41,8 @@ impl Model for Publisher {
     ghost view = { λ p. p.history };
 }
 
-/// A board that shows the snapshot, its publisher and from 1 to 64 viewers, all of whom know of it. Refused are want of
-/// memory, and NoPlace where a viewer gets no place among the readers.
+/// A board that shows the snapshot, its publisher and from 1 to 64 viewers, all of whom know of it. It is refused for want
+/// of memory, and then as NoPlace where a viewer gets no place among the readers.
 pub fn board<R: Wait>(
     rt: &R,
     alloc: Global,
@@ -55,6 +55,9 @@ pub fn board<R: Wait>(
     ensures viewers { IfOk result (λ b. All (λ v. v ≡ b.0) b.1.items) }
     ensures fault { OnErr result ((result ≡ Err NoPlace) ⊎ (result ≡ Err NoMemory)) }
 {
+    let Ok(room) = Vec::with_capacity(alloc, viewers) else {
+        return Err(BoardFault::NoMemory);
+    };
     let (head, empty) = new_history();
     let Some(moment) = next_moment(alloc, &empty, &head, first) else {
         return Err(BoardFault::NoMemory);
@@ -69,7 +72,7 @@ pub fn board<R: Wait>(
         return Err(BoardFault::NoMemory);
     }
     let mut writer = show_now(rt, writer);
-    match new_viewers(&mut writer, &history, alloc, viewers) {
+    match new_viewers(&mut writer, &history, room, viewers) {
         Ok(all) => Ok((
             Publisher {
                 writer,
@@ -94,11 +97,11 @@ impl Publisher {
         self.writer.published().moment.snapshot.counts.as_slice()
     }
 
-    /// Shows the snapshot, in one exchange. It waits for viewers who still look at the copy before.
+    /// Shows the snapshot, in one exchange. It waits for viewers who still look at the snapshot before the one that is
+    /// shown, since that one's copy is written anew.
     ///
     /// A snapshot is refused as Backwards where a count falls below the one that is shown or the number of renditions is
-    /// another, and then for want of memory. After a refusal the board shows what it showed, and the same snapshot is
-    /// taken or refused as if it had never been refused.
+    /// another, and then for want of memory. After a refusal the board shows what it showed.
     pub fn publish<R: Wait>(
         &mut self,
         rt: &R,

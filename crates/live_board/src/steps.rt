@@ -1,9 +1,9 @@
 //! The steps of a publisher: a moment is made, appended, shown; copies and viewers are made.
 
-ghost use Rattle.std.specs.Prelude.{◌≡◌, ◌≤◌, ◌++◌, ◌∷◌, [], length, drop, All, IfSome, IfOk, OnErr, Err, ◌⊎◌};
+ghost use Rattle.std.specs.Prelude.{◌≡◌, ◌≤◌, ◌++◌, ◌∷◌, [], length, drop, All, vec_len, vec_capacity, IfSome, IfOk, OnErr, Err};
 ghost use Rattle.std.specs.Arc.{arc_value};
 ghost use Rattle.left_right.specs.Sides.{view as known_by};
-ghost use Rattle.live_board.specs.declared.fault.BoardFault.TheVariants.{NoMemory, NoPlace};
+ghost use Rattle.live_board.specs.declared.fault.BoardFault.TheVariants.{NoPlace};
 ghost use Rattle.live_board.specs.Counts.{NeverFalls};
 ghost use Rattle.live_board.specs.Histories.{head_of};
 ghost use Rattle.live_board.specs.State.{knowing, moment_of, shown_after, IsLast, GoesOn};
@@ -18,8 +18,8 @@ use left_right::writer::Writer;
 use std::alloc::Global;
 use std::sync::{Arc, Wait};
 
-/// The snapshot as the next one of this history, which has it from here on. `None` for want of memory, which leaves the
-/// history.
+/// The snapshot, with this history and it as the history that it ends. `None` for want of memory; the board's history then
+/// stays as it was.
 #[tactic(auto, using(crate::proofs::Lists::last_is))]
 pub fn next_moment(
     alloc: Global,
@@ -116,26 +116,25 @@ pub fn new_viewer(writer: &mut BoardWriter, history: &History) -> Result<Viewer,
     Ok(Viewer::new(reader, history.again()))
 }
 
-/// So many viewers that know what the history has.
+/// So many viewers that know what the history has, in a vector that has room for them.
 pub fn new_viewers(
     writer: &mut BoardWriter,
     history: &History,
-    alloc: Global,
+    room: Vec<Viewer>,
     viewers: usize,
 ) -> Result<Vec<Viewer>, BoardFault>
-    requires { known_by writer.old.desk.place ≡ knowing history.now }
+    requires known { known_by writer.old.desk.place ≡ knowing history.now }
+    requires room { (room.items ≡ []) × (vec_len room ≡ 0) × (viewers ≤ vec_capacity room) }
     ensures shown { writer.new.desk.shown ≡ writer.old.desk.shown }
     ensures known { known_by writer.new.desk.place ≡ known_by writer.old.desk.place }
     ensures count { IfOk result (λ all. length all.items ≡ viewers) }
     ensures viewers { IfOk result (λ all. All (λ v. v ≡ history.now) all.items) }
-    ensures fault { OnErr result ((result ≡ Err NoPlace) ⊎ (result ≡ Err NoMemory)) }
+    ensures fault { OnErr result (result ≡ Err NoPlace) }
 {
-    let mut all = Vec::new(alloc);
+    let mut all = room;
     for _ in 0..viewers {
         let viewer = new_viewer(writer, history)?;
-        if all.push(viewer).is_err() {
-            return Err(BoardFault::NoMemory);
-        }
+        all.push(viewer).unwrap();
     }
     Ok(all)
 }
