@@ -73,6 +73,14 @@ pub record IsCutAllowed (cut : CutSettings) : Type 0 where
   pub frame : (1 ≤ cut.frame) × (cut.frame ≤ 900000)
   pub most : (1 ≤ cut.most) × (cut.most ≤ 1000000)
 
+-- settings within their limits, whose keys hold their salts, whether or not a master playlist can list their renditions
+pub record IsWithinLimits (ladder : Ladder) : Type 0 where
+  pub renditions : (1 ≤ length ladder.renditions) × (length ladder.renditions ≤ 32)
+  pub cut : IsCutAllowed ladder.cut
+  pub window : (1 ≤ ladder.window) × (ladder.window ≤ 10000)
+  pub queue : (1 ≤ ladder.queue) × (ladder.queue ≤ 256)
+  pub salts : All (λ rendition. rendition.keys.salt ≡ rendition.salt) ladder.renditions
+
 -- settings within their limits, of 1 to 32 renditions that a master playlist can list and whose keys hold their salts
 pub record IsAllowed (ladder : Ladder) : Type 0 where
   pub renditions : (1 ≤ length ladder.renditions) × (length ladder.renditions ≤ 32)

@@ -1,6 +1,6 @@
-ghost use Rattle.std.specs.Prelude.{◌≡◌, ◌≤◌, None, map, length, All, Decides, IfOk};
+ghost use Rattle.std.specs.Prelude.{◌≡◌, ◌≤◌, None, map, length, All, Decides, IfOk, MatchResult};
 ghost use Rattle.master_playlist.specs.Faults.{fault_of};
-ghost use Rattle.ladder_items.specs.Ladder.{unmeasured, IsProgram, IsCutAllowed, IsAllowed};
+ghost use Rattle.ladder_items.specs.Ladder.{unmeasured, IsProgram, IsCutAllowed, IsWithinLimits, IsAllowed};
 ghost use Rattle.ladder_items.specs.Ladder;
 
 use crate::settings::{Rendition, Settings};
@@ -9,9 +9,11 @@ use master_playlist::{MasterFault, Variant, master_text};
 use std::alloc::{AllocError, Global};
 
 /// Whether the settings are within their limits, the keys of each rendition hold its salt, and there are as many inputs as
-/// renditions.
+/// renditions. Memory is asked for behind these, to see whether a master playlist can list the renditions.
 pub fn is_allowed(alloc: Global, settings: &Settings, inputs: usize) -> Result<bool, AllocError>
-    ensures { IfOk result (λ allowed. Decides allowed (IsAllowed settings.now × (inputs ≡ length settings.now.renditions))) }
+    ensures { MatchResult result
+        (λ allowed. Decides allowed (IsAllowed settings.now × (inputs ≡ length settings.now.renditions)))
+        (λ _. IsWithinLimits settings.now × (inputs ≡ length settings.now.renditions)) }
 {
     if inputs != settings.renditions.len() || !is_ladder(settings) || !is_cut(settings.cut) {
         return Ok(false);

@@ -7,8 +7,8 @@ use thiserror::Error;
 /// Why a run didn't end well. Renditions are counted from 0, in the order of the settings, as segments are.
 #[derive(Clone, Copy, Debug, PartialEq, Eq, Error)]
 pub enum PackFault {
-    /// A setting is outside its limits, a rendition can't be listed, or there aren't as many inputs as renditions.
-    /// Nothing was read or put.
+    /// A setting is outside its limits, a rendition can't be listed, there aren't as many inputs as renditions, or a run on
+    /// many threads got workers or a publisher that don't fit. Nothing was read or put.
     #[error("the settings aren't allowed")]
     Settings,
     /// A read of this rendition's input failed.
@@ -35,6 +35,7 @@ pub enum PackFault {
     /// A put failed.
     #[error("an item can't be put out")]
     Outlet,
+    /// Memory was refused, or a thread.
     #[error("out of memory")]
     NoMemory,
     /// This segment of a rendition was held back. Never told on one thread.

@@ -70,12 +70,13 @@ impl Playlists {
         })
     }
 
-    /// Takes the row of the next segment.
+    /// Takes the row of the next segment. For want of memory the playlists end, with the rows from before.
     pub fn push(&mut self, row: Row) -> Result<(), PackFault>
         requires going { self.old.ended ≡ false }
         requires few { length self.old.rows < 2 ^ 32 }
         requires next { IsNextRow self.old.target (length self.old.rows) row }
         ensures pushed { OnOk result (self.new ≡ record self.old { rows = self.old.rows ++ row ∷ [] }) }
+        ensures err { OnErr result (self.new ≡ record self.old { ended = true }) }
         ensures fault { IfErr result (λ fault. fault ≡ NoMemory) }
     {
         self.ended = true;

@@ -1,4 +1,4 @@
-ghost use Rattle.std.specs.Prelude.{◌≡◌, ◌+◌, ◌<◌, ◌^◌, [], ◌∷◌, ℕ, List, All, false, None, length, map, IfErr, OnOk, OnErr};
+ghost use Rattle.std.specs.Prelude.{◌≡◌, ◌+◌, ◌<◌, ◌^◌, [], ◌∷◌, ℕ, List, All, false, None, length, map, IfOk, IfErr, OnOk, OnErr};
 ghost use Rattle.std.specs.String.{string_bytes};
 ghost use Rattle.item_io.specs.Items.{item_value, MasterItem};
 ghost use Rattle.master_playlist.specs.Faults.{fault_of};
@@ -14,7 +14,7 @@ use crate::playlists::Playlists;
 use crate::settings::Rendition;
 use item_io::{Item, Outlet};
 use segment_job::Sealed;
-use std::alloc::Global;
+use std::alloc::{AllocError, Global};
 
 /// Puts an item.
 fn put<O: Outlet>(outlet: &mut O, item: &Item) -> Result<(), PackFault>
@@ -53,50 +53,40 @@ pub fn put_segment<O: Outlet>(
     put(outlet, &item)
 }
 
-/// Puts the media playlist of rendition `r`.
-fn put_media<O: Outlet>(
-    outlet: &mut O,
+/// The media playlist of rendition `r`, ended or not.
+fn media(
     r: usize,
     rendition: &Rendition,
     playlists: &Playlists,
     ended: bool,
-) -> Result<(), PackFault>
-    requires { O.failures outlet.old < 2 ^ 63 }
-    ensures ok { OnOk result (PutAll (outlet_of O.holds O.broken O.failures) outlet.old outlet.new (media_of r rendition.now playlists.now ended ∷ [])) }
-    ensures err { OnErr result (PutSome (outlet_of O.holds O.broken O.failures) outlet.old outlet.new (media_of r rendition.now playlists.now ended ∷ [])) }
-    ensures fault { IfErr result (λ fault. SaysFailures fault (O.failures outlet.old) (O.failures outlet.new)) }
+) -> Result<Item, AllocError>
+    ensures { IfOk result (λ item. item_value item ≡ media_of r rendition.now playlists.now ended) }
 {
-    let item = Item::Media {
+    Ok(Item::Media {
         rendition: r,
         count: playlists.count(),
         ended,
         name: rendition.name.clone()?,
         text: playlists.media_text(ended)?,
-    };
-    put(outlet, &item)
+    })
 }
 
-/// Puts the I-frame playlist of rendition `r`.
-fn put_frames<O: Outlet>(
-    outlet: &mut O,
+/// The I-frame playlist of rendition `r`, ended or not.
+fn frames(
     r: usize,
     rendition: &Rendition,
     playlists: &Playlists,
     ended: bool,
-) -> Result<(), PackFault>
-    requires { O.failures outlet.old < 2 ^ 63 }
-    ensures ok { OnOk result (PutAll (outlet_of O.holds O.broken O.failures) outlet.old outlet.new (frames_of r rendition.now playlists.now ended ∷ [])) }
-    ensures err { OnErr result (PutSome (outlet_of O.holds O.broken O.failures) outlet.old outlet.new (frames_of r rendition.now playlists.now ended ∷ [])) }
-    ensures fault { IfErr result (λ fault. SaysFailures fault (O.failures outlet.old) (O.failures outlet.new)) }
+) -> Result<Item, AllocError>
+    ensures { IfOk result (λ item. item_value item ≡ frames_of r rendition.now playlists.now ended) }
 {
-    let item = Item::Frames {
+    Ok(Item::Frames {
         rendition: r,
         count: playlists.count(),
         ended,
         name: rendition.name.clone()?,
         text: playlists.frames_text(ended)?,
-    };
-    put(outlet, &item)
+    })
 }
 
 /// Puts both playlists of rendition `r`.
@@ -114,8 +104,8 @@ pub fn put_playlists<O: Outlet>(
         (media_of r rendition.now playlists.now ended ∷ frames_of r rendition.now playlists.now ended ∷ [])) }
     ensures fault { IfErr result (λ fault. SaysFailures fault (O.failures outlet.old) (O.failures outlet.new)) }
 {
-    put_media(outlet, r, rendition, playlists, ended)?;
-    put_frames(outlet, r, rendition, playlists, ended)?;
+    put(outlet, &media(r, rendition, playlists, ended)?)?;
+    put(outlet, &frames(r, rendition, playlists, ended)?)?;
     Ok(())
 }
 
