@@ -1,3 +1,4 @@
 pub mod Filling
+pub mod Numbered
 pub mod Overtaking
 pub mod Turns

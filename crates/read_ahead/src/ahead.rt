@@ -19,12 +19,13 @@ impl<R> Model for Ahead<R> {
 
     ghost Value = { Counts };
 
-    ghost view = { λ s. record { reads = s.reads; failures = s.failures } };
+    ghost view = { λ s. record { number = s.line.number; reads = s.reads; failures = s.failures } };
 }
 
 impl<R: Wait> Ahead<R> {
     /// The source of what comes on a line.
     pub fn new(rt: R, line: Line) -> Ahead<R>
+        ensures number { result.number ≡ line.number }
         ensures reads { result.reads ≡ 0 }
         ensures failures { result.failures ≡ 0 }
     {

@@ -3,6 +3,7 @@ ghost use Rattle.std.specs.Prelude.{◌≡◌, ◌+◌, ◌≤◌, ◌<◌, ◌^
 use crate::blocks::Blocks;
 use std::alloc::{AllocError, Global};
 use std::marker::Model;
+use std::mem;
 
 /// The bytes that were read and not given yet.
 #[derive(Drop)]
@@ -50,14 +51,15 @@ impl Backlog {
         self.count = 0;
     }
 
-    /// Adds bytes behind the last.
-    pub fn add(&mut self, bytes: &[u8]) -> Result<(), AllocError>
-        requires { length self.old + length bytes.now < 2 ^ 64 }
-        ensures ok { OnOk result (self.new ≡ self.old ++ bytes.now) }
+    /// Takes a block and adds it behind the last.
+    pub fn add(&mut self, block: &mut Vec<u8>) -> Result<(), AllocError>
+        requires { length self.old + length block.old.items < 2 ^ 64 }
+        ensures ok { OnOk result (self.new ≡ self.old ++ block.old.items) }
         ensures err { OnErr result (self.new ≡ self.old) }
     {
-        self.blocks.add(self.alloc, bytes)?;
-        self.count += bytes.len();
+        let count = block.len();
+        self.blocks.add(mem::replace(block, Vec::new(self.alloc)))?;
+        self.count += count;
         Ok(())
     }
 

@@ -2,7 +2,7 @@ ghost use Rattle.std.specs.Prelude.{◌≡◌, ◌+◌, ◌-◌, ◌≤◌, ◌<
 ghost use Rattle.std.specs.VecDeque.{deque_len};
 ghost use Rattle.read_ahead.specs.Blocks.{waiting};
 
-use crate::limits::BLOCK;
+use crate::limits::{BLOCK, SMALL};
 use std::alloc::{AllocError, Global};
 use std::collections::VecDeque;
 use std::mem;
@@ -32,19 +32,18 @@ impl Blocks {
         }
     }
 
-    /// Adds bytes behind the last.
-    pub fn add(&mut self, alloc: Global, bytes: &[u8]) -> Result<(), AllocError>
+    /// Adds a block behind the last. The bytes of a small one are copied, where they fit; any other is kept as it is.
+    pub fn add(&mut self, block: Vec<u8>) -> Result<(), AllocError>
         requires at { self.old.at ≤ length self.old.front.items }
-        ensures ok { OnOk result (waiting self.new ≡ waiting self.old ++ bytes.now) }
+        ensures ok { OnOk result (waiting self.new ≡ waiting self.old ++ block.items) }
         ensures err { OnErr result (waiting self.new ≡ waiting self.old) }
         ensures at { self.new.at ≤ length self.new.front.items }
     {
-        if self.last.len().saturating_add(bytes.len()) <= BLOCK {
-            return self.last.extend_from_slice(bytes);
+        if block.len() <= SMALL && self.last.len().saturating_add(block.len()) <= BLOCK {
+            return self.last.extend_from_slice(&block);
         }
-        let next = bytes.to_vec(alloc)?;
         self.middle.reserve(1)?;
-        let full = mem::replace(&mut self.last, next);
+        let full = mem::replace(&mut self.last, block);
         self.middle.push_back_reserved(full);
         Ok(())
     }

@@ -1,4 +1,4 @@
-ghost use Rattle.std.specs.Prelude.{◌≡◌, ◌≢◌, ◌≤◌, ℕ, [], Ok, Some, true, false, All, length, slice_get, IfOk, IfSome, IsErr};
+ghost use Rattle.std.specs.Prelude.{◌≡◌, ◌≢◌, ◌≤◌, ◌-◌, ◌/◌, nat_le, ℕ, [], Ok, Some, true, false, All, length, slice_get, IfOk, IfSome, IsErr};
 ghost use Rattle.read_ahead.specs.Shares.{StayOvertaken, is_overtaken, turns};
 ghost use Rattle.read_ahead.specs.Steps.{Puts, Takes};
 ghost use Rattle.read_ahead.specs.declared.lane.Lane.{Lane};
@@ -21,7 +21,7 @@ impl Board {
     pub fn new(alloc: Global, count: usize, room: usize) -> Result<Board, AllocError>
         ensures count { IfOk result (λ board. length board.lanes.items ≡ count) }
         ensures room { IfOk result (λ board. board.room ≡ room) }
-        ensures none { IfOk result (λ board. All (λ lane. (lane.ready ≡ []) × (lane.closed ≡ false) × (lane.takes ≡ 0)) board.lanes.items) }
+        ensures none { IfOk result (λ board. All (λ lane. (lane.ready ≡ []) × (lane.closed ≡ false) × (lane.failed ≡ false) × (lane.takes ≡ 0)) board.lanes.items) }
     {
         let mut lanes = Vec::with_capacity(alloc, count)?;
         for _ in 0..count {
@@ -38,10 +38,20 @@ impl Board {
         number < self.lanes.len() && is_overtaken(self.lanes[number].takes, &self.lanes)
     }
 
-    /// Puts bytes behind the last of an input, and answers true; false where there is no room for them. Of an input that was
-    /// overtaken all bytes are thrown away.
-    pub fn put(&mut self, number: usize, bytes: &[u8]) -> Result<bool, AllocError>
-        ensures own { (was is : Lane) → slice_get self.old.lanes.items number ≡ Some was → slice_get self.new.lanes.items number ≡ Some is → is_overtaken was.takes self.old.lanes.items ≡ false → Puts self.old.room bytes.now was is result }
+    /// Whether a sixteenth of an input's room is free. A thread that waits for room isn't woken for less, since it would wait again
+    /// behind the next block.
+    pub fn has_slack(&self, number: usize) -> bool
+        ensures has { (lane : Lane) → slice_get self.now.lanes.items number ≡ Some lane → result ≡ nat_le (length lane.ready) (self.now.room - self.now.room / 16) }
+        ensures missing { length self.now.lanes.items ≤ number → result ≡ false }
+    {
+        number < self.lanes.len() && self.lanes[number].ready.count() <= self.room - self.room / 16
+    }
+
+    /// Puts a block behind the last byte of an input, and answers true; false where there is no room for it, and leaves it. Of
+    /// an input that was overtaken all bytes are thrown away.
+    pub fn put(&mut self, number: usize, block: &mut Vec<u8>) -> Result<bool, AllocError>
+        ensures own { (was is : Lane) → slice_get self.old.lanes.items number ≡ Some was → slice_get self.new.lanes.items number ≡ Some is → is_overtaken was.takes self.old.lanes.items ≡ false → Puts self.old.room block.old.items was is result }
+        ensures kept { result ≡ Ok false → block.new.items ≡ block.old.items }
         ensures left { (was is : Lane) → slice_get self.old.lanes.items number ≡ Some was → slice_get self.new.lanes.items number ≡ Some is → is_overtaken was.takes self.old.lanes.items ≡ true → (result ≡ Ok true) × (is ≡ record was { ready = [] }) }
         ensures others { (k : ℕ) → k ≢ number → slice_get self.new.lanes.items k ≡ slice_get self.old.lanes.items k }
         ensures missing { length self.old.lanes.items ≤ number → IsErr result }
@@ -55,7 +65,7 @@ impl Board {
             self.lanes[number].clear();
             return Ok(true);
         }
-        self.lanes[number].put(self.room, bytes)
+        self.lanes[number].put(self.room, block)
     }
 
     /// No more bytes of an input come, since a read failed or its end was reached.

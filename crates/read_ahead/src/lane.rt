@@ -35,10 +35,11 @@ impl Lane {
         }
     }
 
-    /// Puts bytes behind the last, and answers true; false where there is no room for them.
-    pub fn put(&mut self, room: usize, bytes: &[u8]) -> Result<bool, AllocError>
-        ensures fits { IfOk result (λ stored. stored ≡ has_room room (length self.old.ready) (length bytes.now)) }
-        ensures stored { IfOk result (λ stored. stored ≡ true → self.new.ready ≡ self.old.ready ++ bytes.now) }
+    /// Puts a block behind the last, and answers true; false where there is no room for it, and leaves it.
+    pub fn put(&mut self, room: usize, block: &mut Vec<u8>) -> Result<bool, AllocError>
+        ensures fits { IfOk result (λ stored. stored ≡ has_room room (length self.old.ready) (length block.old.items)) }
+        ensures kept { result ≡ Ok false → block.new.items ≡ block.old.items }
+        ensures stored { IfOk result (λ stored. stored ≡ true → self.new.ready ≡ self.old.ready ++ block.old.items) }
         ensures full { IfOk result (λ stored. stored ≡ false → self.new.ready ≡ self.old.ready) }
         ensures err { OnErr result (self.new.ready ≡ self.old.ready) }
         ensures closed { self.new.closed ≡ self.old.closed }
@@ -46,10 +47,10 @@ impl Lane {
         ensures takes { self.new.takes ≡ self.old.takes }
     {
         let ready = self.ready.count();
-        if ready > 0 && (ready > room || bytes.len() > room - ready) {
+        if ready > 0 && (ready > room || block.len() > room - ready) {
             return Ok(false);
         }
-        self.ready.add(bytes)?;
+        self.ready.add(block)?;
         Ok(true)
     }
 

@@ -16,5 +16,4 @@ mod shares;
 mod tests;
 
 pub use ahead::Ahead;
-pub use limits::{BLOCK, ROOM};
 pub use opening::{OpenFault, open_all};

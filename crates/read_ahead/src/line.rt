@@ -58,7 +58,9 @@ pub struct Line {
 
 impl Line {
     /// The line of the input of this number.
-    pub fn new(shared: &Arc<Shared, Global>, number: usize) -> Result<Line, AllocError> {
+    pub fn new(shared: &Arc<Shared, Global>, number: usize) -> Result<Line, AllocError>
+        ensures { IfOk result (λ line. line.number ≡ number) }
+    {
         Ok(Line {
             shared: Arc::try_clone(shared)?,
             number,
@@ -66,18 +68,22 @@ impl Line {
     }
 
     /// The same line.
-    pub fn again(&self) -> Result<Line, AllocError> {
+    pub fn again(&self) -> Result<Line, AllocError>
+        ensures { IfOk result (λ line. line.number ≡ self.now.number) }
+    {
         Line::new(&self.shared, self.number)
     }
 
-    /// Puts bytes behind the last, once there is room for them or they are thrown away.
-    pub fn put<R: Wait>(&self, rt: &R, bytes: &[u8]) -> Result<(), AllocError> {
+    /// Puts a block behind the last byte, once there is room for it or it's thrown away. It was made before the lock is taken,
+    /// so that whoever takes bytes doesn't wait until they are copied.
+    pub fn put<R: Wait>(&self, rt: &R, block: Vec<u8>) -> Result<(), AllocError> {
+        let mut block = block;
         let Some(signals) = self.shared.signals.get(self.number) else {
             return Err(AllocError);
         };
         let mut board = self.shared.board.lock(rt);
         for _ in rt.forever() {
-            if board.put(self.number, bytes)? {
+            if board.put(self.number, &mut block)? {
                 signals.came.notify_one();
                 return Ok(());
             }
@@ -106,7 +112,9 @@ impl Line {
             let answer = board.take(self.number, buffer);
             self.shared.wake_overtaken(&board);
             if let Some(count) = answer? {
-                signals.taken.notify_one();
+                if board.has_slack(self.number) {
+                    signals.taken.notify_one();
+                }
                 return Ok(count);
             }
             board = signals.came.wait(rt, board);

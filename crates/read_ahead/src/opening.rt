@@ -1,4 +1,6 @@
-ghost use Rattle.std.specs.Prelude.{◌≡◌, All, vec_len, length, IfOk};
+ghost use Rattle.std.specs.Prelude.{◌≡◌, ℕ, Some, All, vec_len, length, slice_get, IfOk};
+ghost use Rattle.read_ahead.specs.declared.opening.OpenFault.TheVariants.{NoMemory};
+ghost use Rattle.read_ahead.specs.Sources.{Counts};
 
 use crate::ahead::Ahead;
 use crate::doors::Doors;
@@ -25,6 +27,8 @@ pub enum OpenFault {
 }
 
 impl From<AllocError> for OpenFault {
+    ghost from_gives = { λ _ fault. fault ≡ NoMemory };
+
     fn from(_: AllocError) -> OpenFault {
         OpenFault::NoMemory
     }
@@ -41,6 +45,7 @@ where
     R::File: Send + 'static,
     R::Dir: Send + 'static,
     ensures count { IfOk result (λ sources. vec_len sources ≡ length paths.now) }
+    ensures numbered { IfOk result (λ sources. (k : ℕ) (source : Counts) → slice_get sources.items k ≡ Some source → source.number ≡ k) }
     ensures unread { IfOk result (λ sources. All (λ source. (source.reads ≡ 0) × (source.failures ≡ 0)) sources.items) }
 {
     let (doors, sources) = start_all(rt, alloc, paths)?;
@@ -61,6 +66,7 @@ where
     R::File: Send + 'static,
     R::Dir: Send + 'static,
     ensures count { IfOk result (λ started. vec_len started.1 ≡ length paths.now) }
+    ensures numbered { IfOk result (λ started. (k : ℕ) (source : Counts) → slice_get started.1.items k ≡ Some source → source.number ≡ k) }
     ensures unread { IfOk result (λ started. All (λ source. (source.reads ≡ 0) × (source.failures ≡ 0)) started.1.items) }
 {
     let doors = Arc::new(alloc, Doors::new(paths.len()))?;

@@ -9,7 +9,7 @@ use std::test::Fail;
 fn lines_of(rt: &impl Wait, alloc: Global, ready: &[usize]) -> Result<Vec<Line>, AllocError> {
     let lines = new_lines(alloc, ready.len(), 0)?;
     for (line, count) in lines.iter().zip(ready) {
-        line.put(rt, &vec![in alloc; 0x47; *count]?)?;
+        line.put(rt, vec![in alloc; 0x47; *count]?)?;
         line.close(rt, false);
     }
     Ok(lines)
