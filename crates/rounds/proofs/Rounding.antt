@@ -1,13 +1,17 @@
 -- A round on its way: the next piece of a rendition is given.
-use Rattle.std.proofs.Common.{◌≡◌, ◌∙◌, inl, inr, ℕ, ◌+◌, ◌<◌, ◌^◌, List, [], ◌∷◌, ◌++◌, length, map, drop, Some, refl, ap, sym, subst, arith, length-append}
+use Rattle.std.proofs.Common.{◌≡◌, ◌∙◌, inl, inr, ℕ, ◌+◌, ◌<◌, ◌≤◌, ◌^◌, Bool, true, false, List, [], ◌∷◌, ◌++◌, length, map, drop, Some, refl, ap, sym, subst, arith, length-append}
+use Rattle.std.specs.Prelude.{nat_lt}
 use Rattle.std.specs.List.{slice_get, slice_index_or}
 use Rattle.std.proofs.lemmas.Bool.{cases_eq}
+use Rattle.std.proofs.lemmas.Bool.Decides.{nat_tests}
 use Rattle.std.proofs.lemmas.List.{length-set, get_or-map}
+use Rattle.std.proofs.Math.ListN.{get_or-eq_default}
 use Rattle.cutter.specs.Plans.{SegmentPlan}
 use Rattle.segment_job.specs.Segments.{SealedSegment, sealed_segment}
 use Rattle.flow_core.specs.declared.slot.Slot.{Slot}
+use Rattle.flow_core.specs.Slots.{leading}
 use Rattle.flow_core.specs.Lanes.{LaneValue, passed}
-use Rattle.flow_core.specs.Gatherings.{Gathering, lane_at, with_lane, awaited}
+use Rattle.flow_core.specs.Gatherings.{Gathering, no_lane, lane_at, with_lane, awaited}
 use Rattle.flow_core.proofs.Gathering.{awaited-set}
 use Rattle.flow_core.proofs.Flowing.{lane-same, lane-other, inside}
 use Rattle.live_board.specs.Snapshots.{Known}
@@ -25,8 +29,8 @@ use Rattle.ladder_items.proofs.Elsewhere.{after-other}
 use Rattle.ladder_items.proofs.Worlds.{InOrder, parts-of, parts-length}
 use Rattle.rounds.specs.declared.course.Course.{Course}
 use Rattle.rounds.specs.Showing.{counts_of}
-use Rattle.rounds.specs.Courses.{Gave, GaveSome, ReadsNone, Start, IsStopped, SaysSudden}
-use Rattle.rounds.specs.Rounds.{Keeps, InRound, expected, unfed_of, pieces_of, gathered}
+use Rattle.rounds.specs.Courses.{Gave, GaveSome, IsHeld, ReadsNone, Start, IsStopped, SaysSudden}
+use Rattle.rounds.specs.Rounds.{Keeps, InRound, NoneReady, expected, unfed_of, pieces_of, gathered}
 use Rattle.rounds.proofs.Collecting.{gathered-set}
 use Rattle.rounds.proofs.Steps.{counts-are}
 use Rattle.rounds.proofs.Running.{stage-of, stopped-here, first-next, waits-going, on-failures, on-gave, on-ungiven, row-moved, row-begins}
@@ -64,6 +68,20 @@ passed-fewer g r plan piece at =
     let moved = awaited-set g.lanes r (passed (lane_at g r)) (inside g r 0 _ at) in
     let front : length (drop 1 (lane_at g r).slots) + 1 ≡ length (lane_at g r).slots = one-less (lane_at g r).slots plan piece at in
     omega (arith, moved, front)
+
+-- where the renditions of a collector have nothing in front, none does
+dry-by : (b : Bool) (g : Gathering) (n k : ℕ) → nat_lt k n ≡ b → length g.lanes ≤ n → ((k : ℕ) → k < n → leading (lane_at g k).slots ≡ 0) → leading (lane_at g k).slots ≡ 0
+dry-by true g n k is few dry = dry k (grind (arith, nat_tests, is))
+dry-by false g n k is few dry =
+    let past : length g.lanes ≤ k = grind (arith, nat_tests, is, few) in
+    ap (λ (l : LaneValue). leading l.slots) (get_or-eq_default g.lanes no_lane past)
+
+pub none-ready : (g : Gathering) (n : ℕ) → length g.lanes ≤ n → ((k : ℕ) → k < n → leading (lane_at g k).slots ≡ 0) → NoneReady g
+none-ready g n few dry k = dry-by (nat_lt k n) g n k refl few dry
+
+-- a held segment leaves the outlet's count of failures
+pub held-sudden : (fault : PackFault) (n : ℕ) → IsHeld fault → SaysSudden fault n n
+held-sudden fault n held = subst (λ (f : PackFault). SaysSudden f n n) (sym held.2) refl
 
 module _ (X Y : Type 0) (input : InputView X) (out : OutletView Y) (ladder : Ladder) where
   -- pieces came

@@ -3,7 +3,7 @@ use Rattle.std.specs.Prelude.{◌≡◌, ℕ, ◌+◌, false, List, length, map,
 use Rattle.ingest.specs.declared.lane.Lane.{Lane}
 use Rattle.ingest.specs.Lanes.{IsFirst}
 use Rattle.ladder_items.specs.declared.report.Report.{Report}
-use Rattle.ladder_items.specs.Ladder.{Ladder}
+use Rattle.ladder_items.specs.Ladder.{Ladder, RenditionValue}
 use Rattle.ladder_items.specs.Shown.{Shown}
 use Rattle.ladder_items.specs.Items.{shown_all}
 use Rattle.ladder_items.specs.Weave.{none_of}
@@ -18,6 +18,7 @@ pub record IsBegun (ladder : Ladder) (workers : ℕ) (first : First) : Type 0 wh
   pub playlists : first.playlists.items ≡ shown_all ladder (none_of ladder)
   pub ended : first.ended.items ≡ replicate (length ladder.renditions) false
   pub spare : length first.spare.items ≡ length ladder.renditions
+  pub keys : first.keys.items ≡ map (λ (r : RenditionValue). r.keys) ladder.renditions
   pub right : first.books.right ≡ 0
   pub rounds : first.books.rounds ≡ 0
   pub claims : length first.books.workers.items ≡ workers

@@ -2,7 +2,7 @@
 use Rattle.std.specs.Prelude.{◌≡◌, ℕ, ◌+◌, ◌<◌, ◌≤◌, sum, List, [], ◌∷◌, ◌++◌, map, length, slice_index_or}
 use Rattle.cutter.specs.Plans.{SegmentPlan}
 use Rattle.flow_core.specs.declared.slot.Slot.{Slot}
-use Rattle.flow_core.specs.Slots.{one_more}
+use Rattle.flow_core.specs.Slots.{leading, one_more}
 use Rattle.flow_core.specs.Gatherings.{Gathering, lane_at}
 use Rattle.flow_core.specs.Lanes.{LaneValue}
 use Rattle.live_board.specs.Snapshots.{Known}
@@ -24,6 +24,15 @@ pub record Keeps (old new : Gathering) : Type 0 where
   pub most : new.most ≡ old.most
   pub count : length new.lanes ≡ length old.lanes
   pub each : (k : ℕ) → ((lane_at new k).keys ≡ (lane_at old k).keys) × ((lane_at new k).next ≡ (lane_at old k).next) × (expected (lane_at new k) ≡ expected (lane_at old k))
+
+-- the renditions of a collector are the ladder's, under their keys
+pub record HasKeys (ladder : Ladder) (g : Gathering) : Type 0 where
+  pub each : length g.lanes ≡ length ladder.renditions
+  pub keys : (k : ℕ) → k < length g.lanes → (lane_at g k).keys ≡ (rendition_at ladder k).keys
+
+-- no piece stands in front of any rendition: what could be given was
+abbrev pub NoneReady : Gathering → Type 0
+NoneReady g = (k : ℕ) → leading (lane_at g k).slots ≡ 0
 
 -- how many pieces stand in slots
 abbrev pub pieces_of : List Slot → ℕ

@@ -9,7 +9,8 @@ ghost use Rattle.rounds.specs.Showing.{counts_of};
 
 use crate::course::Course;
 use crate::feeding::feed_all;
-use crate::reading::{has_enough, read_turn};
+use crate::pace::Pace;
+use crate::reading::{is_enough, read_turn};
 use crate::showing::counts;
 use crate::taking::{Taker, give_expected, take_and_give};
 use cutter::Spool;
@@ -53,7 +54,7 @@ fn read_on<'s, S: Source, O: Outlet, L: Ledger, M: Ledger, R: Wait>(
     rt: &R,
     alloc: Global,
     settings: &Settings,
-    batch: usize,
+    pace: Pace,
     desk: &Desk<'s, L, M>,
     buffer: &mut [u8],
     taker: &mut Taker<M>,
@@ -71,7 +72,7 @@ fn read_on<'s, S: Source, O: Outlet, L: Ledger, M: Ledger, R: Wait>(
     ensures stays { OnOk result (course.new.turns ≡ course.old.turns → course.new.lanes ≡ course.old.lanes) }
     ensures fair { OnOk result (taker.new.right + gathered collector.old.lanes ≤ taker.old.right + gathered collector.new.lanes) }
 {
-    while !has_enough(course, batch) {
+    while !is_enough(course, pace, collector.awaited()) {
         read_turn(course, buffer)?;
         take_and_give(rt, alloc, settings, desk, taker, course, held, collector)?;
     }
@@ -84,7 +85,7 @@ pub fn drive<'s, S: Source, O: Outlet, L: Ledger, M: Ledger, R: Wait>(
     rt: &R,
     alloc: Global,
     settings: &Settings,
-    batch: usize,
+    pace: Pace,
     desk: &Desk<'s, L, M>,
     spools: &'s [Spool],
     buffer: &mut [u8],
@@ -115,7 +116,7 @@ pub fn drive<'s, S: Source, O: Outlet, L: Ledger, M: Ledger, R: Wait>(
         rt,
         alloc,
         settings,
-        batch,
+        pace,
         desk,
         buffer,
         taker,

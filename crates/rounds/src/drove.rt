@@ -6,6 +6,7 @@ ghost use Rattle.rounds.specs.Rounds.{IsDriven, unfed_of};
 
 use crate::driving::drive;
 use crate::going::Going;
+use crate::pace::Pace;
 use crate::taking::Taker;
 use cutter::Spool;
 use item_io::{Outlet, PIECE, Source};
@@ -28,7 +29,7 @@ pub fn driven<'p, 'r, S: Source, O: Outlet, L: Ledger, M: Ledger, R: Wait>(
     rt: &R,
     alloc: Global,
     settings: &Settings,
-    batch: usize,
+    pace: Pace,
     desk: &Desk<'p, L, M>,
     spools: &'p [Spool],
     pass: Pass<M>,
@@ -56,7 +57,7 @@ pub fn driven<'p, 'r, S: Source, O: Outlet, L: Ledger, M: Ledger, R: Wait>(
         rt,
         alloc,
         settings,
-        batch,
+        pace,
         desk,
         spools,
         &mut buffer,

@@ -7,7 +7,7 @@ ghost use Rattle.ingest.specs.Inputs.{input_of};
 ghost use Rattle.ladder_items.specs.Runs.{outlet_of};
 ghost use Rattle.ladder_items.specs.declared.fault.PackFault.TheVariants.{NoMemory};
 ghost use Rattle.rounds.specs.Courses.{IsStopped, ReadsNone, Start};
-ghost use Rattle.rounds.specs.Rounds.{Breaks, InRound, Keeps, gathered, unfed_of};
+ghost use Rattle.rounds.specs.Rounds.{Breaks, HasKeys, InRound, Keeps, gathered, unfed_of};
 
 use crate::course::Course;
 use crate::pieces::seal_own;
@@ -46,6 +46,7 @@ fn offer<'s, L: Ledger, M: Ledger, R: Wait>(
     plan: PlanRef<'s>,
     collector: &mut Collector<'s>,
 ) -> Result<(), PackFault>
+    requires keys { HasKeys settings.now collector.old }
     ensures keeps { Keeps collector.old collector.new }
     ensures more { gathered collector.old.lanes ≤ gathered collector.new.lanes }
     ensures fault { IfErr result (λ fault. fault ≡ NoMemory) }

@@ -12,6 +12,7 @@ ghost use Rattle.rounds.specs.Showing.{counts_of};
 use crate::course::Course;
 use crate::first::First;
 use crate::going::Going;
+use crate::pace::Pace;
 use crate::ran::{Ran, give_back};
 use crate::reading::read_first;
 use crate::told::told;
@@ -42,6 +43,7 @@ fn set_out<'r, S: Source, O: Outlet, R: Wait>(
         IsOn (input_of S.remaining S.reads S.failures) (outlet_of O.holds O.broken O.failures) ladder (record { sources = sources.items; outlet = outlet; shows = publisher; reads = reads }) 0 result.0.course result.0.held.publisher (λ k. []) }
     ensures books { result.0.books ≡ first.books }
     ensures spare { result.1 ≡ first.spare }
+    ensures keys { result.2 ≡ first.keys }
 {
     let First {
         lanes,
@@ -81,7 +83,7 @@ pub fn pack_fitted<S: Source + Drop, O: Outlet + Drop, G: Gate + Sync, R: Thread
     publisher: Publisher,
     outlet: O,
     reads: u64,
-    batch: usize,
+    pace: Pace,
 ) -> Ran<S, O>
     requires most { reads ≤ 2 ^ 40 }
     requires room { HaveRoom (input_of S.remaining S.reads S.failures) reads sources.items }
@@ -94,7 +96,7 @@ pub fn pack_fitted<S: Source + Drop, O: Outlet + Drop, G: Gate + Sync, R: Thread
 {
     let (going, spare, keys) = set_out(rt, first, sources, publisher, outlet, reads);
     let (going, answer) = run(
-        rt, alloc, settings, workers, batch, &keys, gate, spare, going,
+        rt, alloc, settings, workers, pace, &keys, gate, spare, going,
     );
     let Going {
         course,
@@ -114,7 +116,7 @@ fn run<'r, S: Source + Drop, O: Outlet + Drop, G: Gate + Sync, R: Threads + Wait
     alloc: Global,
     settings: &Settings,
     workers: usize,
-    batch: usize,
+    pace: Pace,
     keys: &[Keys],
     gate: &G,
     spare: Vec<Spool>,
@@ -136,7 +138,7 @@ fn run<'r, S: Source + Drop, O: Outlet + Drop, G: Gate + Sync, R: Threads + Wait
         books,
     } = going;
     let mut buffer = [0; PIECE];
-    let read = read_first(&mut course, batch, &mut buffer);
+    let read = read_first(&mut course, pace.least, &mut buffer);
     let going = Going {
         course,
         held,
@@ -145,7 +147,5 @@ fn run<'r, S: Source + Drop, O: Outlet + Drop, G: Gate + Sync, R: Threads + Wait
     if let Err(_) = read {
         return (going, Err(PackFault::NoMemory));
     }
-    run_rounds(
-        rt, alloc, settings, workers, batch, keys, gate, spare, going,
-    )
+    run_rounds(rt, alloc, settings, workers, pace, keys, gate, spare, going)
 }

@@ -14,6 +14,7 @@ mod giving;
 mod going;
 mod joining;
 mod opening;
+mod pace;
 mod packing;
 mod pieces;
 mod ran;

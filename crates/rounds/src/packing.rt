@@ -10,6 +10,7 @@ ghost use Rattle.rounds.specs.Shown.{FaultSaysShown, Fits, FitsThreads, IsPacked
 use crate::first::{First, starting};
 use crate::fitted::pack_fitted;
 use crate::fitting::fits;
+use crate::pace::Pace;
 use crate::ran::Ran;
 use item_io::{Outlet, READS, Source};
 use ladder_items::{PackFault, Settings};
@@ -90,9 +91,10 @@ pub fn pack_parallel_reads<
 
 /// Packs as `pack_parallel_reads` does, with rounds of another length.
 ///
-/// A round is read until `batch` segments are closed, over all renditions, and one at least; then they are sealed and given, while
-/// the next round is read. Where `batch` is 1, a segment of a live stream waits for no other one; where it is less than there are
-/// workers, some of them have nothing to do in most rounds.
+/// A round is read until `batch` segments are closed, over all renditions, and one at least, or until there is one for each worker
+/// and all of the round before is given; then they are sealed and given, while the next round is read. Where `batch` is 1, a
+/// segment of a live stream waits for no other one; where it is less than there are workers, some of them have nothing to do in
+/// most rounds. Where it is more, workers wait less often for each other, and more segments are held at a time.
 pub fn pack_in_batches<
     S: Source + Drop,
     O: Outlet + Drop,
@@ -121,9 +123,15 @@ pub fn pack_in_batches<
     ensures breach { IfErr result.answer (IsTurnedAway (run_of (input_of S.remaining S.reads S.failures) (outlet_of O.holds O.broken O.failures) reads sources.items result.sources.items outlet result.outlet) settings.now workers publisher.list result.publisher.list) }
 {
     match begin(alloc, settings, sources.len(), workers, &publisher) {
-        Ok(first) => pack_fitted(
-            rt, alloc, first, sources, settings, workers, gate, publisher, outlet, reads, batch,
-        ),
+        Ok(first) => {
+            let pace = Pace {
+                least: batch.min(workers),
+                most: batch,
+            };
+            pack_fitted(
+                rt, alloc, first, sources, settings, workers, gate, publisher, outlet, reads, pace,
+            )
+        }
         Err(fault) => unbegun(fault, sources, settings, workers, publisher, outlet, reads),
     }
 }

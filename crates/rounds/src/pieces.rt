@@ -1,8 +1,10 @@
-ghost use Rattle.std.specs.Prelude.{◌≡◌, ◌≢◌, ◌<◌, ◌≤◌, ◌^◌, ◌+◌, [], true, false, IfErr, IfOk, OnErr, OnOk};
-ghost use Rattle.flow_core.specs.Gatherings.{missing_in};
+ghost use Rattle.std.specs.Prelude.{◌≡◌, ◌≢◌, ◌<◌, ◌≤◌, ◌^◌, ◌+◌, [], true, false, IfErr, OnErr, OnOk, length};
+ghost use Rattle.cutter.specs.Lent.{lent};
+ghost use Rattle.flow_core.specs.Gatherings.{lane_at, missing_in};
+ghost use Rattle.flow_core.specs.Lanes.{IsRight, Lacks};
 ghost use Rattle.flow_core.specs.declared.piece.Outcome.TheVariants.{Held as HeldBack};
 ghost use Rattle.ladder_items.specs.declared.fault.PackFault.TheVariants.{Held, NoMemory};
-ghost use Rattle.rounds.specs.Rounds.{Keeps, gathered};
+ghost use Rattle.rounds.specs.Rounds.{HasKeys, Keeps, gathered};
 
 use cutter::PlanRef;
 use flow_core::{Collector, Outcome, Piece};
@@ -16,6 +18,8 @@ fn collect<'s>(collector: &mut Collector<'s>, piece: Sealed<'s>) -> bool
     ensures keeps { Keeps collector.old collector.new }
     ensures right { result ≡ true → gathered collector.new.lanes ≡ gathered collector.old.lanes + 1 }
     ensures wrong { result ≡ false → collector.new ≡ collector.old }
+    ensures sure { IsRight (lane_at collector.old piece.entry.plan.rendition) piece.entry → result ≡ true }
+    ensures fewer { result ≡ true → length (missing_in collector.new.lanes) + 1 ≡ length (missing_in collector.old.lanes) }
 {
     let Ok(_) = collector.collect(piece) else {
         return false;
@@ -72,8 +76,10 @@ pub fn seal_own<'s>(
     plan: PlanRef<'s>,
     collector: &mut Collector<'s>,
 ) -> Result<(), PackFault>
+    requires keys { HasKeys settings.now collector.old }
     ensures keeps { Keeps collector.old collector.new }
     ensures more { gathered collector.old.lanes ≤ gathered collector.new.lanes }
+    ensures fewer { OnOk result (Lacks (lane_at collector.old plan.entry.rendition) (lent plan.entry) → length (missing_in collector.new.lanes) < length (missing_in collector.old.lanes)) }
     ensures fault { IfErr result (λ fault. fault ≡ NoMemory) }
 {
     let Some(rendition) = settings.renditions.get(plan.rendition) else {
@@ -84,24 +90,21 @@ pub fn seal_own<'s>(
     Ok(())
 }
 
-/// Seals all that is missing on this thread, and tells whether anything was.
+/// Seals all that is missing on this thread.
 #[tactic(auto, using(crate::proofs::Collecting::keeps_same))]
 pub fn seal_missing(
     alloc: Global,
     settings: &Settings,
     collector: &mut Collector<'_>,
-) -> Result<bool, PackFault>
+) -> Result<(), PackFault>
+    requires keys { HasKeys settings.now collector.old }
     ensures keeps { Keeps collector.old collector.new }
     ensures more { gathered collector.old.lanes ≤ gathered collector.new.lanes }
-    ensures none { IfOk result (λ any. any ≡ false → (collector.new ≡ collector.old) × (missing_in collector.old.lanes ≡ [])) }
+    ensures all { OnOk result (missing_in collector.new.lanes ≡ []) }
     ensures fault { IfErr result (λ fault. fault ≡ NoMemory) }
 {
-    let missing = collector.missing()?;
-    if missing.is_empty() {
-        return Ok(false);
+    while let Some(plan) = collector.first_missing() {
+        seal_own(alloc, settings, plan, collector)?;
     }
-    for plan in &missing {
-        seal_own(alloc, settings, plan.plan(), collector)?;
-    }
-    Ok(true)
+    Ok(())
 }

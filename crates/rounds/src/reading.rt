@@ -9,6 +9,7 @@ ghost use Rattle.live_board.specs.Snapshots.{Known};
 ghost use Rattle.rounds.specs.Courses.{HasClosed, HasEnough, IsOn, IsStopped, Start};
 
 use crate::course::Course;
+use crate::pace::Pace;
 use ingest::Lane;
 use item_io::{Outlet, Source};
 use ladder_items::have_stopped;
@@ -77,7 +78,7 @@ pub fn read_first<S: Source, O: Outlet>(
 }
 
 /// Whether enough plans are closed for a round, or nothing is read any further.
-pub fn has_enough<S: Source, O: Outlet>(course: &Course<S, O>, batch: usize) -> bool
+fn has_enough<S: Source, O: Outlet>(course: &Course<S, O>, batch: usize) -> bool
     ensures yes { result ≡ true → HasEnough course.now }
     ensures no { result ≡ false → course.now.turns < course.now.reads }
 {
@@ -91,6 +92,17 @@ pub fn has_enough<S: Source, O: Outlet>(course: &Course<S, O>, batch: usize) -> 
         return false;
     }
     count_closed(&course.lanes) >= batch
+}
+
+/// Whether enough is read for the next round, while so many segments of the one before are still to be given.
+pub fn is_enough<S: Source, O: Outlet>(course: &Course<S, O>, pace: Pace, awaited: usize) -> bool
+    ensures yes { result ≡ true → HasEnough course.now }
+    ensures no { result ≡ false → course.now.turns < course.now.reads }
+{
+    if awaited == 0 {
+        return has_enough(course, pace.least);
+    }
+    has_enough(course, pace.most)
 }
 
 /// Whether any plan is closed and not turned out.

@@ -1,9 +1,10 @@
-ghost use Rattle.std.specs.Prelude.{◌≡◌, ◌<◌, IfErr, IfOk, OnOk, true};
-ghost use Rattle.flow_core.specs.Gatherings.{awaited};
+ghost use Rattle.std.specs.Prelude.{◌≡◌, ◌≢◌, ◌<◌, ℕ, IfErr, IfOk, OnOk, false, true};
+ghost use Rattle.flow_core.specs.Gatherings.{awaited, lane_at};
+ghost use Rattle.flow_core.specs.Slots.{leading};
 ghost use Rattle.ingest.specs.Inputs.{input_of};
 ghost use Rattle.ladder_items.specs.Runs.{outlet_of};
 ghost use Rattle.rounds.specs.Courses.{ReadsNone};
-ghost use Rattle.rounds.specs.Rounds.{IsSomewhere, Moves, Breaks, gathered};
+ghost use Rattle.rounds.specs.Rounds.{Breaks, IsSomewhere, Moves, NoneReady, gathered};
 
 use crate::course::Course;
 use crate::giving::give_piece;
@@ -30,6 +31,8 @@ fn give_next<S: Source, O: Outlet, R: Wait>(
     ensures none_read { ReadsNone course.old course.new }
     ensures gathered { OnOk result (gathered collector.new.lanes ≡ gathered collector.old.lanes) }
     ensures fewer { IfOk result (λ any. any ≡ true → awaited collector.new.lanes < awaited collector.old.lanes) }
+    ensures dry { IfOk result (λ any. any ≡ false → leading (lane_at collector.new r).slots ≡ 0) }
+    ensures others { OnOk result ((k : ℕ) → k ≢ r → lane_at collector.new k ≡ lane_at collector.old k) }
 {
     let Some(piece) = collector.next(r) else {
         return Ok(false);
@@ -53,6 +56,8 @@ fn give_ready<S: Source, O: Outlet, R: Wait>(
     ensures err { IfErr result (Breaks (input_of S.remaining S.reads S.failures) (outlet_of O.holds O.broken O.failures) settings.now course.old held.old.publisher collector.old course.new held.new.publisher) }
     ensures none_read { ReadsNone course.old course.new }
     ensures gathered { OnOk result (gathered collector.new.lanes ≡ gathered collector.old.lanes) }
+    ensures dry { OnOk result (leading (lane_at collector.new r).slots ≡ 0) }
+    ensures others { OnOk result ((k : ℕ) → k ≢ r → lane_at collector.new k ≡ lane_at collector.old k) }
 {
     while give_next(rt, alloc, settings, r, course, held, collector)? {}
     Ok(())
@@ -72,6 +77,7 @@ pub fn give_all_ready<S: Source, O: Outlet, R: Wait>(
     ensures err { IfErr result (Breaks (input_of S.remaining S.reads S.failures) (outlet_of O.holds O.broken O.failures) settings.now course.old held.old.publisher collector.old course.new held.new.publisher) }
     ensures none_read { ReadsNone course.old course.new }
     ensures gathered { OnOk result (gathered collector.new.lanes ≡ gathered collector.old.lanes) }
+    ensures dry { OnOk result (NoneReady collector.new) }
 {
     for r in 0..settings.renditions.len() {
         give_ready(rt, alloc, settings, r, course, held, collector)?;

@@ -6,6 +6,7 @@ ghost use Rattle.rounds.specs.Rounds.{IsBroken, IsRound, unfed_of};
 
 use crate::books::no_counts;
 use crate::going::Going;
+use crate::pace::Pace;
 use crate::scoped::in_scope;
 use cutter::Spool;
 use item_io::{Outlet, Source};
@@ -19,13 +20,13 @@ use std::thread::Threads;
 use work_desk::{Desk, Gate, Opened};
 
 /// A round: the plans of the full spools are sealed by so many workers and given in sequence, and meanwhile the next round is
-/// read, until so many plans of it are closed as `batch` says.
+/// read, until enough of it is closed.
 pub fn run_round<'r, S: Source + Drop, O: Outlet + Drop, G: Gate + Sync, R: Threads + Wait + Sync>(
     rt: &'r R,
     alloc: Global,
     settings: &Settings,
     workers: usize,
-    batch: usize,
+    pace: Pace,
     spools: &[Spool],
     keys: &[Keys],
     gate: &G,
@@ -43,7 +44,7 @@ pub fn run_round<'r, S: Source + Drop, O: Outlet + Drop, G: Gate + Sync, R: Thre
         alloc,
         settings,
         workers,
-        batch,
+        pace,
         spools,
         keys,
         gate,
@@ -67,7 +68,7 @@ fn round_with<
     alloc: Global,
     settings: &Settings,
     workers: usize,
-    batch: usize,
+    pace: Pace,
     spools: &[Spool],
     keys: &[Keys],
     gate: &G,
@@ -98,6 +99,6 @@ fn round_with<
         rest,
     } = opened;
     in_scope(
-        rt, alloc, settings, batch, &desk, passes, rest, taker, spools, keys, gate, counts, going,
+        rt, alloc, settings, pace, &desk, passes, rest, taker, spools, keys, gate, counts, going,
     )
 }

@@ -7,6 +7,7 @@ ghost use Rattle.rounds.specs.Rounds.{IsBroken, IsRound, unfed_of};
 use crate::drove::{Drove, closed, driven};
 use crate::going::Going;
 use crate::joining::{join_all, settled};
+use crate::pace::Pace;
 use cutter::Spool;
 use item_io::{Outlet, Source};
 use ladder_items::{PackFault, Settings};
@@ -31,7 +32,7 @@ pub fn in_scope<
     rt: &'r R,
     alloc: Global,
     settings: &Settings,
-    batch: usize,
+    pace: Pace,
     desk: &Desk<'p, L, M>,
     passes: Vec<Pass<L>>,
     rest: Share<L>,
@@ -84,7 +85,7 @@ pub fn in_scope<
                 going,
                 answer,
                 mut taker,
-            } = driven(rt, alloc, settings, batch, desk, spools, pass, going);
+            } = driven(rt, alloc, settings, pace, desk, spools, pass, going);
             if answer.is_err() {
                 desk.stop(rt);
             } else {

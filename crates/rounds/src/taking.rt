@@ -1,14 +1,14 @@
-ghost use Rattle.std.specs.Prelude.{◌≡◌, ◌+◌, ◌<◌, ◌≤◌, ℕ, IfErr, IfOk, OnOk};
+ghost use Rattle.std.specs.Prelude.{◌≡◌, ◌+◌, ◌<◌, ◌≤◌, ℕ, IfErr, IfNone, IfSome, OnOk};
 ghost use Rattle.flow_core.specs.Gatherings.{awaited};
 ghost use Rattle.ingest.specs.Inputs.{input_of};
 ghost use Rattle.ladder_items.specs.Runs.{outlet_of};
-ghost use Rattle.rounds.specs.Courses.{ReadsNone, SaysSudden};
-ghost use Rattle.rounds.specs.Rounds.{IsSomewhere, Moves, Breaks, Keeps, gathered};
+ghost use Rattle.rounds.specs.Courses.{IsHeld, ReadsNone, SaysSudden};
+ghost use Rattle.rounds.specs.Rounds.{Breaks, HasKeys, IsSomewhere, Keeps, Moves, NoneReady, gathered};
 
 use crate::course::Course;
 use crate::pieces::{seal_missing, take_in};
 use crate::ready::give_all_ready;
-use flow_core::Collector;
+use flow_core::{Collector, Piece};
 use item_io::{Outlet, Source};
 use ladder_items::{PackFault, Settings};
 use live_board::HeldPublisher;
@@ -28,47 +28,40 @@ pub struct Taker<M: Ledger> {
     pub ghost counted: { right + thrown ≡ pass.count },
 }
 
-/// Waits for a piece, and takes it in. False where nothing is outstanding.
-pub fn take_awaited<'s, L: Ledger, M: Ledger, R: Wait>(
+/// A piece that the desk hands out. Where `wait` is true, it is waited for while any is outstanding.
+fn hand_out<'s, L: Ledger, M: Ledger, R: Wait>(
     rt: &R,
     desk: &Desk<'s, L, M>,
-    taker: &mut Taker<M>,
-    collector: &mut Collector<'s>,
-) -> Result<bool, PackFault>
-    ensures keeps { Keeps collector.old collector.new }
-    ensures fair { taker.new.right + gathered collector.old.lanes ≡ taker.old.right + gathered collector.new.lanes }
-    ensures fault { IfErr result (λ fault. (n : ℕ) → SaysSudden fault n n) }
+    wait: bool,
+    pass: &mut Pass<M>,
+) -> Option<Piece<'s>>
+    ensures counted { IfSome result (λ _. pass.new.count ≡ pass.old.count + 1) }
+    ensures uncounted { IfNone result (pass.new.count ≡ pass.old.count) }
 {
-    let Taker {
-        pass,
-        right,
-        thrown,
-    } = taker;
-    let Some(piece) = desk.wait_done(rt, pass) else {
-        return Ok(false);
-    };
-    prove!(pass.count > 0);
-    take_in(collector, piece, right, thrown)?;
-    Ok(true)
+    if wait {
+        return desk.wait_done(rt, pass);
+    }
+    desk.take_done(rt, pass)
 }
 
-/// Takes in a piece that is done. False where nothing is.
-fn take_one<'s, L: Ledger, M: Ledger, R: Wait>(
+/// Takes in a piece that the desk hands out. False where it hands out none.
+pub fn take_one<'s, L: Ledger, M: Ledger, R: Wait>(
     rt: &R,
     desk: &Desk<'s, L, M>,
+    wait: bool,
     taker: &mut Taker<M>,
     collector: &mut Collector<'s>,
 ) -> Result<bool, PackFault>
     ensures keeps { Keeps collector.old collector.new }
     ensures fair { taker.new.right + gathered collector.old.lanes ≡ taker.old.right + gathered collector.new.lanes }
-    ensures fault { IfErr result (λ fault. (n : ℕ) → SaysSudden fault n n) }
+    ensures fault { IfErr result IsHeld }
 {
     let Taker {
         pass,
         right,
         thrown,
     } = taker;
-    let Some(piece) = desk.take_done(rt, pass) else {
+    let Some(piece) = hand_out(rt, desk, wait, pass) else {
         return Ok(false);
     };
     prove!(pass.count > 0);
@@ -85,10 +78,10 @@ fn take_all<'s, L: Ledger, M: Ledger, R: Wait>(
 ) -> Result<(), PackFault>
     ensures keeps { Keeps collector.old collector.new }
     ensures fair { taker.new.right + gathered collector.old.lanes ≡ taker.old.right + gathered collector.new.lanes }
-    ensures fault { IfErr result (λ fault. (n : ℕ) → SaysSudden fault n n) }
+    ensures fault { IfErr result IsHeld }
 {
     for _ in rt.forever() {
-        if !take_one(rt, desk, taker, collector)? {
+        if !take_one(rt, desk, false, taker, collector)? {
             break;
         }
     }
@@ -111,6 +104,7 @@ pub fn take_and_give<'s, S: Source, O: Outlet, L: Ledger, M: Ledger, R: Wait>(
     ensures err { IfErr result (Breaks (input_of S.remaining S.reads S.failures) (outlet_of O.holds O.broken O.failures) settings.now course.old held.old.publisher collector.old course.new held.new.publisher) }
     ensures none_read { ReadsNone course.old course.new }
     ensures fair { OnOk result (taker.new.right + gathered collector.old.lanes ≤ taker.old.right + gathered collector.new.lanes) }
+    ensures dry { OnOk result (NoneReady collector.new) }
 {
     take_all(rt, desk, taker, collector)?;
     give_all_ready(rt, alloc, settings, course, held, collector)?;
@@ -126,11 +120,12 @@ fn wait_or_seal<'s, L: Ledger, M: Ledger, R: Wait>(
     taker: &mut Taker<M>,
     collector: &mut Collector<'s>,
 ) -> Result<(), PackFault>
+    requires keys { HasKeys settings.now collector.old }
     ensures keeps { Keeps collector.old collector.new }
     ensures fair { taker.new.right + gathered collector.old.lanes ≤ taker.old.right + gathered collector.new.lanes }
     ensures fault { IfErr result (λ fault. (n : ℕ) → SaysSudden fault n n) }
 {
-    if !take_awaited(rt, desk, taker, collector)? {
+    if !take_one(rt, desk, true, taker, collector)? {
         seal_missing(alloc, settings, collector)?;
     }
     Ok(())

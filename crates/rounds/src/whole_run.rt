@@ -12,6 +12,7 @@ ghost use Rattle.rounds.specs.Showing.{counts_of};
 
 use crate::ends::give_ends;
 use crate::going::Going;
+use crate::pace::Pace;
 use crate::reading::any_closed;
 use crate::round::run_round;
 use crate::turning_out::turn_all;
@@ -94,7 +95,7 @@ pub fn run_rounds<'r, S: Source + Drop, O: Outlet + Drop, G: Gate + Sync, R: Thr
     alloc: Global,
     settings: &Settings,
     workers: usize,
-    batch: usize,
+    pace: Pace,
     keys: &[Keys],
     gate: &G,
     spare: Vec<Spool>,
@@ -127,9 +128,7 @@ pub fn run_rounds<'r, S: Source + Drop, O: Outlet + Drop, G: Gate + Sync, R: Thr
         let Ok(full) = turned else {
             return (going, Err(PackFault::NoMemory));
         };
-        let (now, answer) = run_round(
-            rt, alloc, settings, workers, batch, &full, keys, gate, going,
-        );
+        let (now, answer) = run_round(rt, alloc, settings, workers, pace, &full, keys, gate, going);
         going = now;
         if let Err(fault) = answer {
             return (going, Err(fault));

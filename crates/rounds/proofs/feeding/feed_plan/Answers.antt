@@ -46,6 +46,16 @@ returns-in_err-expect-clause-err g c =
     let told = err_from_is_err_and c.from_residual-in_err-expect.result c.from_residual-in_err-expect.ensures.1 in
     rw (told.1, told.2) (λ start unfed now. in-stopped _ _ _ _ _ start unfed _ _ _ _ (rw c.in_err-expect.ensures.fault refl) (c.in_ok-make_room.ensures.ok start unfed now))
 
+pub offer-requires : goal.offer-requires
+offer-requires g c =
+    let some = c.requires.somewhere in
+    let order : InOrder c.args.settings.now = λ stop r. made_of-at stop r c.args.settings.now.cut in
+    let now = c.in_ok-make_room.ensures.ok some.0 some.1 some.3 in
+    let p = plan-follows _ _ _ _ _ some.0 some.1 _ _ _ now c.args.r c.requires.within (lent c.args.plan) some.2 some.4 order in
+    let made = subst (λ k. c.expect.new.collector ≡ with_lane c.make_room.new.collector k (with_plan (lane_at c.make_room.new.collector k) (lent c.args.plan))) p.rendition c.in_ok-expect.ensures.ok in
+    let there = in-expect _ _ _ _ _ some.0 some.1 _ _ _ now c.args.r c.requires.within (lent c.args.plan) some.2 some.4 _ made in
+    record { keys = record { each = there.each; keys = there.keys } }
+
 pub returns-in_err-offer-clause-err : goal.returns-in_err-offer-clause-err
 returns-in_err-offer-clause-err g c =
     let told = err_from_is_err_and c.from_residual-in_err-offer.result c.from_residual-in_err-offer.ensures.1 in

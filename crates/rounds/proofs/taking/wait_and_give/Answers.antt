@@ -2,6 +2,9 @@ use Rattle.std.proofs.lemmas.Result.{err_from_is_err_and}
 use Rattle.rounds.proofs.Rounding.{in-keeps, in-stopped}
 use Rattle.rounds.proofs.taking.wait_and_give.Goals as goal
 
+pub wait_or_seal-requires : goal.wait_or_seal-requires
+wait_or_seal-requires g c = let some = c.requires.somewhere in record { keys = record { each = some.2.each; keys = some.2.keys } }
+
 pub returns-in_err-wait_or_seal-clause-err : goal.returns-in_err-wait_or_seal-clause-err
 returns-in_err-wait_or_seal-clause-err g c =
     let told = err_from_is_err_and c.from_residual.result c.from_residual.ensures.1 in
