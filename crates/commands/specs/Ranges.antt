@@ -2,6 +2,7 @@
 use Rattle.std.specs.Prelude.{ℕ, ◌*◌, ◌≤◌, Option, Some, None}
 use Rattle.cutter.specs.declared.settings.CutSettings.{CutSettings}
 use Rattle.cutter.specs.declared.settings.TheConstants.{TICKS}
+use Rattle.ladder_items.specs.Ladder.{Ladder}
 use Rattle.commands.specs.declared.limits.TheConstants.{LEAST, MOST_TARGET, MOST_WINDOW, MOST_FRAME, MOST_GAP, MOST_PACKETS, MOST_PROGRAM}
 
 abbrev pub IsBetween : ℕ → ℕ → ℕ → Type 0
@@ -23,3 +24,10 @@ pub record AreInRange (cut : CutSettings) : Type 0 where
 
 abbrev pub IsWindow : ℕ → Type 0
 IsWindow window = IsBetween LEAST MOST_WINDOW window
+
+-- a ladder with another window, or another queue
+abbrev pub with_window : Ladder → ℕ → Ladder
+with_window ladder window = record { renditions = ladder.renditions; cut = ladder.cut; kind = ladder.kind; window = window; queue = ladder.queue }
+
+abbrev pub with_queue : Ladder → ℕ → Ladder
+with_queue ladder queue = record { renditions = ladder.renditions; cut = ladder.cut; kind = ladder.kind; window = ladder.window; queue = queue }

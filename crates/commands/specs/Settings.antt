@@ -9,8 +9,8 @@ use Rattle.commands.specs.declared.numbers.Numbers.{Numbers}
 use Rattle.commands.specs.declared.settings.PackingWords.{PackingWords}
 use Rattle.commands.specs.Defaults.{name_of}
 use Rattle.commands.specs.Hex.{bytes_of_hex, chosen_salt}
-use Rattle.commands.specs.KeyLists.{key_texts}
-use Rattle.commands.specs.Sizes.{IsSize}
+use Rattle.commands.specs.KeyLists.{are_keys, key_texts}
+use Rattle.commands.specs.Sizes.{HasSize, IsSize}
 
 -- the seconds of a segment in ticks of 1/90000 s
 abbrev pub segment_ticks : Numbers → ℕ
@@ -58,6 +58,13 @@ words_of words = record {
 -- the salt is 32 hex digits, or there is none
 abbrev pub HasSalt : Words → Type 0
 HasSalt words = chosen_salt words.salt ≢ None
+
+-- keys of 32 hex digits each, a size and a salt, as it may be, and keys that may take turns
+pub record AreGoodWords (words : Words) (turns : ℕ) : Type 0 where
+  pub keys_are : are_keys words.keys ≡ true
+  pub size_is : HasSize words.size
+  pub salt_is : HasSalt words
+  pub turns_are : TakeTurns (key_texts words.keys) turns
 
 -- playlists of an event, or that slide
 abbrev pub kind_of : Bool → Kind

@@ -11,10 +11,6 @@ use Rattle.commands.specs.declared.files.FileFault.{FileFault}
 use Rattle.commands.specs.declared.files.FileFault.TheVariants as file
 use Rattle.commands.specs.declared.checking.CheckingFault.{CheckingFault}
 use Rattle.commands.specs.declared.checking.CheckingFault.TheVariants as checking
-use Rattle.commands.specs.declared.key_list.KeyListFault.{KeyListFault}
-use Rattle.commands.specs.declared.key_list.KeyListFault.TheVariants as keys
-use Rattle.commands.specs.declared.settings.SettingsFault.{SettingsFault}
-use Rattle.commands.specs.declared.settings.SettingsFault.TheVariants as settings
 
 abbrev pub sealing_of : ReadingFault → SealingFault
 sealing_of reading.Unread = sealing.Unread
@@ -35,7 +31,3 @@ opening_of cipher.NoMemory = opening.NoMemory
 abbrev pub checking_of : FileFault → CheckingFault
 checking_of file.Unread = checking.Unread
 checking_of file.NoMemory = checking.NoMemory
-
-abbrev pub settings_of_keys : KeyListFault → SettingsFault
-settings_of_keys keys.BadKey = settings.BadKey
-settings_of_keys keys.NoMemory = settings.NoMemory

@@ -1,5 +1,5 @@
 //! A key and a vector, as the words of `seal` and `open` tell them.
-ghost use Rattle.std.specs.Prelude.{◌≡◌, ◌↔◌, ℕ, List, Some, None, IfOk, IsErr, IsErrOf, IsSome};
+ghost use Rattle.std.specs.Prelude.{◌≡◌, ◌↔◌, Some, None, IfOk, IsErr, IsErrOf, IsSome};
 ghost use Rattle.std.specs.Option.{option_map};
 ghost use Rattle.commands.specs.Hex.{bytes_of_hex, chosen_vector};
 

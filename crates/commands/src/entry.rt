@@ -1,5 +1,5 @@
 //! One rendition of a ladder, as one word tells it.
-ghost use Rattle.std.specs.Prelude.{◌≡◌, None, Decides, IfOk, IfSome, All, map, length, ◌<◌};
+ghost use Rattle.std.specs.Prelude.{◌≡◌, None, Decides, IfOk, IfSome, All, map};
 ghost use Rattle.commands.specs.Entries.{before_colon, behind_colon, HasColon, entry_of, HasFourColons, IsGood, IsFirstBad};
 ghost use Rattle.commands.specs.Entries.{entry_value};
 

@@ -1,5 +1,5 @@
 //! The keys of a rendition, as one word tells them.
-ghost use Rattle.std.specs.Prelude.{◌≡◌, ◌↔◌, map, Some, false, is_some, IfOk, IsErrOf};
+ghost use Rattle.std.specs.Prelude.{◌≡◌, ◌↔◌, map, length, Some, false, is_some, IfOk, IsErrOf};
 ghost use Rattle.std.specs.List.{list_all};
 ghost use Rattle.commands.specs.Hex.{bytes_of_hex};
 ghost use Rattle.commands.specs.KeyLists.{key_texts, are_keys};
@@ -57,6 +57,13 @@ pub(crate) fn are_keys(text: &str) -> bool
     ensures { result ≡ are_keys text.now }
 {
     text.split('+').all(|piece| block(piece).is_some())
+}
+
+/// How many texts there are between the `+`.
+pub(crate) fn key_count(text: &str) -> usize
+    ensures { result ≡ length (key_texts text.now) }
+{
+    text.split('+').count()
 }
 
 /// The texts between the `+`.

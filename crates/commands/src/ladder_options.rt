@@ -1,13 +1,14 @@
 //! The settings of a ladder, as words tell them.
-ghost use Rattle.std.specs.Prelude.{◌≡◌, ◌≢◌, ◌↔◌, ◌⊎◌, ℕ, map, All, IfOk, IfErr, IsErrOf, OnOk};
+ghost use Rattle.std.specs.Prelude.{◌≡◌, ◌≢◌, ◌↔◌, ◌⊎◌, ℕ, map, IfOk, IfErr, IsErrOf, OnOk};
 ghost use Rattle.commands.specs.Defaults.{numbers_of};
-ghost use Rattle.commands.specs.Pools.{pool_of};
-ghost use Rattle.commands.specs.Entries.{entry_value, IsGood};
+ghost use Rattle.commands.specs.Pools.{pool_of, IsPool};
+ghost use Rattle.commands.specs.Settings.{FitsCut};
+ghost use Rattle.commands.specs.Entries.{entry_value};
 ghost use Rattle.commands.specs.LadderOptions.{asked_of, IsBadEntry, HasBadSalt, HasTooMany, HasNoPeriod, HasTurns, IsOutside, AreOptionsOf};
 
 use crate::entry::{EntryWords, entries, first_bad};
 use crate::ladder_fault::LadderFault;
-use crate::ladder_settings::{has_too_many, ladder_settings};
+use crate::ladder_settings::{fitting_cut, has_too_many, ladder_settings};
 use crate::numbers::{NumberWords, Numbers};
 use crate::pool::{Pool, PoolWords};
 use crate::settings::read_salt;
@@ -71,8 +72,9 @@ fn paths<'a>(alloc: Global, entries: &[EntryWords<'a>]) -> Result<Vec<&'a str>, 
 
 /// The settings of a ladder, the numbers of its pool, and the paths of its inputs.
 ///
-/// BadEntry is told before BadVector, that before TooMany, that before ZeroPeriod, and these before any memory is taken;
-/// then Settings, for which NoMemory may stand.
+/// BadEntry is told before BadVector, that before TooMany, that before ZeroPeriod, and that before Settings. For Settings
+/// NoMemory may stand, but not where the settings have no room for a number or the pool is out of its ranges: that is told
+/// before any memory is taken, as all the others are.
 pub fn read_ladder_options<'a>(
     alloc: Global,
     words: LadderWords<'_, 'a>,
@@ -86,13 +88,16 @@ pub fn read_ladder_options<'a>(
     ensures zero_period { IsErrOf result LadderFault.ZeroPeriod ↔ HasNoPeriod (asked_of words.entry (numbers_of numbers) (pool_of pool)) }
     ensures settings { IsErrOf result LadderFault.Settings → IsOutside (asked_of words.entry (numbers_of numbers) (pool_of pool)) }
     ensures outside { IsOutside (asked_of words.entry (numbers_of numbers) (pool_of pool)) → IsErrOf result LadderFault.Settings ⊎ IsErrOf result LadderFault.NoMemory }
-    ensures no_memory { IsErrOf result LadderFault.NoMemory → HasTurns (asked_of words.entry (numbers_of numbers) (pool_of pool)) }
+    ensures no_memory { IsErrOf result LadderFault.NoMemory → HasTurns (asked_of words.entry (numbers_of numbers) (pool_of pool)) × FitsCut (numbers_of numbers) × IsPool (pool_of pool) }
 {
     let numbers = numbers.numbers();
     let pool = pool.pool();
     look(words, numbers, pool)?;
+    let Some(cut) = fitting_cut(numbers, pool) else {
+        return Err(LadderFault::Settings);
+    };
     let entries = entries(alloc, words.entries)?;
-    let settings = ladder_settings(alloc, words, &entries, numbers, pool)?;
+    let settings = ladder_settings(alloc, words, &entries, numbers, pool, cut)?;
     Ok(LadderOptions {
         settings,
         pool,

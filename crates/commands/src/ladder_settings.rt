@@ -1,17 +1,19 @@
-ghost use Rattle.std.specs.Prelude.{◌≡◌, ◌≢◌, None, ◌<◌, ◌≤◌, ◌⊎◌, map, false, true, All, Any, IfOk, IfErr, IsErrOf};
+ghost use Rattle.std.specs.Prelude.{◌≡◌, ◌≢◌, None, ◌<◌, ◌≤◌, ◌⊎◌, map, false, true, All, Any, IfOk, IfErr, IfSome, IsErrOf};
 ghost use Rattle.std.specs.Option.{option_map};
 ghost use Rattle.commands.specs.Hex.{chosen_salt};
 ghost use Rattle.commands.specs.Entries.{entry_of, entry_value, IsGood};
 ghost use Rattle.commands.specs.LadderOptions.{asked_of, key_count, IsWhole, entry_words, HasTurns, AreRenditionsOf, IsAskedLadder, IsWithin, IsOutside};
 ghost use Rattle.commands.specs.Pools.{IsPool};
-ghost use Rattle.commands.specs.Settings.{FitsCut, IsRenditionOf};
+ghost use Rattle.commands.specs.Settings.{FitsCut, IsRenditionOf, cut_of};
 
 use crate::entry::{EntryWords, entry};
+use crate::key_list::key_count;
 use crate::ladder_fault::LadderFault;
 use crate::ladder_options::LadderWords;
 use crate::numbers::Numbers;
 use crate::pool::Pool;
-use crate::settings::{PackingWords, SettingsFault, kind, read_rendition};
+use crate::settings::{PackingWords, kind, read_rendition};
+use cutter::CutSettings;
 use ladder_items::is_allowed;
 use pipeline::{Rendition, Settings};
 use segment_job::MOST_KEYS;
@@ -26,7 +28,7 @@ fn has_many_keys(text: &str) -> bool
     let Some(words) = entry(text) else {
         unreachable!()
     };
-    words.keys.split('+').count() > MOST_KEYS
+    key_count(words.keys) > MOST_KEYS
 }
 
 /// Whether some entry has more than 4,096 keys.
@@ -63,11 +65,7 @@ fn rendition(
         salt: words.salt,
         event: words.event,
     };
-    match read_rendition(alloc, words, period) {
-        Ok(made) => Ok(made),
-        Err(SettingsFault::NoMemory) => Err(AllocError),
-        Err(_) => unreachable!(),
-    }
+    read_rendition(alloc, words, period)
 }
 
 /// The rendition of each entry, in their order.
@@ -89,6 +87,18 @@ fn renditions(
     Ok(renditions)
 }
 
+/// How streams are cut; None where the settings have no room for a number, or the pool is out of its ranges.
+pub(crate) fn fitting_cut(numbers: Numbers, pool: Pool) -> Option<CutSettings>
+    ensures some { IfSome result (λ cut. (cut ≡ cut_of numbers) × FitsCut numbers × IsPool pool) }
+    ensures none { result ≡ None → ¬ (FitsCut numbers × IsPool pool) }
+{
+    let cut = numbers.cut_settings()?;
+    if !pool.is_allowed() {
+        return None;
+    }
+    Some(cut)
+}
+
 /// The settings of the ladder that is asked for; Settings where it isn't within its limits.
 pub(crate) fn ladder_settings(
     alloc: Global,
@@ -96,22 +106,17 @@ pub(crate) fn ladder_settings(
     entries: &[EntryWords<'_>],
     numbers: Numbers,
     pool: Pool,
+    cut: CutSettings,
 ) -> Result<Settings, LadderFault>
     requires turns { HasTurns (asked_of words numbers pool) }
     requires each { map entry_value entries.now ≡ map entry_of (map (λ t. t.now) words.entries.now) }
+    requires cut { cut ≡ cut_of numbers }
+    requires fits { FitsCut numbers × IsPool pool }
     ensures ladder { IfOk result (λ made. IsAskedLadder (asked_of words.entry numbers pool) made) }
     ensures within { IfOk result (λ made. IsWithin (asked_of words.entry numbers pool) made) }
     ensures outside { IsErrOf result LadderFault.Settings → IsOutside (asked_of words.entry numbers pool) }
     ensures only { IfErr result (λ fault. (fault ≡ LadderFault.Settings) ⊎ (fault ≡ LadderFault.NoMemory)) }
-    ensures unfit { ¬ FitsCut numbers → IsErrOf result LadderFault.Settings }
-    ensures crowded { ¬ IsPool pool → IsErrOf result LadderFault.Settings }
 {
-    let Some(cut) = numbers.cut_settings() else {
-        return Err(LadderFault::Settings);
-    };
-    if !pool.is_allowed() {
-        return Err(LadderFault::Settings);
-    }
     let settings = Settings {
         renditions: renditions(alloc, words, entries, numbers.period)?,
         cut,

@@ -1,9 +1,11 @@
 //! The ranges of what a packager takes, for those who tell them.
-ghost use Rattle.std.specs.Prelude.{◌≤◌, ◌<◌, ◌↔◌, ℕ, List, length};
+ghost use Rattle.std.specs.Prelude.{◌≡◌, ◌≤◌, ◌<◌, ◌↔◌, ℕ, true, List, length};
 ghost use Rattle.cutter.specs.declared.settings.CutSettings as TheSettings;
 ghost use Rattle.ladder_items.specs.Ladder.{Ladder, IsCutAllowed, IsAllowed};
-ghost use Rattle.commands.specs.Ranges.{AreInRange, IsWindow};
+ghost use Rattle.master_playlist.specs.Faults.{is_side};
+ghost use Rattle.commands.specs.Ranges.{AreInRange, IsBetween, IsWindow, with_window, with_queue};
 ghost use Rattle.commands.specs.Settings.{TakeTurns};
+ghost use Rattle.commands.specs.declared.limits.TheConstants.{LEAST, MOST_PIXELS, MOST_QUEUE};
 ghost use Rattle.segment_job.specs.declared.keys.TheConstants.{MOST_KEYS};
 
 /// The least of each number below.
@@ -36,9 +38,12 @@ pub const MOST_WORKERS: u64 = 64;
 /// The most segments that may be on their way.
 pub const MOST_QUEUE: u64 = 256;
 
-/// These are the ranges outside which a run is refused.
+/// These are the ranges outside which a run is refused. A ladder that is allowed stays so with another window or another queue
+/// exactly where that is within its range.
 pub fn ranges_are_those_of_a_run()
     ensures cut { (cut : TheSettings.CutSettings) → IsCutAllowed cut ↔ AreInRange cut }
-    ensures window { (ladder : Ladder) → IsAllowed ladder → IsWindow ladder.window }
+    ensures window { (ladder : Ladder) (window : ℕ) → IsAllowed ladder → IsAllowed (with_window ladder window) ↔ IsWindow window }
+    ensures queue { (ladder : Ladder) (queue : ℕ) → IsAllowed ladder → IsAllowed (with_queue ladder queue) ↔ IsBetween LEAST MOST_QUEUE queue }
+    ensures pixels { (side : ℕ) → (is_side side ≡ true) ↔ IsBetween LEAST MOST_PIXELS side }
     ensures keys { (keys : List (List ℕ)) (period : ℕ) → TakeTurns keys period ↔ ((length keys ≤ MOST_KEYS) × (0 < period)) }
 {}

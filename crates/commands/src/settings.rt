@@ -1,18 +1,18 @@
 //! A packager's settings, as words tell them.
-ghost use Rattle.std.specs.Prelude.{◌≡◌, ◌⊎◌, ◌↔◌, ◌≢◌, ◌<◌, ◌≤◌, ℕ, Some, None, length, false, OnOk, IfOk, IfErr, IsErr, IsErrOf};
+ghost use Rattle.std.specs.Prelude.{◌≡◌, ◌↔◌, ◌≢◌, ◌<◌, ◌≤◌, Some, None, length, false, true, OnOk, IfOk, IfErr, IsErr, IsErrOf};
 ghost use Rattle.std.specs.Option.{option_map};
 ghost use Rattle.commands.specs.Defaults.{numbers_of};
 ghost use Rattle.commands.specs.Hex.{chosen_salt};
 ghost use Rattle.commands.specs.KeyLists.{are_keys, key_texts};
 ghost use Rattle.commands.specs.Sizes.{IsSize, HasSize};
-ghost use Rattle.commands.specs.Settings.{words_of, kind_of, HasSalt, IsRenditionOf, IsLadderOf, FitsCut, TakeTurns};
+ghost use Rattle.commands.specs.Settings.{words_of, kind_of, AreGoodWords, HasSalt, IsRenditionOf, IsLadderOf, FitsCut, TakeTurns};
 
 use crate::cipher::block;
-use crate::frame_size::size;
-use crate::key_list::{KeyListFault, read_keys};
+use crate::frame_size::{FrameSize, size};
+use crate::key_list::{KeyListFault, are_keys, key_count, read_keys};
 use crate::numbers::{NumberWords, name};
 use pipeline::{Kind, Rendition, Settings};
-use segment_job::{KeyFault, Keys};
+use segment_job::{Keys, MOST_KEYS};
 use std::alloc::{AllocError, AllocFailed, Global};
 use thiserror::Error;
 
@@ -88,19 +88,6 @@ impl<T: Drop> From<AllocFailed<T>> for SettingsFault {
     }
 }
 
-impl From<KeyListFault> for SettingsFault {
-    ghost use Rattle.commands.specs.Told.{settings_of_keys};
-
-    ghost from_gives = { λ why fault. fault ≡ settings_of_keys why };
-
-    fn from(why: KeyListFault) -> SettingsFault {
-        match why {
-            KeyListFault::BadKey => SettingsFault::BadKey,
-            KeyListFault::NoMemory => SettingsFault::NoMemory,
-        }
-    }
-}
-
 /// One thread has one segment on its way.
 const QUEUE: u64 = 1;
 
@@ -119,56 +106,100 @@ pub(crate) fn read_salt(text: Option<&str>) -> Result<Option<[u8; 16]>, Settings
     }
 }
 
-/// Keys that take turns by the period, with a salt where there is one. TooMany is told before ZeroPeriod.
-fn rotation(keys: Vec<[u8; 16]>, period: u64, salt: Option<[u8; 16]>) -> Result<Keys, SettingsFault>
+/// What is read of a rendition's words before any memory is taken.
+#[derive(Clone, Copy, Drop)]
+struct Parts {
+    size: FrameSize,
+    salt: Option<[u8; 16]>,
+}
+
+/// Looks at the words of a rendition, before any memory is taken.
+fn look(words: PackingWords<'_>, period: u64) -> Result<Parts, SettingsFault>
+    ensures good { OnOk result (AreGoodWords (words_of words.entry) period) }
+    ensures size { IfOk result (λ parts. IsSize words.entry.size.now parts.size.width parts.size.height) }
+    ensures salt { IfOk result (λ parts. chosen_salt (words_of words.entry).salt ≡ Some parts.salt) }
+    ensures bad_key { IsErrOf result SettingsFault.BadKey ↔ (are_keys words.entry.keys.now ≡ false) }
+    ensures bad_size { IsErrOf result SettingsFault.BadSize ↔ ((are_keys words.entry.keys.now ≡ true) × ¬ HasSize words.entry.size.now) }
+    ensures bad_vector { IsErrOf result SettingsFault.BadVector ↔ ((are_keys words.entry.keys.now ≡ true) × HasSize words.entry.size.now × (chosen_salt (words_of words.entry).salt ≡ None)) }
+    ensures too_many { IsErrOf result SettingsFault.TooMany ↔ ((are_keys words.entry.keys.now ≡ true) × HasSize words.entry.size.now × HasSalt (words_of words.entry) × (4096 < length (key_texts words.entry.keys.now))) }
+    ensures zero_period { IsErrOf result SettingsFault.ZeroPeriod ↔ ((are_keys words.entry.keys.now ≡ true) × HasSize words.entry.size.now × HasSalt (words_of words.entry) × (length (key_texts words.entry.keys.now) ≤ 4096) × (period ≡ 0)) }
+    ensures only { IfErr result (λ fault. (fault ≢ SettingsFault.Settings) × (fault ≢ SettingsFault.NoMemory)) }
+{
+    if !are_keys(words.keys) {
+        return Err(SettingsFault::BadKey);
+    }
+    let Some(size) = size(words.size) else {
+        return Err(SettingsFault::BadSize);
+    };
+    let salt = read_salt(words.salt)?;
+    if key_count(words.keys) > MOST_KEYS {
+        return Err(SettingsFault::TooMany);
+    }
+    if period == 0 {
+        return Err(SettingsFault::ZeroPeriod);
+    }
+    Ok(Parts { size, salt })
+}
+
+/// Keys that take turns by the period, with a salt where there is one.
+fn rotation(keys: Vec<[u8; 16]>, period: u64, salt: Option<[u8; 16]>) -> Keys
     requires some { 0 < length keys.items }
-    ensures ok { IfOk result (λ made. made ≡ record { keys = keys.items; period = period; salt = salt }) }
-    ensures turns { OnOk result (TakeTurns keys.items period) }
-    ensures too_many { IsErrOf result SettingsFault.TooMany ↔ (4096 < length keys.items) }
-    ensures zero_period { IsErrOf result SettingsFault.ZeroPeriod ↔ ((length keys.items ≤ 4096) × (period ≡ 0)) }
-    ensures only { IfErr result (λ fault. (fault ≡ SettingsFault.TooMany) ⊎ (fault ≡ SettingsFault.ZeroPeriod)) }
+    requires turns { TakeTurns keys.items period }
+    ensures { result ≡ record { keys = keys.items; period = period; salt = salt } }
 {
     let made = match salt {
         None => Keys::new(keys, period),
         Some(salt) => Keys::salted(keys, period, salt),
     };
     match made {
-        Ok(keys) => Ok(keys),
-        Err(KeyFault::TooMany) => Err(SettingsFault::TooMany),
-        Err(KeyFault::ZeroPeriod) => Err(SettingsFault::ZeroPeriod),
-        Err(KeyFault::NoKeys) => unreachable!(),
+        Ok(keys) => keys,
+        Err(_) => unreachable!(),
     }
 }
 
-/// The rendition of these words, its keys taking turns after as many segments as the period says.
-///
-/// BadKey is told before BadSize, that before BadVector, and these before TooMany and ZeroPeriod.
+/// The rendition of good words, its keys taking turns after as many segments as the period says.
+fn rendition(
+    alloc: Global,
+    words: PackingWords<'_>,
+    parts: Parts,
+    period: u64,
+) -> Result<Rendition, AllocError>
+    requires good { AreGoodWords (words_of words) period }
+    requires size { IsSize words.size.now parts.size.width parts.size.height }
+    requires salt { chosen_salt (words_of words).salt ≡ Some parts.salt }
+    ensures { IfOk result (λ made. IsRenditionOf (words_of words.entry) period made) }
+{
+    let keys = match read_keys(alloc, words.keys) {
+        Ok(keys) => keys,
+        Err(KeyListFault::NoMemory) => return Err(AllocError),
+        Err(KeyListFault::BadKey) => unreachable!(),
+    };
+    Ok(Rendition {
+        name: String::from_str(alloc, name(words.name))?,
+        codecs: String::from_str(alloc, words.codecs)?,
+        width: parts.size.width,
+        height: parts.size.height,
+        keys: rotation(keys, period, parts.salt),
+        salt: parts.salt,
+    })
+}
+
+/// The rendition of words that are known to be good.
 pub(crate) fn read_rendition(
     alloc: Global,
     words: PackingWords<'_>,
     period: u64,
-) -> Result<Rendition, SettingsFault>
-    ensures ok { IfOk result (λ made. IsRenditionOf (words_of words.entry) period made) }
-    ensures turns { OnOk result (TakeTurns (key_texts words.entry.keys.now) period) }
-    ensures bad_key { IsErrOf result SettingsFault.BadKey ↔ (are_keys words.entry.keys.now ≡ false) }
-    ensures bad_size { IsErrOf result SettingsFault.BadSize → ((width height : ℕ) → ¬ IsSize words.entry.size.now width height) }
-    ensures bad_vector { IsErrOf result SettingsFault.BadVector → HasSize words.entry.size.now × (chosen_salt (words_of words.entry).salt ≡ None) }
-    ensures too_many { IsErrOf result SettingsFault.TooMany → HasSize words.entry.size.now × HasSalt (words_of words.entry) × (4096 < length (key_texts words.entry.keys.now)) }
-    ensures zero_period { IsErrOf result SettingsFault.ZeroPeriod → HasSize words.entry.size.now × HasSalt (words_of words.entry) × (length (key_texts words.entry.keys.now) ≤ 4096) × (period ≡ 0) }
-    ensures fits { IfErr result (λ fault. fault ≢ SettingsFault.Settings) }
+) -> Result<Rendition, AllocError>
+    requires good { AreGoodWords (words_of words) period }
+    ensures { IfOk result (λ made. IsRenditionOf (words_of words.entry) period made) }
 {
-    let keys = read_keys(alloc, words.keys)?;
-    let size = size(words.size).ok_or(SettingsFault::BadSize)?;
-    let salt = read_salt(words.salt)?;
-    let keys = rotation(keys, period, salt)?;
-    Ok(Rendition {
-        name: String::from_str(alloc, name(words.name))?,
-        codecs: String::from_str(alloc, words.codecs)?,
-        width: size.width,
-        height: size.height,
-        keys,
-        salt,
-    })
+    let Some(size) = size(words.size) else {
+        unreachable!()
+    };
+    let Ok(salt) = read_salt(words.salt) else {
+        unreachable!()
+    };
+    rendition(alloc, words, Parts { size, salt }, period)
 }
 
 /// Playlists that slide, or those of an event.
@@ -178,7 +209,10 @@ pub(crate) fn kind(event: bool) -> Kind
     if event { Kind::Event } else { Kind::Live }
 }
 
-/// The settings of one rendition. Settings is told where the numbers have no room, behind the rendition's faults.
+/// The settings of one rendition.
+///
+/// BadKey is told before BadSize, that before BadVector, that before TooMany, that before ZeroPeriod, and that before Settings,
+/// where a number is past what settings have room for. All of them are told before any memory is taken.
 pub fn read_settings(
     alloc: Global,
     words: PackingWords<'_>,
@@ -186,15 +220,19 @@ pub fn read_settings(
 ) -> Result<Settings, SettingsFault>
     ensures ok { IfOk result (λ made. IsLadderOf (words_of words.entry) (numbers_of numbers) made) }
     ensures bad_key { IsErrOf result SettingsFault.BadKey ↔ (are_keys words.entry.keys.now ≡ false) }
-    ensures bad_size { IsErrOf result SettingsFault.BadSize → ((width height : ℕ) → ¬ IsSize words.entry.size.now width height) }
-    ensures bad_vector { IsErrOf result SettingsFault.BadVector → HasSize words.entry.size.now × (chosen_salt (words_of words.entry).salt ≡ None) }
-    ensures too_many { IsErrOf result SettingsFault.TooMany → HasSize words.entry.size.now × HasSalt (words_of words.entry) × (4096 < length (key_texts words.entry.keys.now)) }
-    ensures zero_period { IsErrOf result SettingsFault.ZeroPeriod → HasSize words.entry.size.now × HasSalt (words_of words.entry) × (length (key_texts words.entry.keys.now) ≤ 4096) × ((numbers_of numbers).period ≡ 0) }
-    ensures settings { IsErrOf result SettingsFault.Settings → HasSize words.entry.size.now × HasSalt (words_of words.entry) × TakeTurns (key_texts words.entry.keys.now) (numbers_of numbers).period × ¬ FitsCut (numbers_of numbers) }
+    ensures bad_size { IsErrOf result SettingsFault.BadSize ↔ ((are_keys words.entry.keys.now ≡ true) × ¬ HasSize words.entry.size.now) }
+    ensures bad_vector { IsErrOf result SettingsFault.BadVector ↔ ((are_keys words.entry.keys.now ≡ true) × HasSize words.entry.size.now × (chosen_salt (words_of words.entry).salt ≡ None)) }
+    ensures too_many { IsErrOf result SettingsFault.TooMany ↔ ((are_keys words.entry.keys.now ≡ true) × HasSize words.entry.size.now × HasSalt (words_of words.entry) × (4096 < length (key_texts words.entry.keys.now))) }
+    ensures zero_period { IsErrOf result SettingsFault.ZeroPeriod ↔ ((are_keys words.entry.keys.now ≡ true) × HasSize words.entry.size.now × HasSalt (words_of words.entry) × (length (key_texts words.entry.keys.now) ≤ 4096) × ((numbers_of numbers).period ≡ 0)) }
+    ensures settings { IsErrOf result SettingsFault.Settings ↔ (AreGoodWords (words_of words.entry) (numbers_of numbers).period × ¬ FitsCut (numbers_of numbers)) }
+    ensures no_memory { IsErrOf result SettingsFault.NoMemory → AreGoodWords (words_of words.entry) (numbers_of numbers).period × FitsCut (numbers_of numbers) }
 {
     let numbers = numbers.numbers();
-    let rendition = read_rendition(alloc, words, numbers.period)?;
-    let cut = numbers.cut_settings().ok_or(SettingsFault::Settings)?;
+    let parts = look(words, numbers.period)?;
+    let Some(cut) = numbers.cut_settings() else {
+        return Err(SettingsFault::Settings);
+    };
+    let rendition = rendition(alloc, words, parts, numbers.period)?;
     let mut renditions = Vec::new(alloc);
     renditions.push(rendition)?;
     Ok(Settings {

@@ -1,5 +1,5 @@
 //! What a ladder's run gave, as a text.
-ghost use Rattle.std.specs.Prelude.{◌≡◌, map, get_or, IfOk};
+ghost use Rattle.std.specs.Prelude.{◌≡◌, map, IfOk};
 ghost use Rattle.std.specs.String.{string_bytes};
 ghost use Rattle.commands.specs.SummaryLines.{told_value};
 ghost use Rattle.commands.specs.Summaries.{told_of, tolds_of, IsSummaryOf};

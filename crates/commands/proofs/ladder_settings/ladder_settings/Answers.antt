@@ -13,14 +13,14 @@ returns-then-not-branch-clause-outside c = λ told.
     let asked = asked_of c.args.words c.args.numbers c.args.pool in
     let here : Ladder = record {
       renditions = c.in_ok-renditions.field-0.items;
-      cut = c.in-Some.cut;
+      cut = c.args.cut;
       kind = c.kind.result;
       window = c.args.numbers.window;
       queue = c.args.pool.queue;
     } in
     let is_here : IsAskedLadder asked here = record {
       renditions_are = rw (c.requires.each) at c.in_ok-renditions.ensures;
-      cut_is = c.in-Some.ensures.some;
+      cut_is = c.requires.cut;
       kind_is = c.kind.ensures;
       window_is = refl;
       queue_is = refl;
