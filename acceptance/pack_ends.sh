@@ -112,25 +112,30 @@ leaves_whole_files_on_a_full_disk() {
 }
 
 # packs_without_memory WORKERS: with one allocation refused the program tells want of memory, a failed put or a failed read, or
-# it packs all; what lies in the folder is read back. Threads ask for more in one run than in another: the last allocation
-# is behind when five numbers in turn came to none.
+# it packs both renditions, each under its own key; what lies in the folder is read back. Threads ask for more in one run than in
+# another: the last allocation is behind when five numbers in turn came to none.
 packs_without_memory() {
-    local number status unmet=0 words=(pack --workers "$1" --out "$work/ladder" "$ladder_of_one:$work/worked/standard.ts")
+    local number status unmet=0 second=0123456789abcdeffedcba9876543210 words=(pack --workers "$1" --out "$work/ladder")
+    words+=("$ladder_of_one:$work/worked/standard.ts" "w:c:1x1:$second:$work/worked/standard.ts")
     cc -shared -fPIC -o "$work/refuse_memory.so" "$here/refuse_memory.c" -ldl || return
     for ((number = 1; number <= 5000; number++)); do
         status=0
         rm -rf "$work/was_refused" "$work/ladder" && mkdir "$work/ladder"
         REFUSED=$number MARK=$work/was_refused LD_PRELOAD=$work/refuse_memory.so timeout 60 "$program" "${words[@]}" >"$work/out" 2>"$work/err" || status=$?
         case "$status $(cat "$work/err")" in
-        '0 ') is_line 'standard output' "$work/out" 'v 2 9.040000 2022 1360' ;;
-        '1 tshls: NoMemory' | '1 tshls: Outlet' | '1 tshls: Unread' | '1 tshls: Read 0') is_empty 'standard output' "$work/out" ;;
+        '0 ') is_line 'standard output' "$work/out" $'v 2 9.040000 2022 1360\nw 2 9.040000 2022 1360' ;;
+        '1 tshls: NoMemory' | '1 tshls: Outlet' | '1 tshls: Unread' | '1 tshls: Read 0' | '1 tshls: Read 1') is_empty 'standard output' "$work/out" ;;
         *) echo "status $status, $(cat "$work/err")"; false ;;
-        esac || { echo "at allocation $number"; return 1; }
-        [ ! -e "$work/ladder/v.m3u8" ] || writes check --keys "$key" "$work/ladder/v.m3u8" || { echo "at allocation $number"; return 1; }
+        esac && reads_back v "$key" && reads_back w "$second" || { echo "at allocation $number"; return 1; }
         [ -e "$work/was_refused" ] && unmet=0 && continue
         [ "$number" -gt 1 ] && [ $status -eq 0 ] || { echo "allocation $number wasn't refused, status $status"; return 1; }
         [ $((++unmet)) -lt 5 ] || return 0
     done
     echo 'more than 5,000 allocations'
     return 1
+}
+
+# reads_back NAME KEY: what a run left of a rendition.
+reads_back() {
+    [ ! -e "$work/ladder/$1.m3u8" ] || writes check --keys "$2" "$work/ladder/$1.m3u8"
 }
