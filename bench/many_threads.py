@@ -1,4 +1,4 @@
-"""How fast `pack` packs one large stream and a ladder of three, by 1, 2 and 4 workers, beside ffmpeg's own packager with a key
+"""How fast `pack` packs one large stream and a ladder of three, by 1, 2 and 4 workers, in rounds as they are and in longer ones, beside ffmpeg's own packager with a key
 file and beside `one`; what it takes of memory on 10 and on 1,000 segments; and how a longer input grows.
 
 The stream is the sample, looped by ffmpeg so that its times go on. What the calling thread takes is a run whose tables are
@@ -16,6 +16,7 @@ from measuring import KEY, best_of, calling_share, is_linear
 ROUNDS = 3
 best = functools.partial(best_of, ROUNDS)
 WORKERS = (1, 2, 4)
+LONG_ROUNDS = ("--batch", "16")
 
 
 def entry(name, stream):
@@ -50,22 +51,31 @@ def ratios(what, size, other, runs):
         )
 
 
-def with_workers(program, folder, entries, workers):
-    return pack(program, folder, entries, "--workers", str(workers))
+def with_workers(program, folder, entries, workers, *options):
+    return pack(program, folder, entries, "--workers", str(workers), *options)
 
 
-def runs_of(program, folder, entries):
-    return {workers: best(with_workers(program, folder, entries, workers)) for workers in WORKERS}
+def runs_of(program, folder, entries, *options):
+    return {workers: best(with_workers(program, folder, entries, workers, *options)) for workers in WORKERS}
+
+
+def both_ways(what, program, folder, streams):
+    """Prints the figures with rounds as they are and with longer ones; answers those of the first."""
+    size = sum(stream.stat().st_size for stream in streams)
+    entries = [entry(name, stream) for name, stream in zip("abc", streams)]
+    other = best(ffmpeg(folder, streams))
+    runs = runs_of(program, folder, entries)
+    ratios(what, size, other, runs)
+    ratios(f"{what}, {' '.join(LONG_ROUNDS)}", size, other, runs_of(program, folder, entries, *LONG_ROUNDS))
+    return runs
 
 
 def measure(program, sample, folder, megabytes):
     """Prints the figures; answers whether 8 times the input takes at most 10 times the time."""
     folder = pathlib.Path(folder)
     small, large, unread, uncut = streams(sample, folder, megabytes)
-    size = large.stat().st_size
 
-    runs = runs_of(program, folder, [entry("v", large)])
-    ratios("one stream", size, best(ffmpeg(folder, [large])), runs)
+    runs = both_ways("one stream", program, folder, [large])
     shares = (calling_share(with_workers(program, folder, [entry("v", large)], workers)) for workers in WORKERS)
     print(f"    the calling thread takes {', '.join(f'{share:.2f}' for share in shares)} of pack's processor time")
     one = best([program, "one", "--codecs", "avc1.4d401e", "--size", "320x180", "--keys", KEY, "--target", "8", "--segment", "6"], large)
@@ -74,9 +84,7 @@ def measure(program, sample, folder, megabytes):
         command = pack(program, folder, [entry("v", stream)])
         print(f"    {name}: {best_of(ROUNDS, command, statuses=(1,)).wall:.3f} s")
 
-    three = [large, large, large]
-    entries = [entry(name, stream) for name, stream in zip("abc", three)]
-    ratios("a ladder of three", 3 * size, best(ffmpeg(folder, three)), runs_of(program, folder, entries))
+    both_ways("a ladder of three", program, folder, [large, large, large])
 
     memory = {}
     for segments in (10, 1000):
