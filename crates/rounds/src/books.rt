@@ -1,4 +1,4 @@
-ghost use Rattle.std.specs.Prelude.{sum, ◌≡◌, ◌≤◌, ◌<◌, ◌+◌, ◌*◌, ◌^◌, length, IfOk};
+ghost use Rattle.std.specs.Prelude.{sum, ◌≡◌, ◌≤◌, ◌<◌, ◌+◌, ◌*◌, ◌^◌, ℕ, length, slice_index_or, IfOk};
 
 use std::alloc::{AllocError, Global};
 
@@ -41,6 +41,7 @@ impl Books {
         ensures right { self.new.right ≡ self.old.right + right }
         ensures thrown { self.new.thrown ≡ self.old.thrown + thrown }
         ensures each { length self.new.workers.items ≡ length self.old.workers.items }
+        ensures by_worker { (k : ℕ) → k < length claims.now → slice_index_or self.new.workers.items k 0 ≡ slice_index_or self.old.workers.items k 0 + slice_index_or claims.now k 0 }
     {
         let Books {
             workers,
