@@ -149,7 +149,8 @@ impl<'s> Collector<'s> {
         Ok(plans)
     }
 
-    /// The first plan expected for which no right piece came, of the first rendition that lacks one. It takes no memory.
+    /// A plan that is expected and for which no right piece came, if there is any. It is the first of the first rendition that lacks
+    /// one, though no clause says which. It takes no memory.
     pub fn first_missing(&self) -> Option<PlanRef<'s>>
         ensures some { IfSome result (λ plan. Lacks (lane_at self.now plan.rendition) (lent plan)) }
         ensures none { IfNone result (missing_in self.now.lanes ≡ []) }
