@@ -1,6 +1,7 @@
 ghost use Rattle.std.specs.Prelude.{◌≡◌, ◌+◌, ◌*◌, ◌<◌, ◌≤◌, ◌^◌, [], ◌∷◌, ◌++◌, length, OnOk, OnErr};
 ghost use Rattle.bandwidth.specs.Peaks.{peak_of, average_of};
 ghost use Rattle.bandwidth.specs.Steps.{IsSmall};
+ghost use Rattle.limits.specs.declared.TheConstants.{MOST_TARGET};
 
 use crate::best::best_of;
 use crate::place::Place;
@@ -59,7 +60,7 @@ impl Meter {
     /// A meter that was pushed nothing. The target duration is in seconds.
     pub fn new(alloc: Global, target: u64) -> Meter
         requires least { 1 ≤ target }
-        requires most { target ≤ 3600 }
+        requires most { target ≤ MOST_TARGET }
         ensures { result ≡ record { target = target; rows = [] } }
     {
         Meter {

@@ -3,6 +3,7 @@ ghost use Rattle.std.specs.VecDeque.{deque_len, deque_capacity};
 ghost use Rattle.bandwidth.specs.Runs.{is_in_range};
 ghost use Rattle.bandwidth.specs.Steps.{AreSmall, IsOf, BestOf};
 ghost use Rattle.bandwidth.specs.Gaps.{IsPlace, IsUpTo, IsWindow, IsBehind, IsSameWindow, IsOneStartMore};
+ghost use Rattle.limits.specs.declared.TheConstants.{MOST_TARGET};
 
 use crate::corners::{add_all, walk_corners};
 use crate::place::{Place, Start};
@@ -38,7 +39,7 @@ pub struct Window {
 impl Window {
     /// The window of no rows.
     pub fn new(alloc: Global, target: u64) -> Window
-        requires { target ≤ 3600 }
+        requires { target ≤ MOST_TARGET }
         ensures { IsWindow target [] None result }
     {
         Window {

@@ -6,6 +6,7 @@ use Rattle.commands.specs.declared.sealing.SealingFault.{SealingFault}
 use Rattle.commands.specs.declared.sealing.SealingFault.TheVariants as sealing
 use Rattle.commands.specs.declared.opening.OpeningFault.{OpeningFault}
 use Rattle.commands.specs.declared.opening.OpeningFault.TheVariants as opening
+use Rattle.item_io.specs.declared.limits.TheConstants.{READS}
 
 -- room for what a command adds to the counts
 pub record HasRoom (reads failures : ℕ) : Type 0 where
@@ -14,7 +15,7 @@ pub record HasRoom (reads failures : ℕ) : Type 0 where
 
 -- 2^40 reads each gave a byte, and none failed
 pub record ReadsMost (reads reads_then failures failures_then : ℕ) : Type 0 where
-  pub each_gave : reads_then ≡ reads + 2 ^ 40
+  pub each_gave : reads_then ≡ reads + READS
   pub none_failed : failures_then ≡ failures
 
 -- what the counts say where an input wasn't read to its end

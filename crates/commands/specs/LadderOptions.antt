@@ -11,6 +11,7 @@ use Rattle.commands.specs.Hex.{chosen_salt}
 use Rattle.commands.specs.KeyLists.{key_texts}
 use Rattle.commands.specs.Pools.{IsPool}
 use Rattle.commands.specs.Settings.{Words, IsRenditionOf, FitsCut, cut_of, kind_of}
+use Rattle.limits.specs.declared.TheConstants.{MOST_KEYS}
 
 -- what is asked for: a text for each rendition, and what they share
 pub record Asked : Type 0 where
@@ -52,12 +53,12 @@ key_count text = length (key_texts (entry_of text).keys)
 -- the texts are good, and some entry has more than 4,096 keys
 pub record HasTooMany (asked : Asked) : Type 0 where
   pub texts : HasTexts asked
-  pub many : Any (λ text. 4096 < key_count text) asked.entries
+  pub many : Any (λ text. MOST_KEYS < key_count text) asked.entries
 
 -- the texts are good, and no entry has more keys
 pub record HasKeys (asked : Asked) : Type 0 where
   pub texts : HasTexts asked
-  pub few : All (λ text. key_count text ≤ 4096) asked.entries
+  pub few : All (λ text. key_count text ≤ MOST_KEYS) asked.entries
 
 -- besides, the keys take turns after no segment
 pub record HasNoPeriod (asked : Asked) : Type 0 where
@@ -72,7 +73,7 @@ pub record HasTurns (asked : Asked) : Type 0 where
 -- an entry of good parts, with at most 4,096 keys
 pub record IsWhole (entry : Entry) : Type 0 where
   pub parts : HasGoodParts entry
-  pub few : length (key_texts entry.keys) ≤ 4096
+  pub few : length (key_texts entry.keys) ≤ MOST_KEYS
 
 -- the words of a rendition: those of its entry, and what all share
 abbrev pub entry_words : Option (List ℕ) → Bool → Entry → Words

@@ -8,7 +8,6 @@ pub mod LadderOptions
 pub mod LadderPacking
 pub mod Packing
 pub mod Pools
-pub mod Ranges
 pub mod Settings
 pub mod Sizes
 pub mod Statuses

@@ -13,6 +13,7 @@ use Rattle.ladder_items.specs.Lanes.{IsWhole, HasGiven, HasBegun}
 use Rattle.ladder_items.specs.Faults.{Sayings, Says}
 use Rattle.ingest.specs.Streams.{Stays, as_cut}
 use Rattle.commands.specs.Streams.{ReadsAll}
+use Rattle.item_io.specs.declared.limits.TheConstants.{READS}
 
 -- All that the reader gave was packed, and the writer got the lines of all segments and playlists.
 pub record WritesPacked (ladder : Ladder) (left left_then held held_then : Option (List ℕ)) : Type 0 where
@@ -91,7 +92,7 @@ pub record NoneFailed (failed_reads failed_puts : ℕ) : Type 0 where
 
 -- what the way in which a stream stopped says of how many reads gave bytes, and how many reads and puts failed
 abbrev pub StopCounts : Option Stop → ℕ → ℕ → ℕ → Type 0
-StopCounts None reads failed_reads failed_puts = (reads ≡ 2 ^ 40) × NoneFailed failed_reads failed_puts
+StopCounts None reads failed_reads failed_puts = (reads ≡ READS) × NoneFailed failed_reads failed_puts
 StopCounts (Some (Good gone)) reads failed_reads failed_puts = NoneFailed failed_reads failed_puts
 StopCounts (Some (Cut told)) reads failed_reads failed_puts = NoneFailed failed_reads failed_puts
 StopCounts (Some ReadFailed) reads failed_reads failed_puts = (failed_reads ≡ 1) × (failed_puts ≡ 0)

@@ -1,8 +1,9 @@
 -- How many threads seal a ladder's segments, and how many segments may wait for them.
+use Rattle.std.specs.Prelude.{◌≤◌}
 use Rattle.std.specs.Option.{unwrap_or}
 use Rattle.commands.specs.declared.pool.Pool.{Pool}
 use Rattle.commands.specs.declared.pool.PoolWords.{PoolWords}
-use Rattle.commands.specs.Ranges.{IsBetween}
+use Rattle.limits.specs.declared.TheConstants.{LEAST, MOST_WORKERS, MOST_QUEUE}
 
 -- four workers and sixteen segments, where no numbers are given
 abbrev pub pool_of : PoolWords → Pool
@@ -12,8 +13,8 @@ pool_of words = record {
   batch = words.batch;
 }
 
--- 1 to 64 workers; 1 to 256 segments on their way; a round that ends with 1 to 256, where that is asked for
+-- so many workers, so many segments on their way, and a round that begins with no more, where that is asked for
 pub record IsPool (pool : Pool) : Type 0 where
-  pub workers_are : IsBetween 1 64 pool.workers
-  pub queue_is : IsBetween 1 256 pool.queue
-  pub batch_is : IsBetween 1 256 (unwrap_or pool.batch 1)
+  pub workers_are : (LEAST ≤ pool.workers) × (pool.workers ≤ MOST_WORKERS)
+  pub queue_is : (LEAST ≤ pool.queue) × (pool.queue ≤ MOST_QUEUE)
+  pub batch_is : (LEAST ≤ unwrap_or pool.batch LEAST) × (unwrap_or pool.batch LEAST ≤ MOST_QUEUE)

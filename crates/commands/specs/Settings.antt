@@ -11,14 +11,15 @@ use Rattle.commands.specs.Defaults.{name_of}
 use Rattle.commands.specs.Hex.{bytes_of_hex, chosen_salt}
 use Rattle.commands.specs.KeyLists.{are_keys, key_texts}
 use Rattle.commands.specs.Sizes.{HasSize, IsSize}
+use Rattle.limits.specs.declared.TheConstants.{TICKS, MOST_PROGRAM, MOST_KEYS}
 
--- the seconds of a segment in ticks of 1/90000 s
+-- the seconds of a segment in ticks
 abbrev pub segment_ticks : Numbers → ℕ
-segment_ticks numbers = numbers.segment * 90000
+segment_ticks numbers = numbers.segment * TICKS
 
 -- numbers that a cutter's settings have room for
 pub record FitsCut (numbers : Numbers) : Type 0 where
-  pub program : unwrap_or numbers.program 0 ≤ 65535
+  pub program : unwrap_or numbers.program 0 ≤ MOST_PROGRAM
   pub segment : segment_ticks numbers < 2 ^ 64
 
 -- how streams are cut by these numbers
@@ -34,7 +35,7 @@ cut_of numbers = record {
 
 -- keys that may take turns by this period
 abbrev pub TakeTurns : List (List ℕ) → ℕ → Type 0
-TakeTurns keys period = (length keys ≤ 4096) × (0 < period)
+TakeTurns keys period = (length keys ≤ MOST_KEYS) × (0 < period)
 
 -- the words of a packager of one rendition, as texts
 pub record Words : Type 0 where

@@ -15,27 +15,27 @@ use crate::pool::Pool;
 use crate::settings::{PackingWords, kind, read_rendition};
 use cutter::CutSettings;
 use ladder_items::is_allowed;
+use limits::MOST_KEYS;
 use pipeline::{Rendition, Settings};
-use segment_job::MOST_KEYS;
 use std::alloc::{AllocError, Global};
 
 /// Whether an entry has more than 4,096 keys.
 fn has_many_keys(text: &str) -> bool
     requires { IsGood text.now }
-    ensures many { result ≡ true → 4096 < key_count text.now }
-    ensures few { result ≡ false → key_count text.now ≤ 4096 }
+    ensures many { result ≡ true → MOST_KEYS < key_count text.now }
+    ensures few { result ≡ false → key_count text.now ≤ MOST_KEYS }
 {
     let Some(words) = entry(text) else {
         unreachable!()
     };
-    key_count(words.keys) > MOST_KEYS
+    key_count(words.keys) as u64 > MOST_KEYS
 }
 
 /// Whether some entry has more than 4,096 keys.
 pub(crate) fn has_too_many(texts: &[&str]) -> bool
     requires { All IsGood (map (λ t. t.now) texts.now) }
-    ensures many { result ≡ true → Any (λ text. 4096 < key_count text) (map (λ t. t.now) texts.now) }
-    ensures few { result ≡ false → All (λ text. key_count text ≤ 4096) (map (λ t. t.now) texts.now) }
+    ensures many { result ≡ true → Any (λ text. MOST_KEYS < key_count text) (map (λ t. t.now) texts.now) }
+    ensures few { result ≡ false → All (λ text. key_count text ≤ MOST_KEYS) (map (λ t. t.now) texts.now) }
 {
     for place in 0..texts.len() {
         if has_many_keys(texts[place]) {

@@ -13,13 +13,13 @@ mod ladder_fault;
 mod ladder_options;
 mod ladder_packing;
 mod ladder_settings;
-mod limits;
 mod numbers;
 mod opening;
 mod output;
 mod packets;
 mod packing;
 mod pool;
+mod ranges;
 mod reading;
 mod sealing;
 mod settings;
@@ -29,17 +29,12 @@ mod summary_text;
 pub use check_options::{CheckOptions, CheckWords, read_check_options};
 pub use checking::{CheckingFault, check};
 pub use cipher::{CipherFault, CipherOptions, CipherWords, read_cipher_options};
-pub use cutter::TICKS;
 pub use entry::{EntryWords, entries, first_bad};
 pub use files::{FileFault, FileReader};
 pub use key_list::KeyListFault;
 pub use ladder_fault::LadderFault;
 pub use ladder_options::{LadderOptions, LadderWords, read_ladder_options};
 pub use ladder_packing::{LadderPackingFault, PackedLadder, pack};
-pub use limits::{
-    LEAST, MOST_FRAME, MOST_GAP, MOST_PACKETS, MOST_PIXELS, MOST_PROGRAM, MOST_QUEUE, MOST_TARGET,
-    MOST_WINDOW, MOST_WORKERS, ranges_are_those_of_a_run,
-};
 pub use numbers::{
     DEFAULT_FRAME, DEFAULT_GAP, DEFAULT_MOST, DEFAULT_NAME, DEFAULT_PERIOD, DEFAULT_TARGET,
     DEFAULT_WINDOW, NumberWords, Numbers,
@@ -47,7 +42,7 @@ pub use numbers::{
 pub use opening::{OpeningFault, open};
 pub use packing::{Packed, one};
 pub use pool::{DEFAULT_QUEUE, DEFAULT_WORKERS, Pool, PoolWords};
+pub use ranges::limits_are_these;
 pub use sealing::{SealingFault, seal};
-pub use segment_job::MOST_KEYS;
 pub use settings::{PackingWords, SettingsFault, read_settings};
 pub use summaries::summary;

@@ -4,7 +4,8 @@ ghost use Rattle.std.specs.Option.{option_map, unwrap_or};
 ghost use Rattle.commands.specs.Defaults.{numbers_of, name_of};
 ghost use Rattle.commands.specs.Settings.{cut_of, FitsCut};
 
-use cutter::{CutSettings, TICKS};
+use cutter::CutSettings;
+use limits::{MOST_PROGRAM, TICKS};
 
 /// The target duration in seconds, where none is given.
 pub const DEFAULT_TARGET: u64 = 6;
@@ -90,7 +91,7 @@ pub(crate) fn name(given: Option<&str>) -> &str
 /// The program as the tables have it, where it is asked for; None for a number that no table has.
 fn program(number: Option<u64>) -> Option<Option<u16>>
     ensures some { IfSome result (λ program. program ≡ number) }
-    ensures none { (result ≡ None) ↔ (65535 < unwrap_or number 0) }
+    ensures none { (result ≡ None) ↔ (MOST_PROGRAM < unwrap_or number 0) }
 {
     match number {
         Some(number) => match u16::try_from(number) {

@@ -2,7 +2,7 @@
 ghost use Rattle.std.specs.Prelude.{◌≡◌, Decides};
 ghost use Rattle.commands.specs.Pools.{pool_of, IsPool};
 
-use crate::limits::{LEAST, MOST_QUEUE, MOST_WORKERS};
+use limits::{LEAST, MOST_QUEUE, MOST_WORKERS};
 
 /// The threads that seal, where no number is given.
 pub const DEFAULT_WORKERS: u64 = 4;
@@ -25,8 +25,9 @@ pub struct Pool {
     pub workers: u64,
     /// The most segments that may be on their way, 1 to 256.
     pub queue: u64,
-    /// With how many segments a round ends, 1 to 256; where it isn't given as many as there are workers, or as the queue
-    /// holds, if that is less.
+    /// How many segments are closed where a round of sealing begins at the latest, 1 to 256; one for each worker are enough
+    /// once all of the round before is given. Where it isn't told, as many as there are workers, or as the queue holds, if
+    /// that is less.
     pub batch: Option<u64>,
 }
 

@@ -11,8 +11,9 @@ use crate::cipher::block;
 use crate::frame_size::{FrameSize, size};
 use crate::key_list::{KeyListFault, are_keys, key_count, read_keys};
 use crate::numbers::{NumberWords, name};
+use limits::MOST_KEYS;
 use pipeline::{Kind, Rendition, Settings};
-use segment_job::{Keys, MOST_KEYS};
+use segment_job::Keys;
 use std::alloc::{AllocError, AllocFailed, Global};
 use thiserror::Error;
 
@@ -121,8 +122,8 @@ fn look(words: PackingWords<'_>, period: u64) -> Result<Parts, SettingsFault>
     ensures bad_key { IsErrOf result SettingsFault.BadKey ↔ (are_keys words.entry.keys.now ≡ false) }
     ensures bad_size { IsErrOf result SettingsFault.BadSize ↔ ((are_keys words.entry.keys.now ≡ true) × ¬ HasSize words.entry.size.now) }
     ensures bad_vector { IsErrOf result SettingsFault.BadVector ↔ ((are_keys words.entry.keys.now ≡ true) × HasSize words.entry.size.now × (chosen_salt (words_of words.entry).salt ≡ None)) }
-    ensures too_many { IsErrOf result SettingsFault.TooMany ↔ ((are_keys words.entry.keys.now ≡ true) × HasSize words.entry.size.now × HasSalt (words_of words.entry) × (4096 < length (key_texts words.entry.keys.now))) }
-    ensures zero_period { IsErrOf result SettingsFault.ZeroPeriod ↔ ((are_keys words.entry.keys.now ≡ true) × HasSize words.entry.size.now × HasSalt (words_of words.entry) × (length (key_texts words.entry.keys.now) ≤ 4096) × (period ≡ 0)) }
+    ensures too_many { IsErrOf result SettingsFault.TooMany ↔ ((are_keys words.entry.keys.now ≡ true) × HasSize words.entry.size.now × HasSalt (words_of words.entry) × (MOST_KEYS < length (key_texts words.entry.keys.now))) }
+    ensures zero_period { IsErrOf result SettingsFault.ZeroPeriod ↔ ((are_keys words.entry.keys.now ≡ true) × HasSize words.entry.size.now × HasSalt (words_of words.entry) × (length (key_texts words.entry.keys.now) ≤ MOST_KEYS) × (period ≡ 0)) }
     ensures only { IfErr result (λ fault. (fault ≢ SettingsFault.Settings) × (fault ≢ SettingsFault.NoMemory)) }
 {
     if !are_keys(words.keys) {
@@ -132,7 +133,7 @@ fn look(words: PackingWords<'_>, period: u64) -> Result<Parts, SettingsFault>
         return Err(SettingsFault::BadSize);
     };
     let salt = read_salt(words.salt)?;
-    if key_count(words.keys) > MOST_KEYS {
+    if key_count(words.keys) as u64 > MOST_KEYS {
         return Err(SettingsFault::TooMany);
     }
     if period == 0 {
@@ -222,8 +223,8 @@ pub fn read_settings(
     ensures bad_key { IsErrOf result SettingsFault.BadKey ↔ (are_keys words.entry.keys.now ≡ false) }
     ensures bad_size { IsErrOf result SettingsFault.BadSize ↔ ((are_keys words.entry.keys.now ≡ true) × ¬ HasSize words.entry.size.now) }
     ensures bad_vector { IsErrOf result SettingsFault.BadVector ↔ ((are_keys words.entry.keys.now ≡ true) × HasSize words.entry.size.now × (chosen_salt (words_of words.entry).salt ≡ None)) }
-    ensures too_many { IsErrOf result SettingsFault.TooMany ↔ ((are_keys words.entry.keys.now ≡ true) × HasSize words.entry.size.now × HasSalt (words_of words.entry) × (4096 < length (key_texts words.entry.keys.now))) }
-    ensures zero_period { IsErrOf result SettingsFault.ZeroPeriod ↔ ((are_keys words.entry.keys.now ≡ true) × HasSize words.entry.size.now × HasSalt (words_of words.entry) × (length (key_texts words.entry.keys.now) ≤ 4096) × ((numbers_of numbers).period ≡ 0)) }
+    ensures too_many { IsErrOf result SettingsFault.TooMany ↔ ((are_keys words.entry.keys.now ≡ true) × HasSize words.entry.size.now × HasSalt (words_of words.entry) × (MOST_KEYS < length (key_texts words.entry.keys.now))) }
+    ensures zero_period { IsErrOf result SettingsFault.ZeroPeriod ↔ ((are_keys words.entry.keys.now ≡ true) × HasSize words.entry.size.now × HasSalt (words_of words.entry) × (length (key_texts words.entry.keys.now) ≤ MOST_KEYS) × ((numbers_of numbers).period ≡ 0)) }
     ensures settings { IsErrOf result SettingsFault.Settings ↔ (AreGoodWords (words_of words.entry) (numbers_of numbers).period × ¬ FitsCut (numbers_of numbers)) }
     ensures no_memory { IsErrOf result SettingsFault.NoMemory → AreGoodWords (words_of words.entry) (numbers_of numbers).period × FitsCut (numbers_of numbers) }
 {

@@ -1,8 +1,8 @@
 use crate::fixtures::{KEY, no_numbers};
 use commands::{
-    LadderFault, LadderOptions, LadderWords, MOST_KEYS, NumberWords, PoolWords,
-    read_ladder_options, summary,
+    LadderFault, LadderOptions, LadderWords, NumberWords, PoolWords, read_ladder_options, summary,
 };
+use limits::MOST_KEYS;
 use pipeline::{Kind, Report};
 use std::alloc::Global;
 use std::test::Fail;

@@ -1,10 +1,10 @@
 use crate::fixtures::{KEY, VECTOR, no_numbers, words};
 use commands::{
     CheckWords, CipherFault, CipherWords, DEFAULT_FRAME, DEFAULT_GAP, DEFAULT_MOST, DEFAULT_NAME,
-    DEFAULT_PERIOD, DEFAULT_TARGET, DEFAULT_WINDOW, EntryWords, KeyListFault, MOST_KEYS,
-    MOST_PIXELS, MOST_PROGRAM, NumberWords, SettingsFault, TICKS, entries, first_bad, one,
-    read_check_options, read_cipher_options, read_settings,
+    DEFAULT_PERIOD, DEFAULT_TARGET, DEFAULT_WINDOW, EntryWords, KeyListFault, NumberWords,
+    SettingsFault, entries, first_bad, one, read_check_options, read_cipher_options, read_settings,
 };
+use limits::{MOST_KEYS, MOST_PROGRAM, TICKS};
 use pipeline::PackFault;
 use std::alloc::Global;
 use std::test::Fail;
@@ -118,7 +118,6 @@ fn is_taken(rt: &HostRuntime, size: &str, numbers: NumberWords) -> Result<bool, 
 
 #[test]
 fn the_ends_of_sizes_and_programs(rt: HostRuntime) -> Result<(), Fail> {
-    assert_eq!(rt; MOST_PIXELS, 16_384);
     let table = [
         ("1x1", true),
         ("16384x16384", true),

@@ -3,6 +3,7 @@
 ghost use Rattle.std.specs.Prelude.{◌≡◌, ◌+◌, ◌≤◌, ◌<◌, ◌^◌, Some, IfOk};
 ghost use Rattle.cutter.specs.Segments;
 ghost use Rattle.cutter.specs.SegmentState.{opened_first, opened_next, label_of, IsInRange, HasRange};
+ghost use Rattle.limits.specs.declared.TheConstants.{MOST_FRAME};
 
 use crate::point::{self, Mark, Point};
 use crate::reel::Label;
@@ -104,17 +105,17 @@ impl Going {
 
     /// How long the segment lasts, up to a cut with this stamp or the end of the stream.
     pub(crate) fn ticks(&self, settings: CutSettings, next: Option<Stamp>) -> u64
-        requires frame { settings.frame ≤ 900000 }
+        requires frame { settings.frame ≤ MOST_FRAME }
         requires next { HasRange next }
         ensures is { result ≡ Segments.ticks_to settings self.now.head.stamp self.now.greatest next }
-        ensures most { result ≤ 2 ^ 63 + 900000 }
+        ensures most { result ≤ 2 ^ 63 + MOST_FRAME }
     {
         ticks_to(settings, self.start, self.greatest, next)
     }
 
     /// All of its plan but the body and the I-frames, where it ends at a cut with this stamp or at the end of the stream.
     pub(crate) fn label(self, rendition: usize, settings: CutSettings, next: Option<Stamp>) -> Label
-        requires frame { settings.frame ≤ 900000 }
+        requires frame { settings.frame ≤ MOST_FRAME }
         requires next { HasRange next }
         ensures { result ≡ label_of rendition settings self next }
     {
@@ -145,7 +146,7 @@ impl Going {
         settings: CutSettings,
         stamp: Stamp,
     ) -> Label
-        requires frame { settings.frame ≤ 900000 }
+        requires frame { settings.frame ≤ MOST_FRAME }
         requires stamp { IsInRange stamp.time }
         ensures label { result ≡ label_of rendition settings self.old (Some stamp) }
         ensures next { self.new ≡ next }
@@ -189,9 +190,9 @@ fn ticks_to(settings: CutSettings, head: Stamp, greatest: i64, next: Option<Stam
     requires head { IsInRange head.time }
     requires greatest { IsInRange greatest }
     requires next { HasRange next }
-    requires frame { settings.frame ≤ 900000 }
+    requires frame { settings.frame ≤ MOST_FRAME }
     ensures is { result ≡ Segments.ticks_to settings head greatest next }
-    ensures most { result ≤ 2 ^ 63 + 900000 }
+    ensures most { result ≤ 2 ^ 63 + MOST_FRAME }
 {
     let Some(next) = next else {
         return greatest.abs_diff(head.time) + settings.frame;

@@ -36,7 +36,7 @@ pub use laws::{
 };
 pub use lent::{Lent, PlanRef};
 pub use plan::{Frame, Plan};
-pub use settings::{CutSettings, TICKS};
+pub use settings::CutSettings;
 pub use spool::Spool;
 pub use spool_cutter::SpoolCutter;
 pub use stream::cut_stream;

@@ -4,6 +4,7 @@ use Rattle.psi_tables.specs.InForce.{InForce}
 use Rattle.psi_tables.specs.Section.{section_length, number_at}
 use Rattle.psi_tables.specs.Head.{head, IsSendable}
 use Rattle.hls_check.specs.Unpacking.{BeginsWithHead}
+use Rattle.ts_packet.specs.declared.lengths.TheConstants.{PACKET}
 
 -- a section with its fields, as long as it tells
 pub record IsSized (s : List ℕ) : Type 0 where
@@ -22,7 +23,7 @@ told_tables pat section = record {
 -- the payloads of so many packets of 188 bytes, behind headers of four bytes
 unfoldable pub payloads : ℕ → List ℕ → List ℕ
 payloads zero packets = []
-payloads (suc count) packets = take 184 (drop 4 packets) ++ payloads count (drop 188 packets)
+payloads (suc count) packets = take 184 (drop 4 packets) ++ payloads count (drop PACKET packets)
 
 -- the bytes are a head, and the only one that the text may begin with
 pub record IsTheHead (text bytes : List ℕ) : Type 0 where

@@ -17,6 +17,7 @@ use Rattle.playlist_text.specs.Uris.{segment_uri}
 use Rattle.playlist_text.specs.MediaLines.{Entry, Listing, key_line, vector_key_line, duration_line}
 use Rattle.hls_check.specs.declared.reading.Stage.{Stage}
 use Rattle.hls_check.specs.declared.reading.Stage.TheVariants.{Fresh, Tagged, Versioned, Targeted, Sequenced, Headed, Between, Broken, Keyed, Timed, Ended}
+use Rattle.limits.specs.declared.TheConstants.{LAST_SEGMENT, MOST_KEYS, MOST_TARGET}
 
 -- what the lines so far told: which line comes next, and the values of the playlist and of its next entry. A value that no
 -- line told yet is one that it may have.
@@ -111,7 +112,7 @@ next_number p = p.sequence + length p.entries
 
 -- where it may stand
 abbrev pub number_left : Progress → Option ℕ
-number_left p = if nat_lt (next_number p) (2 ^ 32 - 1) then Some (next_number p) else None
+number_left p = if nat_lt (next_number p) (LAST_SEGMENT + 1) then Some (next_number p) else None
 
 -- the next entry, with its number
 abbrev pub entry_of : Progress → ℕ → Entry
@@ -130,7 +131,7 @@ with_key p name salt key = record p { stage = Keyed; name = Some name; salt = sa
 
 -- the index of the key that a line has, before the entry of a number
 abbrev pub key_in : List ℕ → Option (List ℕ) → ℕ → List ℕ → Option ℕ
-key_in name salt n line = number_in (key_line_under name salt n) 4096 line
+key_in name salt n line = number_in (key_line_under name salt n) MOST_KEYS line
 
 abbrev pub keyed_first : Progress → ℕ → List ℕ → List ℕ → Option Progress
 keyed_first p n line name =
@@ -189,8 +190,8 @@ headed p line =
 abbrev pub step_at : Stage → Progress → List ℕ → Option Progress
 step_at Fresh p line = expect line (codes "#EXTM3U") (record p { stage = Tagged })
 step_at Tagged p line = expect line (codes "#EXT-X-VERSION:4") (record p { stage = Versioned })
-step_at Versioned p line = option_and_then (λ n. where_so (nat_lt 0 n) (record p { stage = Targeted; target = n })) (number_in target_line 3601 line)
-step_at Targeted p line = option_map (λ n. record p { stage = Sequenced; sequence = n }) (number_in sequence_line (2 ^ 32 - 1) line)
+step_at Versioned p line = option_and_then (λ n. where_so (nat_lt 0 n) (record p { stage = Targeted; target = n })) (number_in target_line (MOST_TARGET + 1) line)
+step_at Targeted p line = option_map (λ n. record p { stage = Sequenced; sequence = n }) (number_in sequence_line (LAST_SEGMENT + 1) line)
 step_at Sequenced p line = option_map (λ n. record p { stage = Headed; discontinuity_sequence = n }) (number_in discontinuity_sequence_line (2 ^ 32) line)
 step_at Headed p line = headed p line
 step_at Between p line = begun p line

@@ -10,9 +10,7 @@ ghost use Rattle.hls_check.specs.Heads.{IsSized, IsTheHead, told_tables};
 
 use psi_tables::{Pmt, TableFault, append_section, pat_section};
 use std::alloc::{AllocError, Global};
-
-/// The bytes of a packet.
-const PACKET: usize = 188;
+use ts_packet::PACKET;
 
 /// What stands behind the head that a text begins with, if it begins with one: the packet of a PAT and those of a good PMT
 /// section, with any counters.
@@ -54,7 +52,7 @@ fn made_head(
     pmt_counter: u8,
     section: &[u8],
 ) -> Result<Vec<u8>, AllocError>
-    requires { 188 ≤ length pat.now }
+    requires { PACKET ≤ length pat.now }
     ensures is { IfOk result (λ bytes. bytes.items ≡ head (told_tables pat.now section.now) (slice_index pat.now 3) pmt_counter) }
     ensures sendable { pmt_fault section.now ≡ None → IsSendable (told_tables pat.now section.now) }
 {
@@ -88,7 +86,7 @@ fn is_pmt(alloc: Global, section: &[u8]) -> Result<bool, AllocError>
 
 /// The section that packets carry, by the length that it tells; None where there are too few packets.
 fn carried_section(alloc: Global, packets: &[u8]) -> Result<Option<Vec<u8>>, AllocError>
-    requires { 188 ≤ length packets.now }
+    requires { PACKET ≤ length packets.now }
     ensures { IfOk result (λ found. (pid counter : ℕ) (section rest : List ℕ) → IsSized section →
         packets.now ≡ section_packets pid counter section ++ rest → IsSomeAnd found (λ bytes. bytes.items ≡ section)) }
 {
@@ -105,7 +103,7 @@ fn carried_section(alloc: Global, packets: &[u8]) -> Result<Option<Vec<u8>>, All
 /// The payloads of so many packets with headers of four bytes.
 fn payloads(alloc: Global, count: usize, packets: &[u8]) -> Result<Vec<u8>, AllocError>
     requires few { count < 2 ^ 32 }
-    requires there { 188 * count ≤ length packets.now }
+    requires there { PACKET * count ≤ length packets.now }
     ensures items { IfOk result (λ carried. carried.items ≡ Heads.payloads count packets.now) }
     ensures len { IfOk result (λ carried. length carried.items ≡ 184 * count) }
 {

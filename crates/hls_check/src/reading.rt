@@ -11,23 +11,18 @@ ghost use Rattle.hls_check.specs.declared.reading.Stage.TheVariants.{Versioned, 
 use crate::listing::{Entry, Listing};
 use crate::numbers::{read_between, read_duration, read_tagged};
 use hex::FromHex;
+use limits::{LAST_SEGMENT, MOST_KEYS, MOST_TARGET};
 use percent_encoding::{DecodeError, percent_decode};
 use playlist_text::{
     is_name, push_escaped, push_hexadecimal, push_segment_uri, rounded_seconds, salted_vector,
 };
 use std::alloc::{AllocError, Global};
 
-/// The longest target duration, in seconds.
-const LONGEST_TARGET: u64 = 3600;
-
-/// A segment's number is below 2^32 - 1.
-const NUMBERS: u64 = u32::MAX as u64;
+/// A segment's number is below it.
+const NUMBERS: u64 = LAST_SEGMENT + 1;
 
 /// A discontinuity sequence is below 2^32.
 const DISCONTINUITIES: u64 = 1 << 32;
-
-/// The most keys of a rendition.
-const MOST_KEYS: u64 = segment_job::MOST_KEYS as u64;
 
 /// What the line of a key begins with, before the name.
 const KEY_BEGIN: &str = "#EXT-X-KEY:METHOD=AES-128,URI=\"";
@@ -128,7 +123,7 @@ impl Reading {
     fn take_target(&mut self, line: &[u8]) -> bool
         ensures { Tells result (step_at Versioned (progress_of self.old) line.now) (progress_of self.new) }
     {
-        let Some(target) = read_tagged(line, b"#EXT-X-TARGETDURATION:", LONGEST_TARGET + 1) else {
+        let Some(target) = read_tagged(line, b"#EXT-X-TARGETDURATION:", MOST_TARGET + 1) else {
             return false;
         };
         if target == 0 {

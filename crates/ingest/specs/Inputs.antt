@@ -6,6 +6,7 @@ use Rattle.cutter.specs.declared.settings.CutSettings.{CutSettings}
 use Rattle.ingest.specs.declared.lane.Stop.{Stop}
 use Rattle.ingest.specs.declared.lane.Stop.TheVariants.{Good, Cut, Read}
 use Rattle.ingest.specs.Streams.{Stays, as_cut}
+use Rattle.item_io.specs.declared.limits.TheConstants.{PIECE}
 
 -- an input: the bytes left, how many reads gave a byte, and how many failed
 pub record InputView (X : Type 0) : Type 1 where
@@ -27,6 +28,6 @@ SourceSays input r s stream (Some Read) old new = input.failures new ≡ input.f
 -- one read of at most 18,800 bytes took this piece
 pub record IsRead {X : Type 0} (input : InputView X) (old new : X) (piece : List ℕ) : Type 0 where
   pub consumes : Consumes (input.left old) (input.left new) piece
-  pub short : length piece ≤ 18800
+  pub short : length piece ≤ PIECE
   pub bytes : AreBytes piece
   pub counted : input.reads new ≤ input.reads old + 1

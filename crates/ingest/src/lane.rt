@@ -3,6 +3,7 @@ ghost use Rattle.ghost_list.specs.Bytes.{AreBytes};
 ghost use Rattle.cutter.specs.Settings.{IsAllowed};
 ghost use Rattle.ingest.specs.Inputs.{input_of, IsRead};
 ghost use Rattle.ingest.specs.Lanes.{is_good, IsFirst, IsOfPiece, IsOfEnd, Takes, IsTurned};
+ghost use Rattle.item_io.specs.declared.limits.TheConstants.{PIECE};
 
 use crate::fault::{StreamFault, of_stream};
 use crate::intake::Intake;
@@ -47,7 +48,7 @@ impl Lane {
         matches!(self.stop, Some(Stop::Good(_)))
     }
 
-    /// Reads once, as many bytes as `buffer` has room for, and closes in its spool all segments that they close, or at the
+    /// Reads once, at most as many bytes as `buffer` has room for, and closes in its spool all segments that they close, or at the
     /// end of the input the last ones. A fault of the input or of its stream stops the rendition, which is no refusal.
     ///
     /// It has to go on. Want of memory leaves it of no use.
@@ -55,10 +56,10 @@ impl Lane {
         requires reads { S.reads source.old < 2 ^ 63 }
         requires failures { S.failures source.old < 2 ^ 63 }
         requires some { 0 < length buffer.old }
-        requires short { length buffer.old ≤ 18800 }
+        requires short { length buffer.old ≤ PIECE }
         requires open { self.old.stop ≡ None }
         requires going { self.old.intake.ended ≡ false }
-        requires few { length self.old.intake.stream + 18800 < 2 ^ 63 }
+        requires few { length self.old.intake.stream + PIECE < 2 ^ 63 }
         ensures ok { OnOk result (IsTurned (input_of S.remaining S.reads S.failures) source.old source.new self.old self.new) }
         ensures err { OnErr result ((piece : List ℕ) × IsRead (input_of S.remaining S.reads S.failures) source.old source.new piece) }
         ensures no_read_failed { OnErr result (S.failures source.new ≡ S.failures source.old) }

@@ -6,6 +6,7 @@ use Rattle.ladder_items.specs.declared.settings.Kind.{Kind}
 use Rattle.ladder_items.specs.declared.settings.Kind.TheVariants.{Live, Event}
 use Rattle.master_playlist.specs.Listed.{Listed}
 use Rattle.master_playlist.specs.Faults.{fault_of}
+use Rattle.limits.specs.declared.TheConstants.{TICKS, LEAST, MOST_TARGET, MOST_FRAME, MOST_GAP, MOST_PACKETS, MOST_PROGRAM, MOST_RENDITIONS, MOST_WINDOW, MOST_QUEUE}
 
 -- a rendition: its name and codecs as bytes, its size in pixels, the keys of its segments, and the salt of their
 -- vectors
@@ -62,30 +63,26 @@ unmeasured rendition = listed rendition 0 0 0 0
 -- a program that may be asked for
 abbrev pub IsProgram : Option ℕ → Type 0
 IsProgram None = Unit {0}
-IsProgram (Some program) = (1 ≤ program) × (program ≤ 65535)
+IsProgram (Some program) = (LEAST ≤ program) × (program ≤ MOST_PROGRAM)
 
 -- settings of a cutter within their limits
 pub record IsCutAllowed (cut : CutSettings) : Type 0 where
   pub program : IsProgram cut.program
-  pub target : (1 ≤ cut.target) × (cut.target ≤ 3600)
-  pub segment : (1 ≤ cut.segment) × (cut.segment ≤ cut.target * 90000)
-  pub gap : (1 ≤ cut.gap) × (cut.gap ≤ 0xFFFFFFFF)
-  pub frame : (1 ≤ cut.frame) × (cut.frame ≤ 900000)
-  pub most : (1 ≤ cut.most) × (cut.most ≤ 1000000)
+  pub target : (LEAST ≤ cut.target) × (cut.target ≤ MOST_TARGET)
+  pub segment : (LEAST ≤ cut.segment) × (cut.segment ≤ cut.target * TICKS)
+  pub gap : (LEAST ≤ cut.gap) × (cut.gap ≤ MOST_GAP)
+  pub frame : (LEAST ≤ cut.frame) × (cut.frame ≤ MOST_FRAME)
+  pub most : (LEAST ≤ cut.most) × (cut.most ≤ MOST_PACKETS)
 
 -- settings within their limits, whose keys hold their salts, whether or not a master playlist can list their renditions
 pub record IsWithinLimits (ladder : Ladder) : Type 0 where
-  pub renditions : (1 ≤ length ladder.renditions) × (length ladder.renditions ≤ 32)
+  pub renditions : (LEAST ≤ length ladder.renditions) × (length ladder.renditions ≤ MOST_RENDITIONS)
   pub cut : IsCutAllowed ladder.cut
-  pub window : (1 ≤ ladder.window) × (ladder.window ≤ 10000)
-  pub queue : (1 ≤ ladder.queue) × (ladder.queue ≤ 256)
+  pub window : (LEAST ≤ ladder.window) × (ladder.window ≤ MOST_WINDOW)
+  pub queue : (LEAST ≤ ladder.queue) × (ladder.queue ≤ MOST_QUEUE)
   pub salts : All (λ rendition. rendition.keys.salt ≡ rendition.salt) ladder.renditions
 
--- settings within their limits, of 1 to 32 renditions that a master playlist can list and whose keys hold their salts
+-- settings that a run takes: their renditions can be listed besides
 pub record IsAllowed (ladder : Ladder) : Type 0 where
-  pub renditions : (1 ≤ length ladder.renditions) × (length ladder.renditions ≤ 32)
-  pub cut : IsCutAllowed ladder.cut
-  pub window : (1 ≤ ladder.window) × (ladder.window ≤ 10000)
-  pub queue : (1 ≤ ladder.queue) × (ladder.queue ≤ 256)
-  pub salts : All (λ rendition. rendition.keys.salt ≡ rendition.salt) ladder.renditions
+  pub within : IsWithinLimits ladder
   pub listable : fault_of (map unmeasured ladder.renditions) ≡ None

@@ -7,6 +7,7 @@ use Rattle.media_playlist.specs.Rows.{SegmentRow, is_long}
 use Rattle.media_playlist.specs.Listed.{Pushed}
 use Rattle.media_playlist.specs.Lines.{media_lines, iframe_lines}
 use Rattle.bandwidth.specs.declared.run.Row.{Row}
+use Rattle.limits.specs.declared.TheConstants.{MOST_PACKETS}
 
 -- a rendition's name, the target duration in seconds, the least number of rows to list, whether all rows of an event are
 -- listed, the salt of the vectors, the rows of all its segments, and whether it takes no more
@@ -65,4 +66,4 @@ pub record IsNextRow (target count : ℕ) (row : SegmentRow) : Type 0 where
   pub lasts : 0 < row.micros
   pub micros : row.micros < 2 ^ 32
   pub frames : All IsSmallFrame row.frames
-  pub few : length row.frames ≤ 1000000
+  pub few : length row.frames ≤ MOST_PACKETS

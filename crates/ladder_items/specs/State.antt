@@ -6,6 +6,7 @@ use Rattle.ladder_items.specs.declared.settings.Settings.TheInside.{Inside as Se
 use Rattle.ladder_items.specs.declared.playlists.Playlists.TheInside.{Inside}
 use Rattle.ladder_items.specs.Ladder.{RenditionValue, Ladder}
 use Rattle.ladder_items.specs.Shown.{Shown, segment_rates, frame_rates, lasting}
+use Rattle.limits.specs.declared.TheConstants.{MOST_PACKETS}
 
 abbrev pub rendition_value : RenditionInside → RenditionValue
 rendition_value r = record { name = string_bytes r.name; codecs = string_bytes r.codecs; width = r.width; height = r.height; keys = r.keys; salt = r.salt }
@@ -29,5 +30,5 @@ pub record IsTied (p : Inside) : Type 0 where
   pub segments : p.ended ≡ false → p.segments ≡ record { target = p.window.target; rows = segment_rates p.window.rows }
   pub frames : p.ended ≡ false → p.frames ≡ record { target = p.window.target; rows = frame_rates p.window.rows }
   pub micros : p.ended ≡ false → p.micros ≡ lasting p.window.rows
-  pub few : p.ended ≡ false → length (frame_rates p.window.rows) ≤ 1000000 * length p.window.rows
+  pub few : p.ended ≡ false → length (frame_rates p.window.rows) ≤ MOST_PACKETS * length p.window.rows
   pub small : p.ended ≡ false → lasting p.window.rows ≤ 2 ^ 32 * length p.window.rows

@@ -5,6 +5,10 @@ ghost use Rattle.ladder_items.specs.Ladder;
 
 use crate::settings::{Rendition, Settings};
 use cutter::CutSettings;
+use limits::{
+    LEAST, MOST_FRAME, MOST_GAP, MOST_PACKETS, MOST_QUEUE, MOST_RENDITIONS, MOST_TARGET,
+    MOST_WINDOW, TICKS,
+};
 use master_playlist::{MasterFault, Variant, master_text};
 use std::alloc::{AllocError, Global};
 
@@ -26,13 +30,13 @@ pub fn is_allowed(alloc: Global, settings: &Settings, inputs: usize) -> Result<b
 
 /// Whether the number of renditions, the window and the queue are within their limits.
 fn is_ladder(settings: &Settings) -> bool
-    ensures { Decides result (((1 ≤ length settings.now.renditions) × (length settings.now.renditions ≤ 32))
-        × ((1 ≤ settings.now.window) × (settings.now.window ≤ 10000))
-        × ((1 ≤ settings.now.queue) × (settings.now.queue ≤ 256))) }
+    ensures { Decides result (((LEAST ≤ length settings.now.renditions) × (length settings.now.renditions ≤ MOST_RENDITIONS))
+        × ((LEAST ≤ settings.now.window) × (settings.now.window ≤ MOST_WINDOW))
+        × ((LEAST ≤ settings.now.queue) × (settings.now.queue ≤ MOST_QUEUE))) }
 {
-    is_up_to(settings.renditions.len() as u64, 32)
-        && is_up_to(settings.window, 10_000)
-        && is_up_to(settings.queue, 256)
+    is_up_to(settings.renditions.len() as u64, MOST_RENDITIONS)
+        && is_up_to(settings.window, MOST_WINDOW)
+        && is_up_to(settings.queue, MOST_QUEUE)
 }
 
 /// Whether the keys of each rendition hold its salt.
@@ -49,11 +53,11 @@ fn is_cut(cut: CutSettings) -> bool
     ensures { Decides result (IsCutAllowed cut) }
 {
     is_program(cut.program)
-        && is_up_to(cut.target, 3600)
-        && is_up_to(cut.segment, cut.target * 90_000)
-        && is_up_to(cut.gap, 0xFFFF_FFFF)
-        && is_up_to(cut.frame, 900_000)
-        && is_up_to(cut.most, 1_000_000)
+        && is_up_to(cut.target, MOST_TARGET)
+        && is_up_to(cut.segment, cut.target * TICKS)
+        && is_up_to(cut.gap, MOST_GAP)
+        && is_up_to(cut.frame, MOST_FRAME)
+        && is_up_to(cut.most, MOST_PACKETS)
 }
 
 /// Whether a program may be asked for.
@@ -61,15 +65,15 @@ fn is_program(program: Option<u16>) -> bool
     ensures { Decides result (IsProgram program) }
 {
     match program {
-        Some(program) => program >= 1,
+        Some(program) => u64::from(program) >= LEAST,
         None => true,
     }
 }
 
 fn is_up_to(value: u64, most: u64) -> bool
-    ensures { Decides result ((1 ≤ value) × (value ≤ most)) }
+    ensures { Decides result ((LEAST ≤ value) × (value ≤ most)) }
 {
-    value >= 1 && value <= most
+    LEAST <= value && value <= most
 }
 
 /// Whether a master playlist can list these renditions.

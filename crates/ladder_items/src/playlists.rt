@@ -5,6 +5,7 @@ ghost use Rattle.ladder_items.specs.declared.fault.PackFault.TheVariants.{NoMemo
 ghost use Rattle.ladder_items.specs.Ladder.{is_event, least_listed};
 ghost use Rattle.ladder_items.specs.Shown.{IsNextRow, IsSmallFrame, frame_rate, segment_rates, frame_rates, lasting};
 ghost use Rattle.ladder_items.specs.Shown;
+ghost use Rattle.limits.specs.declared.TheConstants.{MOST_TARGET};
 
 use crate::fault::PackFault;
 use crate::settings::Kind;
@@ -50,7 +51,7 @@ impl Playlists {
         salt: Option<[u8; 16]>,
     ) -> Result<Playlists, AllocError>
         requires least { 1 ≤ target }
-        requires most { target ≤ 3600 }
+        requires most { target ≤ MOST_TARGET }
         ensures { IfOk result (λ new. new ≡ record {
           name = name.now;
           target = target;

@@ -60,7 +60,7 @@ are-listed suffice ladder r before plan allowed =
     let pushed : Pushed = in_window (shown_of ladder (rendition_at ladder r) (before ++ plan ∷ [])) in
     let salt = pushed.salt in
     let j = first pushed in
-    let below : j ≤ length rows = last-in-window suffice (is_event ladder.kind) ladder.kind ladder.cut.target ladder.window (rows_of keys (before ++ plan ∷ [])) rows row refl all allowed.window.0 in
+    let below : j ≤ length rows = last-in-window suffice (is_event ladder.kind) ladder.kind ladder.cut.target ladder.window (rows_of keys (before ++ plan ∷ [])) rows row refl all allowed.within.window.0 in
     let front = flat_map (row_frame_lines name salt) (drop j rows) in
     record {
       before = heading pushed ++ front;

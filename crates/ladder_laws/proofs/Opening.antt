@@ -117,7 +117,7 @@ is-listed suffice ladder r before plan allowed number of_bytes =
     let pushed : Pushed = in_window (shown_of ladder (rendition_at ladder r) (before ++ plan ∷ [])) in
     let salted : keys.salt ≡ pushed.salt = salt-held ladder r allowed in
     let j = first pushed in
-    let below : j ≤ length rows = last-in-window suffice (is_event ladder.kind) ladder.kind ladder.cut.target ladder.window (rows_of keys (before ++ plan ∷ [])) rows row refl all allowed.window.0 in
+    let below : j ≤ length rows = last-in-window suffice (is_event ladder.kind) ladder.kind ladder.cut.target ladder.window (rows_of keys (before ++ plan ∷ [])) rows row refl all allowed.within.window.0 in
     let many : length rows ≡ length before = length-map before (λ p. row_of keys (sealed_segment keys p)) in
     let sequence : j + length (map entry_of (drop j rows)) ≡ plan.number =
     omega (arith, below, many, number, length-map (drop j rows) entry_of, length-drop j rows) in

@@ -13,4 +13,4 @@ held-at (x ∷ xs) zero all = All-head HoldsSalt x xs all
 held-at (x ∷ xs) (suc r) all = held-at xs r (All-tail HoldsSalt x xs all)
 
 pub salt-held : (ladder : Ladder) (r : ℕ) → IsAllowed ladder → HoldsSalt (rendition_at ladder r)
-salt-held ladder r allowed = held-at ladder.renditions r allowed.salts
+salt-held ladder r allowed = held-at ladder.renditions r allowed.within.salts

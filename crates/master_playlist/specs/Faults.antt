@@ -6,6 +6,7 @@ use Rattle.playlist_text.specs.Names.{is_name, is_codecs}
 use Rattle.master_playlist.specs.Listed.{Listed}
 use Rattle.master_playlist.specs.declared.fault.MasterFault.{MasterFault}
 use Rattle.master_playlist.specs.declared.fault.MasterFault.TheVariants.{BadName, SameName, BadCodecs, BadResolution, NoMemory}
+use Rattle.limits.specs.declared.TheConstants.{LEAST, MOST_PIXELS}
 
 -- the numbers of the faults, least first
 abbrev pub number : MasterFault → ℕ
@@ -17,7 +18,7 @@ number NoMemory = 5
 
 -- a side is from 1 to 16,384 pixels
 abbrev pub is_side : ℕ → Bool
-is_side side = nat_le 1 side && nat_le side 16_384
+is_side side = nat_le LEAST side && nat_le side MOST_PIXELS
 
 abbrev pub has_resolution : Listed → Bool
 has_resolution v = is_side v.width && is_side v.height

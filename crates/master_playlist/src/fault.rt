@@ -3,6 +3,7 @@ ghost use Rattle.master_playlist.specs.Faults;
 ghost use Rattle.master_playlist.specs.declared.fault.MasterFault.TheVariants.{NoMemory};
 
 use crate::variant::Variant;
+use limits::{LEAST, MOST_PIXELS};
 use playlist_text::{is_codecs, is_name};
 use std::alloc::AllocError;
 use thiserror::Error;
@@ -96,5 +97,5 @@ fn has_resolution(variant: &Variant<'_>) -> bool
 fn is_side(side: u64) -> bool
     ensures { result ≡ Faults.is_side side }
 {
-    side >= 1 && side <= 16_384
+    LEAST <= side && side <= MOST_PIXELS
 }

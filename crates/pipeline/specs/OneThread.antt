@@ -9,6 +9,7 @@ use Rattle.ladder_items.specs.Runs.{Run}
 use Rattle.ladder_items.specs.World.{stream_at}
 use Rattle.ladder_items.specs.Lanes.{HasGiven}
 use Rattle.ladder_items.specs.Packed.{IsCutShort}
+use Rattle.item_io.specs.declared.limits.TheConstants.{PIECE}
 
 -- A run that was stopped in a turn of rendition r: before that turn each rendition had given all that its bytes close, or
 -- had stopped, and in the turn one read was made, of r alone.
@@ -18,7 +19,7 @@ pub record StopsAtOnce (ladder : Ladder) (r : ℕ) (streams : List (List ℕ)) (
   pub legal : AreLegal (none_of ladder) events
   pub given_before : (rest : List ItemValue) × (given ≡ blocks ladder (none_of ladder) events ++ rest)
   pub each : (k : ℕ) → k < length ladder.renditions → (stop : Option Stop) × HasGiven stop ladder k (stream_at earlier k) (part_at (after_all (none_of ladder) events) k)
-  pub piece : (more : List ℕ) × (length more ≤ 18800) × (stream_at streams r ≡ stream_at earlier r ++ more)
+  pub piece : (more : List ℕ) × (length more ≤ PIECE) × (stream_at streams r ≡ stream_at earlier r ++ more)
   pub others : (k : ℕ) → (k ≡ r → ⊥) → stream_at streams k ≡ stream_at earlier k
 
 -- The run was stopped at once: the items put are a beginning of a weave of beginnings, and nothing was read behind them.

@@ -34,14 +34,14 @@ pub fn pack_serial<S: Source, O: Outlet>(
     settings: &Settings,
     outlet: &mut O,
 ) -> Result<Report, PackFault>
-    requires room { HaveRoom (input_of S.remaining S.reads S.failures) (2 ^ 40) sources.old.items }
+    requires room { HaveRoom (input_of S.remaining S.reads S.failures) READS sources.old.items }
     requires failures { O.failures outlet.old < 2 ^ 63 }
-    ensures ok { IfOk result (IsPacked (run_of (input_of S.remaining S.reads S.failures) (outlet_of O.holds O.broken O.failures) (2 ^ 40) sources.old.items sources.new.items outlet.old outlet.new) settings.now) }
+    ensures ok { IfOk result (IsPacked (run_of (input_of S.remaining S.reads S.failures) (outlet_of O.holds O.broken O.failures) READS sources.old.items sources.new.items outlet.old outlet.new) settings.now) }
     ensures failures { OnOk result (O.failures outlet.new ≡ O.failures outlet.old) }
     ensures count { length sources.new.items ≡ length sources.old.items }
-    ensures fault { IfErr result (FaultSays (run_of (input_of S.remaining S.reads S.failures) (outlet_of O.holds O.broken O.failures) (2 ^ 40) sources.old.items sources.new.items outlet.old outlet.new) settings.now) }
+    ensures fault { IfErr result (FaultSays (run_of (input_of S.remaining S.reads S.failures) (outlet_of O.holds O.broken O.failures) READS sources.old.items sources.new.items outlet.old outlet.new) settings.now) }
     ensures at_once { IfErr result (λ fault. (fault ≡ OutletFault) ⊎ (fault ≡ NoMemory) →
-        IsCutAtOnce (run_of (input_of S.remaining S.reads S.failures) (outlet_of O.holds O.broken O.failures) (2 ^ 40) sources.old.items sources.new.items outlet.old outlet.new) settings.now) }
+        IsCutAtOnce (run_of (input_of S.remaining S.reads S.failures) (outlet_of O.holds O.broken O.failures) READS sources.old.items sources.new.items outlet.old outlet.new) settings.now) }
     ensures never_held { IfErr result (λ fault. (r n : ℕ) → fault ≢ Held r n) }
     ensures alone { IfOk result IsAlone }
     ensures allowed { OnOk result (IsAllowed settings.now × (length sources.old.items ≡ length settings.now.renditions)) }
@@ -62,7 +62,7 @@ pub fn pack_serial_reads<S: Source, O: Outlet>(
     reads: u64,
 ) -> Result<Report, PackFault>
     requires least { 1 ≤ reads }
-    requires most { reads ≤ 2 ^ 40 }
+    requires most { reads ≤ READS }
     requires room { HaveRoom (input_of S.remaining S.reads S.failures) reads sources.old.items }
     requires failures { O.failures outlet.old < 2 ^ 63 }
     ensures ok { IfOk result (IsPacked (run_of (input_of S.remaining S.reads S.failures) (outlet_of O.holds O.broken O.failures) reads sources.old.items sources.new.items outlet.old outlet.new) settings.now) }
@@ -109,7 +109,7 @@ fn turns<S: Source, O: Outlet>(
 ) -> Result<(), PackFault>
     requires failures { O.failures outlet.old < 2 ^ 63 }
     requires allowed { IsAllowed settings.now }
-    requires most { reads ≤ 2 ^ 40 }
+    requires most { reads ≤ READS }
     requires room { HaveRoom (input_of S.remaining S.reads S.failures) reads sources.old.items }
     requires start { NothingDue (run_of (input_of S.remaining S.reads S.failures) (outlet_of O.holds O.broken O.failures) reads sources.old.items sources.old.items outlet.old outlet.old) settings.now 0 0 lanes.old.items playlists.old.items }
     ensures ok { OnOk result ((rounds : ℕ) × (rounds ≤ reads) × NothingDue (run_of (input_of S.remaining S.reads S.failures) (outlet_of O.holds O.broken O.failures) reads sources.old.items sources.new.items outlet.old outlet.new) settings.now rounds 0 lanes.new.items playlists.new.items

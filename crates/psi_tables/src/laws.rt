@@ -5,6 +5,7 @@ ghost use Rattle.psi_tables.specs.Crc.{IsRemainder, crc, dividend, polynomial_of
 ghost use Rattle.psi_tables.specs.Sections.{sections, IsSection};
 ghost use Rattle.psi_tables.specs.Head.{head, packet_count, IsSendable, IsSameHead};
 ghost use Rattle.psi_tables.specs.InForce.{InForce, IsGood, IsSinceChange, since_change, tables_before, tables_behind};
+ghost use Rattle.ts_packet.specs.declared.lengths.TheConstants.{PACKET};
 
 /// The CRC_32 of a message is the remainder of its polynomial, and the only one.
 pub fn crc_is_the_remainder()
@@ -59,5 +60,5 @@ pub fn one_head_begins_bytes()
 
 /// A head has one packet for its PAT, and those of its PMT section.
 pub fn length_of_a_head()
-    ensures { (t : InForce) (a b : ℕ) → length (head t a b) ≡ 188 * (1 + packet_count t.section) }
+    ensures { (t : InForce) (a b : ℕ) → length (head t a b) ≡ PACKET * (1 + packet_count t.section) }
 {}

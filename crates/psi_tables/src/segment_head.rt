@@ -6,6 +6,7 @@ ghost use Rattle.psi_tables.specs.Head.{head, packet_count, packets, section_pac
 use crate::crc::crc_32;
 use crate::tables::Tables;
 use std::alloc::{AllocError, Global};
+use ts_packet::PACKET;
 
 /// The bytes of a packet without an adaptation field behind its header.
 const PAYLOAD: usize = 184;
@@ -71,7 +72,7 @@ pub fn append_section(
     ensures packets { OnOk result (bytes.new.items ≡ bytes.old.items ++ section_packets pid counter section.now) }
     ensures err { OnErr result (bytes.new.items ≡ bytes.old.items) }
 {
-    bytes.reserve(188 * packet_count(section))?;
+    bytes.reserve(PACKET * packet_count(section))?;
     let (front, rest) = section.split_at(usize::min(PAYLOAD - 1, section.len()));
     let [a, b, c, d] = header(true, pid, usize::from(counter));
     append_packet(bytes, &[a, b, c, d, 0], front);
@@ -81,7 +82,7 @@ pub fn append_section(
 
 /// Appends the packets of a PID that carry these bytes, behind the packet in which their section starts.
 fn append_packets(bytes: &mut Vec<u8>, pid: u16, counter: usize, carried: &[u8])
-    requires room { vec_len bytes.old + 188 * ((length carried.now + 183) / 184) ≤ vec_capacity bytes.old }
+    requires room { vec_len bytes.old + PACKET * ((length carried.now + 183) / 184) ≤ vec_capacity bytes.old }
     requires small { counter ≤ 256 }
     ensures { bytes.new.items ≡ bytes.old.items ++ packets ((length carried.now + 183) / 184) false pid counter carried.now }
 {
@@ -97,13 +98,13 @@ fn append_packets(bytes: &mut Vec<u8>, pid: u16, counter: usize, carried: &[u8])
 
 /// Appends one packet: what it begins with, these bytes of its payload, and stuffing to its end.
 fn append_packet(bytes: &mut Vec<u8>, begin: &[u8], payload: &[u8])
-    requires fits { length begin.now + length payload.now ≤ 188 }
-    requires room { vec_len bytes.old + 188 ≤ vec_capacity bytes.old }
-    ensures items { bytes.new.items ≡ bytes.old.items ++ begin.now ++ payload.now ++ replicate (188 - (length begin.now + length payload.now)) 0xFF }
-    ensures len { vec_len bytes.new ≡ vec_len bytes.old + 188 }
+    requires fits { length begin.now + length payload.now ≤ PACKET }
+    requires room { vec_len bytes.old + PACKET ≤ vec_capacity bytes.old }
+    ensures items { bytes.new.items ≡ bytes.old.items ++ begin.now ++ payload.now ++ replicate (PACKET - (length begin.now + length payload.now)) 0xFF }
+    ensures len { vec_len bytes.new ≡ vec_len bytes.old + PACKET }
     ensures kept { vec_capacity bytes.old ≤ vec_capacity bytes.new }
 {
-    let (_, stuffing) = [0xFF; 188].split_at(begin.len() + payload.len());
+    let (_, stuffing) = [0xFF; PACKET].split_at(begin.len() + payload.len());
     bytes.extend_from_slice(begin).unwrap();
     bytes.extend_from_slice(payload).unwrap();
     bytes.extend_from_slice(stuffing).unwrap();

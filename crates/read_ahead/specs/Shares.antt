@@ -1,6 +1,7 @@
 -- Fair turns: sources that are read in turn and are behind by very different numbers of bytes catch up together.
 use Rattle.std.specs.Prelude.{◌≡◌, ℕ, ◌+◌, ◌-◌, ◌/◌, List, [], ◌∷◌, length, max, min, nat_lt, nat_le, ◌==◌, ◌||◌, Bool, true, false, if◌then◌else◌, Some, slice_get}
 use Rattle.read_ahead.specs.declared.lane.Lane.{Lane}
+use Rattle.item_io.specs.declared.limits.TheConstants.{PIECE}
 
 -- so many things in parts of this size: how many parts they are, the last of which may be smaller
 abbrev pub parts : ℕ → ℕ → ℕ
@@ -10,7 +11,7 @@ parts count size = (count + (size - 1)) / size
 -- bytes that lie ready, in reads of 18,800. A source that was read less often is left out: it's read no more.
 abbrev pub turns : ℕ → List Lane → ℕ
 turns takes [] = 1
-turns takes (lane ∷ lanes) = max (if nat_lt lane.takes takes then 1 else parts (length lane.ready) 18800) (turns takes lanes)
+turns takes (lane ∷ lanes) = max (if nat_lt lane.takes takes then 1 else parts (length lane.ready) PIECE) (turns takes lanes)
 
 -- a source of so many takes was overtaken: another was read twice more. Each is read once in turn, so it's read no more.
 abbrev pub is_overtaken : ℕ → List Lane → Bool

@@ -148,7 +148,7 @@ comes-back rounds unfaulted suffice has_parts seen order sealed ladder parts str
     let pushed = in_window shown in
     let j = first pushed in
     let j_below : j < length rows =
-    some-in-window (is_event ladder.kind) ladder.kind cut.target ladder.window rows refl (suffice cut.target ladder.window rows) (length-drop (first_listed cut.target ladder.window rows) rows) allowed.window.0 (omega (arith, any, long)) in
+    some-in-window (is_event ladder.kind) ladder.kind cut.target ladder.window rows refl (suffice cut.target ladder.window rows) (length-drop (first_listed cut.target ladder.window rows) rows) allowed.within.window.0 (omega (arith, any, long)) in
     let behind_j : AreFrom r cut j (drop j given) =
     λ i plan here. order r cut stream (j + i) plan (at_all (j + i) plan (at-drop j i given plan here)) in
     let bytes_behind : (i : ℕ) (plan : SegmentPlan) → slice_get (drop j given) i ≡ Some plan → IsOfBytes plan =
@@ -164,13 +164,13 @@ comes-back rounds unfaulted suffice has_parts seen order sealed ladder parts str
       sound = record {
         name = named unfaulted ladder r allowed below;
         utf8 = is_made.name;
-        some_target = omega (arith, allowed.cut.target.0);
-        target = allowed.cut.target.1;
+        some_target = omega (arith, allowed.within.cut.target.0);
+        target = allowed.within.cut.target.1;
         discontinuity_sequence = omega (arith, few, length-take-le j rows (omega (arith, j_below)), j_below, long, few-plans r cut given are);
         event = event-begins pushed;
         salt = is_made.salt;
         some = omega (arith, length-map (drop j rows) entry_of, length-drop j rows, j_below);
-        entries = subst (AreListed cut.target j) (sym entries) (listed-on rounds r cut keys j (drop j given) is_made.keys (omega (arith, allowed.cut.frame.0)) behind_j);
+        entries = subst (AreListed cut.target j) (sym entries) (listed-on rounds r cut keys j (drop j given) is_made.keys (omega (arith, allowed.within.cut.frame.0)) behind_j);
       };
       text_is = ap (λ (p : PlaylistValue). p.text) same ∙ ap text_of (lines-are pushed at.ended (omega (arith, any, long)));
       name_is = sym (ap (λ (p : PlaylistValue). p.name) same);

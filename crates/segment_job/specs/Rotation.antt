@@ -2,6 +2,7 @@
 -- salted where there is a salt (RFC 8216, 4.3.2.4 and 5.2).
 use Rattle.std.specs.Prelude.{ℕ, ◌/◌, ◌%◌, ◌≤◌, ◌<◌, List, [], Option, length, slice_index_or}
 use Rattle.playlist_text.specs.Vectors.{salted_vector}
+use Rattle.limits.specs.declared.TheConstants.{MOST_KEYS}
 
 -- the keys of a rendition in their order, how many segments in a row each of them seals, and the salt of the vectors
 pub record KeyRotation : Type 0 where
@@ -12,7 +13,7 @@ pub record KeyRotation : Type 0 where
 -- at least one key and at most 4,096, of which each seals at least one segment in its turn
 pub record IsRotation (r : KeyRotation) : Type 0 where
   pub some : 0 < length r.keys
-  pub few : length r.keys ≤ 4096
+  pub few : length r.keys ≤ MOST_KEYS
   pub turns : 0 < r.period
 
 -- the index of the key of segment n: the keys take turns of a period each, from the first on

@@ -4,13 +4,11 @@ ghost use Rattle.std.specs.Prelude.{◌≡◌, ◌<◌, ◌≤◌, ◌↔◌, le
 ghost use Rattle.segment_job.specs.Rotation.{key_index, key_of, vector_of, IsRotation};
 
 use crate::fault::KeyFault;
+use limits::MOST_KEYS;
 use playlist_text::salted_vector;
 use std::alloc::{AllocError, Global};
 use std::fmt::{self, Debug, Formatter, Write};
 use std::marker::Model;
-
-/// The most keys of a rendition.
-pub const MOST_KEYS: usize = 4_096;
 
 /// The keys of a rendition, which take turns: each seals as many segments in a row as the period says, and behind the
 /// last one the first has its turn again. With them stands the salt of the rendition's vectors, where it has one.
@@ -53,9 +51,9 @@ impl Keys {
     pub fn new(keys: Vec<[u8; 16]>, period: u64) -> Result<Keys, KeyFault>
         ensures ok { IfOk result (λ made. made ≡ record { keys = keys.items; period = period; salt = None }) }
         ensures no_keys { IsErrOf result KeyFault.NoKeys ↔ (length keys.items ≡ 0) }
-        ensures too_many { IsErrOf result KeyFault.TooMany ↔ (4096 < length keys.items) }
+        ensures too_many { IsErrOf result KeyFault.TooMany ↔ (MOST_KEYS < length keys.items) }
         ensures zero_period { IsErrOf result KeyFault.ZeroPeriod
-            ↔ ((0 < length keys.items) × (length keys.items ≤ 4096) × (period ≡ 0)) }
+            ↔ ((0 < length keys.items) × (length keys.items ≤ MOST_KEYS) × (period ≡ 0)) }
     {
         Keys::with(keys, period, None)
     }
@@ -65,9 +63,9 @@ impl Keys {
     pub fn salted(keys: Vec<[u8; 16]>, period: u64, salt: [u8; 16]) -> Result<Keys, KeyFault>
         ensures ok { IfOk result (λ made. made ≡ record { keys = keys.items; period = period; salt = Some salt }) }
         ensures no_keys { IsErrOf result KeyFault.NoKeys ↔ (length keys.items ≡ 0) }
-        ensures too_many { IsErrOf result KeyFault.TooMany ↔ (4096 < length keys.items) }
+        ensures too_many { IsErrOf result KeyFault.TooMany ↔ (MOST_KEYS < length keys.items) }
         ensures zero_period { IsErrOf result KeyFault.ZeroPeriod
-            ↔ ((0 < length keys.items) × (length keys.items ≤ 4096) × (period ≡ 0)) }
+            ↔ ((0 < length keys.items) × (length keys.items ≤ MOST_KEYS) × (period ≡ 0)) }
     {
         Keys::with(keys, period, Some(salt))
     }
@@ -76,14 +74,14 @@ impl Keys {
     fn with(keys: Vec<[u8; 16]>, period: u64, salt: Option<[u8; 16]>) -> Result<Keys, KeyFault>
         ensures ok { IfOk result (λ made. made ≡ record { keys = keys.items; period = period; salt = salt }) }
         ensures no_keys { IsErrOf result KeyFault.NoKeys ↔ (length keys.items ≡ 0) }
-        ensures too_many { IsErrOf result KeyFault.TooMany ↔ (4096 < length keys.items) }
+        ensures too_many { IsErrOf result KeyFault.TooMany ↔ (MOST_KEYS < length keys.items) }
         ensures zero_period { IsErrOf result KeyFault.ZeroPeriod
-            ↔ ((0 < length keys.items) × (length keys.items ≤ 4096) × (period ≡ 0)) }
+            ↔ ((0 < length keys.items) × (length keys.items ≤ MOST_KEYS) × (period ≡ 0)) }
     {
         if keys.is_empty() {
             return Err(KeyFault::NoKeys);
         }
-        if keys.len() > MOST_KEYS {
+        if keys.len() as u64 > MOST_KEYS {
             return Err(KeyFault::TooMany);
         }
         if period == 0 {

@@ -1,8 +1,8 @@
 //! Sealed segments: what turns a segment's plan and the keys of its rendition into the bytes that a player opens.
 //!
-//! [`Keys`] take turns, and a segment's vector is its number (RFC 8216, 5.2). [`seal_plan`] makes a [`Sealed`] of a plan,
-//! whose bytes are those of its own plan under its own key and vector. [`open_range`] opens a part of one, as a player
-//! does that shows I-frames alone (RFC 8216, 6.3.6).
+//! [`Keys`] take turns, and a segment's vector is its number, xor the salt where there is one (RFC 8216, 5.2). [`seal_plan`]
+//! makes a [`Sealed`] of a plan, whose bytes are those of its own plan under its own key and vector. [`open_range`] opens a
+//! part of one, as a player does that shows I-frames alone (RFC 8216, 6.3.6).
 #![tactic(auto)]
 
 mod fault;
@@ -17,7 +17,7 @@ mod sealed;
 mod tests;
 
 pub use fault::{KeyFault, RangeFault};
-pub use keys::{Keys, MOST_KEYS};
+pub use keys::Keys;
 pub use laws::{
     bytes_open_to_one_segment, key_and_vector_make_one_segment, keys_take_turns,
     no_key_and_vector_come_twice, ranges_open_alone, two_numbers_have_two_vectors,

@@ -4,6 +4,7 @@
 use Rattle.std.specs.Prelude.{◌≡◌, ℕ, zero, suc, ◌+◌, ◌-◌, ◌*◌, ◌<◌, ◌≤◌, Bool, true, false, ◌&&◌, ◌||◌, ◌==◌, ◌⊎◌, nat_le, if◌then◌else◌, List, [], ◌∷◌, ◌++◌, length, take, drop, map, slice_index}
 use Rattle.ghost_list.specs.Lists.{IsBeginning}
 use Rattle.std.specs.List.{flat_map}
+use Rattle.ts_packet.specs.declared.lengths.TheConstants.{PACKET, UNDECIDED}
 
 -- a sync byte stands at p
 abbrev pub is_sync : List ℕ → ℕ → Bool
@@ -15,11 +16,11 @@ is_sync_or_beyond s p = nat_le (length s) p || is_sync s p
 
 -- a packet fits at p and begins with a sync byte
 abbrev pub fits : List ℕ → ℕ → Bool
-fits s p = nat_le (p + 188) (length s) && is_sync s p
+fits s p = nat_le (p + PACKET) (length s) && is_sync s p
 
 -- so does one at p, and nothing speaks against packets at the two places behind it
 abbrev pub is_lock_point : List ℕ → ℕ → Bool
-is_lock_point s p = fits s p && (is_sync_or_beyond s (p + 188) && is_sync_or_beyond s (p + 376))
+is_lock_point s p = fits s p && (is_sync_or_beyond s (p + PACKET) && is_sync_or_beyond s (p + 2 * PACKET))
 
 -- p is the least lock point from `from` on
 pub record IsLeastLockPoint (s : List ℕ) (from p : ℕ) : Type 0 where
@@ -37,15 +38,15 @@ IsNext s e p = ((fits s e ≡ true) × (p ≡ e)) ⊎ ((fits s e ≡ false) × I
 -- these are the positions of all packets behind a packet that ends at e
 abbrev pub AreNext : List ℕ → ℕ → List ℕ → Type 0
 AreNext s e [] = (fits s e ≡ false) × HasNoLockPoint s e
-AreNext s e (p ∷ ps) = IsNext s e p × AreNext s (p + 188) ps
+AreNext s e (p ∷ ps) = IsNext s e p × AreNext s (p + PACKET) ps
 
 -- these are the positions of all packets of the stream: the first is at the least lock point
 abbrev pub ArePositions : List ℕ → List ℕ → Type 0
 ArePositions s [] = HasNoLockPoint s 0
-ArePositions s (p ∷ ps) = IsLeastLockPoint s 0 p × AreNext s (p + 188) ps
+ArePositions s (p ∷ ps) = IsLeastLockPoint s 0 p × AreNext s (p + PACKET) ps
 
 abbrev pub packet_at : List ℕ → ℕ → List ℕ
-packet_at s p = take 188 (drop p s)
+packet_at s p = take PACKET (drop p s)
 
 -- these are the packets of the stream
 abbrev pub ArePackets : List ℕ → List (List ℕ) → Type 0
@@ -59,7 +60,7 @@ begins locked s = if locked then fits s 0 else is_lock_point s 0
 unfoldable pub packets_from : Bool → ℕ → List ℕ → List (List ℕ)
 packets_from locked left [] = []
 packets_from locked (suc left) (b ∷ s) = packets_from locked left s
-packets_from locked zero (b ∷ s) = if begins locked (b ∷ s) then take 188 (b ∷ s) ∷ packets_from true 187 s else packets_from false 0 s
+packets_from locked zero (b ∷ s) = if begins locked (b ∷ s) then take PACKET (b ∷ s) ∷ packets_from true (PACKET - 1) s else packets_from false 0 s
 
 -- the packets of the stream
 unfoldable pub packets : List ℕ → List (List ℕ)
@@ -71,7 +72,7 @@ joined packets = flat_map (λ packet. packet) packets
 
 -- how many bytes of the stream lie in no packet
 unfoldable pub skipped : List ℕ → ℕ
-skipped s = length s - 188 * length (packets s)
+skipped s = length s - PACKET * length (packets s)
 
 -- the longest list that begins the packets of the stream however it goes on
 pub record IsDecided (s : List ℕ) (front : List (List ℕ)) : Type 0 where
@@ -80,13 +81,13 @@ pub record IsDecided (s : List ℕ) (front : List (List ℕ)) : Type 0 where
 
 -- Too few bytes to tell whether a packet begins at the front: behind a packet its own 188 tell, else it takes 377.
 abbrev pub is_open : Bool → List ℕ → Bool
-is_open locked s = nat_le (length s) (if locked then 187 else 376)
+is_open locked s = nat_le (length s) (if locked then PACKET - 1 else UNDECIDED)
 
 -- the decided packets behind the bytes that are left of a packet, or behind none
 unfoldable pub decided_from : Bool → ℕ → List ℕ → List (List ℕ)
 decided_from locked left [] = []
 decided_from locked (suc left) (b ∷ s) = decided_from locked left s
-decided_from locked zero (b ∷ s) = if is_open locked (b ∷ s) then [] else (if begins locked (b ∷ s) then take 188 (b ∷ s) ∷ decided_from true 187 s else decided_from false 0 s)
+decided_from locked zero (b ∷ s) = if is_open locked (b ∷ s) then [] else (if begins locked (b ∷ s) then take PACKET (b ∷ s) ∷ decided_from true (PACKET - 1) s else decided_from false 0 s)
 
 -- the packets that are decided by these bytes, whatever comes behind them
 unfoldable pub decided : List ℕ → List (List ℕ)

@@ -1,6 +1,7 @@
 -- What a reader has given, and what it keeps.
 use Rattle.std.specs.Prelude.{◌≡◌, ℕ, ◌+◌, ◌*◌, ◌<◌, Bool, true, false, if◌then◌else◌, List, [], ◌++◌, length}
 use Rattle.ts_packet.specs.Packets.{packets, packets_from, decided}
+use Rattle.ts_packet.specs.declared.lengths.TheConstants.{PACKET, UNDECIDED}
 
 -- `new` goes on from `old` as `after` does from `before`
 pub record GrowsAlike (before after old new : List (List ℕ)) : Type 0 where
@@ -10,7 +11,7 @@ pub record GrowsAlike (before after old new : List (List ℕ)) : Type 0 where
 
 -- how many bytes tell whether a packet begins at the front of a rest; at the end of the stream 188 do
 abbrev pub needed : Bool → Bool → ℕ
-needed at_end locked = if at_end then 188 else (if locked then 188 else 377)
+needed at_end locked = if at_end then PACKET else (if locked then PACKET else UNDECIDED + 1)
 
 -- A scan of bytes found these packets and left this rest: however the bytes go on (not at all, at the end of the
 -- stream), those packets come first, and then the ones of the rest.
@@ -23,14 +24,14 @@ pub record Scans (at_end locked : Bool) (bytes : List ℕ) (old new : List (List
   pub found : List (List ℕ)
   pub given : new ≡ old ++ found
   pub finds : Finds at_end locked bytes found locked_then rest
-  pub all_counted : passed + 188 * length found + length rest ≡ length bytes
+  pub all_counted : passed + PACKET * length found + length rest ≡ length bytes
 
 -- what a reader keeps of the bytes that it was fed: the rest that isn't decided yet, whether a packet ends where it
 -- begins, and how many bytes were passed over
 pub record Keeps (fed : List ℕ) (locked : Bool) (rest : List ℕ) (passed : ℕ) : Type 0 where
   pub short : length rest < needed false locked
   pub goes_on : (more : List ℕ) → packets (fed ++ more) ≡ decided fed ++ packets_from locked 0 (rest ++ more)
-  pub all_counted : passed + 188 * length (decided fed) + length rest ≡ length fed
+  pub all_counted : passed + PACKET * length (decided fed) + length rest ≡ length fed
 
 -- so many bytes are kept: the rest that isn't decided yet
 pub record IsKept (fed : List ℕ) (count : ℕ) : Type 0 where

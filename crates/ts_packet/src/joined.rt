@@ -1,13 +1,8 @@
 ghost use Rattle.std.specs.Prelude.{◌≡◌, ◌+◌, ◌<◌, ◌≤◌, ◌^◌, ◌++◌, ℕ, List, length, take, drop, slice_index};
 
+use crate::lengths::{PACKET, UNDECIDED};
 use arrayvec::ArrayVec;
 use std::marker::Model;
-
-/// How many bytes a packet has (ISO/IEC 13818-1, 2.4.3.2).
-pub(crate) const PACKET: usize = 188;
-
-/// How many bytes a reader keeps at the most: with one more it could tell whether a packet begins at the first.
-pub(crate) const UNDECIDED: usize = 376;
 
 /// Two slices that are read as one, so that no byte is copied to join them.
 #[derive(Drop)]
@@ -65,8 +60,8 @@ impl<'a> Joined<'a> {
 
     /// The 188 bytes from a place on.
     pub(crate) fn packet(&self, at: usize) -> [u8; 188]
-        requires { at + 188 ≤ length self.now }
-        ensures { result ≡ take 188 (drop at self.now) }
+        requires { at + PACKET ≤ length self.now }
+        ensures { result ≡ take PACKET (drop at self.now) }
     {
         let (front, back) = self.parts_from(at);
         first_packet(front, back)
@@ -75,7 +70,7 @@ impl<'a> Joined<'a> {
     /// The bytes from a place on, where they are few.
     pub(crate) fn rest(&self, at: usize) -> ArrayVec<u8, UNDECIDED>
         requires within { at ≤ length self.now }
-        requires few { length self.now ≤ at + 376 }
+        requires few { length self.now ≤ at + UNDECIDED }
         ensures { result.items ≡ drop at self.now }
     {
         let (front, back) = self.parts_from(at);
@@ -88,8 +83,8 @@ impl<'a> Joined<'a> {
 
 /// The first 188 bytes of two parts.
 fn first_packet(front: &[u8], back: &[u8]) -> [u8; 188]
-    requires { 188 ≤ length front.now + length back.now }
-    ensures { result ≡ take 188 (front.now ++ back.now) }
+    requires { PACKET ≤ length front.now + length back.now }
+    ensures { result ≡ take PACKET (front.now ++ back.now) }
 {
     if let Some(packet) = front.first_chunk::<188>() {
         return *packet;

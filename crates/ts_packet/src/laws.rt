@@ -1,6 +1,7 @@
 //! What the words of the contracts mean, in the standard's words.
 ghost use Rattle.std.specs.Prelude.{◌≡◌, ◌+◌, ◌*◌, ℕ, List, length};
 ghost use Rattle.ts_packet.specs.Packets.{packets, decided, skipped, ArePackets, IsDecided};
+ghost use Rattle.ts_packet.specs.declared.lengths.TheConstants.{PACKET};
 
 /// The packets of a stream are those at its positions: the first at the least lock point, each next behind the one
 /// before where a packet fits there and begins with a sync byte, else at the least lock point from there on. There is
@@ -19,5 +20,5 @@ pub fn decided_is_the_longest()
 
 /// Each byte of a stream is skipped or lies in one packet.
 pub fn each_byte_is_counted()
-    ensures { (stream : List ℕ) → skipped stream + 188 * length (packets stream) ≡ length stream }
+    ensures { (stream : List ℕ) → skipped stream + PACKET * length (packets stream) ≡ length stream }
 {}

@@ -3,6 +3,7 @@
 
 mod joined;
 mod laws;
+mod lengths;
 mod packet;
 mod pieces;
 mod reader;
@@ -11,6 +12,7 @@ mod scan;
 mod tests;
 
 pub use laws::{decided_is_the_longest, each_byte_is_counted, packets_are_at_their_positions};
+pub use lengths::{PACKET, UNDECIDED};
 pub use packet::{Packet, PacketFault};
 pub use pieces::{Stream, read_pieces};
 pub use reader::{Reader, Skipped};

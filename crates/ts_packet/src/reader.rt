@@ -2,7 +2,8 @@ ghost use Rattle.std.specs.Prelude.{◌≡◌, ◌+◌, ◌<◌, ◌≤◌, ◌^
 ghost use Rattle.ts_packet.specs.Packets.{decided, packets, skipped};
 ghost use Rattle.ts_packet.specs.State.{GrowsAlike, IsKept};
 
-use crate::joined::{Joined, PACKET, UNDECIDED};
+use crate::joined::Joined;
+use crate::lengths::{PACKET, UNDECIDED};
 use crate::scan::scan;
 use arrayvec::ArrayVec;
 use ghost_list::GhostList;
@@ -92,7 +93,7 @@ impl Reader {
     /// How many bytes are kept until more of the stream has come: those behind which nothing is decided yet.
     pub fn kept(&self) -> usize
         ensures rest { IsKept self.now result }
-        ensures most { result ≤ 376 }
+        ensures most { result ≤ UNDECIDED }
     {
         self.rest.len()
     }

@@ -2,7 +2,8 @@ ghost use Rattle.std.specs.Prelude.{◌≡◌, ◌+◌, ◌-◌, ◌/◌, ◌<�
 ghost use Rattle.ts_packet.specs.Packets.{begins, is_sync_or_beyond};
 ghost use Rattle.ts_packet.specs.State.{needed, Scans};
 
-use crate::joined::{Joined, PACKET};
+use crate::joined::Joined;
+use crate::lengths::{PACKET, UNDECIDED};
 
 /// Where a scan ended: the place of the rest, whether a packet ends there, and how many bytes were passed over.
 #[derive(Clone, Copy)]
@@ -20,7 +21,7 @@ fn is_sync_or_beyond(bytes: &Joined<'_>, at: usize) -> bool
 
 /// Whether a packet begins at a place: behind a packet where one fits there, else at a lock point.
 fn begins(bytes: &Joined<'_>, at: usize, locked: bool) -> bool
-    requires fits { at + 188 ≤ length bytes.now }
+    requires fits { at + PACKET ≤ length bytes.now }
     requires small { length bytes.now < 2 ^ 63 }
     ensures { result ≡ begins locked (drop at bytes.now) }
 {
@@ -37,7 +38,7 @@ fn needed(at_end: bool, locked: bool) -> usize
     if at_end || locked {
         PACKET
     } else {
-        2 * PACKET + 1
+        UNDECIDED + 1
     }
 }
 
@@ -48,7 +49,7 @@ pub(crate) fn scan(
     at_end: bool,
     out: &mut Vec<[u8; 188]>,
 ) -> Scanned
-    requires room { vec_len out.old + length bytes.now / 188 ≤ vec_capacity out.old }
+    requires room { vec_len out.old + length bytes.now / PACKET ≤ vec_capacity out.old }
     requires small { length bytes.now < 2 ^ 63 }
     ensures within { result.at ≤ length bytes.now }
     ensures few { length bytes.now - result.at < needed at_end result.locked }

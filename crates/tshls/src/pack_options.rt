@@ -10,7 +10,7 @@ pub fn with_ladder<'a>(alloc: Global, command: Command<'a>) -> Result<Command<'a
     let workers = "How many threads seal, 1 to 64";
     let queue = "How many segments may be on their way, 1 to 256";
     let batch =
-        "How many segments end a round, 1 to 256: 1 for a live stream [default: the workers, or the queue where that is less]";
+        "With how many closed segments a round of sealing begins at the latest, 1 to 256: 1 for a live stream [default: the workers, or the queue where that is less]";
     let entry =
         "A rendition: its name, codecs, size, keys and the path of its stream, with a colon between";
     let entries = Arg::new(alloc, "entries")

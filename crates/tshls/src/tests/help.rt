@@ -1,8 +1,11 @@
 use super::words::told;
 use commands::{
     DEFAULT_FRAME, DEFAULT_GAP, DEFAULT_MOST, DEFAULT_NAME, DEFAULT_PERIOD, DEFAULT_QUEUE,
-    DEFAULT_TARGET, DEFAULT_WINDOW, DEFAULT_WORKERS, LEAST, MOST_FRAME, MOST_GAP, MOST_KEYS,
-    MOST_PACKETS, MOST_PIXELS, MOST_PROGRAM, MOST_QUEUE, MOST_TARGET, MOST_WINDOW, MOST_WORKERS,
+    DEFAULT_TARGET, DEFAULT_WINDOW, DEFAULT_WORKERS,
+};
+use limits::{
+    LEAST, MOST_FRAME, MOST_GAP, MOST_KEYS, MOST_PACKETS, MOST_PIXELS, MOST_PROGRAM, MOST_QUEUE,
+    MOST_TARGET, MOST_WINDOW, MOST_WORKERS,
 };
 use std::alloc::Global;
 use std::test::Fail;
@@ -42,7 +45,7 @@ fn ranges(rt: HostRuntime) -> Result<(), Fail> {
         ("--most <PACKETS>", MOST_PACKETS),
         ("--program <NUMBER>", MOST_PROGRAM),
         ("--size <WIDTHxHEIGHT>", MOST_PIXELS),
-        ("--keys <KEY[+KEY..]>", MOST_KEYS as u64),
+        ("--keys <KEY[+KEY..]>", MOST_KEYS),
     ];
     for (option, most) in table {
         assert!(rt; has_range(rt.alloc(), "one", option, most)?, "at {option}");

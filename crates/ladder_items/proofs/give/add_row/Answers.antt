@@ -13,12 +13,12 @@ use Rattle.ladder_items.proofs.give.add_row.Goals as goal
 pub row_of-requires-clause-short : goal.row_of-requires-clause-short
 row_of-requires-clause-short c =
     let next = c.requires.next.1 in
-    (short-ticks c.args.settings.now.cut.target c.args.sealed.now.plan.ticks next.plan_is.short c.requires.allowed.cut.target.1).0
+    (short-ticks c.args.settings.now.cut.target c.args.sealed.now.plan.ticks next.plan_is.short c.requires.allowed.within.cut.target.1).0
 
 pub row_of-requires-clause-inside : goal.row_of-requires-clause-inside
 row_of-requires-clause-inside c =
     let next = c.requires.next.1 in
-    let frame : 0 < c.args.settings.now.cut.frame = c.requires.allowed.cut.frame.0 in
+    let frame : 0 < c.args.settings.now.cut.frame = c.requires.allowed.within.cut.frame.0 in
     (c.frames_share_the_time.ensures.each (length c.args.sealed.now.plan.body) c.args.sealed.now.plan.ticks c.args.sealed.now.plan.frames (next.plan_is.frames frame))
 
 pub index_mut-requires : goal.index_mut-requires
@@ -40,11 +40,11 @@ push-requires-clause-few c =
 pub push-requires-clause-next : goal.push-requires-clause-next
 push-requires-clause-next c =
     let next = c.requires.next.1 in
-    let frame : 0 < c.args.settings.now.cut.frame = c.requires.allowed.cut.frame.0 in
+    let frame : 0 < c.args.settings.now.cut.frame = c.requires.allowed.within.cut.frame.0 in
     let was = here c.args.settings.now c.args.r c.requires.next.0 c.args.playlists.now.items c.index_mut.result.now next.goes_on c.index_mut.ensures.value in
     rw (was, rows-long c.args.settings.now c.args.r (part_at c.requires.next.0 c.args.r).plans, c.in_ok-row.ensures.row)
     (next-row c.args.r c.args.settings.now.cut (count (part_at c.requires.next.0 c.args.r)) c.keys_of-keys.result.now c.args.sealed.now next.plan_is frame
-    c.requires.allowed.cut.target.1 c.requires.allowed.cut.most.1 c.in_ok-row.ensures.size c.frames_share_the_time.ensures.sum c.frames_share_the_time.ensures.each c.seconds_of_ticks_are_those_of_microseconds.ensures)
+    c.requires.allowed.within.cut.target.1 c.requires.allowed.within.cut.most.1 c.in_ok-row.ensures.size c.frames_share_the_time.ensures.sum c.frames_share_the_time.ensures.each c.seconds_of_ticks_are_those_of_microseconds.ensures)
 
 pub returns-clause-shown : goal.returns-clause-shown
 returns-clause-shown c parts next =

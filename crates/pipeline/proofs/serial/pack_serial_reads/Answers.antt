@@ -56,7 +56,7 @@ report_of-requires-clause-few g c =
     let allowed : IsAllowed c.args.settings.now × (c.len.result ≡ length c.args.settings.now.renditions) = search rules in
     let w = c.in_ok-turns.ensures.ok.2.world in
     let each = shown-each c.args.settings.now (parts-of c.args.settings.now w.events) c.deref-3.result.now (parts-length c.args.settings.now w.events) (c.deref-3.ensures.value ∙ w.shown_are) in
-    let few = allowed.0.renditions.1 in
+    let few = allowed.0.within.renditions.1 in
     omega (arith, each, few)
 
 pub returns-in_err-report_of-clause-fault : goal.returns-in_err-report_of-clause-fault
