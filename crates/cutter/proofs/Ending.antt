@@ -12,10 +12,11 @@ use Rattle.cutter.specs.Plans.{SegmentPlan}
 use Rattle.cutter.specs.Stream.{in_force}
 use Rattle.cutter.specs.Segments.{Segment, is_long, plan_of}
 use Rattle.cutter.specs.Cuts.{cuts, closed, fault, plans, made, end_fault, last_plan, Ends}
-use Rattle.cutter.specs.SegmentState.{Gathered, Out, gathered, RefusesEnd, gives, faults, finished, held_in, Places}
+use Rattle.cutter.specs.SegmentState.{Gathered, Out, gathered, Refuses, gives, faults, finished, held_in, Places}
 use Rattle.cutter.specs.Reels.{Filled}
 use Rattle.cutter.specs.Ordered.{IsPacketLong}
 use Rattle.cutter.proofs.Ordering.{finish-order}
+use Rattle.cutter.proofs.Telling.{finished-never, hides-none}
 use Rattle.pes_time.specs.declared.clock.Stamp.{Stamp}
 use Rattle.cutter.specs.State.{held, spooled, Keeps, IsAt}
 use Rattle.cutter.proofs.Gathering.{plan_of-gathered}
@@ -84,7 +85,7 @@ finish-sound c v now t plan is k going tables gave =
     rw (← is) ((kept-ending c now t k going tables).fault ∙ ap (λ (out : Out). out.fault) gave)
 
 pub finish-fault : (c : Inside) (v : Spooling) (now : Option Gathered) (t : Option InForce) (e : CutFault) → spooled c ≡ v → Keeps c → now ≡ held_in c.going c.reel
-    → t ≡ tables_behind c.watch.program c.watch.packets → RefusesEnd (finished c.rendition c.settings t now) e
+    → t ≡ tables_behind c.watch.program c.watch.packets → Refuses (finished c.rendition c.settings t now) e
     → (e ≡ NoMemory) ⊎ Ends v.rendition v.settings v.list e (closed v.rendition v.settings v.list)
 finish-fault c v now t e is k going tables (inl none) = inl none.0
 finish-fault c v now t e is k going tables (inr brought) =
@@ -94,22 +95,12 @@ finish-fault c v now t e is k going tables (inr brought) =
       plans = end.plans ∙ ap (λ (out : Out). closed c.rendition c.settings c.fed.items ++ made out.plan) brought ∙ append-nil _;
     }))
 
--- the end brings no want of memory
-long-memory : (test : Bool) (k : ℕ) (e : CutFault) (plan : SegmentPlan) → e ≡ NoMemory → (if test then faults (LongSegment k) else gives None (Some plan)) ≡ faults e → ⊥
-long-memory true k e plan none brought = let told : Some (LongSegment k) ≡ Some e = ap (λ (out : Out). out.fault) brought in cc
-long-memory false k e plan none brought = let told : None ≡ Some e = ap (λ (out : Out). out.fault) brought in cc
-
-finished-memory : (r : ℕ) (s : CutSettings) (t : Option InForce) (now : Option Gathered) (e : CutFault) → e ≡ NoMemory → finished r s t now ≡ faults e → ⊥
-finished-memory r s None None e none brought = let told : Some NoProgram ≡ Some e = ap (λ (out : Out). out.fault) brought in cc
-finished-memory r s (Some t) None e none brought = let told : Some NoStart ≡ Some e = ap (λ (out : Out). out.fault) brought in cc
-finished-memory r s None (Some g) e none brought = long-memory _ _ e _ none brought
-finished-memory r s (Some t) (Some g) e none brought = long-memory _ _ e _ none brought
-
+-- want of memory hides no fault
 pub finish-scarce : (c : Inside) (v : Spooling) (now : Option Gathered) (t : Option InForce) (e : CutFault) → spooled c ≡ v → Keeps c → now ≡ held_in c.going c.reel
-    → t ≡ tables_behind c.watch.program c.watch.packets → RefusesEnd (finished c.rendition c.settings t now) e
+    → t ≡ tables_behind c.watch.program c.watch.packets → Refuses (finished c.rendition c.settings t now) e
     → e ≡ NoMemory → fault v.rendition v.settings v.list ≡ None
-finish-scarce c v now t e is k going tables (inl none) memory = rw (← is) ((kept-ending c now t k going tables).fault ∙ none.1)
-finish-scarce c v now t e is k going tables (inr brought) memory = absurd (finished-memory c.rendition c.settings t now e memory brought)
+finish-scarce c v now t e is k going tables told memory =
+    rw (← is) ((kept-ending c now t k going tables).fault ∙ hides-none _ e (finished-never c.rendition c.settings t now) told memory)
 
 -- the plan that the end closes
 pub finish-closes : (c : Inside) (v : Spooling) (now : Option Gathered) (t : Option InForce) (after : Filled) → spooled c ≡ v → Keeps c → All IsPacketLong c.fed.items → now ≡ held_in c.going c.reel

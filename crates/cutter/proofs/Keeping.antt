@@ -13,7 +13,7 @@ use Rattle.cutter.specs.Spooled.{Spooling, joined, Closes}
 use Rattle.cutter.specs.Plans.{SegmentPlan}
 use Rattle.cutter.specs.Stream.{packet_list, packets_of, pts_from, pts_list, pts_at, with_pts, in_force, look_by, is_lost, facts_from, Fact, fact_behind}
 use Rattle.cutter.specs.Points.{mark, counted, top_after}
-use Rattle.cutter.specs.Cuts.{cut_from, cuts, closed, made, Ends, MayHide}
+use Rattle.cutter.specs.Cuts.{cut_from, cuts, closed, made, Ends}
 use Rattle.cutter.specs.SegmentState.{Gathered, Opened, Out, taken, gives, held_in, Places, Refuses}
 use Rattle.cutter.specs.Reels.{Filled, unfilled}
 use Rattle.cutter.specs.Ordered.{IsPacketLong}
@@ -22,6 +22,7 @@ use Rattle.cutter.proofs.Facts.{packets_of-more, pts_list-more, pts_list-length}
 use Rattle.cutter.proofs.Running.{Placed, placed-more, placed-fault, placed-told, lost-fault}
 use Rattle.cutter.proofs.Ordering.{push-order}
 use Rattle.cutter.proofs.Ending.{all-more}
+use Rattle.cutter.proofs.Telling.{taken-never, hides-none}
 
 -- a new one
 pub new-keeps : (c : Inside) → c.watch ≡ record { program = c.settings.program; packets = [] } → c.clock ≡ record { gap = c.settings.gap; list = [] }
@@ -128,17 +129,13 @@ push-fault c v p look now t c' e is k r (inl none) = inl none.0
 push-fault c v p look now t c' e is k r (inr brought) =
     inr (rw (← is) (λ more. placed-fault c.rendition c.settings c.fed.items (fact c p) p c.top (held_in c.going c.reel) e more refl k.cuts (lost-is c p false k r.kept) (sym (taken-is c p look now t c' k r) ∙ brought)))
 
-hides-told : (out : Out) (e : CutFault) → Refuses out e → e ≡ NoMemory → MayHide out.fault
-hides-told out e (inl none) memory = none.1
-hides-told out e (inr brought) memory = rw (brought, memory) tt
-
--- what want of memory hides
+-- want of memory hides no fault
 pub push-scarce : (c : Inside) (v : Spooling) (p : List ℕ) (look : Look) (now : Option Gathered) (t : Option InForce) (c' : Option Stamp) (e : CutFault)
     → spooled c ≡ v → Keeps c → Read c p look now t c' → Refuses (taken c.rendition c.settings now t c' (mark p look c')) e → e ≡ NoMemory
-    → MayHide (cuts v.rendition v.settings (v.list ++ p ∷ [])).fault
+    → (cuts v.rendition v.settings (v.list ++ p ∷ [])).fault ≡ None
 push-scarce c v p look now t c' e is k r told memory =
     rw (← is, placed-told c.rendition c.settings c.fed.items (fact c p) p c.top (held_in c.going c.reel) refl k.cuts (lost-is c p false k r.kept), ← taken-is c p look now t c' k r)
-    (hides-told _ e told memory)
+    (hides-none _ e (taken-never c.rendition c.settings now t c' (mark p look c')) told memory)
 
 pub push-lost : (c : Inside) (v : Spooling) (p q : List ℕ) (e : CutFault)
     → spooled c ≡ v → Keeps c → q ≡ p → (e ≡ Limit) × (is_lost c.clock.gap c.clock.list (pts_at (tables_in c) q) ≡ true) → Told v.rendition v.settings v.list p e

@@ -11,6 +11,7 @@ use Rattle.cutter.specs.Plans.{SegmentPlan}
 use Rattle.cutter.specs.Stream.{Fact, facts, in_force}
 use Rattle.cutter.specs.Points.{Mark, mark, counted, top_after}
 use Rattle.cutter.specs.Segments.{Point, Segment, is_cut, plan_of, is_long, is_big}
+use Rattle.limits.specs.declared.TheConstants.{LAST_SEGMENT}
 
 -- how far a stream is cut: the last counted stamp, the segment that goes on, the plans of those before it, and the first
 -- fault, behind which nothing is cut
@@ -57,7 +58,7 @@ next_segment g p m = record {
 abbrev pub closing : ℕ → CutSettings → Option Stamp → List SegmentPlan → Segment → Point → Mark → Cuts
 closing r s top closed g p m =
     if is_long s (plan_of r s g (Some p.stamp)) then faulted closed (LongSegment g.number)
-    else (if nat_le 0xFFFFFFFE g.number then faulted closed Limit
+    else (if nat_le LAST_SEGMENT g.number then faulted closed Limit
     else going_on s top closed (Some (plan_of r s g (Some p.stamp))) (next_segment g p m))
 
 -- a packet that is no counted point
@@ -109,18 +110,6 @@ first_fault (Some fault) later = Some fault
 -- the fault of a stream that ends here
 unfoldable pub fault : ℕ → CutSettings → List (List ℕ) → Option CutFault
 fault r s ps = first_fault (cuts r s ps).fault (end_fault r s (in_force s ps) (cuts r s ps).going)
-
--- What want of memory may hide of a stream that is cut so far: that it has no fault, or BigSegment, which is looked at
--- behind what grows. The faults that are looked at before anything grows are told.
-abbrev pub MayHide : Option CutFault → Type 0
-MayHide None = Unit {0}
-MayHide (Some NoProgram) = ⊥
-MayHide (Some NoStart) = ⊥
-MayHide (Some (LongSegment k)) = ⊥
-MayHide (Some (BigSegment k)) = Unit {0}
-MayHide (Some Limit) = ⊥
-MayHide (Some NoMemory) = Unit {0}
-MayHide (Some Ended) = Unit {0}
 
 abbrev pub last_plan : ℕ → CutSettings → Option Segment → List SegmentPlan
 last_plan r s None = []

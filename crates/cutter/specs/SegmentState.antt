@@ -11,10 +11,12 @@ use Rattle.cutter.specs.declared.plan.Plan.TheInside.{Inside as PlanInside}
 use Rattle.cutter.specs.declared.going.Going.TheInside.{Inside as GoingInside}
 use Rattle.cutter.specs.Plans.{SegmentPlan}
 use Rattle.cutter.specs.Points.{Mark}
-use Rattle.cutter.specs.Cuts.{made, MayHide}
+use Rattle.cutter.specs.Cuts.{made}
 use Rattle.cutter.specs.Framing.{Framing, framed, no_frames, frames_by}
 use Rattle.cutter.specs.Reels.{Filled}
 use Rattle.cutter.specs.Segments.{Point, Segment, bytes_of, body_of, later, greatest, ticks_to, breaks, is_cut, is_discontinuity, is_long}
+use Rattle.ts_packet.specs.declared.lengths.TheConstants.{PACKET}
+use Rattle.limits.specs.declared.TheConstants.{LAST_SEGMENT}
 
 -- what is held of a segment that goes on
 pub record Gathered : Type 0 where
@@ -149,16 +151,12 @@ pub record Places (out : Out) (before after : Filled) (opened : Option Opened) (
   pub told : closed ≡ is_some out.plan
   pub idle : IsIdle opened after
 
--- a packet isn't taken, for want of memory or for its fault
+-- A packet, or the end, isn't taken, for its fault or for want of memory: that stands in place of no fault.
 abbrev pub Refuses : Out → CutFault → Type 0
-Refuses out e = ((e ≡ NoMemory) × MayHide out.fault) ⊎ (out ≡ faults e)
-
--- the end isn't taken
-abbrev pub RefusesEnd : Out → CutFault → Type 0
-RefusesEnd out e = ((e ≡ NoMemory) × (out.fault ≡ None)) ⊎ (out ≡ faults e)
+Refuses out e = ((e ≡ NoMemory) × (out.fault ≡ None)) ⊎ (out ≡ faults e)
 
 abbrev pub sized : CutSettings → Gathered → Option SegmentPlan → Out
-sized s g plan = if nat_lt (188 * s.most) (length g.body) then faults (BigSegment g.number) else gives (Some g) plan
+sized s g plan = if nat_lt (PACKET * s.most) (length g.body) then faults (BigSegment g.number) else gives (Some g) plan
 
 abbrev pub begun : CutSettings → Point → Mark → Out
 begun s p m = sized s (added (empty 0 false 0 p) m) None
@@ -172,7 +170,7 @@ renewed r s g p m = sized s (added (next_of g p) m) (Some (plan_from r s g (Some
 abbrev pub cut : ℕ → CutSettings → Gathered → Point → Mark → Out
 cut r s g p m =
     if is_long s (plan_from r s g (Some p.stamp)) then faults (LongSegment g.number)
-    else (if nat_le 0xFFFFFFFE g.number then faults Limit
+    else (if nat_le LAST_SEGMENT g.number then faults Limit
     else renewed r s g p m)
 
 abbrev pub carried : CutSettings → Option Gathered → Mark → Out

@@ -1,6 +1,6 @@
 ghost use Rattle.std.specs.Prelude.{◌≡◌, ◌<◌, ◌^◌, ◌⊎◌, [], ◌∷◌, ◌++◌, ℕ, List, Err, true, false, None, length, IfSome, IfOk, IfErr, OnOk, OnErr};
 ghost use Rattle.cutter.specs.declared.fault.CutFault.TheVariants.{NoMemory, Ended};
-ghost use Rattle.cutter.specs.Cuts.{cuts, closed, fault, plans, made, Ends, MayHide};
+ghost use Rattle.cutter.specs.Cuts.{cuts, closed, fault, plans, made, Ends};
 ghost use Rattle.cutter.specs.Ordered.{IsPlan};
 ghost use Rattle.cutter.specs.Settings.{IsAllowed};
 ghost use Rattle.cutter.specs.Spooled.{IsOne};
@@ -61,7 +61,7 @@ impl Cutter {
     /// that are no packet take no part. The caller pushes fewer than 2^63 packets.
     ///
     /// A fault is told at the packet that brings it, however the stream goes on: LongSegment, BigSegment, Limit. The plans
-    /// that were given before are then all that come before the fault. NoMemory stands in place of no fault but BigSegment.
+    /// that were given before are then all that come before the fault. NoMemory stands in place of none of these.
     pub fn push(&mut self, packet: &[u8; 188]) -> Result<Option<Plan>, CutFault>
         requires { length self.old.list < 2 ^ 63 }
         ensures pushed { OnOk result (self.new ≡ record self.old { list = self.old.list ++ packet.now ∷ [] }) }
@@ -77,7 +77,7 @@ impl Cutter {
             Ends self.old.rendition self.old.settings (self.old.list ++ packet.now ∷ more) e
             (closed self.old.rendition self.old.settings self.old.list))) }
         ensures scarce { IfErr result (λ e. e ≡ NoMemory →
-            MayHide (cuts self.old.rendition self.old.settings (self.old.list ++ packet.now ∷ [])).fault) }
+            (cuts self.old.rendition self.old.settings (self.old.list ++ packet.now ∷ [])).fault ≡ None) }
         ensures err { OnErr result (self.new ≡ record self.old { ended = true }) }
     {
         if self.ended {

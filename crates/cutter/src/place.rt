@@ -1,17 +1,20 @@
 //! Where a packet goes: into the segment that goes on, or into a new one behind a cut.
 
-ghost use Rattle.std.specs.Prelude.{◌≡◌, ◌+◌, ◌<◌, ◌≤◌, ◌^◌, nat_lt, true, false, Some, None, IfOk, IfErr, OnErr, OnOk, option_copied};
+ghost use Rattle.std.specs.Prelude.{◌≡◌, ◌+◌, ◌<◌, ◌≤◌, ◌*◌, ◌^◌, nat_lt, true, false, Some, None, IfOk, IfErr, OnErr, OnOk, option_copied};
 ghost use Rattle.cutter.specs.Settings.{IsAllowed};
 ghost use Rattle.cutter.specs.Segments;
 ghost use Rattle.cutter.specs.SegmentState;
-ghost use Rattle.cutter.specs.SegmentState.{added, begun, carried, sized, taken, finished, gives, faults, renewed, over, held_in, Places, Refuses, RefusesEnd, IsIdle, IsInRange, HasRange};
+ghost use Rattle.cutter.specs.SegmentState.{added, begun, carried, sized, taken, finished, gives, faults, renewed, over, held_in, Places, Refuses, IsIdle, IsInRange, HasRange};
+ghost use Rattle.limits.specs.declared.TheConstants.{MOST_FRAME};
 
 use crate::fault::CutFault;
 use crate::going::Going;
 use crate::point::{Mark, Point};
 use crate::reel::Reel;
-use crate::settings::{CutSettings, TICKS};
+use crate::settings::CutSettings;
+use limits::{LAST_SEGMENT, TICKS};
 use psi_tables::Tables;
+use ts_packet::PACKET;
 
 /// Places a packet, by the tables before it, and says whether it closed a segment: its plan then stands last in the reel.
 pub(crate) fn place(
@@ -78,11 +81,11 @@ fn grow(
     ensures err { IfErr result (Refuses (sized settings (added (over going.old reel.old) mark.now) None)) }
     ensures kept { OnErr result (reel.new.plans ≡ reel.old.plans) }
 {
-    reel.add(going.start(), mark)?;
-    going.see(mark);
-    if 188 * settings.most < reel.size() {
+    if is_big(settings, reel.size_with(mark)) {
         return Err(CutFault::BigSegment(going.number()));
     }
+    reel.add(going.start(), mark)?;
+    going.see(mark);
     Ok(())
 }
 
@@ -99,8 +102,12 @@ fn first(
     ensures err { IfErr result (Refuses (begun settings point.now mark.now)) }
     ensures kept { OnErr result (reel.new.plans ≡ reel.old.plans) }
 {
+    if is_big(settings, reel.size_with(mark)) {
+        return Err(CutFault::BigSegment(0));
+    }
     let mut going = Going::first(point)?;
-    grow(settings, reel, &mut going, mark)?;
+    reel.add(going.start(), mark)?;
+    going.see(mark);
     Ok(going)
 }
 
@@ -122,7 +129,7 @@ fn cut(
     if is_long(settings, going.ticks(settings, Some(point.stamp))) {
         return Err(CutFault::LongSegment(number));
     }
-    if number >= 0xFFFF_FFFE {
+    if number >= LAST_SEGMENT {
         return Err(CutFault::Limit);
     }
     renew(rendition, settings, reel, going, point, mark)
@@ -143,19 +150,27 @@ fn renew(
     ensures err { IfErr result (Refuses (renewed rendition settings (over going.old reel.old) point.now mark.now)) }
     ensures kept { OnErr result (reel.new.plans ≡ reel.old.plans) }
 {
+    if is_big(settings, mark.bytes().len() as u64) {
+        return Err(CutFault::BigSegment(going.number() + 1));
+    }
     let mut next = going.next(point)?;
     next.see(mark);
-    if 188 * settings.most < mark.bytes().len() as u64 {
-        return Err(CutFault::BigSegment(next.number()));
-    }
     let label = going.pass(next, rendition, settings, point.stamp);
     reel.close(label, mark.bytes(), mark.pending(point.stamp))?;
     Ok(())
 }
 
+/// Whether a body of so many bytes has too many packets.
+fn is_big(settings: CutSettings, size: u64) -> bool
+    requires { IsAllowed settings }
+    ensures { result ≡ nat_lt (PACKET * settings.most) size }
+{
+    PACKET as u64 * settings.most < size
+}
+
 /// Whether so many ticks, in whole seconds, are more than the target.
 fn is_long(settings: CutSettings, ticks: u64) -> bool
-    requires { ticks ≤ 2 ^ 63 + 900000 }
+    requires { ticks ≤ 2 ^ 63 + MOST_FRAME }
     ensures { result ≡ nat_lt settings.target (Segments.seconds ticks) }
 {
     settings.target < (ticks + TICKS / 2) / TICKS
@@ -171,7 +186,7 @@ pub(crate) fn finish(
 ) -> Result<(), CutFault>
     requires { IsAllowed settings }
     ensures ok { OnOk result (Places (finished rendition settings (option_copied tables.entry) (held_in going reel.old)) reel.old reel.new None true) }
-    ensures err { IfErr result (RefusesEnd (finished rendition settings (option_copied tables.entry) (held_in going reel.old))) }
+    ensures err { IfErr result (Refuses (finished rendition settings (option_copied tables.entry) (held_in going reel.old))) }
     ensures kept { OnErr result (reel.new.plans ≡ reel.old.plans) }
 {
     let Some(going) = going else {

@@ -126,11 +126,11 @@ impl Reel {
         })
     }
 
-    /// How many bytes the body that goes on has.
-    pub(crate) fn size(&self) -> u64
-        ensures { result ≡ length self.now.body }
+    /// How many bytes the body that goes on has with one packet more.
+    pub(crate) fn size_with(&self, mark: &Mark<'_>) -> u64
+        ensures { result ≡ length (self.now.body ++ bytes_of mark.now) }
     {
-        (self.bytes.len() - self.body_at) as u64
+        (self.bytes.len() - self.body_at + mark.bytes().len()) as u64
     }
 
     /// Takes one packet more into the body that goes on, of a segment that begins at this stamp.

@@ -1,7 +1,7 @@
 ghost use Rattle.std.specs.Prelude.{◌≡◌, ◌<◌, ◌^◌, ◌⊎◌, [], ◌∷◌, ◌++◌, ℕ, List, Option, is_some, Err, true, false, None, length, IfSome, IfOk, IfErr, OnOk, OnErr};
 ghost use Rattle.cutter.specs.declared.fault.CutFault.TheVariants.{NoMemory, Ended};
 ghost use Rattle.cutter.specs.Plans.{SegmentPlan};
-ghost use Rattle.cutter.specs.Cuts.{cuts, closed, fault, plans, made, Ends, MayHide};
+ghost use Rattle.cutter.specs.Cuts.{cuts, closed, fault, plans, made, Ends};
 ghost use Rattle.cutter.specs.Stream.{packet_list};
 ghost use Rattle.cutter.specs.Settings.{IsAllowed};
 ghost use Rattle.cutter.specs.Spooled.{Closes, all_plans};
@@ -84,7 +84,7 @@ impl SpoolCutter {
     /// spool. Bytes that are no packet take no part. The caller pushes fewer than 2^63 packets.
     ///
     /// A fault is told at the packet that brings it, however the stream goes on: LongSegment, BigSegment, Limit. The plans
-    /// that were closed before are then all that come before the fault. NoMemory stands in place of no fault but BigSegment.
+    /// that were closed before are then all that come before the fault. NoMemory stands in place of none of these.
     pub fn push(&mut self, packet: &[u8; 188]) -> Result<bool, CutFault>
         requires { length self.old.list < 2 ^ 63 }
         ensures pushed { OnOk result (self.new ≡ record self.old { list = self.old.list ++ packet.now ∷ []; filled = self.new.filled }) }
@@ -100,7 +100,7 @@ impl SpoolCutter {
             Ends self.old.rendition self.old.settings (self.old.list ++ packet.now ∷ more) e
             (closed self.old.rendition self.old.settings self.old.list))) }
         ensures scarce { IfErr result (λ e. e ≡ NoMemory →
-            MayHide (cuts self.old.rendition self.old.settings (self.old.list ++ packet.now ∷ [])).fault) }
+            (cuts self.old.rendition self.old.settings (self.old.list ++ packet.now ∷ [])).fault ≡ None) }
         ensures err { OnErr result (self.new ≡ record self.old { ended = true }) }
     {
         if self.ended {

@@ -40,7 +40,7 @@ returns-in_err-watch_or_reopen-clause-scarce c =
     let read = read-of c.self.inside c.args.packet.now c.new-arrival.result c.in_ok-look.look (held_in c.self.inside.going c.self.inside.reel) (option_copied c.tables.result) c.counted-counted.result
     c.new-arrival.ensures c.in_ok-look.ensures.look c.in_ok-look.ensures.kept refl c.tables.ensures c.counted-counted.ensures.is in
     let sound = push-sound c.self.inside c.args.self.now c.args.packet.now c.in_ok-look.look _ _ _ c.counted-counted.result _ c.self.view_is (c.self.invariant.keeps c.if-self.false) read c.in_ok-closed.ensures.ok.going in
-    rw (told.1, told.2, sound) (λ _. tt)
+    rw (told.1, told.2, sound) (λ _. refl)
 
 pub invariant_of-self-2 : goal.invariant_of-self-2
 invariant_of-self-2 c =
