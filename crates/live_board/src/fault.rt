@@ -2,7 +2,7 @@
 
 use thiserror::Error;
 
-/// Why a board isn't made or a snapshot isn't shown. Where several hold, the first of them, in this order, is told.
+/// Why a board isn't made or a snapshot isn't shown. Backwards is told before want of memory.
 #[derive(Clone, Copy, Debug, PartialEq, Eq, Error)]
 pub enum BoardFault {
     /// A count falls below the one that is shown, or the number of renditions is another.
@@ -16,7 +16,8 @@ pub enum BoardFault {
     /// There was no memory.
     #[error("out of memory")]
     NoMemory,
-    /// A viewer got no place among the readers. Only `board` answers it.
+    /// A viewer got no place among the readers. Only `board` answers it; whether that or want of memory stopped it no clause
+    /// says.
     #[error("no place for a viewer")]
     NoPlace,
 }

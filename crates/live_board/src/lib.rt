@@ -22,6 +22,6 @@ mod viewer;
 
 pub use fault::BoardFault;
 pub use held::HeldPublisher;
-pub use publisher::{Publisher, board};
+pub use publisher::{MOST_VIEWERS, Publisher, board};
 pub use snapshot::Snapshot;
 pub use viewer::{View, Viewer};

@@ -41,15 +41,18 @@ impl Model for Publisher {
     ghost view = { λ p. p.history };
 }
 
-/// A board that shows the snapshot, its publisher and from 1 to 64 viewers, all of whom know of it. It is refused for want
-/// of memory, and then as NoPlace where a viewer gets no place among the readers.
+/// The most viewers of a board.
+pub const MOST_VIEWERS: usize = 64;
+
+/// A board that shows the snapshot, its publisher and its viewers, one at least, all of whom know of it. It is refused for
+/// want of memory, or as NoPlace where a viewer gets no place among the readers.
 pub fn board<R: Wait>(
     rt: &R,
     alloc: Global,
     first: Snapshot,
     viewers: usize,
 ) -> Result<(Publisher, Vec<Viewer>), BoardFault>
-    requires { (1 ≤ viewers) × (viewers ≤ 64) }
+    requires { (1 ≤ viewers) × (viewers ≤ MOST_VIEWERS) }
     ensures list { IfOk result (λ b. b.0.list ≡ first ∷ []) }
     ensures count { IfOk result (λ b. length b.1.items ≡ viewers) }
     ensures viewers { IfOk result (λ b. All (λ v. v ≡ b.0) b.1.items) }
@@ -97,7 +100,7 @@ impl Publisher {
         self.writer.published().moment.snapshot.counts.as_slice()
     }
 
-    /// Shows the snapshot, in one exchange. It waits for viewers who still look at the snapshot before the one that is
+    /// Shows the snapshot. It waits for viewers who still look at the snapshot before the one that is
     /// shown, since that one's copy is written anew.
     ///
     /// A snapshot is refused as Backwards where a count falls below the one that is shown or the number of renditions is

@@ -7,6 +7,7 @@ ghost use Rattle.live_board.specs.declared.fault.BoardFault.TheVariants.{NoPlace
 ghost use Rattle.live_board.specs.Counts.{NeverFalls};
 ghost use Rattle.live_board.specs.Histories.{head_of};
 ghost use Rattle.live_board.specs.State.{knowing, moment_of, shown_after, IsLast, GoesOn};
+ghost use Rattle.live_board.specs.declared.publisher.TheConstants.{MOST_VIEWERS};
 
 use crate::fault::BoardFault;
 use crate::history::{Head, History};
@@ -52,7 +53,7 @@ pub fn next_moment(
 
 /// Two copies that hold the moment, with places for so many readers.
 pub fn two_copies(alloc: Global, moment: &Arc<Moment>, viewers: usize) -> Option<BoardWriter>
-    requires count { (1 ≤ viewers) × (viewers ≤ 64) }
+    requires count { (1 ≤ viewers) × (viewers ≤ MOST_VIEWERS) }
     requires last { IsLast (arc_value moment.now) }
     ensures shown { IfSome result (λ w. moment_of w.desk.shown.value ≡ arc_value moment.now) }
     ensures pending { IfSome result (λ w. drop w.behind w.log.items ≡ []) }

@@ -59,7 +59,8 @@ impl Viewer {
         Viewer { reader, history }
     }
 
-    /// Looks at the board, with no lock, no wait and no memory. The viewer comes back where the publisher is gone.
+    /// Looks at the board, with no lock, no wait and no memory. Where the publisher is gone, the viewer comes
+    /// back as it was.
     pub fn view(self) -> Result<View, Viewer>
         ensures grows { IfOk result (λ v. IsBeginning self.list v.list) }
         ensures rises { IfOk result (λ v. NeverFalls v.list) }

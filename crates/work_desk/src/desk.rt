@@ -13,7 +13,7 @@ use std::alloc::{AllocError, Global};
 use std::sync::ledger::{Blank, Ledger, Share};
 use std::sync::{Condvar, Mutex, Wait};
 
-/// A queue that many threads share. Each call takes its lock once and makes one step of it.
+/// A queue that many threads share. Each call makes one step of it under its lock; one that waits looks again when it is woken.
 #[derive(Drop)]
 pub struct Desk<'s, L: Ledger, M: Ledger> {
     queue: Mutex<Queue<'s, L, M>>,
@@ -68,6 +68,7 @@ impl<'s, L: Ledger, M: Ledger> Desk<'s, L, M> {
         ensures parts { IfOk result (λ opened. opened.rest.parts + vec_len opened.workers ≡ L.parts) }
         ensures unused { IfOk result (λ opened. (opened.rest.amount ≡ 0) × (opened.taker.count ≡ 0)) }
         ensures numbers { IfOk result (λ opened. (i : ℕ) (pass : Pass L) → slice_get opened.workers.items i ≡ Some pass → (pass.number ≡ i) × (pass.count ≡ 0)) }
+        ensures taker { IfOk result (λ opened. opened.taker.number ≡ workers) }
     {
         let (claims, mut rest) = claims.open::<L>();
         let (takes, share) = takes.open::<M>();

@@ -18,8 +18,8 @@ use std::sync::ledger::Ledger;
 /// A worker's whole run: it claims, seals and delivers until no more plans are fed and none waits. The keys are those of
 /// each rendition, by its number.
 ///
-/// The gate is asked when a plan was claimed, before it is sealed: what it doesn't let through is Held. Refused is what
-/// there was no memory to seal, and a plan of a rendition that has no keys.
+/// The gate is asked when a plan was claimed, before it is sealed: what it doesn't let through is Held. Refused is a
+/// plan that there was no memory to seal, or of a rendition that has no keys; which, no clause says.
 pub fn work<'s, L: Ledger, M: Ledger, G: Gate, R: Wait>(
     rt: &R,
     alloc: Global,
