@@ -58,14 +58,14 @@ pub fn pack<S: Source + Drop, O: Outlet + Drop, W: Write, R: Threads + Wait + Sy
     outlet: O,
     output: &mut W,
 ) -> PackedLadder<S, O>
-    requires room { HaveRoom (input_of S.remaining S.reads S.failures) (2 ^ 40) sources.items }
+    requires room { HaveRoom (input_of S.remaining S.reads S.failures) READS sources.items }
     requires failures { O.failures outlet < 2 ^ 63 }
-    ensures ok { IfOk result.answer (IsPackedShown (run_of (input_of S.remaining S.reads S.failures) (outlet_of O.holds O.broken O.failures) (2 ^ 40) sources.items result.sources.items outlet result.outlet) settings.now pool.workers publisher.list result.publisher.list) }
+    ensures ok { IfOk result.answer (IsPackedShown (run_of (input_of S.remaining S.reads S.failures) (outlet_of O.holds O.broken O.failures) READS sources.items result.sources.items outlet result.outlet) settings.now pool.workers publisher.list result.publisher.list) }
     ensures written { IfOk result.answer (λ report. WritesSummary settings.now report (W.contents output.old) (W.contents output.new)) }
-    ensures fault { IfErr result.answer (LadderSays (run_of (input_of S.remaining S.reads S.failures) (outlet_of O.holds O.broken O.failures) (2 ^ 40) sources.items result.sources.items outlet result.outlet) settings.now pool.workers publisher.list result.publisher.list (W.contents output.old) (W.contents output.new)) }
+    ensures fault { IfErr result.answer (LadderSays (run_of (input_of S.remaining S.reads S.failures) (outlet_of O.holds O.broken O.failures) READS sources.items result.sources.items outlet result.outlet) settings.now pool.workers publisher.list result.publisher.list (W.contents output.old) (W.contents output.new)) }
     ensures board { result.publisher.board ≡ publisher.board }
     ensures fits { OnOk result.answer (Fits settings.now (length sources.items) pool.workers (counts_shown publisher.list)) }
-    ensures breach { IfErr result.answer (TurnsAway (run_of (input_of S.remaining S.reads S.failures) (outlet_of O.holds O.broken O.failures) (2 ^ 40) sources.items result.sources.items outlet result.outlet) settings.now pool.workers publisher.list result.publisher.list) }
+    ensures breach { IfErr result.answer (TurnsAway (run_of (input_of S.remaining S.reads S.failures) (outlet_of O.holds O.broken O.failures) READS sources.items result.sources.items outlet result.outlet) settings.now pool.workers publisher.list result.publisher.list) }
 {
     let Ran {
         sources,
@@ -82,7 +82,7 @@ pub fn pack<S: Source + Drop, O: Outlet + Drop, W: Write, R: Threads + Wait + Sy
         publisher,
         outlet,
         READS,
-        batch(pool),
+        pool.batch.map(|batch| batch as usize),
     );
     match answer {
         Err(fault) => PackedLadder {
@@ -98,11 +98,6 @@ pub fn pack<S: Source + Drop, O: Outlet + Drop, W: Write, R: Threads + Wait + Sy
             answer: write_summary(alloc, settings, report, output),
         },
     }
-}
-
-/// With how many segments a round ends: as many as there are workers, where it isn't told, and no more than may be on their way.
-fn batch(pool: Pool) -> usize {
-    pool.batch.unwrap_or(pool.workers.min(pool.queue)) as usize
 }
 
 /// Writes the summary of a run, and gives the report back.

@@ -19,6 +19,7 @@ use Rattle.ladder_items.specs.World.{World, HaveRoom, turns_of}
 use Rattle.ladder_items.specs.Packed.{IsCutShort}
 use Rattle.rounds.specs.declared.course.Course.{Course}
 use Rattle.rounds.specs.Showing.{snapshot_of, shown_by, counts_of}
+use Rattle.item_io.specs.declared.limits.TheConstants.{READS}
 
 -- whether each rendition's end was given
 abbrev pub ends_of : List Part → List Bool
@@ -61,7 +62,7 @@ pub record IsOn {X Y : Type 0} (input : InputView X) (out : OutletView Y) (ladde
   pub allowed : IsAllowed ladder
   pub limit : course.reads ≡ start.reads
   pub turns : (k : ℕ) → turns_of course.turns next k ≤ course.reads
-  pub most : course.reads ≤ 2 ^ 40
+  pub most : course.reads ≤ READS
   pub room : HaveRoom input course.reads start.sources
   pub failures : out.failures start.outlet < 2 ^ 63
 

@@ -14,6 +14,7 @@ use Rattle.ladder_items.specs.Putting.{PutAll}
 use Rattle.ladder_items.specs.Packed.{IsPacked, HasHalted}
 use Rattle.rounds.specs.Showing.{shown_by}
 use Rattle.rounds.specs.Courses.{IsCutShown}
+use Rattle.limits.specs.declared.TheConstants.{LEAST, MOST_WORKERS}
 
 -- no rendition has a segment or an end, and no playlist a text
 abbrev pub none_shown : ℕ → SnapshotFacts
@@ -21,13 +22,13 @@ none_shown n = record { counts = replicate n 0; ended = replicate n false; media
 
 -- 1 to 64 workers, and the publisher shows as many renditions as the settings have, of which none has a segment
 abbrev pub FitsThreads : Ladder → ℕ → List ℕ → Type 0
-FitsThreads ladder workers counts = (1 ≤ workers) × (workers ≤ 64) × (counts ≡ replicate (length ladder.renditions) 0)
+FitsThreads ladder workers counts = (LEAST ≤ workers) × (workers ≤ MOST_WORKERS) × (counts ≡ replicate (length ladder.renditions) 0)
 
--- The settings are within their limits, there are as many inputs as renditions, 1 to 64 workers, and the publisher shows as many
+-- The settings are allowed, there are as many inputs as renditions, 1 to 64 workers, and the publisher shows as many
 -- renditions, of which none has a segment.
 abbrev pub Fits : Ladder → ℕ → ℕ → List ℕ → Type 0
 Fits ladder inputs workers counts =
-    IsAllowed ladder × (inputs ≡ length ladder.renditions) × ((1 ≤ workers) × (workers ≤ 64)) × (counts ≡ replicate (length ladder.renditions) 0)
+    IsAllowed ladder × (inputs ≡ length ladder.renditions) × ((LEAST ≤ workers) × (workers ≤ MOST_WORKERS)) × (counts ≡ replicate (length ladder.renditions) 0)
 
 -- The run ended well. Behind each segment and each end one snapshot was shown, that of its moment, and no other. All that the
 -- workers claimed and the calling thread sealed was given, or thrown away.

@@ -6,9 +6,11 @@ ghost use Rattle.ladder_items.specs.Runs.{outlet_of};
 ghost use Rattle.rounds.specs.Courses.{HasEnough, IsOn, IsStopped, Start};
 ghost use Rattle.rounds.specs.Rounds.{Breaks, IsDriven, IsSomewhere, Moves, gathered, unfed_of};
 ghost use Rattle.rounds.specs.Showing.{counts_of};
+ghost use Rattle.item_io.specs.declared.limits.TheConstants.{PIECE};
 
 use crate::course::Course;
 use crate::feeding::feed_all;
+use crate::first::copy_keys;
 use crate::pace::Pace;
 use crate::reading::{is_enough, read_turn};
 use crate::showing::counts;
@@ -16,25 +18,12 @@ use crate::taking::{Taker, give_expected, take_and_give};
 use cutter::Spool;
 use flow_core::Collector;
 use item_io::{Outlet, Source};
-use ladder_items::{PackFault, Playlists, Rendition, Settings};
+use ladder_items::{PackFault, Playlists, Settings};
 use live_board::HeldPublisher;
-use segment_job::Keys;
 use std::alloc::{AllocError, Global};
 use std::sync::Wait;
 use std::sync::ledger::Ledger;
 use work_desk::Desk;
-
-/// The keys of each rendition.
-pub fn copy_keys(alloc: Global, renditions: &[Rendition]) -> Result<Vec<Keys>, AllocError>
-    ensures { IfOk result (λ keys. keys.items ≡ map (λ (r : RenditionValue). r.keys) renditions.now) }
-{
-    let mut keys = Vec::new(alloc);
-    for rendition in renditions {
-        keys.reserve(1)?;
-        keys.push_reserved(rendition.keys.copy()?);
-    }
-    Ok(keys)
-}
 
 /// A collector behind the segments that were given.
 fn collector_behind<'s>(
@@ -63,7 +52,7 @@ fn read_on<'s, S: Source, O: Outlet, L: Ledger, M: Ledger, R: Wait>(
     collector: &mut Collector<'s>,
 ) -> Result<(), PackFault>
     requires some { 0 < length buffer.old }
-    requires short { length buffer.old ≤ 18800 }
+    requires short { length buffer.old ≤ PIECE }
     requires somewhere { IsSomewhere (input_of S.remaining S.reads S.failures) (outlet_of O.holds O.broken O.failures) settings.now course.old held.old.publisher collector.old }
     ensures ok { OnOk result (Moves (input_of S.remaining S.reads S.failures) (outlet_of O.holds O.broken O.failures) settings.now course.old held.old.publisher collector.old course.new held.new.publisher collector.new) }
     ensures err { IfErr result (Breaks (input_of S.remaining S.reads S.failures) (outlet_of O.holds O.broken O.failures) settings.now course.old held.old.publisher collector.old course.new held.new.publisher) }
@@ -94,7 +83,7 @@ pub fn drive<'s, S: Source, O: Outlet, L: Ledger, M: Ledger, R: Wait>(
     held: &mut HeldPublisher<'_, R>,
 ) -> Result<(), PackFault>
     requires some { 0 < length buffer.old }
-    requires short { length buffer.old ≤ 18800 }
+    requires short { length buffer.old ≤ PIECE }
     requires each { length spools.now ≡ length settings.now.renditions }
     requires on { (start : Start S O) × IsOn (input_of S.remaining S.reads S.failures) (outlet_of O.holds O.broken O.failures) settings.now start 0 course.old held.old.publisher (unfed_of spools.now) }
     ensures ok { OnOk result (IsDriven (input_of S.remaining S.reads S.failures) (outlet_of O.holds O.broken O.failures) settings.now spools.now course.old held.old.publisher taker.old.right course.new held.new.publisher taker.new.right) }

@@ -8,6 +8,7 @@ ghost use Rattle.ladder_items.specs.Runs.{outlet_of};
 ghost use Rattle.ladder_items.specs.declared.fault.PackFault.TheVariants.{NoMemory};
 ghost use Rattle.rounds.specs.Courses.{IsStopped, ReadsNone, Start};
 ghost use Rattle.rounds.specs.Rounds.{Breaks, HasKeys, InRound, Keeps, gathered, unfed_of};
+ghost use Rattle.limits.specs.declared.TheConstants.{LAST_SEGMENT};
 
 use crate::course::Course;
 use crate::pieces::seal_own;
@@ -27,7 +28,7 @@ fn expect<'s>(collector: &mut Collector<'s>, plan: PlanRef<'s>) -> Result<(), Pa
     requires room { awaited collector.old.lanes < collector.old.most }
     requires rendition { plan.rendition < length collector.old.lanes }
     requires number { plan.number ≡ following (lane_at collector.old plan.rendition) }
-    requires low { plan.number + 1 < 2 ^ 32 }
+    requires low { plan.number ≤ LAST_SEGMENT }
     ensures ok { OnOk result (collector.new ≡ with_lane collector.old plan.entry.rendition (with_plan (lane_at collector.old plan.entry.rendition) (lent plan.entry))) }
     ensures fault { IfErr result (λ fault. fault ≡ NoMemory) }
 {

@@ -1,12 +1,11 @@
-ghost use Rattle.std.specs.Prelude.{◌≡◌, IfOk, false, length, replicate};
-ghost use Rattle.ladder_items.specs.Ladder.{IsAllowed};
+ghost use Rattle.std.specs.Prelude.{◌≡◌, IfOk, false, length, map, replicate};
+ghost use Rattle.ladder_items.specs.Ladder.{IsAllowed, RenditionValue};
 ghost use Rattle.rounds.specs.Begun.{IsBegun};
 
 use crate::books::Books;
-use crate::driving::copy_keys;
 use cutter::Spool;
 use ingest::Lane;
-use ladder_items::{Playlists, Settings, first_lanes, first_playlists};
+use ladder_items::{Playlists, Rendition, Settings, first_lanes, first_playlists};
 use segment_job::Keys;
 use std::alloc::{AllocError, Global};
 
@@ -50,4 +49,16 @@ fn open_ends(alloc: Global, renditions: usize) -> Result<(Vec<bool>, Vec<Spool>)
         spare.push(Spool::new(alloc))?;
     }
     Ok((ended, spare))
+}
+
+/// The keys of each rendition.
+pub fn copy_keys(alloc: Global, renditions: &[Rendition]) -> Result<Vec<Keys>, AllocError>
+    ensures { IfOk result (λ keys. keys.items ≡ map (λ (r : RenditionValue). r.keys) renditions.now) }
+{
+    let mut keys = Vec::new(alloc);
+    for rendition in renditions {
+        keys.reserve(1)?;
+        keys.push_reserved(rendition.keys.copy()?);
+    }
+    Ok(keys)
 }

@@ -8,6 +8,7 @@ ghost use Rattle.rounds.specs.Begun.{IsBegun};
 ghost use Rattle.rounds.specs.Courses.{IsAllGiven, IsOn, IsStopped, Start};
 ghost use Rattle.rounds.specs.Shown.{FaultSaysShown, Fits, IsPackedShown};
 ghost use Rattle.rounds.specs.Showing.{counts_of};
+ghost use Rattle.item_io.specs.declared.limits.TheConstants.{READS};
 
 use crate::course::Course;
 use crate::first::First;
@@ -36,7 +37,7 @@ fn set_out<'r, S: Source, O: Outlet, R: Wait>(
     outlet: O,
     reads: u64,
 ) -> (Going<'r, S, O, R>, Vec<Spool>, Vec<Keys>)
-    requires most { reads ≤ 2 ^ 40 }
+    requires most { reads ≤ READS }
     requires room { HaveRoom (input_of S.remaining S.reads S.failures) reads sources.items }
     requires failures { O.failures outlet < 2 ^ 63 }
     ensures on { (ladder : Ladder) (workers : ℕ) → Fits ladder (length sources.items) workers (counts_shown publisher.list) → IsBegun ladder workers first →
@@ -85,7 +86,7 @@ pub fn pack_fitted<S: Source + Drop, O: Outlet + Drop, G: Gate + Sync, R: Thread
     reads: u64,
     pace: Pace,
 ) -> Ran<S, O>
-    requires most { reads ≤ 2 ^ 40 }
+    requires most { reads ≤ READS }
     requires room { HaveRoom (input_of S.remaining S.reads S.failures) reads sources.items }
     requires failures { O.failures outlet < 2 ^ 63 }
     requires fits { Fits settings.now (length sources.items) workers (counts_shown publisher.list) }

@@ -3,6 +3,7 @@ ghost use Rattle.live_board.specs.Counts.{counts_shown};
 ghost use Rattle.rounds.specs.Shown.{Fits, FitsThreads};
 
 use ladder_items::{Settings, is_allowed};
+use limits::{LEAST, MOST_WORKERS};
 use live_board::Publisher;
 use std::alloc::{AllocError, Global};
 
@@ -18,7 +19,7 @@ pub fn fits(
     ensures fits { IfOk result (λ fits. Decides fits (Fits settings.now inputs workers (counts_shown publisher.now.list))) }
     ensures scarce { OnErr result (FitsThreads settings.now workers (counts_shown publisher.now.list)) }
 {
-    if workers < 1 || workers > 64 {
+    if (workers as u64) < LEAST || workers as u64 > MOST_WORKERS {
         return Ok(false);
     }
     if !shows_none(publisher.counts(), settings.renditions.len()) {

@@ -3,21 +3,22 @@ ghost use Rattle.std.specs.String.{string_bytes};
 ghost use Rattle.live_board.specs.Counts.{counts_shown};
 ghost use Rattle.live_board.specs.declared.fault.BoardFault.TheVariants.{NoMemory, NoPlace};
 ghost use Rattle.rounds.specs.Shown.{none_shown};
+ghost use Rattle.live_board.specs.declared.publisher.TheConstants.{MOST_VIEWERS};
 
 use live_board::{BoardFault, Publisher, Snapshot, Viewer, board};
 use std::alloc::{AllocError, Global};
 use std::sync::Wait;
 
-/// A board on which none of so many renditions has a segment, with 1 to 64 viewers: what a run shows its snapshots on.
+/// A board on which none of so many renditions has a segment, with so many viewers: what a run shows its snapshots on.
 ///
-/// NoPlace is told where all places of viewers are taken, else want of memory.
+/// It is refused with NoPlace or for want of memory alone; which of the two it was no clause says.
 pub fn opening_board<R: Wait>(
     rt: &R,
     alloc: Global,
     renditions: usize,
     viewers: usize,
 ) -> Result<(Publisher, Vec<Viewer>), BoardFault>
-    requires { (1 ≤ viewers) × (viewers ≤ 64) }
+    requires { (1 ≤ viewers) × (viewers ≤ MOST_VIEWERS) }
     ensures none { IfOk result (λ b. counts_shown b.0.list ≡ replicate renditions 0) }
     ensures count { IfOk result (λ b. length b.1.items ≡ viewers) }
     ensures viewers { IfOk result (λ b. All (λ v. v ≡ b.0) b.1.items) }

@@ -41,13 +41,13 @@ pub fn pack_parallel<S: Source + Drop, O: Outlet + Drop, G: Gate + Sync, R: Thre
     publisher: Publisher,
     outlet: O,
 ) -> Ran<S, O>
-    requires room { HaveRoom (input_of S.remaining S.reads S.failures) (2 ^ 40) sources.items }
+    requires room { HaveRoom (input_of S.remaining S.reads S.failures) READS sources.items }
     requires failures { O.failures outlet < 2 ^ 63 }
-    ensures ok { IfOk result.answer (IsPackedShown (run_of (input_of S.remaining S.reads S.failures) (outlet_of O.holds O.broken O.failures) (2 ^ 40) sources.items result.sources.items outlet result.outlet) settings.now workers publisher.list result.publisher.list) }
-    ensures fault { IfErr result.answer (FaultSaysShown (run_of (input_of S.remaining S.reads S.failures) (outlet_of O.holds O.broken O.failures) (2 ^ 40) sources.items result.sources.items outlet result.outlet) settings.now workers publisher.list result.publisher.list) }
+    ensures ok { IfOk result.answer (IsPackedShown (run_of (input_of S.remaining S.reads S.failures) (outlet_of O.holds O.broken O.failures) READS sources.items result.sources.items outlet result.outlet) settings.now workers publisher.list result.publisher.list) }
+    ensures fault { IfErr result.answer (FaultSaysShown (run_of (input_of S.remaining S.reads S.failures) (outlet_of O.holds O.broken O.failures) READS sources.items result.sources.items outlet result.outlet) settings.now workers publisher.list result.publisher.list) }
     ensures board { result.publisher.board ≡ publisher.board }
     ensures fits { OnOk result.answer (Fits settings.now (length sources.items) workers (counts_shown publisher.list)) }
-    ensures breach { IfErr result.answer (IsTurnedAway (run_of (input_of S.remaining S.reads S.failures) (outlet_of O.holds O.broken O.failures) (2 ^ 40) sources.items result.sources.items outlet result.outlet) settings.now workers publisher.list result.publisher.list) }
+    ensures breach { IfErr result.answer (IsTurnedAway (run_of (input_of S.remaining S.reads S.failures) (outlet_of O.holds O.broken O.failures) READS sources.items result.sources.items outlet result.outlet) settings.now workers publisher.list result.publisher.list) }
 {
     pack_parallel_reads(
         rt, alloc, sources, settings, workers, gate, publisher, outlet, READS,
@@ -74,7 +74,7 @@ pub fn pack_parallel_reads<
     reads: u64,
 ) -> Ran<S, O>
     requires least { 1 ≤ reads }
-    requires most { reads ≤ 2 ^ 40 }
+    requires most { reads ≤ READS }
     requires room { HaveRoom (input_of S.remaining S.reads S.failures) reads sources.items }
     requires failures { O.failures outlet < 2 ^ 63 }
     ensures ok { IfOk result.answer (IsPackedShown (run_of (input_of S.remaining S.reads S.failures) (outlet_of O.holds O.broken O.failures) reads sources.items result.sources.items outlet result.outlet) settings.now workers publisher.list result.publisher.list) }
@@ -83,18 +83,18 @@ pub fn pack_parallel_reads<
     ensures fits { OnOk result.answer (Fits settings.now (length sources.items) workers (counts_shown publisher.list)) }
     ensures breach { IfErr result.answer (IsTurnedAway (run_of (input_of S.remaining S.reads S.failures) (outlet_of O.holds O.broken O.failures) reads sources.items result.sources.items outlet result.outlet) settings.now workers publisher.list result.publisher.list) }
 {
-    let batch = workers.min(settings.queue as usize);
     pack_in_batches(
-        rt, alloc, sources, settings, workers, gate, publisher, outlet, reads, batch,
+        rt, alloc, sources, settings, workers, gate, publisher, outlet, reads, None,
     )
 }
 
-/// Packs as `pack_parallel_reads` does, with rounds of another length.
+/// Packs as `pack_parallel_reads` does, with rounds of another length, where one is told.
 ///
 /// A round is read until `batch` segments are closed, over all renditions, and one at least, or until there is one for each worker
 /// and all of the round before is given; then they are sealed and given, while the next round is read. Where `batch` is 1, a
 /// segment of a live stream waits for no other one; where it is less than there are workers, some of them have nothing to do in
-/// most rounds. Where it is more, workers wait less often for each other, and more segments are held at a time.
+/// most rounds. Where it is more, workers wait less often for each other, and more segments are held at a time. Where none is
+/// told, it is the number of workers, or what may be on its way, if that is less. No clause depends on it.
 pub fn pack_in_batches<
     S: Source + Drop,
     O: Outlet + Drop,
@@ -110,10 +110,10 @@ pub fn pack_in_batches<
     publisher: Publisher,
     outlet: O,
     reads: u64,
-    batch: usize,
+    batch: Option<usize>,
 ) -> Ran<S, O>
     requires least { 1 ≤ reads }
-    requires most { reads ≤ 2 ^ 40 }
+    requires most { reads ≤ READS }
     requires room { HaveRoom (input_of S.remaining S.reads S.failures) reads sources.items }
     requires failures { O.failures outlet < 2 ^ 63 }
     ensures ok { IfOk result.answer (IsPackedShown (run_of (input_of S.remaining S.reads S.failures) (outlet_of O.holds O.broken O.failures) reads sources.items result.sources.items outlet result.outlet) settings.now workers publisher.list result.publisher.list) }
@@ -124,10 +124,7 @@ pub fn pack_in_batches<
 {
     match begin(alloc, settings, sources.len(), workers, &publisher) {
         Ok(first) => {
-            let pace = Pace {
-                least: batch.min(workers),
-                most: batch,
-            };
+            let pace = Pace::new(workers, settings.queue as usize, batch);
             pack_fitted(
                 rt, alloc, first, sources, settings, workers, gate, publisher, outlet, reads, pace,
             )

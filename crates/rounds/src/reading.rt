@@ -7,6 +7,7 @@ ghost use Rattle.ladder_items.specs.Runs.{outlet_of};
 ghost use Rattle.ladder_items.specs.declared.fault.PackFault.TheVariants.{NoMemory};
 ghost use Rattle.live_board.specs.Snapshots.{Known};
 ghost use Rattle.rounds.specs.Courses.{HasClosed, HasEnough, IsOn, IsStopped, Start};
+ghost use Rattle.item_io.specs.declared.limits.TheConstants.{PIECE};
 
 use crate::course::Course;
 use crate::pace::Pace;
@@ -22,7 +23,7 @@ fn read_one<S: Source, O: Outlet>(
     buffer: &mut [u8],
 ) -> Result<(), AllocError>
     requires some { 0 < length buffer.old }
-    requires short { length buffer.old ≤ 18800 }
+    requires short { length buffer.old ≤ PIECE }
     requires below { course.old.turns < course.old.reads }
     requires within { r < length course.old.lanes.items }
     requires on { (ladder : Ladder) × (start : Start S O) × (shows : Known) × (waiting : ℕ → List SegmentPlan) × IsOn (input_of S.remaining S.reads S.failures) (outlet_of O.holds O.broken O.failures) ladder start r course.old shows waiting }
@@ -44,7 +45,7 @@ pub fn read_turn<S: Source, O: Outlet>(
     buffer: &mut [u8],
 ) -> Result<(), AllocError>
     requires some { 0 < length buffer.old }
-    requires short { length buffer.old ≤ 18800 }
+    requires short { length buffer.old ≤ PIECE }
     requires below { course.old.turns < course.old.reads }
     requires on { (ladder : Ladder) × (start : Start S O) × (shows : Known) × (waiting : ℕ → List SegmentPlan) × IsOn (input_of S.remaining S.reads S.failures) (outlet_of O.holds O.broken O.failures) ladder start 0 course.old shows waiting }
     ensures ok { OnOk result ((ladder : Ladder) (start : Start S O) (shows : Known) (waiting : ℕ → List SegmentPlan) → IsOn (input_of S.remaining S.reads S.failures) (outlet_of O.holds O.broken O.failures) ladder start 0 course.old shows waiting → IsOn (input_of S.remaining S.reads S.failures) (outlet_of O.holds O.broken O.failures) ladder start 0 course.new shows waiting) }
@@ -65,7 +66,7 @@ pub fn read_first<S: Source, O: Outlet>(
     buffer: &mut [u8],
 ) -> Result<(), AllocError>
     requires some { 0 < length buffer.old }
-    requires short { length buffer.old ≤ 18800 }
+    requires short { length buffer.old ≤ PIECE }
     requires on { (ladder : Ladder) × (start : Start S O) × (shows : Known) × (waiting : ℕ → List SegmentPlan) × IsOn (input_of S.remaining S.reads S.failures) (outlet_of O.holds O.broken O.failures) ladder start 0 course.old shows waiting }
     ensures ok { OnOk result ((ladder : Ladder) (start : Start S O) (shows : Known) (waiting : ℕ → List SegmentPlan) → IsOn (input_of S.remaining S.reads S.failures) (outlet_of O.holds O.broken O.failures) ladder start 0 course.old shows waiting → IsOn (input_of S.remaining S.reads S.failures) (outlet_of O.holds O.broken O.failures) ladder start 0 course.new shows waiting) }
     ensures err { OnErr result ((ladder : Ladder) (start : Start S O) (shows : Known) (waiting : ℕ → List SegmentPlan) → IsOn (input_of S.remaining S.reads S.failures) (outlet_of O.holds O.broken O.failures) ladder start 0 course.old shows waiting → IsStopped (input_of S.remaining S.reads S.failures) (outlet_of O.holds O.broken O.failures) ladder start course.new shows NoMemory) }

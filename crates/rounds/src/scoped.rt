@@ -4,9 +4,9 @@ ghost use Rattle.ladder_items.specs.Runs.{outlet_of};
 ghost use Rattle.rounds.specs.Courses.{IsOn, Start};
 ghost use Rattle.rounds.specs.Rounds.{IsBroken, IsRound, unfed_of};
 
-use crate::drove::{Drove, closed, driven};
+use crate::drove::driven;
 use crate::going::Going;
-use crate::joining::{join_all, settled};
+use crate::joining::joined;
 use crate::pace::Pace;
 use cutter::Spool;
 use item_io::{Outlet, Source};
@@ -65,8 +65,6 @@ pub fn in_scope<
             ensures ok { OnOk result.1 (IsRound (input_of S.remaining S.reads S.failures) (outlet_of O.holds O.broken O.failures) settings.entry.now spools.entry.now going.entry.course going.entry.held.publisher going.entry.books result.0.course result.0.held.publisher result.0.books) }
             ensures err { IfErr result.1 (IsBroken (input_of S.remaining S.reads S.failures) (outlet_of O.holds O.broken O.failures) settings.entry.now spools.entry.now going.entry.course going.entry.held.publisher result.0.course result.0.held.publisher) }
         {
-            let mut rest = rest;
-            let mut claims = claims;
             let workers = passes.len();
             let mut running: Vec<JoinHandle<Tally<L>>> = Vec::new(alloc);
             for pass in passes {
@@ -81,24 +79,8 @@ pub fn in_scope<
                 desk.close(rt);
                 return (going, Err(PackFault::NoMemory));
             }
-            let Drove {
-                going,
-                answer,
-                mut taker,
-            } = driven(rt, alloc, settings, pace, desk, spools, pass, going);
-            if answer.is_err() {
-                desk.stop(rt);
-            } else {
-                desk.close(rt);
-            }
-            join_all(rt, running, &mut rest, &mut claims);
-            let left = settled(rt, desk, &mut rest, &mut taker);
-            let drove = Drove {
-                going,
-                answer,
-                taker,
-            };
-            closed(drove, &claims, left)
+            let drove = driven(rt, alloc, settings, pace, desk, spools, pass, going);
+            joined(rt, desk, running, rest, claims, drove)
         },
     )
 }

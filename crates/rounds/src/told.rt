@@ -4,6 +4,7 @@ ghost use Rattle.ladder_items.specs.Packed.{IsReport, gone_of, told_of};
 ghost use Rattle.ladder_items.specs.declared.fault.PackFault.TheVariants.{NoMemory};
 ghost use Rattle.rounds.specs.Begun.{IsTold};
 ghost use Rattle.rounds.specs.Showing.{counts_of};
+ghost use Rattle.limits.specs.declared.TheConstants.{MOST_RENDITIONS};
 
 use crate::books::Books;
 use ingest::Lane;
@@ -19,7 +20,7 @@ fn report_with(
 ) -> Result<Report, AllocError>
     requires each { length lanes.now ≡ length playlists.now }
     requires going { All (λ shown. shown.ended ≡ false) playlists.now }
-    requires few { length playlists.now ≤ 32 }
+    requires few { length playlists.now ≤ MOST_RENDITIONS }
     requires right { books.right ≤ sum (counts_of playlists.now) }
     ensures numbers { IfOk result (IsReport playlists.now (map (λ lane. gone_of lane.stop) lanes.now)) }
     ensures workers { IfOk result (λ report. report.workers.items ≡ books.workers.items) }
@@ -49,7 +50,7 @@ pub fn told(
 ) -> Result<Report, PackFault>
     requires each { length lanes.now ≡ length playlists.now }
     requires going { All (λ shown. shown.ended ≡ false) playlists.now }
-    requires few { length playlists.now ≤ 32 }
+    requires few { length playlists.now ≤ MOST_RENDITIONS }
     requires right { books.right ≤ sum (counts_of playlists.now) }
     ensures ok { IfOk result (IsTold playlists.now lanes.now books) }
     ensures fault { IfErr result (λ fault. (fault ≡ NoMemory) ⊎ ((r : ℕ) × (lane : Lane) × (slice_get lanes.now r ≡ Some lane) × (told_of r lane.stop ≡ Some fault)

@@ -52,7 +52,7 @@ pub(crate) const SEVEN: &[&[u8]] = &[
 ];
 
 /// What is packed, and how: a stream, which is read in pieces of so many bytes, so many workers, how many plans may be
-/// outstanding, how many end a round at the most (0: as many as there are workers), and which read and which put fails, counted
+/// outstanding, with how many closed ones a round begins at the latest (where none is told, as many as there are workers), and which read and which put fails, counted
 /// from 1.
 #[derive(Clone, Copy)]
 pub(crate) struct Job {
@@ -60,7 +60,7 @@ pub(crate) struct Job {
     pub(crate) piece: usize,
     pub(crate) workers: usize,
     pub(crate) queue: u64,
-    pub(crate) batch: usize,
+    pub(crate) batch: Option<usize>,
     pub(crate) failing_read: u64,
     pub(crate) failing_put: u64,
 }
@@ -71,7 +71,7 @@ pub(crate) const WELL: Job = Job {
     piece: 18_800,
     workers: 2,
     queue: 4,
-    batch: 0,
+    batch: None,
     failing_read: 0,
     failing_put: 0,
 };
@@ -151,7 +151,7 @@ fn run<G: Gate + Sync, R: Threads + Wait + Sync>(
     ensures { result.publisher.board ≡ publisher.board }
 {
     let outlet = FailingOutlet::new(alloc, job.failing_put);
-    if job.batch == 0 {
+    if job.batch.is_none() {
         return pack_parallel(
             rt,
             alloc,

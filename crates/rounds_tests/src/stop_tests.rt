@@ -46,7 +46,7 @@ fn items_come_in_sequence(rt: HostRuntime) -> Result<(), Fail> {
     Ok(())
 }
 
-/// Where up to four segments end a round of two workers, how many rounds there are hangs on what is sealed first; what is given
+/// Where up to four segments begin a round of two workers, how many rounds there are hangs on what is sealed first; what is given
 /// doesn't.
 #[test]
 fn longer_rounds_give_the_same(rt: HostRuntime) -> Result<(), Fail> {
@@ -55,7 +55,7 @@ fn longer_rounds_give_the_same(rt: HostRuntime) -> Result<(), Fail> {
         let job = Job {
             stream: SEVEN,
             piece,
-            batch: 4,
+            batch: Some(4),
             ..WELL
         };
         let (ended, seen) = packed(&rt, rt.alloc(), &job, &FreeGate)?;

@@ -50,7 +50,7 @@ told-answer-requires-clause-few g c =
     let parts = parts-of c.args.settings.now done.world.events in
     let each = parts-length c.args.settings.now done.world.events in
     let size = shown-each c.args.settings.now parts c.deref-3.result.now each (c.deref-3.ensures.value ∙ done.world.shown_are) in
-    let few = c.requires.fits.0.renditions.1 in
+    let few = c.requires.fits.0.within.renditions.1 in
     omega (arith, size, few)
 
 pub returns-clause-ok : goal.returns-clause-ok

@@ -1,4 +1,4 @@
-use Rattle.std.proofs.Common.{◌∙◌, ◌+◌, refl, ap}
+use Rattle.std.proofs.Common.{refl}
 use Rattle.rounds.proofs.Answered.{round-closed, break-closed}
 use Rattle.rounds.proofs.Running.{stopped-here}
 use Rattle.rounds.proofs.scoped.fn.in_scope.scope.Goals as goal
@@ -8,10 +8,9 @@ returns-then-len-workers g c = record { ok = tt; err = λ start on. stopped-here
 
 pub returns : goal.returns
 returns g c =
-    let d = c.driven-going.ensures in
-    let e = c.closed.ensures in
-    let right = e.right ∙ ap (λ n. c.driven-going.result.going.books.right + n) c.settled-left.ensures.right in
+    let d = c.driven-drove.ensures in
+    let e = c.joined.ensures in
     record {
-      ok = round-closed _ _ _ _ _ _ _ _ _ _ _ _ e.answer e.course e.held _ _ _ _ d.books e.rounds right e.each d.ok;
+      ok = round-closed _ _ _ _ _ _ _ _ _ _ _ _ e.answer e.course e.held _ _ _ _ d.books e.rounds e.right e.each d.ok;
       err = break-closed _ _ _ _ _ _ _ _ _ _ _ _ e.answer e.course e.held d.err;
     }
