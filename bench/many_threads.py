@@ -1,13 +1,16 @@
-"""How fast `pack` packs one large stream and a ladder of three, by 1, 2 and 4 workers, in rounds as they are and in longer ones, beside ffmpeg's own packager with a key
-file and beside `one`; what it takes of memory on 10 and on 1,000 segments; and how a longer input grows.
+"""How fast `pack` packs one large stream, a ladder of three, and a stream of a live rate, by 1, 2 and 4 workers, in rounds as they
+are and in longer ones, beside ffmpeg's own packager with a key file and beside `one`; what it takes of memory on 10 and on
+1,000 segments; and how a longer input grows.
 
-The stream is the sample, looped by ffmpeg so that its times go on. What the calling thread takes is a run whose tables are
-broken, so that it is only read, and one without key frames, so that it is cut into nothing.
+The large stream is the sample, looped by ffmpeg so that its times go on: 0.5 Mbit/s, so its segments are small. The stream of a
+live rate has 6 Mbit/s. What the calling thread takes is a run whose tables are broken, so that it is only read, and one without
+key frames, so that it is cut into nothing.
 """
 
 import functools
 import pathlib
 import shutil
+import subprocess
 
 from growth import SECONDS, peak_memory
 from main_job import looped, streams
@@ -59,6 +62,16 @@ def runs_of(program, folder, entries, *options):
     return {workers: best(with_workers(program, folder, entries, workers, *options)) for workers in WORKERS}
 
 
+def live_rate(folder, megabytes):
+    """A stream of so many megabytes at 6 Mbit/s, with a key frame in each two seconds."""
+    file = folder / "live_rate.ts"
+    picture = f"testsrc2=size=1280x720:rate=25:duration={megabytes * 8 / 6}"
+    command = ["ffmpeg", "-nostdin", "-v", "error", "-y", "-f", "lavfi", "-i", picture, "-c:v", "libx264", "-preset", "ultrafast"]
+    command += ["-g", "50", "-b:v", "6M", "-minrate", "6M", "-maxrate", "6M", "-bufsize", "6M", "-x264-params", "nal-hrd=cbr"]
+    subprocess.run([*command, "-f", "mpegts", str(file)], check=True)
+    return file
+
+
 def both_ways(what, program, folder, streams):
     """Prints the figures with rounds as they are and with longer ones; answers those of the first."""
     size = sum(stream.stat().st_size for stream in streams)
@@ -85,6 +98,7 @@ def measure(program, sample, folder, megabytes):
         print(f"    {name}: {best_of(ROUNDS, command, statuses=(1,)).wall:.3f} s")
 
     both_ways("a ladder of three", program, folder, [large, large, large])
+    both_ways("one stream of 6 Mbit/s", program, folder, [live_rate(folder, megabytes)])
 
     memory = {}
     for segments in (10, 1000):
