@@ -11,7 +11,7 @@ turns_in() {
     local root=$work/borrowed name
     rm -rf "$root"
     mkdir -p "$root/crates"
-    for name in ghost_list ts_packet psi_tables pes_time cutter; do
+    for name in limits ghost_list ts_packet psi_tables pes_time cutter; do
         cp -a "$here/../crates/$name" "$root/crates/" || return
         grep "^$name:" "$here/../crates.txt" >>"$root/crates.txt" || return
     done
