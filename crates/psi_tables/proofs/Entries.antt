@@ -1,5 +1,6 @@
 -- The entries of a PAT and of a PMT, one behind another.
 use Rattle.std.proofs.Common.{◌≡◌, ℕ, zero, suc, ◌+◌, ◌-◌, ◌*◌, ◌/◌, ◌%◌, ◌<◌, ◌≤◌, ◌≢◌, Bool, true, ◌==◌, List, [], ◌∷◌, ◌++◌, length, take, drop, get_or, refl, sym, ◌∙◌, ap, arith, append_assoc, Option, Some, None, is_some, IsSome, inl, inr}
+use Rattle.ghost_list.proofs.Chunks.{chunk_at}
 use Rattle.std.specs.Option.{option_map}
 use Rattle.std.specs.Simd.{first_chunks}
 use Rattle.std.proofs.lemmas.Bool.{eqb-true, cases_lt}
@@ -83,15 +84,6 @@ first_of_four (a ∷ b ∷ []) long = absurd (omega arith)
 first_of_four (a ∷ b ∷ c ∷ []) long = absurd (omega arith)
 first_of_four (a ∷ b ∷ c ∷ d ∷ s) long = refl
 
--- the four bytes at a place among fours
-four_at : (i n : ℕ) (s : List ℕ) → i < n → get_or (first_chunks 4 n s) i [] ≡ take 4 (drop (4 * i) s)
-four_at zero zero s lt = absurd (omega arith)
-four_at (suc i) zero s lt = absurd (omega arith)
-four_at zero (suc n) s lt = refl
-four_at (suc i) (suc n) s lt =
-    let skip : 4 + 4 * i ≡ 4 * suc i = omega arith in
-    four_at i n (drop 4 s) (omega arith) ∙ ap (take 4) (drop-drop (4 * i) 4 s ∙ ap (λ m. drop m s) skip)
-
 -- a step over one entry of a PAT, its four bytes
 pub next_program : (bytes four : List ℕ) (i : ℕ) (entries : List ProgramEntry) (entry : ProgramEntry) →
     programs bytes ≡ behind entries (programs (drop (4 * i) bytes)) → i < length bytes / 4 →
@@ -100,7 +92,7 @@ pub next_program : (bytes four : List ℕ) (i : ℕ) (entries : List ProgramEntr
 next_program bytes four i entries entry so_far within is told =
     let s = drop (4 * i) bytes in
     let long : length s ≡ length bytes - 4 * i = length-drop (4 * i) bytes in
-    let there : four ≡ take 4 s = is ∙ four_at i (length bytes / 4) bytes within in
+    let there : four ≡ take 4 s = is ∙ chunk_at 4 (length bytes / 4) i bytes [] within in
     let first : first_program s ≡ entry = sym (first_of_four s (omega arith)) ∙ ap first_program (sym there) ∙ sym told in
     let skip : 4 * i + 4 ≡ 4 * (i + 1) = omega arith in
     so_far ∙ ap (behind entries) (one_program s (omega arith))
