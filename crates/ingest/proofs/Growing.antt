@@ -88,3 +88,41 @@ pub pushed-more : (v w start : Spooling) (ps : List (List ℕ)) (i : ℕ) (d : L
 pushed-more v w start ps i d below is pushed =
     pushed ∙ (ap (λ (u : Spooling). record u { list = u.list ++ get_or ps i d ∷ []; filled = w.filled }) is
     ∙ ap (λ (l : List (List ℕ)). record start { list = l; filled = w.filled }) (sym (more-of start.list ps i d below)))
+
+-- what packets close, and then those behind them
+pub grows-then : (r : ℕ) (s : CutSettings) (a b c old mid new : List SegmentPlan) → GrowsAlike r s a b old mid → GrowsAlike r s b c mid new → GrowsAlike r s a c old new
+grows-then r s a b c old mid new g h = grows-more r s a b c old mid new h.more g h.grown h.given h.order
+
+-- what a cutter says where it refuses packets
+abbrev pub StopsAll : Spooling → List (List ℕ) → CutFault → List SegmentPlan → Type 0
+StopsAll v ps e filled = (e ≡ NoMemory) ⊎ ((more : List (List ℕ)) → Stops v ((v.list ++ ps) ++ more) e filled)
+
+-- a fault at those behind them
+pub stops-behind : (v w : Spooling) (ps qs : List (List ℕ)) (e : CutFault) (filled : List SegmentPlan) → w ≡ record v { list = v.list ++ ps; filled = w.filled }
+    → GrowsAlike v.rendition v.settings (closed v.rendition v.settings v.list) (closed v.rendition v.settings (v.list ++ ps)) v.filled w.filled
+    → StopsAll w qs e filled → StopsAll v (ps ++ qs) e filled
+stops-behind v w ps qs e filled is g told = behind (subst (λ (u : Spooling). StopsAll u qs e filled) is told)
+  where
+    behind : StopsAll (record v { list = v.list ++ ps; filled = w.filled }) qs e filled → StopsAll v (ps ++ qs) e filled
+    behind (inl none) = inl none
+    behind (inr stops) = inr (λ more.
+        let mine = stops more in
+        let same : ((v.list ++ ps) ++ qs) ++ more ≡ (v.list ++ (ps ++ qs)) ++ more = ap (λ list. list ++ more) (append_assoc v.list ps qs) in
+        subst (λ whole. Stops v whole e filled) same (record { fault = mine.fault; plans = grows-then v.rendition v.settings _ _ _ _ _ _ g mine.plans }))
+
+-- both were pushed
+pub pushed-both : (v w u : Spooling) (ps qs : List (List ℕ)) → w ≡ record v { list = v.list ++ ps; filled = w.filled }
+    → u ≡ record w { list = w.list ++ qs; filled = u.filled } → u ≡ record v { list = v.list ++ (ps ++ qs); filled = u.filled }
+pushed-both v w u ps qs is next =
+    next ∙ (ap (λ (x : Spooling). record x { list = x.list ++ qs; filled = u.filled }) is
+    ∙ ap (λ (l : List (List ℕ)). record v { list = l; filled = u.filled }) (append_assoc v.list ps qs))
+
+-- both closed what they close
+pub grows-both : (v w u : Spooling) (ps qs : List (List ℕ)) → w ≡ record v { list = v.list ++ ps; filled = w.filled }
+    → GrowsAlike v.rendition v.settings (closed v.rendition v.settings v.list) (closed v.rendition v.settings (v.list ++ ps)) v.filled w.filled
+    → GrowsAlike w.rendition w.settings (closed w.rendition w.settings w.list) (closed w.rendition w.settings (w.list ++ qs)) w.filled u.filled
+    → GrowsAlike v.rendition v.settings (closed v.rendition v.settings v.list) (closed v.rendition v.settings (v.list ++ (ps ++ qs))) v.filled u.filled
+grows-both v w u ps qs is g h =
+    let k = subst (λ (x : Spooling). GrowsAlike x.rendition x.settings (closed x.rendition x.settings x.list) (closed x.rendition x.settings (x.list ++ qs)) w.filled u.filled) is h in
+    subst (λ list. GrowsAlike v.rendition v.settings (closed v.rendition v.settings v.list) (closed v.rendition v.settings list) v.filled u.filled) (append_assoc v.list ps qs)
+    (grows-then v.rendition v.settings _ _ _ _ _ _ g k)

@@ -1,5 +1,5 @@
 -- From the packets that a cutter is pushed to the bytes that an intake takes.
-use Rattle.std.proofs.Common.{◌≡◌, ◌∙◌, ◌⊎◌, inl, inr, ℕ, ◌+◌, ◌<◌, ◌≤◌, ◌^◌, Bool, false, List, [], ◌∷◌, ◌++◌, length, Some, None, ap, sym, subst, arith, length-append}
+use Rattle.std.proofs.Common.{◌≡◌, ◌∙◌, ◌⊎◌, inl, inr, ℕ, ◌+◌, ◌<◌, ◌≤◌, ◌^◌, Bool, false, List, [], ◌∷◌, ◌++◌, length, Some, None, ap, sym, subst, append_assoc, arith, length-append}
 use Rattle.std.proofs.lemmas.List.{append-nil, append_cancel_left}
 use Rattle.std.proofs.lemmas.Grind.{flat_map-append}
 use Rattle.ghost_list.specs.Lists.{IsBeginning}
@@ -13,7 +13,7 @@ use Rattle.cutter.specs.Plans.{SegmentPlan}
 use Rattle.std.specs.Prelude.{OnOk, Result, Ok, Err}
 use Rattle.cutter.specs.Cuts.{closed, plans, fault, made, Ends}
 use Rattle.ingest.specs.Streams.{Taken, AreNext, GrowsAlike, Stops, Faults, Stays, plans_of, fault_of, closed_of}
-use Rattle.ingest.proofs.Growing.{grows-more, next-made}
+use Rattle.ingest.proofs.Growing.{StopsAll, grows-more, next-made}
 
 pub few-packets : (ps more : List (List ℕ)) (next : List ℕ) → decided next ≡ ps ++ more → IsBeginning (decided next) (packets next)
     → length (packets next) ≤ length next → length next < 2 ^ 63 → length ps + length more < 2 ^ 63
@@ -57,10 +57,6 @@ faults-by ended v stream next whole e filled is all stops = record {
     order = subst (λ list. AreNext v.rendition v.settings (length (closed v.rendition v.settings list)) stops.plans.more) is stops.plans.order;
   };
 }
-
--- what push_all says where it refuses
-abbrev pub StopsAll : Spooling → List (List ℕ) → CutFault → List SegmentPlan → Type 0
-StopsAll v ps e filled = (e ≡ NoMemory) ⊎ ((more : List (List ℕ)) → Stops v ((v.list ++ ps) ++ more) e filled)
 
 -- all plans that come before a fault are closed
 plans-closed : (r : ℕ) (s : CutSettings) (ps : List (List ℕ)) (e : CutFault) → fault r s ps ≡ Some e → plans r s ps ≡ closed r s ps
@@ -169,6 +165,10 @@ grown-to-end v w stream ps told filled is grown pushed g c =
 pub appended : (before after old new ps : List (List ℕ)) → Reading.GrowsAlike before after old new → old ≡ [] → ps ≡ new → after ≡ before ++ ps
 appended before after old new ps g none is =
     g.grown ∙ ap (λ list. before ++ list) (sym (is ∙ (g.given ∙ ap (λ list. list ++ g.more) none)))
+
+-- the packets that a reader lent, and those that it appended to none
+pub lent-first : (before lent after old new ps : List (List ℕ)) → Reading.GrowsAlike (before ++ lent) after old new → old ≡ [] → ps ≡ new → after ≡ before ++ (lent ++ ps)
+lent-first before lent after old new ps g none is = appended (before ++ lent) after old new ps g none is ∙ append_assoc before lent ps
 
 -- the plans of one spool more
 pub joined-more : (spools : List (List SegmentPlan)) (plans : List SegmentPlan) → joined (spools ++ plans ∷ []) ≡ joined spools ++ plans

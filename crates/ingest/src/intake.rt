@@ -76,8 +76,8 @@ impl Intake {
         decided_begin();
         self.ended = true;
         self.packets.clear();
-        self.reader.feed(piece, &mut self.packets)?;
-        push_all(&mut self.cutter, &self.packets)?;
+        let lent = self.reader.feed_lending(piece, &mut self.packets)?;
+        push_both(&mut self.cutter, lent, &self.packets)?;
         self.ended = false;
         Ok(())
     }
@@ -134,6 +134,28 @@ pub fn closed_plans_begin_all()
     ensures begin { (r : ℕ) (s : CutSettings) (stream more : List ℕ) → IsBeginning (closed_of r s stream) (plans_of r s (stream ++ more)) }
     ensures grow { (r : ℕ) (s : CutSettings) (stream more : List ℕ) → IsBeginning (closed_of r s stream) (closed_of r s (stream ++ more)) }
 {}
+
+/// Pushes packets and those behind them, and closes the segments that they close.
+fn push_both(
+    cutter: &mut SpoolCutter,
+    front: &[[u8; 188]],
+    back: &[[u8; 188]],
+) -> Result<(), CutFault>
+    requires few { length cutter.old.list + (length front.now + length back.now) < 2 ^ 63 }
+    requires going { cutter.old.ended ≡ false }
+    ensures pushed { OnOk result (cutter.new ≡ record cutter.old { list = cutter.old.list ++ (front.now ++ back.now); filled = cutter.new.filled }) }
+    ensures plans { OnOk result (GrowsAlike cutter.old.rendition cutter.old.settings
+        (closed cutter.old.rendition cutter.old.settings cutter.old.list)
+        (closed cutter.old.rendition cutter.old.settings (cutter.old.list ++ (front.now ++ back.now)))
+        cutter.old.filled cutter.new.filled) }
+    ensures fault { IfErr result (λ e. (e ≡ NoMemory) ⊎ ((more : List (List ℕ)) →
+        Stops cutter.old ((cutter.old.list ++ (front.now ++ back.now)) ++ more) e cutter.new.filled)) }
+    ensures kept { (cutter.new.rendition ≡ cutter.old.rendition) × (cutter.new.settings ≡ cutter.old.settings) × (cutter.new.turned ≡ cutter.old.turned) }
+{
+    push_all(cutter, front)?;
+    push_all(cutter, back)?;
+    Ok(())
+}
 
 /// Pushes packets, and closes the segments that they close.
 fn push_all(cutter: &mut SpoolCutter, packets: &[[u8; 188]]) -> Result<(), CutFault>

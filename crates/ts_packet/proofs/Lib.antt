@@ -3,3 +3,4 @@ pub mod Decided
 pub mod Positions
 pub mod Scanning
 pub mod Feeding
+pub mod Ahead

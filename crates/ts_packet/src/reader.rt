@@ -4,7 +4,7 @@ ghost use Rattle.ts_packet.specs.State.{GrowsAlike, IsKept};
 
 use crate::joined::Joined;
 use crate::lengths::{PACKET, UNDECIDED};
-use crate::scan::scan;
+use crate::scan::{ahead, scan, scan_piece};
 use arrayvec::ArrayVec;
 use ghost_list::GhostList;
 use std::alloc::AllocError;
@@ -62,15 +62,36 @@ impl Reader {
         ensures packets { OnOk result (GrowsAlike (decided self.old) (decided self.new) out.old.items out.new.items) }
         ensures err { OnErr result ((self.new ≡ self.old) × (out.new.items ≡ out.old.items)) }
     {
-        let bytes = Joined::new(&self.rest, piece);
-        out.reserve(bytes.len() / PACKET)?;
-        let scanned = scan(&bytes, self.locked, false, out);
-        let rest = bytes.rest(scanned.at);
-        self.rest = rest;
-        self.locked = scanned.locked;
-        self.passed += scanned.passed as u64;
+        let left = scan_piece(&self.rest, self.locked, piece, out)?;
+        self.rest = left.rest;
+        self.locked = left.locked;
+        self.passed += left.passed as u64;
         self.fed.append(piece);
         Ok(())
+    }
+
+    /// Takes the next piece of the stream as `feed` does, and copies none of the packets that stand in it one behind another
+    /// from its first byte on, where the packet before it ended: these are lent, and those behind them appended.
+    ///
+    /// A refusal leaves the reader and the packets as they were.
+    pub fn feed_lending<'a>(
+        &mut self,
+        piece: &'a [u8],
+        out: &mut Vec<[u8; 188]>,
+    ) -> Result<&'a [[u8; 188]], AllocError>
+        requires { length self.old + length piece.now < 2 ^ 63 }
+        ensures fed { OnOk result (self.new ≡ self.old ++ piece.now) }
+        ensures packets { IfOk result (λ lent. GrowsAlike (decided self.old ++ lent.now) (decided self.new) out.old.items out.new.items) }
+        ensures err { OnErr result ((self.new ≡ self.old) × (out.new.items ≡ out.old.items)) }
+    {
+        let lent = ahead(&self.rest, self.locked, piece);
+        let behind = &piece[PACKET * lent.len()..];
+        let left = scan_piece(&self.rest, self.locked, behind, out)?;
+        self.rest = left.rest;
+        self.locked = left.locked;
+        self.passed += left.passed as u64;
+        self.fed.append(piece);
+        Ok(lent)
     }
 
     /// Ends the stream: appends the packets that weren't decided yet, and tells how many bytes were skipped.

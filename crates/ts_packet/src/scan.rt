@@ -1,9 +1,11 @@
-ghost use Rattle.std.specs.Prelude.{◌≡◌, ◌+◌, ◌-◌, ◌/◌, ◌<◌, ◌≤◌, ◌^◌, length, drop, vec_len, vec_capacity};
+ghost use Rattle.std.specs.Prelude.{◌≡◌, ◌+◌, ◌-◌, ◌/◌, ◌<◌, ◌≤◌, ◌^◌, ◌*◌, ◌++◌, [], false, true, IfOk, OnErr, length, drop, vec_len, vec_capacity};
 ghost use Rattle.ts_packet.specs.Packets.{begins, is_sync_or_beyond};
 ghost use Rattle.ts_packet.specs.State.{needed, Scans};
 
 use crate::joined::Joined;
 use crate::lengths::{PACKET, UNDECIDED};
+use arrayvec::ArrayVec;
+use std::alloc::AllocError;
 
 /// Where a scan ended: the place of the rest, whether a packet ends there, and how many bytes were passed over.
 #[derive(Clone, Copy)]
@@ -40,6 +42,65 @@ fn needed(at_end: bool, locked: bool) -> usize
     } else {
         UNDECIDED + 1
     }
+}
+
+/// The packets that stand one behind another from the first byte of a piece on, where a packet ends there.
+pub(crate) fn ahead<'a>(
+    rest: &ArrayVec<u8, UNDECIDED>,
+    locked: bool,
+    piece: &'a [u8],
+) -> &'a [[u8; 188]]
+    ensures within { PACKET * length result.now ≤ length piece.now }
+    ensures scans { Scans false locked (rest.now.items ++ piece.now) [] result.now locked (rest.now.items ++ drop (PACKET * length result.now) piece.now) 0 }
+{
+    if locked && rest.is_empty() {
+        return packets_ahead(piece);
+    }
+    &[]
+}
+
+/// The packets that stand one behind another from the first byte on, behind a packet.
+fn packets_ahead(bytes: &[u8]) -> &[[u8; 188]]
+    ensures within { PACKET * length result.now ≤ length bytes.now }
+    ensures scans { Scans false true bytes.now [] result.now true (drop (PACKET * length result.now) bytes.now) 0 }
+{
+    let (packets, _) = bytes.as_chunks::<188>();
+    let mut count = 0;
+    while count < packets.len() && packets[count][0] == 0x47 {
+        count += 1;
+    }
+    &packets[..count]
+}
+
+/// What a scan of a piece of a stream left: the bytes that aren't decided, whether a packet ends where they begin, and how many
+/// bytes were passed over.
+#[derive(Drop)]
+pub(crate) struct Left {
+    pub rest: ArrayVec<u8, UNDECIDED>,
+    pub locked: bool,
+    pub passed: usize,
+}
+
+/// Appends the packets that are decided by the rest of a stream with a piece behind it.
+pub(crate) fn scan_piece(
+    rest: &ArrayVec<u8, UNDECIDED>,
+    locked: bool,
+    piece: &[u8],
+    out: &mut Vec<[u8; 188]>,
+) -> Result<Left, AllocError>
+    requires { length rest.now.items + length piece.now < 2 ^ 63 }
+    ensures scans { IfOk result (λ left. Scans false locked (rest.now.items ++ piece.now) out.old.items out.new.items left.locked left.rest.items left.passed) }
+    ensures few { IfOk result (λ left. length left.rest.items < needed false left.locked) }
+    ensures err { OnErr result (out.new.items ≡ out.old.items) }
+{
+    let bytes = Joined::new(rest, piece);
+    out.reserve(bytes.len() / PACKET)?;
+    let scanned = scan(&bytes, locked, false, out);
+    Ok(Left {
+        rest: bytes.rest(scanned.at),
+        locked: scanned.locked,
+        passed: scanned.passed,
+    })
 }
 
 /// Appends the packets that these bytes tell, up to a rest of too few bytes.

@@ -194,3 +194,35 @@ fn lock_comes_back_behind_a_lost_byte(rt: HostRuntime) -> Result<(), Fail> {
     assert_eq!(rt; all.skipped, Skipped { bytes: 187 });
     Ok(())
 }
+
+#[test]
+fn packets_are_lent_where_they_stand(rt: HostRuntime) -> Result<(), Fail> {
+    let alloc = rt.alloc();
+    let bytes = six_packets(alloc)?;
+    assert_eq!(rt; bytes.len(), 1128);
+    let (first, rest) = bytes.split_at(564);
+    let (second, third) = rest.split_at(376);
+    let (begun, ended) = third.split_at(100);
+    let mut reader = Reader::new();
+    let mut packets = Vec::new(alloc);
+    assert!(rt;
+        reader.feed_lending(first, &mut packets)?.is_empty(),
+        "nothing ends before the first"
+    );
+    assert_eq!(rt; packets.as_flattened(), first);
+    assert_eq!(rt;
+        reader.feed_lending(second, &mut packets)?.as_flattened(),
+        second
+    );
+    assert!(rt;
+        reader.feed_lending(begun, &mut packets)?.is_empty(),
+        "a part of one"
+    );
+    assert!(rt;
+        reader.feed_lending(ended, &mut packets)?.is_empty(),
+        "the other part"
+    );
+    assert_eq!(rt; packets.len(), 4);
+    assert_eq!(rt; reader.finish(&mut packets)?, Skipped { bytes: 0 });
+    Ok(())
+}

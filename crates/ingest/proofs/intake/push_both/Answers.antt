@@ -1,0 +1,15 @@
+use Rattle.std.proofs.lemmas.Result.{err_from_is_err_and}
+use Rattle.ingest.proofs.Growing.{stops-behind, pushed-both, grows-both}
+use Rattle.ingest.proofs.intake.push_both.Goals as goal
+
+pub returns-clause-pushed : goal.returns-clause-pushed
+returns-clause-pushed c = pushed-both c.args.cutter.now c.push_all.new.cutter c.push_all-2.new.cutter c.args.front.now c.args.back.now c.in_ok-push_all.ensures.pushed c.in_ok-push_all-2.ensures.pushed
+
+pub returns-clause-plans : goal.returns-clause-plans
+returns-clause-plans c = grows-both c.args.cutter.now c.push_all.new.cutter c.push_all-2.new.cutter c.args.front.now c.args.back.now c.in_ok-push_all.ensures.pushed c.in_ok-push_all.ensures.plans c.in_ok-push_all-2.ensures.plans
+
+pub returns-in_err-push_all-2-clause-fault : goal.returns-in_err-push_all-2-clause-fault
+returns-in_err-push_all-2-clause-fault c =
+    let told = err_from_is_err_and c.from_residual-in_err-push_all-2.result c.from_residual-in_err-push_all-2.ensures.1 in
+    rw (told.1, told.2) (stops-behind c.args.cutter.now c.push_all.new.cutter c.args.front.now c.args.back.now c.in_err-push_all-2.field-0.0 c.push_all-2.new.cutter.filled
+    c.in_ok-push_all.ensures.pushed c.in_ok-push_all.ensures.plans c.in_err-push_all-2.ensures.fault)

@@ -1,0 +1,19 @@
+use Rattle.std.proofs.Common.{◌+◌, ◌*◌, length, ap, arith, length-append}
+use Rattle.std.proofs.lemmas.List.{take_rest}
+use Rattle.ts_packet.proofs.Ahead.{FeedsLending, Keeps-lending}
+use Rattle.ts_packet.proofs.reader.Reader.feed_lending.Goals as goal
+use Rattle.ts_packet.proofs.reader.Reader.feed_lending.Goals.{After-append}
+
+feeds : (c : After-append) → FeedsLending c.self.inside.fed.items c.args.piece.now c.ahead-lent.result.now c.args.out.now.items c.scan_piece.new.out.items
+    c.in_ok-left.left.locked c.in_ok-left.left.rest.items (c.self.inside.passed + c.in_ok-left.left.passed)
+feeds c = Keeps-lending _ _ _ _ _ _ _ _ _ _ _ _ c.self.invariant.0 c.ahead-lent.ensures.scans (rw (take_rest c.args.piece.now (188 * length c.ahead-lent.result.now)) at c.in_ok-left.ensures.scans) c.in_ok-left.ensures.few
+
+pub invariant_of-self : goal.invariant_of-self
+invariant_of-self c = (
+  rw c.append.ensures (feeds c).keeps,
+  let e = ap length c.append.ensures in
+      omega (arith, length-append c.self.inside.fed.items c.args.piece.now, e, ap length c.self.view_is),
+)
+
+pub returns-clause-packets : goal.returns-clause-packets
+returns-clause-packets c = rw (c.append.ensures, ← c.self.view_is) (feeds c).grows
