@@ -3,7 +3,7 @@ use Rattle.std.proofs.Common.{◌≡◌, ◌≢◌, ℕ, zero, suc, ◌+◌, ◌
 use Rattle.std.specs.Prelude.{MatchOption}
 use denote.Bor.{Bor}
 use Rattle.std.proofs.Math.Seq.{take-append_seam, drop-append_seam}
-use Rattle.psi_tables.specs.Section.{number_at}
+use Rattle.psi_tables.specs.Section.{number_at, pid_at}
 use Rattle.psi_tables.specs.InForce.{InForce}
 use Rattle.psi_tables.specs.Head.{header, stuffed, packets, section_packets, packet_count, head, pat_section, IsSendable}
 use Rattle.psi_tables.proofs.Heads.{head-first, section-first, length-head, sized}
@@ -73,7 +73,7 @@ begins-told text rest pat behind section begins front back carried =
     let good = begins.sendable in
     let stream_id : t.stream_id ≡ number_at pat 8 = omega (arith, at 8, at 9, good.stream_id) in
     let program : t.program ≡ number_at pat 13 = omega (arith, at 13, at 14, good.program) in
-    let pmt_pid : t.pmt_pid ≡ number_at pat 15 % 0x2000 = omega (arith, at 15, at 16, good.pmt_pid) in
+    let pmt_pid : t.pmt_pid ≡ pid_at pat 15 = omega (arith, at 15, at 16, good.pmt_pid) in
     let tables = same-tables t (told_tables pat section) stream_id program pmt_pid (sym carried) in
     let pat_counter : begins.pat_counter % 16 ≡ slice_index pat 3 % 16 = omega (arith, at 3) in
     let pmt_counter : begins.pmt_counter % 16 ≡ slice_index behind 3 % 16 = omega (arith, third) in
@@ -108,14 +108,14 @@ the-head-made text pat section read bytes a b same sendable made told = record {
 }
 
 -- the head that is made of what stands in a packet
-pub made-of : (pat section read start first all : List ℕ) (a b m n k : ℕ) → m ≡ number_at pat 8 → n ≡ number_at pat 13 → k ≡ number_at pat 15
-    → read ≡ pat_section m n (k % 0x2000) → start ≡ [] → first ≡ start ++ section_packets 0 a read
-    → all ≡ first ++ section_packets (k % 0x2000) b section → all ≡ head (told_tables pat section) a b
+pub made-of : (pat section read start first all : List ℕ) (a b m n k : ℕ) → m ≡ number_at pat 8 → n ≡ number_at pat 13 → k ≡ pid_at pat 15
+    → read ≡ pat_section m n k → start ≡ [] → first ≡ start ++ section_packets 0 a read
+    → all ≡ first ++ section_packets k b section → all ≡ head (told_tables pat section) a b
 unfolding head
 made-of pat section read start first all a b m n k stream_id program pmt_pid made none begun whole =
     whole
-    ∙ ap (λ x. x ++ section_packets (k % 0x2000) b section)
+    ∙ ap (λ x. x ++ section_packets k b section)
     (begun ∙ ap (λ x. x ++ section_packets 0 a read) none ∙ ap (section_packets 0 a) made)
-    ∙ ap (λ x. section_packets 0 a (pat_section x n (k % 0x2000)) ++ section_packets (k % 0x2000) b section) stream_id
-    ∙ ap (λ x. section_packets 0 a (pat_section (number_at pat 8) x (k % 0x2000)) ++ section_packets (k % 0x2000) b section) program
-    ∙ ap (λ x. section_packets 0 a (pat_section (number_at pat 8) (number_at pat 13) (x % 0x2000)) ++ section_packets (x % 0x2000) b section) pmt_pid
+    ∙ ap (λ x. section_packets 0 a (pat_section x n k) ++ section_packets k b section) stream_id
+    ∙ ap (λ x. section_packets 0 a (pat_section (number_at pat 8) x k) ++ section_packets k b section) program
+    ∙ ap (λ x. section_packets 0 a (pat_section (number_at pat 8) (number_at pat 13) x) ++ section_packets x b section) pmt_pid

@@ -1,7 +1,7 @@
 -- Where a segment head tells what it is made of.
-use Rattle.std.specs.Prelude.{◌≡◌, ℕ, zero, suc, ◌+◌, ◌%◌, ◌≤◌, List, [], ◌++◌, length, take, drop}
+use Rattle.std.specs.Prelude.{◌≡◌, ℕ, zero, suc, ◌+◌, ◌≤◌, List, [], ◌++◌, length, take, drop}
 use Rattle.psi_tables.specs.InForce.{InForce}
-use Rattle.psi_tables.specs.Section.{section_length, number_at}
+use Rattle.psi_tables.specs.Section.{section_length, number_at, pid_at}
 use Rattle.psi_tables.specs.Head.{head, IsSendable}
 use Rattle.hls_check.specs.Unpacking.{BeginsWithHead}
 use Rattle.ts_packet.specs.declared.lengths.TheConstants.{PACKET}
@@ -16,7 +16,7 @@ abbrev pub told_tables : List ℕ → List ℕ → InForce
 told_tables pat section = record {
   stream_id = number_at pat 8;
   program = number_at pat 13;
-  pmt_pid = number_at pat 15 % 0x2000;
+  pmt_pid = pid_at pat 15;
   section = section;
 }
 

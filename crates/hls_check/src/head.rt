@@ -1,14 +1,15 @@
 //! The head of a segment, taken off (RFC 8216, 3.2).
 
 ghost use Rattle.std.specs.Prelude.{◌≡◌, ◌*◌, ◌+◌, ◌<◌, ◌≤◌, ◌^◌, ℕ, List, ◌++◌, length, slice_index, IfOk, IsSomeAnd, MatchOption, Decides, None};
-ghost use Rattle.psi_tables.specs.Section.{number_at};
 ghost use Rattle.psi_tables.specs.ProgramMap.{pmt_fault};
 ghost use Rattle.psi_tables.specs.Head.{head, section_packets, IsSendable};
 ghost use Rattle.hls_check.specs.Unpacking.{BeginsWithHead};
 ghost use Rattle.hls_check.specs.Heads;
 ghost use Rattle.hls_check.specs.Heads.{IsSized, IsTheHead, told_tables};
 
-use psi_tables::{Pmt, TableFault, append_section, pat_section};
+use psi_tables::{
+    Pmt, TableFault, append_section, pat_section, read_length, read_number, read_pid,
+};
 use std::alloc::{AllocError, Global};
 use ts_packet::PACKET;
 
@@ -56,21 +57,12 @@ fn made_head(
     ensures is { IfOk result (λ bytes. bytes.items ≡ head (told_tables pat.now section.now) (slice_index pat.now 3) pmt_counter) }
     ensures sendable { pmt_fault section.now ≡ None → IsSendable (told_tables pat.now section.now) }
 {
-    let pmt_pid = number(pat, 15) % 0x2000;
-    let section_of_pat = pat_section(number(pat, 8), number(pat, 13), pmt_pid);
+    let pmt_pid = read_pid(pat, 15);
+    let section_of_pat = pat_section(read_number(pat, 8), read_number(pat, 13), pmt_pid);
     let mut bytes = Vec::new(alloc);
     append_section(&mut bytes, 0, pat[3], &section_of_pat)?;
     append_section(&mut bytes, pmt_pid, pmt_counter, section)?;
     Ok(bytes)
-}
-
-/// The 16 bits of two bytes.
-fn number(bytes: &[u8], at: usize) -> u16
-    requires { at + 1 < length bytes.now }
-    ensures value { result ≡ number_at bytes.now at }
-    ensures below { result < 2 ^ 16 }
-{
-    u16::from_be_bytes([bytes[at], bytes[at + 1]])
 }
 
 /// Whether a section is that of a good PMT.
@@ -90,7 +82,7 @@ fn carried_section(alloc: Global, packets: &[u8]) -> Result<Option<Vec<u8>>, All
     ensures { IfOk result (λ found. (pid counter : ℕ) (section rest : List ℕ) → IsSized section →
         packets.now ≡ section_packets pid counter section ++ rest → IsSomeAnd found (λ bytes. bytes.items ≡ section)) }
 {
-    let len = 3 + usize::from(number(packets, 6) % 0x1000);
+    let len = 3 + read_length(packets, 6);
     let count = (len + 184) / 184;
     if packets.len() < PACKET * count {
         return Ok(None);

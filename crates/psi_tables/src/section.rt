@@ -5,7 +5,7 @@ use crate::crc::crc_32;
 use crate::fault::TableFault;
 
 /// The 16 bits of two bytes.
-pub(crate) fn read_number(bytes: &[u8], at: usize) -> u16
+pub fn read_number(bytes: &[u8], at: usize) -> u16
     requires { at + 1 < length bytes.now }
     ensures { result ≡ number_at bytes.now at }
 {
@@ -13,7 +13,7 @@ pub(crate) fn read_number(bytes: &[u8], at: usize) -> u16
 }
 
 /// The low 13 bits of two bytes: a PID.
-pub(crate) fn read_pid(bytes: &[u8], at: usize) -> u16
+pub fn read_pid(bytes: &[u8], at: usize) -> u16
     requires { at + 1 < length bytes.now }
     ensures { result ≡ pid_at bytes.now at }
 {
@@ -21,7 +21,7 @@ pub(crate) fn read_pid(bytes: &[u8], at: usize) -> u16
 }
 
 /// The low 12 bits of two bytes: a length in bytes.
-pub(crate) fn read_length(bytes: &[u8], at: usize) -> usize
+pub fn read_length(bytes: &[u8], at: usize) -> usize
     requires { at + 1 < length bytes.now }
     ensures value { result ≡ length_at bytes.now at }
     ensures below { result < 4096 }

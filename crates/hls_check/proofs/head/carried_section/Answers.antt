@@ -7,7 +7,7 @@ use Rattle.hls_check.proofs.head.carried_section.Goals as goal
 pub returns-then-packets-count : goal.returns-then-packets-count
 returns-then-packets-count c = λ pid counter section rest sized same.
     let told = ap (λ x. number_at x 6) same ∙ number-told pid counter section rest sized.fields in
-    absurd (omega (arith, c.if-packets-count.true, c.number.ensures, c.from-len.ensures, told, sized.whole, length-section pid counter section rest, ap length same))
+    absurd (omega (arith, c.if-packets-count.true, c.read_length-len.ensures.value, told, sized.whole, length-section pid counter section rest, ap length same))
 
 pub slice_bounds-from_slice-end : goal.slice_bounds-from_slice-end
 slice_bounds-from_slice-end c = omega (arith, c.in_ok-carried.ensures.len, c.deref.ensures.len)
@@ -15,8 +15,8 @@ slice_bounds-from_slice-end c = omega (arith, c.in_ok-carried.ensures.len, c.der
 pub returns : goal.returns
 returns c = λ pid counter section rest sized same.
     let told = ap (λ x. number_at x 6) same ∙ number-told pid counter section rest sized.fields in
-    let is : 3 + c.from-len.result ≡ length section = omega (arith, c.number.ensures, c.from-len.ensures, told, sized.whole) in
-    let len = 3 + c.from-len.result in
+    let is : 3 + c.read_length-len.result ≡ length section = omega (arith, c.read_length-len.ensures.value, told, sized.whole) in
+    let len = 3 + c.read_length-len.result in
     let count : 1 + len - 1 ≡ len = omega arith in
     let carried : c.deref.result.now ≡ payloads ((len + 184) / 184) c.args.packets.now = c.deref.ensures.value ∙ c.in_ok-carried.ensures.items in
     c.in_ok-section.ensures.items
