@@ -9,11 +9,11 @@ use Rattle.std.proofs.lemmas.Option.{same_Some, none-some}
 use Rattle.std.proofs.lemmas.Slice.Eq.{bytes_eq-Decides}
 use Rattle.playlist_text.specs.Names.{is_name}
 use Rattle.playlist_text.specs.Uris.{segment_uri}
-use Rattle.playlist_text.specs.MediaLines.{Entry, discontinuity_lines, key_line, vector_key_line, key_lines, entry_key_lines, duration_line, entry_lines}
+use Rattle.playlist_text.specs.MediaLines.{Entry, discontinuity_lines, key_line, vector_key_line, key_lines, entry_key_lines, duration_line, entry_lines, key_line_under}
 use Rattle.hls_check.specs.declared.reading.Stage.{Stage}
 use Rattle.hls_check.specs.declared.reading.Stage.TheVariants.{Between, Broken, Timed}
 use Rattle.hls_check.specs.MediaTexts.{IsListed, IsSalt}
-use Rattle.hls_check.specs.State.{Progress, next_number, number_left, expect, where_so, is_duration, name_in, salt_in, key_line_under, key_in, with_key, keyed_first, keyed_by, keyed, timed, keyed_or_timed, with_entry, listed, entered, begun, step, steps}
+use Rattle.hls_check.specs.State.{Progress, next_number, number_left, expect, where_so, is_duration, name_in, salt_in, key_in, with_key, keyed_first, keyed_by, keyed, timed, keyed_or_timed, with_entry, listed, entered, begun, step, steps}
 use Rattle.hls_check.proofs.Found.{found-none, not-true}
 use Rattle.hls_check.proofs.Stepping.{not-eq, key-listed}
 use Rattle.hls_check.proofs.OneNumber.{number-found, name-found, key-apart, duration-apart}

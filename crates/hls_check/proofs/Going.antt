@@ -2,11 +2,11 @@
 use Rattle.std.specs.Prelude.{◌≡◌, ◌≢◌, ℕ, ◌+◌, ◌-◌, ◌/◌, ◌<◌, ◌≤◌, ◌^◌, ◌⊎◌, Bool, true, false, List, [], ◌∷◌, ◌++◌, length, take, Option, Some, None, unwrap_or, option_map, is_some, codes}
 use Rattle.std.specs.Str.{IsUtf8}
 use Rattle.playlist_text.specs.Names.{is_name}
-use Rattle.playlist_text.specs.MediaLines.{Entry, head_lines, type_lines, discontinuity_lines, entry_key_lines, duration_line, entries_lines, end_lines}
+use Rattle.playlist_text.specs.MediaLines.{Entry, head_lines, type_lines, discontinuity_lines, entry_key_lines, duration_line, entries_lines, end_lines, key_line_under}
 use Rattle.hls_check.specs.declared.reading.Stage.{Stage}
 use Rattle.hls_check.specs.declared.reading.Stage.TheVariants.{Fresh, Tagged, Versioned, Targeted, Sequenced, Headed, Between, Broken, Keyed, Timed, Ended}
 use Rattle.hls_check.specs.MediaTexts.{AreListed, IsSalt}
-use Rattle.hls_check.specs.State.{Progress, next_number, key_line_under}
+use Rattle.hls_check.specs.State.{Progress, next_number}
 
 -- the key of the last of some entries, or the one before where there are none
 abbrev pub key_behind : Option ℕ → List Entry → Option ℕ

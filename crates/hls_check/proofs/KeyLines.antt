@@ -6,8 +6,8 @@ use Rattle.std.proofs.lemmas.Option.{IfSome_then}
 use Rattle.playlist_text.specs.Attributes.{quoted, hexadecimal, attribute_list}
 use Rattle.playlist_text.specs.Uris.{escaped, key_uri}
 use Rattle.playlist_text.specs.Vectors.{salted_vector}
-use Rattle.playlist_text.specs.MediaLines.{key_line, vector_key_line}
-use Rattle.hls_check.specs.State.{key_begin, key_end, key_line_under}
+use Rattle.playlist_text.specs.MediaLines.{key_line, vector_key_line, key_line_under}
+use Rattle.hls_check.specs.State.{key_begin, key_end}
 use Rattle.hls_check.proofs.Found.{IsRead}
 
 -- what stands before the number

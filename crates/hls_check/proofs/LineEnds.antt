@@ -11,9 +11,9 @@ use Rattle.playlist_text.specs.Vectors.{salted_vector}
 use Rattle.playlist_text.proofs.SaltedVectors.{salted-small}
 use Rattle.playlist_text.specs.Numbers.{digit, six_digits, seconds}
 use Rattle.playlist_text.specs.Uris.{escaped, segment_uri}
-use Rattle.playlist_text.specs.MediaLines.{Entry, Listing, head_lines, type_lines, discontinuity_lines, key_line, vector_key_line, key_lines, entry_key_lines, duration_line, entry_lines, entries_lines, end_lines, listing_lines}
+use Rattle.playlist_text.specs.MediaLines.{Entry, Listing, head_lines, type_lines, discontinuity_lines, key_line, vector_key_line, key_lines, entry_key_lines, duration_line, entry_lines, entries_lines, end_lines, listing_lines, key_line_under}
 use Rattle.hls_check.specs.MediaTexts.{IsListed, AreListed, IsListing, IsLine}
-use Rattle.hls_check.specs.State.{key_begin, key_end, key_line_under, target_line, sequence_line, discontinuity_sequence_line}
+use Rattle.hls_check.specs.State.{key_begin, key_end, target_line, sequence_line, discontinuity_sequence_line}
 use Rattle.hls_check.proofs.KeyLines.{key_front, key_line_under-parts}
 use Rattle.hls_check.proofs.Salts.{upper-without}
 use Rattle.hls_check.proofs.EscapedBytes.{escaped-in}

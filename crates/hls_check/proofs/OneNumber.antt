@@ -12,8 +12,8 @@ use Rattle.percent_encoding.specs.Percent.{percent_decode}
 use Rattle.playlist_text.specs.Names.{is_name}
 use Rattle.playlist_text.specs.Numbers.{six_digits, seconds}
 use Rattle.playlist_text.specs.Uris.{escaped}
-use Rattle.playlist_text.specs.MediaLines.{duration_line}
-use Rattle.hls_check.specs.State.{number_in, name_in, key_begin, key_end, key_line_under}
+use Rattle.playlist_text.specs.MediaLines.{duration_line, key_line_under}
+use Rattle.hls_check.specs.State.{number_in, name_in, key_begin, key_end}
 use Rattle.hls_check.proofs.Found.{found-only}
 use Rattle.hls_check.proofs.Spellings.{middle-same, seconds-split}
 use Rattle.hls_check.proofs.KeyLines.{key_front, key_line_under-parts}

@@ -7,11 +7,11 @@ use Rattle.std.proofs.lemmas.Bool.{lt-ltb, eq-eqb, and_from}
 use Rattle.std.proofs.lemmas.Option.{none-some}
 use Rattle.std.proofs.lemmas.Slice.Eq.{bytes_eq-Decides}
 use Rattle.std.proofs.lemmas.List.{length-append}
-use Rattle.playlist_text.specs.MediaLines.{Entry, Listing, head_lines, type_lines, discontinuity_lines, key_line, vector_key_line, entry_key_lines, duration_line, entry_lines, entries_lines, end_lines, listing_lines}
+use Rattle.playlist_text.specs.MediaLines.{Entry, Listing, head_lines, type_lines, discontinuity_lines, key_line, vector_key_line, entry_key_lines, duration_line, entry_lines, entries_lines, end_lines, listing_lines, key_line_under}
 use Rattle.playlist_text.specs.Uris.{segment_uri}
 use Rattle.hls_check.specs.declared.reading.Stage.TheVariants.{Tagged, Versioned, Targeted, Sequenced, Headed, Between, Ended}
 use Rattle.hls_check.specs.MediaTexts.{AreListed, IsListing, IsSalt}
-use Rattle.hls_check.specs.State.{Progress, fresh, next_number, where_so, target_line, sequence_line, discontinuity_sequence_line, step_at, begun, headed, keyed, timed, key_line_under, step, steps, listing_of, ended_by, listing_at}
+use Rattle.hls_check.specs.State.{Progress, fresh, next_number, where_so, target_line, sequence_line, discontinuity_sequence_line, step_at, begun, headed, keyed, timed, step, steps, listing_of, ended_by, listing_at}
 use Rattle.hls_check.proofs.Found.{not-true}
 use Rattle.hls_check.proofs.Stepping.{key-listed}
 use Rattle.hls_check.proofs.OneNumber.{number-found, tagged-apart}

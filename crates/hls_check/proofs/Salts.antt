@@ -1,5 +1,6 @@
 -- What the first line of a key tells of the salt.
 use Rattle.std.proofs.Common.{◌≡◌, ◌≢◌, ℕ, ◌-◌, ◌*◌, ◌/◌, ◌%◌, ◌<◌, ◌^◌, ◌&&◌, Bool, true, false, Option, Some, None, List, [], ◌∷◌, ◌++◌, length, take, drop, refl, sym, ap, ◌∙◌, subst, arith, append_assoc, length-append}
+use Rattle.playlist_text.specs.MediaLines.{key_line_under}
 use Rattle.std.specs.Prelude.{All, codes, nat_eq, option_map, if◌then◌else◌, slice_index}
 use Rattle.std.specs.Fmt.{decimal}
 use Rattle.std.specs.Int.{from_be_bytes, w128}
@@ -17,7 +18,7 @@ use Rattle.playlist_text.specs.Vectors.{salted_vector}
 use Rattle.playlist_text.proofs.SaltedVectors.{salted-length, salted-small, salted-again}
 use Rattle.playlist_text.proofs.SixteenBytes.{byte-small}
 use Rattle.hls_check.specs.MediaTexts.{IsSalt}
-use Rattle.hls_check.specs.State.{is_quoted, vector_in, salt_in, key_line_under}
+use Rattle.hls_check.specs.State.{is_quoted, vector_in, salt_in}
 use Rattle.hls_check.proofs.Found.{not-true}
 use Rattle.hls_check.proofs.KeyLines.{key_front, key_line_under-parts}
 

@@ -10,11 +10,11 @@ use Rattle.std.proofs.lemmas.Slice.Eq.{bytes_eq-Decides}
 use Rattle.std.proofs.lemmas.Str.{IsUtf8-from_is_utf8}
 use Rattle.playlist_text.specs.Names.{is_name}
 use Rattle.playlist_text.specs.Uris.{segment_uri}
-use Rattle.playlist_text.specs.MediaLines.{Entry, head_lines, type_lines, discontinuity_lines, key_line, key_lines, entry_key_lines, duration_line, entry_lines, entries_lines, end_lines}
+use Rattle.playlist_text.specs.MediaLines.{Entry, head_lines, type_lines, discontinuity_lines, key_line, key_lines, entry_key_lines, duration_line, entry_lines, entries_lines, end_lines, key_line_under}
 use Rattle.hls_check.specs.declared.reading.Stage.{Stage}
 use Rattle.hls_check.specs.declared.reading.Stage.TheVariants.{Fresh, Tagged, Versioned, Targeted, Sequenced, Headed, Between, Broken, Keyed, Timed, Ended}
 use Rattle.hls_check.specs.MediaTexts.{IsListed, AreListed, IsSalt}
-use Rattle.hls_check.specs.State.{Progress, next_number, number_in, number_left, entry_of, expect, where_so, is_duration, key_line_under, key_in, salt_in, with_key, keyed_first, keyed_by, keyed, timed, keyed_or_timed, with_entry, listed, entered, begun, headed, step_at, step, name_in, target_line, sequence_line, discontinuity_sequence_line}
+use Rattle.hls_check.specs.State.{Progress, next_number, number_in, number_left, entry_of, expect, where_so, is_duration, key_in, salt_in, with_key, keyed_first, keyed_by, keyed, timed, keyed_or_timed, with_entry, listed, entered, begun, headed, step_at, step, name_in, target_line, sequence_line, discontinuity_sequence_line}
 use Rattle.hls_check.proofs.Found.{found-some}
 use Rattle.hls_check.proofs.NamesIn.{told_name}
 use Rattle.hls_check.proofs.Salts.{salt-sound}

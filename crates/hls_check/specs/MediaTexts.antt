@@ -1,5 +1,5 @@
 -- Texts of media playlists, and texts that are none (RFC 8216, 4.3).
-use Rattle.std.specs.Prelude.{◌≡◌, ◌≢◌, ⊤, ℕ, ◌+◌, ◌-◌, ◌<◌, ◌≤◌, ◌^◌, ◌⊎◌, true, Option, Some, None, List, [], ◌∷◌, ◌++◌, length, take, All}
+use Rattle.std.specs.Prelude.{◌≡◌, ◌≢◌, ⊤, ℕ, ◌+◌, ◌<◌, ◌≤◌, ◌^◌, ◌⊎◌, true, Option, Some, None, List, [], ◌∷◌, ◌++◌, length, take, All}
 use Rattle.std.specs.Str.{IsUtf8}
 use Rattle.playlist_text.specs.Names.{is_name}
 use Rattle.playlist_text.specs.Numbers.{rounded_seconds}

@@ -14,7 +14,7 @@ use Rattle.playlist_text.specs.Numbers.{rounded_seconds}
 use Rattle.playlist_text.specs.Names.{is_name}
 use Rattle.playlist_text.specs.Attributes.{hexadecimal}
 use Rattle.playlist_text.specs.Uris.{segment_uri}
-use Rattle.playlist_text.specs.MediaLines.{Entry, Listing, key_line, vector_key_line, duration_line}
+use Rattle.playlist_text.specs.MediaLines.{Entry, Listing, duration_line, key_line_under}
 use Rattle.hls_check.specs.declared.reading.Stage.{Stage}
 use Rattle.hls_check.specs.declared.reading.Stage.TheVariants.{Fresh, Tagged, Versioned, Targeted, Sequenced, Headed, Between, Broken, Keyed, Timed, Ended}
 use Rattle.limits.specs.declared.TheConstants.{LAST_SEGMENT, MOST_KEYS, MOST_TARGET}
@@ -82,11 +82,6 @@ unfoldable pub name_in : List ℕ → Option (List ℕ)
 name_in line =
     let name = percent_decode (before_first (λ b. b == 46) (drop (length key_begin) line)) in
     if is_name name && is_utf8 name then Some name else None
-
--- the line of the key of the entry of a number: under a salt it has the vector too
-abbrev pub key_line_under : List ℕ → Option (List ℕ) → ℕ → ℕ → List ℕ
-key_line_under name None n key = key_line name key
-key_line_under name (Some salt) n key = vector_key_line name (Some salt) key n
 
 -- what stands behind the index in the line of a key
 abbrev pub key_end : Option (List ℕ) → ℕ → List ℕ

@@ -1,5 +1,5 @@
 -- What a rendition shows of the rows of its segments: two playlists, and their bit rates.
-use Rattle.std.specs.Prelude.{ℕ, Bool, Option, List, map, length, ◌≡◌, ◌<◌, ◌≤◌, ◌^◌, false, All, sum_by}
+use Rattle.std.specs.Prelude.{ℕ, Bool, Option, List, map, length, ◌≡◌, ◌<◌, ◌≤◌, ◌^◌, false, All}
 use Rattle.std.specs.List.{flat_map}
 use Rattle.playlist_text.specs.Lines.{text_of}
 use Rattle.media_playlist.specs.declared.row.FrameRow.{FrameRow}
@@ -46,10 +46,6 @@ segment_rates rows = map segment_rate rows
 -- their I-frames, measured
 abbrev pub frame_rates : List SegmentRow → List Row
 frame_rates rows = flat_map (λ row. map frame_rate row.frames) rows
-
--- how long some rows last together, in microseconds
-abbrev pub lasting : List SegmentRow → ℕ
-lasting rows = sum_by (λ row. row.micros) rows
 
 -- an I-frame that a meter takes
 pub record IsSmallFrame (frame : FrameRow) : Type 0 where

@@ -1,11 +1,12 @@
 -- What settings and playlists keep.
 use Rattle.std.specs.Prelude.{◌≡◌, ◌*◌, ◌≤◌, ◌^◌, false, length}
 use Rattle.std.specs.String.{string_bytes}
+use Rattle.media_playlist.specs.Listed.{duration}
 use Rattle.ladder_items.specs.declared.settings.Rendition.TheInside.{Inside as RenditionInside}
 use Rattle.ladder_items.specs.declared.settings.Settings.TheInside.{Inside as SettingsInside}
 use Rattle.ladder_items.specs.declared.playlists.Playlists.TheInside.{Inside}
 use Rattle.ladder_items.specs.Ladder.{RenditionValue, Ladder}
-use Rattle.ladder_items.specs.Shown.{Shown, segment_rates, frame_rates, lasting}
+use Rattle.ladder_items.specs.Shown.{Shown, segment_rates, frame_rates}
 use Rattle.limits.specs.declared.TheConstants.{MOST_PACKETS}
 
 abbrev pub rendition_value : RenditionInside → RenditionValue
@@ -29,6 +30,6 @@ shown p = record {
 pub record IsTied (p : Inside) : Type 0 where
   pub segments : p.ended ≡ false → p.segments ≡ record { target = p.window.target; rows = segment_rates p.window.rows }
   pub frames : p.ended ≡ false → p.frames ≡ record { target = p.window.target; rows = frame_rates p.window.rows }
-  pub micros : p.ended ≡ false → p.micros ≡ lasting p.window.rows
+  pub micros : p.ended ≡ false → p.micros ≡ duration p.window.rows
   pub few : p.ended ≡ false → length (frame_rates p.window.rows) ≤ MOST_PACKETS * length p.window.rows
-  pub small : p.ended ≡ false → lasting p.window.rows ≤ 2 ^ 32 * length p.window.rows
+  pub small : p.ended ≡ false → duration p.window.rows ≤ 2 ^ 32 * length p.window.rows

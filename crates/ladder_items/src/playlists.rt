@@ -1,9 +1,10 @@
 ghost use Rattle.std.specs.Prelude.{◌≡◌, ◌+◌, ◌*◌, ◌<◌, ◌≤◌, ◌^◌, [], ◌∷◌, ◌++◌, true, false, length, map, All, IfOk, IfErr, OnOk, OnErr};
 ghost use Rattle.std.specs.String.{string_bytes};
 ghost use Rattle.bandwidth.specs.Peaks.{peak_of, average_of};
+ghost use Rattle.media_playlist.specs.Listed.{duration};
 ghost use Rattle.ladder_items.specs.declared.fault.PackFault.TheVariants.{NoMemory};
 ghost use Rattle.ladder_items.specs.Ladder.{is_event, least_listed};
-ghost use Rattle.ladder_items.specs.Shown.{IsNextRow, IsSmallFrame, frame_rate, segment_rates, frame_rates, lasting};
+ghost use Rattle.ladder_items.specs.Shown.{IsNextRow, IsSmallFrame, frame_rate, segment_rates, frame_rates};
 ghost use Rattle.ladder_items.specs.Shown;
 ghost use Rattle.limits.specs.declared.TheConstants.{MOST_TARGET};
 
@@ -101,7 +102,7 @@ impl Playlists {
     /// How long the segments last together, in microseconds.
     pub fn micros(&self) -> u128
         requires { self.now.ended ≡ false }
-        ensures { result ≡ lasting self.now.rows }
+        ensures { result ≡ duration self.now.rows }
     {
         self.micros
     }

@@ -7,8 +7,8 @@ use Rattle.std.proofs.lemmas.Bool.{cases_Bool, eqb-true, and_left}
 use Rattle.std.proofs.lemmas.List.{append-nil}
 use Rattle.std.proofs.lemmas.List.Elements.{All-nil, All-cons, All-append}
 use Rattle.playlist_text.specs.Uris.{is_plain, upper_hex_digit, escaped, segment_uri}
-use Rattle.playlist_text.specs.MediaLines.{Entry, Listing, head_lines, type_lines, discontinuity_lines, key_line, key_lines, vector_key_line, entry_key_lines, duration_line, entry_lines, entries_lines, end_lines, listing_lines}
-use Rattle.ladder_laws.specs.Openings.{is_key_line, listed_key_line, AppliesLast}
+use Rattle.playlist_text.specs.MediaLines.{Entry, Listing, head_lines, type_lines, discontinuity_lines, key_line, key_line_under, key_lines, vector_key_line, entry_key_lines, duration_line, entry_lines, entries_lines, end_lines, listing_lines}
+use Rattle.ladder_laws.specs.Openings.{is_key_line, AppliesLast}
 
 abbrev NoKey : List ℕ → Type 0
 NoKey line = is_key_line line ≡ false
@@ -53,7 +53,7 @@ no-two name e lines none =
 record Fresh (name : List ℕ) (salt : Option (List ℕ)) (e : Entry) (lines : List (List ℕ)) : Type 0 where
   before : List (List ℕ)
   between : List (List ℕ)
-  lines_are : lines ≡ before ++ listed_key_line name salt e.key e.number ∷ (between ++ last_two name e)
+  lines_are : lines ≡ before ++ key_line_under name salt e.number e.key ∷ (between ++ last_two name e)
   none : All NoKey between
 
 -- the segment before these lines had the key, and they have no other

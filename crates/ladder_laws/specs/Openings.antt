@@ -9,7 +9,7 @@ use Rattle.playlist_text.specs.Vectors.{salted_vector}
 use Rattle.segment_job.specs.Rotation.{KeyRotation}
 use Rattle.segment_job.specs.Segments.{OpensTo}
 use Rattle.playlist_text.specs.Lines.{text_of}
-use Rattle.playlist_text.specs.MediaLines.{Entry, Listing, key_line, vector_key_line, duration_line, listing_lines}
+use Rattle.playlist_text.specs.MediaLines.{Entry, Listing, key_line_under, duration_line, listing_lines}
 use Rattle.item_io.specs.Items.{ItemValue, SegmentValue, PlaylistValue, MediaItem}
 use Rattle.ladder_items.specs.Ladder.{Ladder, rendition_at}
 use Rattle.ingest.specs.Streams.{plans_of}
@@ -24,18 +24,13 @@ pub record AreOfStreams (ladder : Ladder) (parts : List Part) (streams : ℕ →
 abbrev pub is_key_line : List ℕ → Bool
 is_key_line line = starts_with nat_eq line (codes "#EXT-X-KEY:")
 
--- the line of the key of a segment: with a salt it has the segment's vector (RFC 8216, 4.3.2.4)
-abbrev pub listed_key_line : List ℕ → Option (List ℕ) → ℕ → ℕ → List ℕ
-listed_key_line name None index number = key_line name index
-listed_key_line name (Some salt) index number = vector_key_line name (Some salt) index number
-
 -- The key of an index applies to the segment of a number, which these lines have last: the last line of a key among them
 -- is that key's, and with a salt it has the segment's vector (RFC 8216, 4.3.2.4).
 pub record AppliesLast (name : List ℕ) (salt : Option (List ℕ)) (index number : ℕ) (lines : List (List ℕ)) : Type 0 where
   pub before : List (List ℕ)
   pub between : List (List ℕ)
   pub micros : ℕ
-  pub lines_are : lines ≡ before ++ listed_key_line name salt index number ∷ (between ++ duration_line micros ∷ segment_uri name number ∷ [])
+  pub lines_are : lines ≡ before ++ key_line_under name salt number index ∷ (between ++ duration_line micros ∷ segment_uri name number ∷ [])
   pub none : All (λ line. is_key_line line ≡ false) between
 
 -- The media playlist is the text of a listing, of which the last entry is the segment's: it has the segment's number and

@@ -8,12 +8,10 @@ use Rattle.std.proofs.lemmas.Bool.{cases_eq}
 use Rattle.ghost_list.specs.Lists.{IsBeginning}
 use Rattle.cutter.specs.Plans.{SegmentPlan}
 use Rattle.cutter.specs.Ordered.{IsPlan}
-use Rattle.ingest.specs.declared.lane.Stop.{Stop}
 use Rattle.ingest.specs.declared.lane.Lane.{Lane}
 use Rattle.ingest.specs.Streams.{Taken, AreNext, closed_of}
 use Rattle.ingest.specs.Inputs.{InputView, IsRead}
 use Rattle.ingest.specs.Lanes.{made_of, is_good, IsFirst, IsTurned}
-use Rattle.std.specs.Prelude.{Option}
 use Rattle.ladder_items.specs.Ladder.{Ladder, IsAllowed}
 use Rattle.ladder_items.specs.Shown.{Shown}
 use Rattle.ladder_items.specs.Items.{Part, no_part, part_at, shown_all}

@@ -65,6 +65,11 @@ unfoldable pub vector_key_line : List ℕ → Option (List ℕ) → ℕ → ℕ 
 vector_key_line name salt index number =
     codes "#EXT-X-KEY:" ++ attribute_list (vector_key_attributes (key_uri name index) (salted_vector salt number))
 
+-- the line of the key that a segment is opened by: under a salt it has its vector too
+abbrev pub key_line_under : List ℕ → Option (List ℕ) → ℕ → ℕ → List ℕ
+key_line_under name None number index = key_line name index
+key_line_under name (Some salt) number index = vector_key_line name (Some salt) index number
+
 -- the key lines of a segment behind one with a key, or behind none: with a salt, one with the vector of its number
 unfoldable pub entry_key_lines : List ℕ → Option (List ℕ) → Option ℕ → ℕ → ℕ → List (List ℕ)
 entry_key_lines name None before index number = key_lines name before index

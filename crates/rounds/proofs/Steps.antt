@@ -11,8 +11,7 @@ use Rattle.ladder_items.specs.Items.{Part, part_at, count, shown_of, shown_all}
 use Rattle.ladder_items.specs.Weave.{Row, End, grown, after, closed_part}
 use Rattle.segment_job.specs.Segments.{sealed_segment}
 use Rattle.ladder_items.specs.Rows.{row_of}
-use Rattle.rounds.specs.Courses.{ends_of}
-use Rattle.rounds.specs.Showing.{counts_of}
+use Rattle.rounds.specs.Showing.{counts_of, ends_of}
 
 -- a segment more ends no rendition
 pub ends-row : (parts : List Part) (r : ℕ) (plan : SegmentPlan) → ends_of (after parts (Row r plan)) ≡ ends_of parts

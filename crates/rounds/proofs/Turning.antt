@@ -18,8 +18,8 @@ use Rattle.ladder_items.specs.World.{World, turns_of}
 use Rattle.ladder_items.proofs.Stages.{turns-most, turns-none}
 use Rattle.ladder_items.proofs.Worlds.{world-read, world-skip, world-round, world-unread}
 use Rattle.rounds.specs.declared.course.Course.{Course}
-use Rattle.rounds.specs.Showing.{counts_of, shown_by}
-use Rattle.rounds.specs.Courses.{ends_of, Start, IsOn, IsStopped}
+use Rattle.rounds.specs.Showing.{counts_of, shown_by, ends_of}
+use Rattle.rounds.specs.Courses.{Start, IsOn, IsStopped}
 
 module _ (X Y : Type 0) (input : InputView X) (out : OutletView Y) (ladder : Ladder) where
   -- nothing was given, so that all that is shown stands

@@ -1,5 +1,5 @@
 -- A run on its way on many threads.
-use Rattle.std.specs.Prelude.{◌≡◌, ◌≢◌, ◌⊎◌, ℕ, ◌+◌, ◌<◌, ◌≤◌, ◌^◌, Bool, List, [], ◌∷◌, ◌++◌, length, map, None, Some, slice_get, slice_index_or, false}
+use Rattle.std.specs.Prelude.{◌≡◌, ◌≢◌, ◌⊎◌, ℕ, ◌<◌, ◌≤◌, ◌^◌, List, [], ◌∷◌, ◌++◌, length, None, Some, slice_get, slice_index_or, false}
 use Rattle.cutter.specs.Plans.{SegmentPlan}
 use Rattle.item_io.specs.Items.{ItemValue}
 use Rattle.live_board.specs.Snapshots.{SnapshotFacts, Known}
@@ -13,17 +13,13 @@ use Rattle.ladder_items.specs.Ladder.{Ladder, IsAllowed}
 use Rattle.ladder_items.specs.Items.{Part, shown_all}
 use Rattle.ladder_items.specs.Weave.{Event, after, after_all, block, blocks, none_of}
 use Rattle.ladder_items.specs.Faults.{Sayings, Says}
-use Rattle.ladder_items.specs.Putting.{PutAll, PutSome}
+use Rattle.ladder_items.specs.Putting.{PutAll, PutSome, of_failures}
 use Rattle.ladder_items.specs.Runs.{OutletView, Run, run_of}
 use Rattle.ladder_items.specs.World.{World, HaveRoom, turns_of}
 use Rattle.ladder_items.specs.Packed.{IsCutShort}
 use Rattle.rounds.specs.declared.course.Course.{Course}
-use Rattle.rounds.specs.Showing.{snapshot_of, shown_by, counts_of}
+use Rattle.rounds.specs.Showing.{snapshot_of, shown_by, counts_of, ends_of}
 use Rattle.item_io.specs.declared.limits.TheConstants.{READS}
-
--- whether each rendition's end was given
-abbrev pub ends_of : List Part → List Bool
-ends_of parts = map (λ (part : Part). part.ended) parts
 
 -- a segment or an end was given behind these parts, and shown
 pub record Gave {X Y : Type 0} (out : OutletView Y) (ladder : Ladder) (parts : List Part) (e : Event) (old new : Course X Y) (list list_now : List SnapshotFacts) : Type 0 where
@@ -83,7 +79,7 @@ pub record IsCutShown {X Y : Type 0} (run : Run X Y) (ladder : Ladder) (old new 
 
 -- what a fault that stops a run at once says of the outlet's count of failures, where a segment may be held back too
 abbrev pub of_sudden : ℕ → ℕ → Sayings
-of_sudden old new = record { refused = ⊥; halted = λ r stop. ⊥; unput = new ≡ old + 1; wanting = new ≡ old; held = λ r n. new ≡ old }
+of_sudden old new = record (of_failures old new) { held = λ r n. new ≡ old }
 
 abbrev pub SaysSudden : PackFault → ℕ → ℕ → Type 0
 SaysSudden fault old new = Says (of_sudden old new) fault

@@ -22,9 +22,13 @@ facts_of renditions shown ended = record {
   master = master_of renditions shown;
 }
 
+-- whether each rendition's end was given
+abbrev pub ends_of : List Part → List Bool
+ends_of parts = map (λ (part : Part). part.ended) parts
+
 -- the snapshot of what was given
 abbrev pub snapshot_of : Ladder → List Part → SnapshotFacts
-snapshot_of ladder parts = facts_of ladder.renditions (shown_all ladder parts) (map (λ (part : Part). part.ended) parts)
+snapshot_of ladder parts = facts_of ladder.renditions (shown_all ladder parts) (ends_of parts)
 
 -- the snapshots of a run that gives these events: one behind each
 unfoldable pub shown_by : Ladder → List Part → List Event → List SnapshotFacts

@@ -24,11 +24,10 @@ none_shown n = record { counts = replicate n 0; ended = replicate n false; media
 abbrev pub FitsThreads : Ladder → ℕ → List ℕ → Type 0
 FitsThreads ladder workers counts = (LEAST ≤ workers) × (workers ≤ MOST_WORKERS) × (counts ≡ replicate (length ladder.renditions) 0)
 
--- The settings are allowed, there are as many inputs as renditions, 1 to 64 workers, and the publisher shows as many
--- renditions, of which none has a segment.
+-- besides, the settings are allowed, and there are as many inputs as renditions
 abbrev pub Fits : Ladder → ℕ → ℕ → List ℕ → Type 0
 Fits ladder inputs workers counts =
-    IsAllowed ladder × (inputs ≡ length ladder.renditions) × ((LEAST ≤ workers) × (workers ≤ MOST_WORKERS)) × (counts ≡ replicate (length ladder.renditions) 0)
+    IsAllowed ladder × (inputs ≡ length ladder.renditions) × FitsThreads ladder workers counts
 
 -- The run ended well. Behind each segment and each end one snapshot was shown, that of its moment, and no other. All that the
 -- workers claimed and the calling thread sealed was given, or thrown away.

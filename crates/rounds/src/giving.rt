@@ -7,8 +7,8 @@ ghost use Rattle.ladder_items.specs.Runs.{outlet_of};
 ghost use Rattle.ladder_items.specs.Weave.{End, Row};
 ghost use Rattle.ladder_items.specs.declared.fault.PackFault.TheVariants.{NoMemory};
 ghost use Rattle.live_board.specs.Counts.{NoneFalls, counts_shown};
-ghost use Rattle.rounds.specs.Courses.{Gave, GaveSome, ReadsNone, ends_of};
-ghost use Rattle.rounds.specs.Showing.{counts_of, facts_of};
+ghost use Rattle.rounds.specs.Courses.{Gave, GaveSome, ReadsNone};
+ghost use Rattle.rounds.specs.Showing.{counts_of, facts_of, ends_of};
 ghost use Rattle.segment_job.specs.Segments.{sealed_segment};
 
 use crate::course::Course;

@@ -1,3 +1,4 @@
+use Rattle.rounds.specs.Showing.{ends_of}
 use Rattle.std.proofs.Common.{◌≡◌, ◌∙◌, ◌<◌, ◌≤◌, List, [], Bool, true, false, refl, ap, sym, arith, length}
 use Rattle.std.specs.List.{slice_index_or}
 use Rattle.std.proofs.lemmas.List.{length-map, get_or_default, get_or-set_same, get_or-set_other}
@@ -8,7 +9,6 @@ use Rattle.ingest.specs.Lanes.{is_good}
 use Rattle.ladder_items.specs.Items.{Part}
 use Rattle.ladder_items.specs.Weave.{End}
 use Rattle.ladder_items.proofs.Worlds.{parts-of, parts-length}
-use Rattle.rounds.specs.Courses.{ends_of}
 use Rattle.rounds.proofs.Steps.{ends-end}
 use Rattle.rounds.proofs.Running.{stage-of, is-going, on-gave, on-ungiven}
 use Rattle.rounds.proofs.Closing.{beq-same, beq-apart, end-due, end-moved, end-begins}
