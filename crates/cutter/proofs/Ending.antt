@@ -5,7 +5,7 @@ use Rattle.psi_tables.specs.InForce.{InForce, tables_behind}
 use Rattle.psi_tables.specs.State.{Watched}
 use Rattle.cutter.specs.declared.settings.CutSettings.{CutSettings}
 use Rattle.cutter.specs.declared.fault.CutFault.{CutFault}
-use Rattle.cutter.specs.declared.fault.CutFault.TheVariants.{NoMemory, NoProgram, NoStart, LongSegment}
+use Rattle.cutter.specs.declared.fault.CutFault.TheVariants.{NoMemory, LongSegment}
 use Rattle.cutter.specs.declared.spool_cutter.SpoolCutter.TheInside.{Inside}
 use Rattle.cutter.specs.Spooled.{Spooling, joined, Closes}
 use Rattle.cutter.specs.Plans.{SegmentPlan}

@@ -14,7 +14,7 @@ use Rattle.cutter.specs.Plans.{SegmentPlan}
 use Rattle.cutter.specs.Stream.{packet_list, packets_of, pts_from, pts_list, pts_at, with_pts, in_force, look_by, is_lost, facts_from, Fact, fact_behind}
 use Rattle.cutter.specs.Points.{mark, counted, top_after}
 use Rattle.cutter.specs.Cuts.{cut_from, cuts, closed, made, Ends}
-use Rattle.cutter.specs.SegmentState.{Gathered, Opened, Out, taken, gives, held_in, Places, Refuses}
+use Rattle.cutter.specs.SegmentState.{Gathered, Opened, taken, gives, held_in, Places, Refuses}
 use Rattle.cutter.specs.Reels.{Filled, unfilled}
 use Rattle.cutter.specs.Ordered.{IsPacketLong}
 use Rattle.cutter.specs.State.{spooled, Keeps}

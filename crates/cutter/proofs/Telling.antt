@@ -1,6 +1,6 @@
 -- No packet and no end brings want of memory: that is told of a call, and never of a stream.
-use Rattle.std.proofs.Common.{◌∙◌, ◌⊎◌, inl, inr, ap}
-use Rattle.std.specs.Prelude.{◌≡◌, ◌*◌, ◌<◌, nat_le, nat_lt, ℕ, Bool, true, false, length, if◌then◌else◌, Option, Some, None}
+use Rattle.std.proofs.Common.{◌∙◌, inl, inr, ap}
+use Rattle.std.specs.Prelude.{◌≡◌, ◌*◌, nat_le, nat_lt, ℕ, Bool, true, false, length, if◌then◌else◌, Option, Some, None}
 use Rattle.ts_packet.specs.declared.lengths.TheConstants.{PACKET}
 use Rattle.limits.specs.declared.TheConstants.{LAST_SEGMENT}
 use Rattle.psi_tables.specs.InForce.{InForce}

@@ -6,7 +6,7 @@ use Rattle.psi_tables.specs.Head.{packet_count}
 use Rattle.pes_time.specs.declared.clock.Stamp.{Stamp}
 use Rattle.cutter.specs.declared.settings.CutSettings.{CutSettings}
 use Rattle.cutter.specs.declared.fault.CutFault.{CutFault}
-use Rattle.cutter.specs.declared.fault.CutFault.TheVariants.{NoProgram, NoStart, LongSegment, BigSegment, Limit, NoMemory, Ended}
+use Rattle.cutter.specs.declared.fault.CutFault.TheVariants.{NoProgram, NoStart, LongSegment, BigSegment, Limit}
 use Rattle.cutter.specs.Plans.{SegmentPlan}
 use Rattle.cutter.specs.Stream.{Fact, facts, in_force}
 use Rattle.cutter.specs.Points.{Mark, mark, counted, top_after}
