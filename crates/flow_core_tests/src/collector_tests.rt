@@ -1,7 +1,8 @@
-use crate::fixtures::{OTHER_STREAM, STREAM, expect_all, expect_at, keys_of, piece, plans_of};
+use crate::fixtures::{OTHER_STREAM, expect_all, expect_at, keys_of, piece, plans_of};
 use cutter::Plan;
 use flow_core::{CollectFault, Collected, Collector};
 use segment_job::Sealed;
+use standard_stream::STREAM;
 use std::alloc::{AllocError, Global};
 use std::test::Fail;
 

@@ -1,11 +1,12 @@
 ghost use Rattle.std.specs.Prelude.{◌≡◌};
 
-use crate::fixtures::{STREAM, key_of, keys_of, plans_of};
+use crate::fixtures::{key_of, keys_of, plans_of};
 use crate::model::{Letter, Model, Name, Seen, Told};
 use Letter::{Again, Close, Deliver, Feed, Hold, Mistake, Own, Publish, Refuse, Stop, Stray, Take};
 use cutter::{Plan, PlanRef};
 use flow_core::{Claim, CollectFault, FeedFault, Flow, Taken};
 use segment_job::{Keys, Sealed, seal_plan};
+use standard_stream::STREAM;
 use std::alloc::Global;
 use std::marker::Brand;
 use std::sync::ledger::{Blank, Ledger, Share};

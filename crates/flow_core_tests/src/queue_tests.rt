@@ -1,9 +1,10 @@
 ghost use Rattle.std.specs.Prelude.{◌≡◌};
 
-use crate::fixtures::{STREAM, key_of, plan_at, plans_of};
+use crate::fixtures::{key_of, plan_at, plans_of};
 use cutter::{Plan, PlanRef};
 use flow_core::{Claim, FeedFault, Outcome, Piece, Queue};
 use segment_job::seal_plan;
+use standard_stream::STREAM;
 use std::alloc::Global;
 use std::marker::Brand;
 use std::sync::ledger::{Blank, Ledger, Share};

@@ -6,56 +6,29 @@ use hls_check::{
 };
 use playlist_text::salted_vector;
 use segment_job::vector;
+use standard_stream::{FRAME, KEY_FRAME, LAST_FRAME, PAT, PMT, SECOND_KEY_FRAME, append_packets};
 use std::alloc::{AllocError, Global};
 use std::test::Fail;
 
-/// Program 1 with its PMT on PID 0x1000, in a packet.
-const PAT: &[u8] =
-    b"\x47\x40\x00\x10\x00\x00\xb0\x0d\x00\x01\xc1\x00\x00\x00\x01\xf0\x00\x2a\xb1\x04\xb2";
-
-/// The same with continuity_counter 1.
+/// The PAT with continuity_counter 1.
 const NEXT_PAT: &[u8] =
     b"\x47\x40\x00\x11\x00\x00\xb0\x0d\x00\x01\xc1\x00\x00\x00\x01\xf0\x00\x2a\xb1\x04\xb2";
 
-/// Program 1, H.264 on PID 0x100 with the PCR, in a packet.
-const PMT: &[u8] =
-    b"\x47\x50\x00\x10\x00\x02\xb0\x12\x00\x01\xc1\x00\x00\xe1\x00\xf0\x00\x1b\xe1\x00\xf0\x00\x15\xbd\x4d\x56";
-
-/// The same with continuity_counter 1.
+/// The PMT with continuity_counter 1.
 const NEXT_PMT: &[u8] =
     b"\x47\x50\x00\x11\x00\x02\xb0\x12\x00\x01\xc1\x00\x00\xe1\x00\xf0\x00\x1b\xe1\x00\xf0\x00\x15\xbd\x4d\x56";
 
-/// The same with a byte of its CRC changed.
+/// The PMT with a byte of its CRC changed.
 const BAD_PMT: &[u8] =
     b"\x47\x50\x00\x10\x00\x02\xb0\x12\x00\x01\xc1\x00\x00\xe1\x00\xf0\x00\x1b\xe1\x00\xf0\x00\x15\xbd\x4d\x57";
 
 /// A key frame at 0 ticks, and another frame.
-const FIRST: [&[u8]; 2] = [
-    b"\x47\x41\x00\x30\x01\x40\x00\x00\x01\xe0\x00\x00\x80\x80\x05\x21\x00\x01\x00\x01",
-    b"\x47\x41\x00\x11\x00\x00\x01\xe0\x00\x00\x80\x80\x05\x21\x00\x11\x3d\x61",
-];
+const FIRST: [&[u8]; 2] = [KEY_FRAME, FRAME];
 
 /// A key frame at 540,000 ticks, and another frame.
-const SECOND: [&[u8]; 2] = [
-    b"\x47\x41\x00\x32\x01\x40\x00\x00\x01\xe0\x00\x00\x80\x80\x05\x21\x00\x21\x7a\xc1",
-    b"\x47\x41\x00\x13\x00\x00\x01\xe0\x00\x00\x80\x80\x05\x21\x00\x31\xb8\x21",
-];
+const SECOND: [&[u8]; 2] = [SECOND_KEY_FRAME, LAST_FRAME];
 
 const KEYS: [[u8; 16]; 2] = [[7; 16], [9; 16]];
-
-/// Appends packets that begin with these bytes and end in bytes FF.
-fn append(out: &mut Vec<u8>, begins: &[&[u8]]) -> Result<(), AllocError> {
-    for begin in begins {
-        let mut packet = [0xFF; 188];
-        for (at, byte) in begin.iter().enumerate() {
-            if let Some(there) = packet.get_mut(at) {
-                *there = *byte;
-            }
-        }
-        out.extend_from_slice(&packet)?;
-    }
-    Ok(())
-}
 
 /// The segment of a number, of such packets, sealed.
 fn segment(
@@ -77,8 +50,8 @@ fn segment_under(
     body: [&[u8]; 2],
 ) -> Result<Vec<u8>, AllocError> {
     let mut text = Vec::new(alloc);
-    append(&mut text, &head)?;
-    append(&mut text, &body)?;
+    append_packets(&mut text, &head)?;
+    append_packets(&mut text, &body)?;
     seal(alloc, &Key::new(*key), vector, &text)
 }
 
@@ -131,8 +104,8 @@ fn the_standard_stream(rt: HostRuntime) -> Result<(), Fail> {
     let segments = two_segments(alloc, &KEYS[0])?;
     let bytes = unpack(alloc, &listing(alloc, 0)?, &segments, &KEYS)?;
     let mut wanted = Vec::new(alloc);
-    append(&mut wanted, &FIRST)?;
-    append(&mut wanted, &SECOND)?;
+    append_packets(&mut wanted, &FIRST)?;
+    append_packets(&mut wanted, &SECOND)?;
     assert_eq!(rt; bytes.len(), 752);
     assert!(rt; bytes == wanted);
     Ok(())
@@ -150,8 +123,8 @@ fn the_salted_stream(rt: HostRuntime) -> Result<(), Fail> {
     salted.salt = Some(SALT);
     let bytes = unpack(alloc, &salted, &segments, &KEYS)?;
     let mut wanted = Vec::new(alloc);
-    append(&mut wanted, &FIRST)?;
-    append(&mut wanted, &SECOND)?;
+    append_packets(&mut wanted, &FIRST)?;
+    append_packets(&mut wanted, &SECOND)?;
     assert!(rt; bytes == wanted);
     let whole = Checked {
         segments: 2,

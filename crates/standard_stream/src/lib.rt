@@ -1,9 +1,10 @@
-//! The standard stream, for programs that are run to be measured, or where memory is refused: two segments of six seconds.
+//! The standard stream: two segments of six seconds. It is for tests, and for programs that are measured or that run where
+//! memory is refused.
 #![tactic(auto)]
 
 use cutter::{CutSettings, Plan, cut_stream};
 use segment_job::{Keys, Sealed, seal_plan};
-use std::alloc::Global;
+use std::alloc::{AllocError, Global};
 
 /// Program 1 with its PMT on PID 0x1000.
 pub const PAT: &[u8] =
@@ -13,15 +14,24 @@ pub const PAT: &[u8] =
 pub const PMT: &[u8] =
     b"\x47\x50\x00\x10\x00\x02\xb0\x12\x00\x01\xc1\x00\x00\xe1\x00\xf0\x00\x1b\xe1\x00\xf0\x00\x15\xbd\x4d\x56";
 
-/// What its packets begin with: the tables, and key frames at 0 and 540,000 ticks with another frame behind each.
-const STREAM: [&[u8]; 6] = [
-    PAT,
-    PMT,
-    b"\x47\x41\x00\x30\x01\x40\x00\x00\x01\xe0\x00\x00\x80\x80\x05\x21\x00\x01\x00\x01",
-    b"\x47\x41\x00\x11\x00\x00\x01\xe0\x00\x00\x80\x80\x05\x21\x00\x11\x3d\x61",
-    b"\x47\x41\x00\x32\x01\x40\x00\x00\x01\xe0\x00\x00\x80\x80\x05\x21\x00\x21\x7a\xc1",
-    b"\x47\x41\x00\x13\x00\x00\x01\xe0\x00\x00\x80\x80\x05\x21\x00\x31\xb8\x21",
-];
+/// A key frame at 0 ticks.
+pub const KEY_FRAME: &[u8] =
+    b"\x47\x41\x00\x30\x01\x40\x00\x00\x01\xe0\x00\x00\x80\x80\x05\x21\x00\x01\x00\x01";
+
+/// Another frame, at 270,000 ticks.
+pub const FRAME: &[u8] =
+    b"\x47\x41\x00\x11\x00\x00\x01\xe0\x00\x00\x80\x80\x05\x21\x00\x11\x3d\x61";
+
+/// A key frame at 540,000 ticks.
+pub const SECOND_KEY_FRAME: &[u8] =
+    b"\x47\x41\x00\x32\x01\x40\x00\x00\x01\xe0\x00\x00\x80\x80\x05\x21\x00\x21\x7a\xc1";
+
+/// Another frame, at 810,000 ticks.
+pub const LAST_FRAME: &[u8] =
+    b"\x47\x41\x00\x13\x00\x00\x01\xe0\x00\x00\x80\x80\x05\x21\x00\x31\xb8\x21";
+
+/// What its packets begin with.
+pub const STREAM: [&[u8]; 6] = [PAT, PMT, KEY_FRAME, FRAME, SECOND_KEY_FRAME, LAST_FRAME];
 
 /// Segments of six seconds.
 pub const SETTINGS: CutSettings = CutSettings {
@@ -42,6 +52,14 @@ pub fn filled(begin: &[u8], behind: &[u8]) -> [u8; 188] {
     packet
 }
 
+/// Appends packets that begin with these bytes and end in bytes FF.
+pub fn append_packets(out: &mut Vec<u8>, begins: &[&[u8]]) -> Result<(), AllocError> {
+    for begin in begins {
+        out.extend_from_slice(&filled(begin, &[]))?;
+    }
+    Ok(())
+}
+
 /// Its six packets; none where memory is refused.
 pub fn packets(alloc: Global) -> Option<Vec<[u8; 188]>> {
     let mut packets = Vec::new(alloc);
@@ -59,8 +77,8 @@ pub fn plans(alloc: Global) -> Option<Vec<Plan>> {
     Some(plans)
 }
 
-/// One key for all segments.
-fn key(alloc: Global) -> Option<Keys> {
+/// One key for all segments; none where memory is refused.
+pub fn key(alloc: Global) -> Option<Keys> {
     let mut bytes = Vec::new(alloc);
     bytes.push([7; 16]).ok()?;
     Keys::new(bytes, 1).ok()

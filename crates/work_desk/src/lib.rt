@@ -8,13 +8,9 @@
 #![tactic(auto)]
 
 mod desk;
-#[cfg(test)]
-mod fixtures;
 mod gate;
 mod pass;
 mod steps;
-#[cfg(test)]
-mod tests;
 mod worker;
 
 pub use desk::{Desk, Opened};

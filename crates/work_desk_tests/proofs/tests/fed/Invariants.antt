@@ -1,4 +1,4 @@
-use Rattle.work_desk.proofs.tests.fed.Given as goal
+use Rattle.work_desk_tests.proofs.tests.fed.Given as goal
 
 abbrev pub ghosts-fed_with-L-Ledger : goal.ghosts-fed_with-L-Ledger
 ghosts-fed_with-L-Ledger g a = record { name = a.claims.name; parts = a.claims.parts }

@@ -2,65 +2,16 @@
 
 ghost use Rattle.std.specs.Prelude.{◌≡◌, ◌+◌, vec_len};
 
-use crate::{Desk, FeedFault, Gate, Opened, Outcome, Pass, Piece, Tally, work};
-use cutter::{CutSettings, Plan, PlanRef, cut_stream};
+use cutter::{Plan, PlanRef};
 use segment_job::Keys;
+use standard_stream::{keys, plans};
 use std::alloc::{AllocError, Global};
 use std::marker::Brand;
 use std::sync::Wait;
 use std::sync::ledger::{Blank, Ledger, Share};
 use std::test::Fail;
 use std::thread::{self, JoinHandle, Threads};
-
-/// The standard stream: its tables, and key frames at 0 and 540,000 ticks with another frame behind each.
-const STREAM: [&[u8]; 6] = [
-    b"\x47\x40\x00\x10\x00\x00\xb0\x0d\x00\x01\xc1\x00\x00\x00\x01\xf0\x00\x2a\xb1\x04\xb2",
-    b"\x47\x50\x00\x10\x00\x02\xb0\x12\x00\x01\xc1\x00\x00\xe1\x00\xf0\x00\x1b\xe1\x00\xf0\x00\x15\xbd\x4d\x56",
-    b"\x47\x41\x00\x30\x01\x40\x00\x00\x01\xe0\x00\x00\x80\x80\x05\x21\x00\x01\x00\x01",
-    b"\x47\x41\x00\x11\x00\x00\x01\xe0\x00\x00\x80\x80\x05\x21\x00\x11\x3d\x61",
-    b"\x47\x41\x00\x32\x01\x40\x00\x00\x01\xe0\x00\x00\x80\x80\x05\x21\x00\x21\x7a\xc1",
-    b"\x47\x41\x00\x13\x00\x00\x01\xe0\x00\x00\x80\x80\x05\x21\x00\x31\xb8\x21",
-];
-
-/// Segments of six seconds.
-const SETTINGS: CutSettings = CutSettings {
-    program: None,
-    segment: 540_000,
-    target: 6,
-    gap: 900_000,
-    frame: 3600,
-    most: 1_000_000,
-};
-
-/// A packet that begins with these bytes and ends in bytes FF.
-fn filled(begin: &[u8]) -> [u8; 188] {
-    let mut packet = [0xFF; 188];
-    for (there, byte) in packet.iter_mut().zip(begin) {
-        *there = *byte;
-    }
-    packet
-}
-
-/// The two plans of the standard stream.
-pub(crate) fn plans(alloc: Global) -> Result<Vec<Plan>, Fail> {
-    let mut packets = Vec::new(alloc);
-    for begin in STREAM {
-        packets.push(filled(begin))?;
-    }
-    let mut plans = Vec::new(alloc);
-    cut_stream(alloc, 0, SETTINGS, &packets, &mut plans)?;
-    Ok(plans)
-}
-
-/// The keys of one rendition.
-pub(crate) fn keys(alloc: Global) -> Result<Vec<Keys>, Fail> {
-    let mut bytes = Vec::new(alloc);
-    bytes.push([7; 16])?;
-    let mut all = Vec::new(alloc);
-    all.reserve(1)?;
-    all.push_reserved(Keys::new(bytes, 1)?);
-    Ok(all)
-}
+use work_desk::{Desk, FeedFault, Gate, Opened, Outcome, Pass, Piece, Tally, work};
 
 /// What is run: so many plans by so many workers, over a desk on which so many may be outstanding.
 #[derive(Drop)]
@@ -335,8 +286,8 @@ pub(crate) fn run<G: Gate + Sync, R: Threads + Wait + Sync>(
     times: u64,
     wanted: Told,
 ) -> Result<Told, Fail> {
-    let plans = plans(alloc)?;
-    let keys = keys(alloc)?;
+    let plans = plans(alloc).ok_or("no plans")?;
+    let keys = keys(alloc).ok_or("no keys")?;
     for _ in 0..times {
         let told = run_with::<Brand, Brand, G, R>(
             rt,

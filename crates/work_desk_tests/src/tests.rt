@@ -1,13 +1,14 @@
 ghost use Rattle.std.specs.Prelude.{◌≡◌};
 
-use crate::fixtures::{Job, Told, plans, run};
-use crate::{Desk, FeedFault, FreeGate, Gate, Opened};
+use crate::fixtures::{Job, Told, run};
 use cutter::PlanRef;
+use standard_stream::plans;
 use std::alloc::Global;
 use std::marker::Brand;
 use std::sync::Wait;
 use std::sync::ledger::{Blank, Ledger};
 use std::test::Fail;
+use work_desk::{Desk, FeedFault, FreeGate, Gate, Opened};
 
 /// How often each run is made, so that threads meet in many orders.
 const TIMES: u64 = 200;
@@ -193,7 +194,7 @@ fn fed<R: Wait>(
     alloc: Global,
     queue: usize,
 ) -> Result<(Vec<(&'static str, u64)>, bool, bool), Fail> {
-    let plans = plans(alloc)?;
+    let plans = plans(alloc).ok_or("no plans")?;
     let Some(first) = plans.first() else {
         return Err(Fail::from("no plan"));
     };
