@@ -2,28 +2,19 @@
 
 ghost use Rattle.std.specs.Prelude.{◌≡◌, All, IfOk};
 
-use crate::fixtures::{filled, settings};
+use crate::fixtures::settings;
 use item_io::{FailingOutlet, FailingReader, READS};
 use ladder_items::{PackFault, Report, Settings};
 use live_board::{Publisher, Snapshot, Viewer, board};
 use rounds::{Ran, pack_in_batches, pack_parallel};
+use standard_stream::{KEY_FRAME, PAT, PMT, append_packets};
 use std::alloc::{AllocError, Global};
 use std::sync::Wait;
 use std::test::Fail;
 use std::thread::Threads;
 use work_desk::Gate;
 
-const PAT: &[u8] =
-    b"\x47\x40\x00\x10\x00\x00\xb0\x0d\x00\x01\xc1\x00\x00\x00\x01\xf0\x00\x2a\xb1\x04\xb2";
-
-const PMT: &[u8] =
-    b"\x47\x50\x00\x10\x00\x02\xb0\x12\x00\x01\xc1\x00\x00\xe1\x00\xf0\x00\x1b\xe1\x00\xf0\x00\x15\xbd\x4d\x56";
-
-/// A key frame at 0 ticks.
-const KEY_FRAME: &[u8] =
-    b"\x47\x41\x00\x30\x01\x40\x00\x00\x01\xe0\x00\x00\x80\x80\x05\x21\x00\x01\x00\x01";
-
-/// A key frame at 540,000 ticks.
+/// A key frame at 540,000 ticks, with continuity_counter 1.
 const SECOND_KEY_FRAME: &[u8] =
     b"\x47\x41\x00\x31\x01\x40\x00\x00\x01\xe0\x00\x00\x80\x80\x05\x21\x00\x21\x7a\xc1";
 
@@ -129,9 +120,7 @@ fn sources(alloc: Global, job: &Job) -> Result<Vec<FailingReader>, AllocError>
     ensures { IfOk result (λ sources. All (λ source. (source.reads ≡ 0) × (source.failures ≡ 0)) sources.items) }
 {
     let mut bytes = Vec::new(alloc);
-    for begin in job.stream {
-        bytes.extend_from_slice(&filled(begin))?;
-    }
+    append_packets(&mut bytes, job.stream)?;
     let mut sources = Vec::new(alloc);
     sources.push(FailingReader::new(bytes, job.piece.max(1), job.failing_read))?;
     Ok(sources)
