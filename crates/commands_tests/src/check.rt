@@ -1,4 +1,4 @@
-use crate::fixtures::{FullWriter, settings, standard_stream};
+use crate::fixtures::{FullWriter, settings, stream_bytes};
 use commands::{CheckingFault, FileFault, FileReader, check};
 use hls_check::{CheckFault, ListFault, UnpackFault};
 use item_io::{Item, MemoryOutlet, ReaderSource};
@@ -75,7 +75,7 @@ impl MemoryFiles {
 /// The files of the standard stream, in the folder `hls`.
 fn packed(alloc: Global) -> Result<MemoryFiles, Fail> {
     let settings = settings(alloc, "1x1")?;
-    let stream = standard_stream(alloc)?;
+    let stream = stream_bytes(alloc)?;
     let mut sources = Vec::new(alloc);
     sources.push(ReaderSource::new(stream.as_slice()))?;
     let mut outlet = MemoryOutlet::new(alloc);

@@ -1,4 +1,4 @@
-use crate::fixtures::{BrokenReader, settings, standard_stream};
+use crate::fixtures::{BrokenReader, settings, stream_bytes};
 use commands::one;
 use pipeline::PackFault;
 use std::test::Fail;
@@ -7,7 +7,7 @@ use std::test::Fail;
 fn ten_items(rt: HostRuntime) -> Result<(), Fail> {
     let alloc = rt.alloc();
     let settings = settings(alloc, "640x360")?;
-    let stream = standard_stream(alloc)?;
+    let stream = stream_bytes(alloc)?;
     let packed = one(alloc, &settings, stream.as_slice(), Vec::new(alloc));
     assert!(rt; packed.answer.is_ok());
     assert!(rt; packed.source.into_reader().is_empty());
@@ -55,7 +55,7 @@ fn no_program(rt: HostRuntime) -> Result<(), Fail> {
 fn a_read_that_fails_in_mid_stream(rt: HostRuntime) -> Result<(), Fail> {
     let alloc = rt.alloc();
     let settings = settings(alloc, "640x360")?;
-    let stream = standard_stream(alloc)?;
+    let stream = stream_bytes(alloc)?;
     let whole = one(alloc, &settings, stream.as_slice(), Vec::new(alloc));
     assert!(rt; whole.answer.is_ok());
     let whole = String::from_utf8(whole.outlet.into_writer()).map_err(|_| "not UTF-8")?;

@@ -1,4 +1,4 @@
-use crate::fixtures::{FullWriter, settings, standard_stream};
+use crate::fixtures::{FullWriter, settings, stream_bytes};
 use commands::{LadderPackingFault, PackedLadder, Pool, pack};
 use item_io::{FailingOutlet, FailingReader};
 use ladder_items::{PackFault, Report};
@@ -58,7 +58,7 @@ fn packed<W: Write, R: Threads + Wait + Sync>(
 fn a_line_of_the_standard_stream(rt: HostRuntime) -> Result<(), Fail> {
     let alloc = rt.alloc();
     let mut output = Vec::new(alloc);
-    let told = packed(&rt, alloc, standard_stream(alloc)?, &mut output)?;
+    let told = packed(&rt, alloc, stream_bytes(alloc)?, &mut output)?;
     assert!(rt; told.answer.is_ok());
     assert_eq!(rt; told.items, 10);
     assert!(rt; output.as_slice() == b"v 2 9.040000 2022 1360\n".as_slice());
@@ -83,7 +83,7 @@ fn a_line_that_cannot_be_written(rt: HostRuntime) -> Result<(), Fail> {
         taken: Vec::new(alloc),
         room: 5,
     };
-    let told = packed(&rt, alloc, standard_stream(alloc)?, &mut output)?;
+    let told = packed(&rt, alloc, stream_bytes(alloc)?, &mut output)?;
     assert!(rt; matches!(told.answer, Err(LadderPackingFault::Unwritten)));
     assert_eq!(rt; told.items, 10);
     Ok(())
