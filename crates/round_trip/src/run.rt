@@ -6,6 +6,7 @@ use cutter::CutSettings;
 use item_io::{FailingOutlet, FailingReader, Item, READS};
 use pipeline::{Kind, PackFault, Rendition, Report, Settings, pack_serial_reads};
 use segment_job::Keys;
+use standard_stream::SETTINGS;
 use std::alloc::{AllocError, Global};
 use std::sync::Wait;
 use std::test::Fail;
@@ -13,14 +14,7 @@ use std::thread::Threads;
 use work_desk::FreeGate;
 
 /// Segments of six seconds.
-pub const CUT: CutSettings = CutSettings {
-    program: None,
-    segment: 540_000,
-    target: 6,
-    gap: 900_000,
-    frame: 3600,
-    most: 1_000_000,
-};
+pub const CUT: CutSettings = SETTINGS;
 
 /// What a run answered, and the items that its outlet holds.
 #[derive(Drop)]

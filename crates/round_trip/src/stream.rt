@@ -1,12 +1,5 @@
+use standard_stream::{PAT, PMT, filled};
 use std::alloc::{AllocError, Global};
-
-/// Program 1 with its PMT on PID 0x1000, in a packet.
-const PAT: &[u8] =
-    b"\x47\x40\x00\x10\x00\x00\xb0\x0d\x00\x01\xc1\x00\x00\x00\x01\xf0\x00\x2a\xb1\x04\xb2";
-
-/// Program 1, H.264 on PID 0x100 with the PCR, in a packet.
-const PMT: &[u8] =
-    b"\x47\x50\x00\x10\x00\x02\xb0\x12\x00\x01\xc1\x00\x00\xe1\x00\xf0\x00\x1b\xe1\x00\xf0\x00\x15\xbd\x4d\x56";
 
 /// A section on the PMT's PID whose length, 1,022, is more than a section may have.
 const LONG_SECTION: &[u8] = b"\x47\x50\x00\x1f\x00\x02\xb3\xfe";
@@ -79,14 +72,9 @@ fn stamp(ticks: u64) -> [u8; 5] {
     ]
 }
 
-/// Appends a packet that begins with these bytes and ends in bytes FF.
+/// Appends a packet that begins with these bytes, and others behind them, and ends in bytes FF.
 fn push_packet(stream: &mut Vec<u8>, begin: &[u8], behind: &[u8]) -> Result<(), AllocError> {
-    stream.extend_from_slice(begin)?;
-    stream.extend_from_slice(behind)?;
-    for _ in begin.len() + behind.len()..188 {
-        stream.push(0xFF)?;
-    }
-    Ok(())
+    stream.extend_from_slice(&filled(begin, behind))
 }
 
 /// Two segments, of 6 s and of 3.04 s.
