@@ -55,56 +55,125 @@ fn seen(viewer: Viewer) -> (Viewer, Option<u64>)
     }
 }
 
+/// The first count that a viewer who was told sees, and what it sees when the publisher has ended.
+fn seen_to_end<R: Wait>(held: HeldPublisher<'_, R>, viewer: Viewer) -> (Option<u64>, Option<u64>)
+    requires { viewer.board ≡ held.publisher.board }
+{
+    let mut told = viewer;
+    held.publisher.tell(&mut told);
+    let (told, before) = seen(told);
+    let rt = held.rt;
+    held.release().end(rt);
+    (before, seen(told).1)
+}
+
 #[test]
 fn a_told_viewer_sees_the_last_until_the_end(rt: HostRuntime) -> Result<(), Fail> {
     let alloc = rt.alloc();
     let (publisher, mut viewers) = board(&rt, alloc, counted(alloc, &[0])?, 1)?;
-    let mut viewer = viewers.pop();
+    let viewer = viewers.pop();
     let mut held = HeldPublisher { publisher, rt: &rt };
-    publish(&rt, alloc, &mut held.publisher, &[1])?;
-    publish(&rt, alloc, &mut held.publisher, &[2])?;
-    assert_eq!(rt; held.publisher.counts(), [2].as_slice());
-    let mut counts = (None, None);
-    if let Some(mut told) = viewer.take() {
-        held.publisher.tell(&mut told);
-        let (told, before) = seen(told);
-        held.release().end(&rt);
-        let (_gone, after) = seen(told);
-        counts = (before, after);
-    } else {
-        held.release().end(&rt);
+    let first = publish(&rt, alloc, &mut held.publisher, &[1]);
+    let second = publish(&rt, alloc, &mut held.publisher, &[2]);
+    let is_last = held.publisher.counts() == [2].as_slice();
+    assert_eq!(rt; (first, second, is_last), (Ok(()), Ok(()), true));
+    let mut shown = (None, None);
+    if let Some(viewer) = viewer {
+        shown = seen_to_end(held, viewer);
     }
-    assert_eq!(rt; counts, (Some(2), None));
+    assert_eq!(rt; shown, (Some(2), None));
     Ok(())
+}
+
+/// The counts and the ends of a snapshot, its first media and its last I-frame playlist, and its master.
+fn told(alloc: Global, shown: &Snapshot) -> Result<String, AllocError> {
+    let media = shown.media.first().map(|text| text.as_str());
+    let frames = shown.frames.last().map(|text| text.as_str());
+    format!(in alloc;
+        "{:?} {:?} {media:?} {frames:?} {}",
+        shown.counts.as_slice(),
+        shown.ended.as_slice(),
+        shown.master
+    )
+}
+
+/// That of what a viewer sees.
+fn told_by(alloc: Global, viewer: Viewer) -> Result<String, AllocError> {
+    match viewer.view() {
+        Ok(view) => {
+            let text = told(alloc, view.snapshot());
+            drop(view.close());
+            text
+        }
+        Err(_gone) => String::from_str(alloc, "no view"),
+    }
 }
 
 #[test]
 fn a_view_shows_the_texts_of_its_snapshot(rt: HostRuntime) -> Result<(), Fail> {
     let alloc = rt.alloc();
     let (publisher, mut viewers) = board(&rt, alloc, counted(alloc, &[0, 0])?, 64)?;
-    assert_eq!(rt; viewers.len(), 64);
+    let count = viewers.len();
     let mut held = HeldPublisher { publisher, rt: &rt };
-    publish(&rt, alloc, &mut held.publisher, &[100, 7])?;
-    let Some(viewer) = viewers.pop() else {
-        return Err(Fail::from("no viewer"));
-    };
-    let Ok(view) = viewer.view() else {
-        return Err(Fail::from("no view"));
-    };
-    let shown = view.snapshot();
-    assert_eq!(rt; shown.counts.as_slice(), [100, 7].as_slice());
-    assert_eq!(rt; shown.ended.as_slice(), [true, false].as_slice());
+    let answer = publish(&rt, alloc, &mut held.publisher, &[100, 7]);
+    assert_eq!(rt; (count, answer), (64, Ok(())));
+    let mut text = Ok(String::new(alloc));
+    if let Some(viewer) = viewers.pop() {
+        text = told_by(alloc, viewer);
+    }
     assert_eq!(rt;
-        shown.media.first().map(|text| text.as_str()),
-        Some("media 100")
+        text?.as_str(),
+        "[100, 7] [true, false] Some(\"media 100\") Some(\"frames 7\") master 2"
     );
-    assert_eq!(rt;
-        shown.frames.last().map(|text| text.as_str()),
-        Some("frames 7")
-    );
-    assert_eq!(rt; shown.master.as_str(), "master 2");
-    drop(view.close());
     Ok(())
+}
+
+/// A rendition would fall behind its two segments that are shown.
+const OWN: BoardFault = BoardFault::Backwards {
+    rendition: 0,
+    shown: 2,
+};
+
+/// A rendition of which nothing is shown would get none.
+const OTHER: BoardFault = BoardFault::Backwards {
+    rendition: 1,
+    shown: 0,
+};
+
+/// Publishes snapshots that fall behind two segments of one rendition: one of less, the same again, one of another rendition
+/// besides, and one of none.
+fn publish_falls<R: Wait>(
+    rt: &R,
+    alloc: Global,
+    publisher: &mut Publisher,
+) -> [Result<(), BoardFault>; 4]
+    ensures { publisher.new.board ≡ publisher.old.board }
+{
+    [
+        publish(rt, alloc, publisher, &[1]),
+        publish(rt, alloc, publisher, &[1]),
+        publish(rt, alloc, publisher, &[3, 0]),
+        publish(rt, alloc, publisher, &[]),
+    ]
+}
+
+/// The first count that a viewer sees before and behind a third segment.
+fn seen_to_grow<R: Wait>(
+    rt: &R,
+    alloc: Global,
+    publisher: &mut Publisher,
+    viewer: Viewer,
+) -> (Option<u64>, Option<u64>)
+    requires { publisher.old.board ≡ viewer.board }
+{
+    let mut viewer = viewer;
+    publisher.tell(&mut viewer);
+    let (mut viewer, before) = seen(viewer);
+    if publish(rt, alloc, publisher, &[3]).is_err() {
+        return (before, None);
+    }
+    publisher.tell(&mut viewer);
+    (before, seen(viewer).1)
 }
 
 #[test]
@@ -113,34 +182,13 @@ fn a_refused_snapshot_leaves_what_is_shown(rt: HostRuntime) -> Result<(), Fail> 
     let (publisher, mut viewers) = board(&rt, alloc, counted(alloc, &[2])?, 1)?;
     let viewer = viewers.pop();
     let mut held = HeldPublisher { publisher, rt: &rt };
-    let falls = publish(&rt, alloc, &mut held.publisher, &[1]);
-    let again = publish(&rt, alloc, &mut held.publisher, &[1]);
-    let more = publish(&rt, alloc, &mut held.publisher, &[3, 0]);
-    let none = publish(&rt, alloc, &mut held.publisher, &[]);
-    let mut before = None;
-    let mut after = None;
-    if let Some(mut viewer) = viewer {
-        held.publisher.tell(&mut viewer);
-        let (viewer, count) = seen(viewer);
-        before = count;
-        let mut viewer = viewer;
-        publish(&rt, alloc, &mut held.publisher, &[3])?;
-        held.publisher.tell(&mut viewer);
-        after = seen(viewer).1;
+    let told = publish_falls(&rt, alloc, &mut held.publisher);
+    let mut shown = (None, None);
+    if let Some(viewer) = viewer {
+        shown = seen_to_grow(&rt, alloc, &mut held.publisher, viewer);
     }
-    let first = |shown| Err(BoardFault::Backwards {
-        rendition: 0,
-        shown,
-    });
-    assert_eq!(rt; (falls, again, none), (first(2), first(2), first(2)));
-    assert_eq!(rt;
-        more,
-        Err(BoardFault::Backwards {
-            rendition: 1,
-            shown: 0
-        })
-    );
-    assert_eq!(rt; (before, after), (Some(2), Some(3)));
+    let falls = [Err(OWN), Err(OWN), Err(OTHER), Err(OWN)];
+    assert_eq!(rt; (told, shown), (falls, (Some(2), Some(3))));
     Ok(())
 }
 
@@ -211,11 +259,11 @@ fn publish_beside<'r, R: Threads + Wait + Sync>(
 fn counts_never_fall_in_four_threads(rt: HostRuntime) -> Result<(), Fail> {
     let alloc = rt.alloc();
     let (publisher, viewers) = board(&rt, alloc, counted(alloc, &[0])?, 4)?;
-    assert_eq!(rt; viewers.len(), 4);
+    let count = viewers.len();
     let held = HeldPublisher { publisher, rt: &rt };
     let (held, wrong) = publish_beside(&rt, alloc, held, viewers);
-    assert_eq!(rt; wrong, 0);
-    assert_eq!(rt; held.publisher.counts(), [100].as_slice());
+    let is_last = held.publisher.counts() == [100].as_slice();
+    assert_eq!(rt; (count, wrong, is_last), (4, 0, true));
     Ok(())
 }
 
