@@ -1,5 +1,5 @@
 //! Which settings are allowed.
-use crate::run::{CUT, Ran, WELL, run};
+use crate::run::{CUT, WELL, run};
 use cutter::CutSettings;
 use pipeline::{Kind, PackFault, Rendition, Settings};
 use segment_job::Keys;
@@ -20,8 +20,8 @@ const SALT: [u8; 16] = [0xA5; 16];
 
 /// Whether these settings are allowed with so many inputs, which are empty: then the first is told to have no program.
 fn is_allowed(alloc: Global, settings: &Settings, inputs: usize) -> Result<bool, Fail> {
-    let Ran { answer, .. } = run(alloc, &NO_BYTES[..inputs.min(33)], WELL, settings)?;
-    match answer.err() {
+    let ran = run(alloc, &NO_BYTES[..inputs.min(33)], WELL, settings)?;
+    match ran.told().0 {
         Some(PackFault::Settings) => Ok(false),
         Some(PackFault::NoProgram(0)) => Ok(true),
         _ => Err(Fail::from("another answer")),
@@ -70,17 +70,25 @@ fn one(alloc: Global, width: u64, cut: CutSettings, window: u64, queue: u64) -> 
     is_allowed(alloc, &settings, 1)
 }
 
+/// How many renditions and how many inputs there are, and whether those are allowed.
+const NUMBERS: [(usize, usize, bool); 9] = [
+    (0, 0, false),
+    (1, 1, true),
+    (1, 0, false),
+    (1, 2, false),
+    (32, 32, true),
+    (32, 31, false),
+    (32, 33, false),
+    (33, 33, false),
+    (33, 32, false),
+];
+
 #[test]
 fn numbers_of_renditions_and_inputs(rt: HostRuntime) -> Result<(), Fail> {
-    assert_eq!(rt; names(rt.alloc(), &[], 0)?, false);
-    assert_eq!(rt; names(rt.alloc(), &["a"], 1)?, true);
-    assert_eq!(rt; names(rt.alloc(), &["a"], 0)?, false);
-    assert_eq!(rt; names(rt.alloc(), &["a"], 2)?, false);
-    assert_eq!(rt; names(rt.alloc(), &NAMES[..32], 32)?, true);
-    assert_eq!(rt; names(rt.alloc(), &NAMES[..32], 31)?, false);
-    assert_eq!(rt; names(rt.alloc(), &NAMES[..32], 33)?, false);
-    assert_eq!(rt; names(rt.alloc(), &NAMES, 33)?, false);
-    assert_eq!(rt; names(rt.alloc(), &NAMES, 32)?, false);
+    for (renditions, inputs, allowed) in NUMBERS {
+        let told = names(rt.alloc(), &NAMES[..renditions.min(33)], inputs)?;
+        assert_eq!(rt; told, allowed, "{renditions} {inputs}");
+    }
     Ok(())
 }
 
@@ -124,9 +132,10 @@ fn keys_hold_the_salt(rt: HostRuntime) -> Result<(), Fail> {
 
 #[test]
 fn renditions_that_can_not_be_listed(rt: HostRuntime) -> Result<(), Fail> {
-    assert_eq!(rt; names(rt.alloc(), &["master"], 1)?, false);
-    assert_eq!(rt; names(rt.alloc(), &["a", "a"], 2)?, false);
-    assert_eq!(rt; names(rt.alloc(), &["a", "A"], 2)?, true);
+    let master = names(rt.alloc(), &["master"], 1)?;
+    let same = names(rt.alloc(), &["a", "a"], 2)?;
+    let other = names(rt.alloc(), &["a", "A"], 2)?;
+    assert_eq!(rt; (master, same, other), (false, false, true));
     let table = [(0, false), (1, true), (16_384, true), (16_385, false)];
     for (width, allowed) in table {
         assert_eq!(rt; one(rt.alloc(), width, CUT, 5, 4)?, allowed, "{width}");

@@ -1,7 +1,6 @@
 //! What is packed is read back.
-use crate::run::{CUT, Ran, WELL, last_media, run, settings};
+use crate::run::{PLAY, Play, last_media, played};
 use crate::stream::Video::{Key, Other};
-use crate::stream::{Change, stream_of};
 use hls_check::{Entry, ListFault, Listing, check, read_media};
 use item_io::Item;
 use std::alloc::{AllocError, Global};
@@ -165,22 +164,25 @@ pub fn has_one_meaning_changed(alloc: Global, text: &str) -> Result<bool, AllocE
     Ok(first_changed(alloc, text)?.is_none() && first_doubled(alloc, text)?.is_none())
 }
 
-/// The last playlist of a stream with a jump of time, whose two keys take turns.
-fn playlist(alloc: Global) -> Result<String, Fail> {
-    let frames = [
+/// A stream with a jump of time, whose two keys take turns.
+const JUMP: Play = Play {
+    frames: &[
         Key(0),
         Key(540_000),
         Other(810_000),
         Key(90_000_000),
         Key(90_540_000),
         Other(90_900_000),
-    ];
-    let stream = stream_of(alloc, &frames, Change::None)?;
-    let settings = settings(alloc, &["v"], 2, 2, CUT, 5)?;
-    let Ran { answer, outlet } = run(alloc, &[&stream], WELL, &settings)?;
-    answer?;
-    let items = outlet.items();
-    if first_lost(alloc, items, 0, &[[0; 16], [1; 16]])?.is_some() {
+    ],
+    keys: (2, 2),
+    ..PLAY
+};
+
+/// Its last playlist.
+fn playlist(alloc: Global) -> Result<String, Fail> {
+    let ran = played(alloc, &JUMP)?;
+    let items = ran.outlet.items();
+    if ran.told().0.is_some() || first_lost(alloc, items, 0, &[[0; 16], [1; 16]])?.is_some() {
         return Err(Fail::from("lost"));
     }
     Ok(String::from_str(alloc, last_media(items))?)
@@ -193,7 +195,9 @@ fn a_changed_playlist_has_one_meaning(rt: HostRuntime) -> Result<(), Fail> {
     let listing = read_media(alloc, &text)?;
     assert_eq!(rt; written(alloc, &listing)?.as_str(), text.as_str());
     assert_eq!(rt; (listing.entries.len(), listing.ended), (4, true));
-    assert_eq!(rt; first_changed(alloc, &text)?, None);
-    assert_eq!(rt; first_doubled(alloc, &text)?, None);
+    assert_eq!(rt;
+        (first_changed(alloc, &text)?, first_doubled(alloc, &text)?),
+        (None, None)
+    );
     Ok(())
 }

@@ -1,10 +1,10 @@
 //! Streams of one rendition: what is given of each, and the fault that is told.
 use crate::back::{first_lost, has_one_meaning_changed};
 use crate::run::{
-    CUT, Ran, WELL, Ways, are_sizes, last_frames, last_media, run_each_way, settings, values,
+    CUT, PLAY, Play, WELL, Ways, are_sizes, last_frames, last_media, played_each_way, values,
 };
 use crate::stream::Video::{Key, Other};
-use crate::stream::{Change, TWO_SEGMENTS, Video, stream_of};
+use crate::stream::{Change, TWO_SEGMENTS, Video};
 use cutter::CutSettings;
 use item_io::Item;
 use pipeline::PackFault;
@@ -257,9 +257,6 @@ const STOPPED: [Case; 2] = [
 
 /// The first of the items and texts that isn't as wanted.
 fn wrong(alloc: Global, case: &Case, items: &[Item]) -> Result<Option<&'static str>, AllocError> {
-    if items.len() != case.items {
-        return Ok(Some("items"));
-    }
     if !are_sizes(items, case.sizes) {
         return Ok(Some("sizes"));
     }
@@ -284,13 +281,19 @@ fn wrong_in<R: Threads + Wait + Sync>(
     alloc: Global,
     case: &Case,
 ) -> Result<Option<&'static str>, Fail> {
-    let stream = stream_of(alloc, case.frames, case.change)?;
-    let settings = settings(alloc, &["v"], 1, 1, case.cut, case.window)?;
-    let Ran { answer, outlet } = run_each_way(rt, alloc, &[&stream], case.ways, &settings)?;
-    if answer.err() != case.fault {
-        return Ok(Some("fault"));
+    let play = Play {
+        frames: case.frames,
+        change: case.change,
+        cut: case.cut,
+        window: case.window,
+        ways: case.ways,
+        ..PLAY
+    };
+    let ran = played_each_way(rt, alloc, &play)?;
+    if ran.told() != (case.fault, case.items) {
+        return Ok(Some("fault or items"));
     }
-    Ok(wrong(alloc, case, outlet.items())?)
+    Ok(wrong(alloc, case, ran.outlet.items())?)
 }
 
 /// The first of some cases that isn't as wanted.

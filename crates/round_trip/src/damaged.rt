@@ -1,11 +1,9 @@
 //! A stream of two segments of which a byte is another, or whose tables come in an unusual way.
-use crate::run::{CUT, Ran, WELL, run_beside, run_each_way, settings};
+use crate::run::{CUT, PLAY, Play, WELL, played, run_beside, settings, told_beside};
 use crate::stream::{Change, TWO_SEGMENTS, stream_of};
-use pipeline::{PackFault, Settings};
+use pipeline::PackFault;
 use std::alloc::{AllocError, Global};
-use std::sync::Wait;
 use std::test::Fail;
-use std::thread::Threads;
 
 /// The stream with another byte at a place.
 fn with_byte(alloc: Global, stream: &[u8], at: usize, byte: u8) -> Result<Vec<u8>, AllocError> {
@@ -33,29 +31,21 @@ fn a_byte_of_a_packets_beginning_is_another(rt: HostRuntime) -> Result<(), Fail>
     Ok(())
 }
 
-/// What each packager makes of the stream with a change.
-fn changed<R: Threads + Wait + Sync>(
-    rt: &R,
-    alloc: Global,
-    change: Change,
-    settings: &Settings,
-) -> Result<Ran, Fail> {
-    let stream = stream_of(alloc, TWO_SEGMENTS, change)?;
-    run_each_way(rt, alloc, &[&stream], WELL, settings)
-}
+/// Unusual tables, the fault, and how many items are given: as they are of the usual ones, or none where the packet between the
+/// halves of the PAT is lost.
+const CHANGES: [(Change, Option<PackFault>, usize); 3] = [
+    (Change::SplitPat(1), None, 10),
+    (Change::LongSection, None, 10),
+    (Change::SplitPat(2), Some(PackFault::NoProgram(0)), 0),
+];
 
 #[test]
 fn tables_in_two_packets_and_behind_a_long_section(rt: HostRuntime) -> Result<(), Fail> {
-    let settings = settings(rt.alloc(), &["v"], 1, 1, CUT, 5)?;
-    let whole = changed(&rt, rt.alloc(), Change::None, &settings)?;
-    for change in [Change::SplitPat(1), Change::LongSection] {
-        let ran = changed(&rt, rt.alloc(), change, &settings)?;
-        assert_eq!(rt; ran.answer.err(), None, "{change:?}");
-        assert!(rt; ran.outlet.items() == whole.outlet.items(), "{change:?}");
+    let whole = played(rt.alloc(), &PLAY)?;
+    for (change, fault, count) in CHANGES {
+        let play = Play { change, ..PLAY };
+        let told = told_beside(&rt, rt.alloc(), &play, whole.outlet.items())?;
+        assert_eq!(rt; told, (fault, count, true), "{change:?}");
     }
-    // the packet between is lost
-    let ran = changed(&rt, rt.alloc(), Change::SplitPat(2), &settings)?;
-    assert_eq!(rt; ran.answer.err(), Some(PackFault::NoProgram(0)));
-    assert!(rt; ran.outlet.items().is_empty());
     Ok(())
 }

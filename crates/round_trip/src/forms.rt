@@ -2,10 +2,10 @@
 use crate::allowed::NAMES;
 use crate::back::first_lost;
 use crate::cases::SEVEN;
-use crate::ladder::SEVEN_BEHIND_A_JUMP;
+use crate::ladder::{SEVEN_BEHIND_A_JUMP, packed_alike};
 use crate::run::{
-    CUT, Form, PLAIN, Ran, WELL, last_frames, last_media, run_beside, run_each_way, settings,
-    settings_of,
+    CUT, Form, PLAIN, PLAY, Play, Ran, WELL, last_frames, last_media, played_each_way, run_beside,
+    settings,
 };
 use crate::stream::{Change, TWO_SEGMENTS, stream_of};
 use item_io::Item;
@@ -59,45 +59,50 @@ v.1.ts
 
 #[test]
 fn two_segments_under_a_salt(rt: HostRuntime) -> Result<(), Fail> {
-    let stream = stream_of(rt.alloc(), TWO_SEGMENTS, Change::None)?;
-    let settings = settings_of(rt.alloc(), &["v"], (1, 1), CUT, 5, SALTED)?;
-    let Ran { answer, outlet } = run_each_way(&rt, rt.alloc(), &[&stream], WELL, &settings)?;
-    assert_eq!(rt; answer.err(), None);
-    let items = outlet.items();
-    assert_eq!(rt; items.len(), 10);
-    assert_eq!(rt; last_media(items), MEDIA);
-    assert_eq!(rt; last_frames(items), FRAMES);
+    let form = SALTED;
+    let ran = played_each_way(&rt, rt.alloc(), &Play { form, ..PLAY })?;
+    let items = ran.outlet.items();
+    assert_eq!(rt; ran.told(), (None, 10));
+    assert_eq!(rt; (last_media(items), last_frames(items)), (MEDIA, FRAMES));
     assert_eq!(rt; first_lost(rt.alloc(), items, 0, &[[0; 16]])?, None);
     Ok(())
 }
 
 #[test]
 fn keys_take_turns_under_a_salt(rt: HostRuntime) -> Result<(), Fail> {
-    let stream = stream_of(rt.alloc(), SEVEN, Change::None)?;
-    let settings = settings_of(rt.alloc(), &["v"], (2, 2), CUT, 3, SALTED)?;
-    let Ran { answer, outlet } = run_each_way(&rt, rt.alloc(), &[&stream], WELL, &settings)?;
-    assert_eq!(rt; answer.err(), None);
-    let keys = [[0; 16], [1; 16]];
-    assert_eq!(rt; first_lost(rt.alloc(), outlet.items(), 0, &keys)?, None);
+    let play = Play {
+        frames: SEVEN,
+        keys: (2, 2),
+        window: 3,
+        form: SALTED,
+        ..PLAY
+    };
+    let ran = played_each_way(&rt, rt.alloc(), &play)?;
+    let lost = first_lost(rt.alloc(), ran.outlet.items(), 0, &[[0; 16], [1; 16]])?;
+    assert_eq!(rt; (ran.told(), lost), ((None, 30), None));
     Ok(())
 }
 
 #[test]
 fn an_event_lists_all_segments(rt: HostRuntime) -> Result<(), Fail> {
-    let stream = stream_of(rt.alloc(), SEVEN, Change::None)?;
-    let settings = settings_of(rt.alloc(), &["v"], (1, 1), CUT, 1, EVENT)?;
-    let Ran { answer, outlet } = run_each_way(&rt, rt.alloc(), &[&stream], WELL, &settings)?;
-    assert_eq!(rt; answer.err(), None);
-    let items = outlet.items();
-    let media = last_media(items);
-    let frames = last_frames(items);
-    assert_eq!(rt; media.lines().count(), 22);
-    assert_eq!(rt; frames.lines().count(), 36);
-    for text in [media, frames] {
-        assert_eq!(rt; text.lines().nth(3), Some("#EXT-X-MEDIA-SEQUENCE:0"));
-        assert_eq!(rt; text.lines().nth(5), Some("#EXT-X-PLAYLIST-TYPE:EVENT"));
+    let play = Play {
+        frames: SEVEN,
+        window: 1,
+        form: EVENT,
+        ..PLAY
+    };
+    let ran = played_each_way(&rt, rt.alloc(), &play)?;
+    let items = ran.outlet.items();
+    let lost = first_lost(rt.alloc(), items, 0, &[[0; 16]])?;
+    assert_eq!(rt; (ran.told(), lost), ((None, 30), None));
+    let lines = (
+        Some("#EXT-X-MEDIA-SEQUENCE:0"),
+        Some("#EXT-X-PLAYLIST-TYPE:EVENT"),
+    );
+    for (text, count) in [(last_media(items), 22), (last_frames(items), 36)] {
+        let head = (text.lines().nth(3), text.lines().nth(5));
+        assert_eq!(rt; (text.lines().count(), head), (count, lines));
     }
-    assert_eq!(rt; first_lost(rt.alloc(), items, 0, &[[0; 16]])?, None);
     Ok(())
 }
 
@@ -108,11 +113,15 @@ fn times(text: &str, wanted: &str) -> usize {
 
 #[test]
 fn an_event_with_a_discontinuity(rt: HostRuntime) -> Result<(), Fail> {
-    let stream = stream_of(rt.alloc(), SEVEN_BEHIND_A_JUMP, Change::None)?;
-    let settings = settings_of(rt.alloc(), &["v"], (1, 1), CUT, 3, EVENT)?;
-    let Ran { answer, outlet } = run_each_way(&rt, rt.alloc(), &[&stream], WELL, &settings)?;
-    assert_eq!(rt; answer.err(), None);
-    for item in outlet.items() {
+    let play = Play {
+        frames: SEVEN_BEHIND_A_JUMP,
+        window: 3,
+        form: EVENT,
+        ..PLAY
+    };
+    let ran = played_each_way(&rt, rt.alloc(), &play)?;
+    assert_eq!(rt; ran.told(), (None, 30));
+    for item in ran.outlet.items() {
         if let Item::Media { count, text, .. } = item {
             let begins = times(text, "#EXT-X-DISCONTINUITY-SEQUENCE:0");
             let signs = times(text, "#EXT-X-DISCONTINUITY");
@@ -124,12 +133,8 @@ fn an_event_with_a_discontinuity(rt: HostRuntime) -> Result<(), Fail> {
 
 #[test]
 fn as_many_renditions_as_there_may_be(rt: HostRuntime) -> Result<(), Fail> {
-    let stream = stream_of(rt.alloc(), TWO_SEGMENTS, Change::None)?;
-    let inputs: [&[u8]; 32] = [stream.as_slice(); 32];
-    let settings = settings(rt.alloc(), &NAMES[..32], 1, 1, CUT, 5)?;
-    let Ran { answer, outlet } = run_each_way(&rt, rt.alloc(), &inputs, WELL, &settings)?;
-    assert_eq!(rt; answer.err(), None);
-    assert_eq!(rt; outlet.items().len(), 320);
+    let ran = packed_alike(&rt, rt.alloc(), &NAMES[..32], 32)?;
+    assert_eq!(rt; ran.told(), (None, 320));
     Ok(())
 }
 

@@ -1,11 +1,15 @@
 //! A gate that lets the segments of a round through from the last to the first.
 use crate::many::run_on;
-use crate::run::{CUT, WELL, run, settings};
+use crate::run::{CUT, PLAY, Play, WELL, played, settings};
 use crate::stream::Video::Key;
 use crate::stream::{Change, stream_of};
+use item_io::Item;
 use pipeline::PackFault;
+use std::alloc::Global;
+use std::sync::Wait;
 use std::sync::atomic::{AtomicU64, Ordering};
 use std::test::Fail;
+use std::thread::Threads;
 use work_desk::Gate;
 
 /// Three segments, of which each passes behind the next one, and the last one at once. It looks so often whether the next one
@@ -42,23 +46,41 @@ impl Gate for LastFirst {
     }
 }
 
+/// Three segments.
+const THREE: Play = Play {
+    frames: &[Key(0), Key(540_000), Key(1_080_000)],
+    ..PLAY
+};
+
+/// What three workers make of the three segments, where so many may be outstanding and the gate looks so often: the fault, how
+/// many items are given, and whether those are a beginning of these.
+fn told_of_three<R: Threads + Wait + Sync>(
+    rt: &R,
+    alloc: Global,
+    queue: u64,
+    turns: u64,
+    whole: &[Item],
+) -> Result<(Option<PackFault>, usize, bool), Fail> {
+    let mut settings = settings(alloc, &["v"], 1, 1, CUT, 5)?;
+    settings.queue = queue;
+    let stream = stream_of(alloc, THREE.frames, Change::None)?;
+    let gate = LastFirst::new(turns);
+    let ran = run_on(rt, alloc, &[&stream], WELL, &settings, 3, &gate)?;
+    let (fault, count) = ran.told();
+    Ok((fault, count, whole.starts_with(ran.outlet.items())))
+}
+
 /// Where two plans may be outstanding, segment 2 isn't fed before segment 0 is given.
 #[test]
 fn segments_pass_from_the_last_to_the_first(rt: HostRuntime) -> Result<(), Fail> {
-    let frames = [Key(0), Key(540_000), Key(1_080_000)];
-    let stream = stream_of(rt.alloc(), &frames, Change::None)?;
-    let mut settings = settings(rt.alloc(), &["v"], 1, 1, CUT, 5)?;
-    let whole = run(rt.alloc(), &[&stream], WELL, &settings)?;
-    assert_eq!(rt; whole.outlet.items().len(), 14);
-    settings.queue = 3;
-    let gate = LastFirst::new(100_000_000);
-    let ran = run_on(&rt, rt.alloc(), &[&stream], WELL, &settings, 3, &gate)?;
-    assert_eq!(rt; ran.answer.err(), None);
-    assert!(rt; ran.outlet.items() == whole.outlet.items());
-    settings.queue = 2;
-    let gate = LastFirst::new(1_000_000);
-    let ran = run_on(&rt, rt.alloc(), &[&stream], WELL, &settings, 3, &gate)?;
-    assert!(rt; matches!(ran.answer.err(), Some(PackFault::Held(0, 0 | 1))));
-    assert!(rt; ran.outlet.items().is_empty());
+    let whole = played(rt.alloc(), &THREE)?;
+    let items = whole.outlet.items();
+    let told = told_of_three(&rt, rt.alloc(), 3, 100_000_000, items)?;
+    assert_eq!(rt; (items.len(), told), (14, (None, 14, true)));
+    let held = told_of_three(&rt, rt.alloc(), 2, 1_000_000, items)?;
+    assert!(rt;
+        matches!(held, (Some(PackFault::Held(0, 0 | 1)), 0, _)),
+        "{held:?}"
+    );
     Ok(())
 }

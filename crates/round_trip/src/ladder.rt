@@ -1,12 +1,17 @@
 //! Several renditions, keys that take turns, and a window that slides.
 use crate::back::first_lost;
-use crate::run::{CUT, Ran, WELL, last_master, last_media, run_each_way, settings, values};
+use crate::run::{
+    CUT, PLAY, Play, Ran, WELL, last_master, last_media, played_each_way, run_each_way, settings,
+    values,
+};
 use crate::stream::Video::{Key, Other};
 use crate::stream::{Change, TWO_SEGMENTS, Video, stream_of};
 use item_io::Item;
 use pipeline::PackFault;
 use std::alloc::{AllocError, Global};
+use std::sync::Wait;
 use std::test::Fail;
+use std::thread::Threads;
 
 const MASTER: &str = "#EXTM3U
 #EXT-X-VERSION:4
@@ -18,21 +23,24 @@ hd%201.m3u8
 #EXT-X-I-FRAME-STREAM-INF:BANDWIDTH=495,AVERAGE-BANDWIDTH=333,CODECS=\"avc1.4d401e\",RESOLUTION=640x360,URI=\"hd%201.iframes.m3u8\"
 ";
 
+/// Packs a ladder of these names on one thread and on many, with so many inputs, 32 at most, of two segments each.
+pub fn packed_alike<R: Threads + Wait + Sync>(
+    rt: &R,
+    alloc: Global,
+    names: &[&str],
+    inputs: usize,
+) -> Result<Ran, Fail> {
+    let settings = settings(alloc, names, 1, 1, CUT, 5)?;
+    let stream = stream_of(alloc, TWO_SEGMENTS, Change::None)?;
+    let all: [&[u8]; 32] = [stream.as_slice(); 32];
+    run_each_way(rt, alloc, &all[..inputs.min(32)], WELL, &settings)
+}
+
 #[test]
 fn two_renditions_in_one_master(rt: HostRuntime) -> Result<(), Fail> {
-    let stream = stream_of(rt.alloc(), TWO_SEGMENTS, Change::None)?;
-    let settings = settings(rt.alloc(), &["a", "hd 1"], 1, 1, CUT, 5)?;
-    let Ran { answer, outlet } = run_each_way(
-        &rt,
-        rt.alloc(),
-        &[&stream, &stream],
-        WELL,
-        &settings,
-    )?;
-    let items = outlet.items();
-    assert_eq!(rt; answer.err(), None);
-    assert_eq!(rt; items.len(), 20);
-    assert_eq!(rt; last_master(items), MASTER);
+    let ran = packed_alike(&rt, rt.alloc(), &["a", "hd 1"], 2)?;
+    let items = ran.outlet.items();
+    assert_eq!(rt; (ran.told(), last_master(items)), ((None, 20), MASTER));
     assert_eq!(rt;
         values(rt.alloc(), last_media(items), "hd%201.")?.as_str(),
         "0.ts 1.ts "
@@ -48,42 +56,42 @@ const REFUSED: [(&str, usize); 4] = [("a.b", 1), ("master", 1), ("", 1), ("v", 2
 
 #[test]
 fn settings_that_are_not_allowed(rt: HostRuntime) -> Result<(), Fail> {
-    let stream = stream_of(rt.alloc(), TWO_SEGMENTS, Change::None)?;
     for (name, inputs) in REFUSED {
-        let settings = settings(rt.alloc(), &[name], 1, 1, CUT, 5)?;
-        let Ran { answer, outlet } = run_each_way(
-            &rt,
-            rt.alloc(),
-            &[stream.as_slice(), stream.as_slice()][..inputs.min(2)],
-            WELL,
-            &settings,
-        )?;
-        assert_eq!(rt; answer.err(), Some(PackFault::Settings), "{name}");
-        assert_eq!(rt; outlet.items().len(), 0, "{name}");
+        let ran = packed_alike(&rt, rt.alloc(), &[name], inputs)?;
+        assert_eq!(rt; ran.told(), (Some(PackFault::Settings), 0), "{name}");
     }
     Ok(())
 }
 
+/// Five segments.
+const FIVE: &[Video] = &[
+    Key(0),
+    Key(540_000),
+    Key(1_080_000),
+    Key(1_620_000),
+    Key(2_160_000),
+];
+
 #[test]
 fn keys_take_turns(rt: HostRuntime) -> Result<(), Fail> {
-    let frames = [
-        Key(0),
-        Key(540_000),
-        Key(1_080_000),
-        Key(1_620_000),
-        Key(2_160_000),
-    ];
-    let stream = stream_of(rt.alloc(), &frames, Change::None)?;
-    let settings = settings(rt.alloc(), &["v"], 2, 2, CUT, 5)?;
-    let Ran { answer, outlet } = run_each_way(&rt, rt.alloc(), &[&stream], WELL, &settings)?;
-    assert_eq!(rt; answer.err(), None);
-    let media = last_media(outlet.items());
+    let play = Play {
+        frames: FIVE,
+        keys: (2, 2),
+        ..PLAY
+    };
+    let ran = played_each_way(&rt, rt.alloc(), &play)?;
+    let items = ran.outlet.items();
+    let lost = first_lost(rt.alloc(), items, 0, &[[0; 16], [1; 16]])?;
+    assert_eq!(rt; (ran.told(), lost), ((None, 22), None));
     assert_eq!(rt;
-        values(rt.alloc(), media, "#EXT-X-KEY:METHOD=AES-128,URI=")?.as_str(),
+        values(
+            rt.alloc(),
+            last_media(items),
+            "#EXT-X-KEY:METHOD=AES-128,URI="
+        )?
+        .as_str(),
         "\"v.0.key\" \"v.1.key\" \"v.0.key\" "
     );
-    let keys = [[0; 16], [1; 16]];
-    assert_eq!(rt; first_lost(rt.alloc(), outlet.items(), 0, &keys)?, None);
     Ok(())
 }
 
@@ -139,14 +147,15 @@ pub const SEVEN_BEHIND_A_JUMP: &[Video] = &[
 
 #[test]
 fn a_window_slides_past_a_discontinuity(rt: HostRuntime) -> Result<(), Fail> {
-    let stream = stream_of(rt.alloc(), SEVEN_BEHIND_A_JUMP, Change::None)?;
-    let settings = settings(rt.alloc(), &["v"], 1, 1, CUT, 3)?;
-    let Ran { answer, outlet } = run_each_way(&rt, rt.alloc(), &[&stream], WELL, &settings)?;
-    assert_eq!(rt; answer.err(), None);
-    assert_eq!(rt; slides_of(rt.alloc(), outlet.items())?.as_str(), SLIDES);
-    assert_eq!(rt;
-        first_lost(rt.alloc(), outlet.items(), 0, &[[0; 16]])?,
-        None
-    );
+    let play = Play {
+        frames: SEVEN_BEHIND_A_JUMP,
+        window: 3,
+        ..PLAY
+    };
+    let ran = played_each_way(&rt, rt.alloc(), &play)?;
+    let items = ran.outlet.items();
+    let lost = first_lost(rt.alloc(), items, 0, &[[0; 16]])?;
+    assert_eq!(rt; (ran.told(), lost), ((None, 30), None));
+    assert_eq!(rt; slides_of(rt.alloc(), items)?.as_str(), SLIDES);
     Ok(())
 }

@@ -44,8 +44,8 @@ pub fn run_seen<G: Gate + Sync, R: Threads + Wait + Sync>(
     gate: &G,
 ) -> Result<Seen, Fail> {
     let sources = sources_of(alloc, inputs, ways)?;
-    let outlet = FailingOutlet::new(alloc, ways.failing_put);
     let (publisher, mut viewers) = opening_board(rt, alloc, settings.renditions.len(), 1)?;
+    let outlet = FailingOutlet::new(alloc, ways.failing_put);
     let reads = ways.reads();
     let rounds::Ran {
         sources: _,

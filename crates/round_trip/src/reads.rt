@@ -1,8 +1,7 @@
 //! Inputs that have all their reads.
 ghost use Rattle.std.specs.Prelude.{◌≡◌, All, IfOk};
 
-use crate::run::{CUT, Ran, WELL, Ways, are_sizes, run_each_way, settings};
-use crate::stream::{Change, TWO_SEGMENTS, stream_of};
+use crate::run::{CUT, PLAY, Play, WELL, Ways, are_sizes, played_each_way, settings};
 use item_io::{FailingOutlet, ReaderSource};
 use pipeline::{PackFault, pack_serial_reads};
 use rounds::{opening_board, pack_parallel_reads};
@@ -24,18 +23,18 @@ const READS: [(u64, Option<PackFault>, usize, &[usize]); 4] = [
 
 #[test]
 fn a_byte_a_read(rt: HostRuntime) -> Result<(), Fail> {
-    let stream = stream_of(rt.alloc(), TWO_SEGMENTS, Change::None)?;
-    let settings = settings(rt.alloc(), &["v"], 1, 1, CUT, 5)?;
     for (reads, fault, items, sizes) in READS {
         let ways = Ways {
             piece: 1,
             reads,
             ..WELL
         };
-        let Ran { answer, outlet } = run_each_way(&rt, rt.alloc(), &[&stream], ways, &settings)?;
-        assert_eq!(rt; answer.err(), fault, "{reads} reads");
-        assert_eq!(rt; outlet.items().len(), items, "{reads} reads");
-        assert!(rt; are_sizes(outlet.items(), sizes), "{reads} reads");
+        let ran = played_each_way(&rt, rt.alloc(), &Play { ways, ..PLAY })?;
+        assert_eq!(rt;
+            (ran.told(), are_sizes(ran.outlet.items(), sizes)),
+            ((fault, items), true),
+            "{reads} reads"
+        );
     }
     Ok(())
 }
@@ -76,9 +75,11 @@ fn an_input_without_an_end(rt: HostRuntime) -> Result<(), Fail> {
     let mut sources = one_without_an_end(alloc)?;
     let mut outlet = FailingOutlet::new(alloc, 0);
     let answer = pack_serial_reads(alloc, &mut sources, &settings, &mut outlet, 100);
-    assert_eq!(rt; answer.err(), Some(PackFault::ReadLimit(0)));
-    assert!(rt; outlet.items().is_empty());
-    assert_eq!(rt; reads_of(sources), Some(100));
+    let count = outlet.items().len();
+    assert_eq!(rt;
+        (answer.err(), count, reads_of(sources)),
+        (Some(PackFault::ReadLimit(0)), 0, Some(100))
+    );
     Ok(())
 }
 
@@ -98,8 +99,10 @@ fn an_input_without_an_end_on_many_threads(rt: HostRuntime) -> Result<(), Fail> 
         &rt, alloc, sources, &settings, 2, &FreeGate, publisher, outlet, 100,
     );
     publisher.end(&rt);
-    assert_eq!(rt; answer.err(), Some(PackFault::ReadLimit(0)));
-    assert!(rt; outlet.items().is_empty());
-    assert_eq!(rt; reads_of(sources), Some(100));
+    let count = outlet.items().len();
+    assert_eq!(rt;
+        (answer.err(), count, reads_of(sources)),
+        (Some(PackFault::ReadLimit(0)), 0, Some(100))
+    );
     Ok(())
 }

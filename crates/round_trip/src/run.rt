@@ -2,6 +2,7 @@ ghost use Rattle.std.specs.Prelude.{◌≡◌, ◌≤◌, ◌^◌, All, IfOk};
 
 use crate::many::run_on;
 use crate::same::first_other;
+use crate::stream::{Change, TWO_SEGMENTS, Video, stream_of};
 use cutter::CutSettings;
 use item_io::{FailingOutlet, FailingReader, Item, READS};
 use pipeline::{Kind, PackFault, Rendition, Report, Settings, pack_serial_reads};
@@ -21,6 +22,17 @@ pub const CUT: CutSettings = SETTINGS;
 pub struct Ran {
     pub answer: Result<Report, PackFault>,
     pub outlet: FailingOutlet,
+}
+
+impl Ran {
+    /// The fault, and how many items were given.
+    pub fn told(&self) -> (Option<PackFault>, usize) {
+        let fault = match &self.answer {
+            Ok(_) => None,
+            Err(fault) => Some(*fault),
+        };
+        (fault, self.outlet.items().len())
+    }
 }
 
 /// How inputs are read and items are put: the most bytes of a read, how many reads an input has, and which read of the
@@ -62,6 +74,60 @@ pub const PLAIN: Form = Form {
     kind: Kind::Live,
     salt: None,
 };
+
+/// One rendition, `v`: the frames of its stream and what is done to it, how many keys it has and how many segments in a row
+/// each seals, how it is cut, how many segments are listed at least, and how it is read and put.
+#[derive(Clone, Copy)]
+pub struct Play {
+    pub frames: &'static [Video],
+    pub change: Change,
+    pub keys: (u8, u64),
+    pub cut: CutSettings,
+    pub window: u64,
+    pub form: Form,
+    pub ways: Ways,
+}
+
+/// Two segments under one key.
+pub const PLAY: Play = Play {
+    frames: TWO_SEGMENTS,
+    change: Change::None,
+    keys: (1, 1),
+    cut: CUT,
+    window: 5,
+    form: PLAIN,
+    ways: WELL,
+};
+
+/// What one thread makes of it.
+pub fn played(alloc: Global, play: &Play) -> Result<Ran, Fail> {
+    let settings = settings_of(alloc, &["v"], play.keys, play.cut, play.window, play.form)?;
+    let stream = stream_of(alloc, play.frames, play.change)?;
+    run(alloc, &[&stream], play.ways, &settings)
+}
+
+/// The same, where many threads give the same.
+pub fn played_each_way<R: Threads + Wait + Sync>(
+    rt: &R,
+    alloc: Global,
+    play: &Play,
+) -> Result<Ran, Fail> {
+    let settings = settings_of(alloc, &["v"], play.keys, play.cut, play.window, play.form)?;
+    let stream = stream_of(alloc, play.frames, play.change)?;
+    run_each_way(rt, alloc, &[&stream], play.ways, &settings)
+}
+
+/// What is told of it then, and whether its items are a beginning of these.
+pub fn told_beside<R: Threads + Wait + Sync>(
+    rt: &R,
+    alloc: Global,
+    play: &Play,
+    whole: &[Item],
+) -> Result<(Option<PackFault>, usize, bool), Fail> {
+    let ran = played_each_way(rt, alloc, play)?;
+    let (fault, count) = ran.told();
+    Ok((fault, count, whole.starts_with(ran.outlet.items())))
+}
 
 /// A rendition with keys of its own.
 fn rendition(
@@ -141,12 +207,7 @@ pub fn sources_of(
 }
 
 /// Packs these inputs on one thread.
-pub fn run(
-    alloc: Global,
-    inputs: &[&[u8]],
-    ways: Ways,
-    settings: &Settings,
-) -> Result<Ran, AllocError> {
+pub fn run(alloc: Global, inputs: &[&[u8]], ways: Ways, settings: &Settings) -> Result<Ran, Fail> {
     let mut sources = sources_of(alloc, inputs, ways)?;
     let mut outlet = FailingOutlet::new(alloc, ways.failing_put);
     let answer = pack_serial_reads(alloc, &mut sources, settings, &mut outlet, ways.reads());
@@ -176,12 +237,26 @@ pub fn run_beside<R: Threads + Wait + Sync>(
 ) -> Result<Ran, Fail> {
     let ran = run(alloc, inputs, ways, settings)?;
     for workers in numbers {
-        let many = run_on(rt, alloc, inputs, ways, settings, *workers, &FreeGate)?;
-        if let Some(other) = first_other(&ran, &many, inputs.len(), *workers) {
-            return Err(Fail::new(other));
-        }
+        run_like(rt, alloc, inputs, ways, settings, *workers, &ran)?;
     }
     Ok(ran)
+}
+
+/// Packs on many threads, where each rendition gets the same as on one.
+fn run_like<R: Threads + Wait + Sync>(
+    rt: &R,
+    alloc: Global,
+    inputs: &[&[u8]],
+    ways: Ways,
+    settings: &Settings,
+    workers: usize,
+    one: &Ran,
+) -> Result<(), Fail> {
+    let many = run_on(rt, alloc, inputs, ways, settings, workers, &FreeGate)?;
+    match first_other(one, &many, inputs.len(), workers) {
+        Some(other) => Err(Fail::new(other)),
+        None => Ok(()),
+    }
 }
 
 /// Whether the segments that were given have these sizes.

@@ -1,8 +1,8 @@
 //! The standard stream of two segments, its texts byte for byte.
 use crate::run::{
-    CUT, Ran, WELL, Ways, are_sizes, last_frames, last_master, last_media, run_each_way, settings,
+    PLAY, Play, Ran, WELL, Ways, are_sizes, last_frames, last_master, last_media, played_each_way,
 };
-use crate::stream::{Change, TWO_SEGMENTS, stream_of};
+use crate::stream::Change;
 use item_io::Item;
 use std::test::Fail;
 
@@ -72,53 +72,52 @@ fn wrong_text(items: &[Item]) -> Option<&'static str> {
 
 #[test]
 fn two_segments_in_pieces(rt: HostRuntime) -> Result<(), Fail> {
-    let stream = stream_of(rt.alloc(), TWO_SEGMENTS, Change::None)?;
-    let settings = settings(rt.alloc(), &["v"], 1, 1, CUT, 5)?;
     for piece in [1, 188, 1000, 18_800] {
-        let Ran { answer, outlet } = run_each_way(
-            &rt,
-            rt.alloc(),
-            &[&stream],
-            Ways { piece, ..WELL },
-            &settings,
-        )?;
-        let items = outlet.items();
-        assert_eq!(rt; answer.err(), None, "pieces of {piece}");
-        assert_eq!(rt; wrong_text(items), None, "pieces of {piece}");
-        assert!(rt;
-            items.len() == 10 && are_sizes(items, &[768, 768]),
+        let ways = Ways { piece, ..WELL };
+        let ran = played_each_way(&rt, rt.alloc(), &Play { ways, ..PLAY })?;
+        let items = ran.outlet.items();
+        assert_eq!(rt;
+            (ran.told(), wrong_text(items), are_sizes(items, &[768, 768])),
+            ((None, 10), None, true),
             "pieces of {piece}"
         );
     }
     Ok(())
 }
 
+/// How many segments a report tells, their microseconds, peak and average, and the bytes passed over.
+type OfRendition = (
+    Option<u64>,
+    Option<u128>,
+    Option<u64>,
+    Option<u64>,
+    Option<u64>,
+);
+
+/// What is reported of the rendition; how many workers there were, how many segments the calling thread sealed, and how many
+/// it threw away. None where the run ended in a fault.
+fn reported(ran: &Ran) -> Option<(OfRendition, (usize, u128, u128))> {
+    let Ok(report) = &ran.answer else {
+        return None;
+    };
+    let of_rendition = (
+        report.counts.first().copied(),
+        report.micros.first().copied(),
+        report.peaks.first().copied(),
+        report.averages.first().copied(),
+        report.skipped.first().copied(),
+    );
+    Some((
+        of_rendition,
+        (report.workers.len(), report.own, report.thrown),
+    ))
+}
+
 #[test]
 fn a_report(rt: HostRuntime) -> Result<(), Fail> {
-    let stream = stream_of(rt.alloc(), TWO_SEGMENTS, Change::NoiseBefore)?;
-    let settings = settings(rt.alloc(), &["v"], 1, 1, CUT, 5)?;
-    let Ran { answer, outlet: _ } = run_each_way(&rt, rt.alloc(), &[&stream], WELL, &settings)?;
-    let report = answer?;
-    let numbers = (
-        report.counts.get(0),
-        report.micros.get(0),
-        report.peaks.get(0),
-        report.averages.get(0),
-        report.skipped.get(0),
-    );
-    assert!(rt;
-        numbers
-            == (
-                Some(&2),
-                Some(&9_040_000),
-                Some(&2022),
-                Some(&1360),
-                Some(&5)
-            )
-    );
-    assert_eq!(rt;
-        (report.workers.len(), report.own, report.thrown),
-        (0, 2, 0)
-    );
+    let change = Change::NoiseBefore;
+    let ran = played_each_way(&rt, rt.alloc(), &Play { change, ..PLAY })?;
+    let wanted = (Some(2), Some(9_040_000), Some(2022), Some(1360), Some(5));
+    assert_eq!(rt; reported(&ran), Some((wanted, (0, 2, 0))));
     Ok(())
 }

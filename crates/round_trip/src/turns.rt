@@ -1,14 +1,16 @@
 //! In which order renditions have their turns, and what a fault of one leaves of the others.
 use crate::back::first_lost;
-use crate::run::{CUT, Ran, WELL, Ways, last_media, run, run_each_way, settings, values};
+use crate::run::{CUT, WELL, Ways, last_media, run, run_each_way, settings, values};
 use crate::stream::Video::Key;
 use crate::stream::{Change, TWO_SEGMENTS, stream_of};
 use item_io::{FailingOutlet, Item, ReaderSource};
-use pipeline::{PackFault, pack_serial};
+use pipeline::{PackFault, Settings, pack_serial};
 use std::alloc::{AllocError, Global};
 use std::io;
 use std::io::Read;
+use std::sync::Wait;
 use std::test::Fail;
+use std::thread::Threads;
 
 /// An item's kind and rendition. A playlist that has an end is in capitals.
 fn kind(item: &Item) -> (&'static str, usize) {
@@ -66,11 +68,11 @@ const IN_TURN: [(&str, usize); 20] = [
 fn renditions_take_turns(rt: HostRuntime) -> Result<(), Fail> {
     let stream = stream_of(rt.alloc(), TWO_SEGMENTS, Change::None)?;
     let settings = settings(rt.alloc(), &["a", "b"], 1, 1, CUT, 5)?;
-    let Ran { answer, outlet } = run(rt.alloc(), &[&stream, &stream], WELL, &settings)?;
-    assert_eq!(rt; answer.err(), None);
+    let ran = run(rt.alloc(), &[&stream, &stream], WELL, &settings)?;
+    let kinds = kinds(rt.alloc(), ran.outlet.items())?;
     assert_eq!(rt;
-        kinds(rt.alloc(), outlet.items())?.as_slice(),
-        IN_TURN.as_slice()
+        (ran.told(), kinds.as_slice()),
+        ((None, 20), IN_TURN.as_slice())
     );
     Ok(())
 }
@@ -129,6 +131,29 @@ fn b_is_whole(alloc: Global, items: &[Item]) -> Result<bool, AllocError> {
     )
 }
 
+/// Whether b came to its end, and all that both gave is read back.
+fn are_read_back(alloc: Global, items: &[Item]) -> Result<bool, AllocError> {
+    for r in [0, 1] {
+        if first_lost(alloc, items, r, &[[0; 16]])?.is_some() {
+            return Ok(false);
+        }
+    }
+    b_is_whole(alloc, items)
+}
+
+/// The fault of a run of a and b, and whether b came to its end and all that was given is read back.
+fn told_of_two<R: Threads + Wait + Sync>(
+    rt: &R,
+    alloc: Global,
+    inputs: &[&[u8]],
+    ways: Ways,
+    settings: &Settings,
+) -> Result<(Option<PackFault>, bool), Fail> {
+    let ran = run_each_way(rt, alloc, inputs, ways, settings)?;
+    let are = are_read_back(alloc, ran.outlet.items())?;
+    Ok((ran.told().0, are))
+}
+
 #[test]
 fn a_fault_ends_one_rendition_alone(rt: HostRuntime) -> Result<(), Fail> {
     let whole = stream_of(rt.alloc(), TWO_SEGMENTS, Change::None)?;
@@ -148,19 +173,8 @@ fn a_fault_ends_one_rendition_alone(rt: HostRuntime) -> Result<(), Fail> {
     ];
     let settings = settings(rt.alloc(), &["a", "b"], 1, 1, CUT, 5)?;
     for (first, ways, fault) in table {
-        let Ran { answer, outlet } = run_each_way(
-            &rt,
-            rt.alloc(),
-            &[first, &whole],
-            ways,
-            &settings,
-        )?;
-        let items = outlet.items();
-        assert_eq!(rt; answer.err(), Some(fault));
-        assert!(rt; b_is_whole(rt.alloc(), items)?);
-        for r in [0, 1] {
-            assert_eq!(rt; first_lost(rt.alloc(), items, r, &[[0; 16]])?, None);
-        }
+        let told = told_of_two(&rt, rt.alloc(), &[first, &whole], ways, &settings)?;
+        assert_eq!(rt; told, (Some(fault), true));
     }
     Ok(())
 }

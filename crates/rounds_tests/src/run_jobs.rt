@@ -3,7 +3,7 @@
 ghost use Rattle.std.specs.Prelude.{◌≡◌, All, IfOk};
 
 use crate::fixtures::settings;
-use item_io::{FailingOutlet, FailingReader, READS};
+use item_io::{FailingOutlet, FailingReader, Item, READS};
 use ladder_items::{PackFault, Report, Settings};
 use live_board::{Publisher, Snapshot, Viewer, board};
 use rounds::{Ran, pack_in_batches, pack_parallel};
@@ -43,8 +43,8 @@ pub(crate) const SEVEN: &[&[u8]] = &[
 ];
 
 /// What is packed, and how: a stream, which is read in pieces of so many bytes, so many workers, how many plans may be
-/// outstanding, with how many closed ones a round begins at the latest (where none is told, as many as there are workers), and which read and which put fails, counted
-/// from 1.
+/// outstanding, with how many closed ones a round begins at the latest (where none is told, as many as there are workers), and
+/// which read and which put fails, counted from 1.
 #[derive(Clone, Copy)]
 pub(crate) struct Job {
     pub(crate) stream: &'static [&'static [u8]],
@@ -75,6 +75,10 @@ pub(crate) struct Ended {
     pub(crate) inputs: usize,
 }
 
+/// What is told of a run at once: what its report tells, how many items were given, how many inputs came back, and the count
+/// that a viewer saw last.
+pub(crate) type Told = (Result<Numbers, PackFault>, usize, usize, u64);
+
 /// How many segments, how many of them workers claimed, how many the calling thread sealed and how many it threw away, and
 /// the rounds.
 pub(crate) type Numbers = (u64, u128, u128, u128, u64);
@@ -93,6 +97,11 @@ impl Ended {
             }
             Err(fault) => Err(*fault),
         }
+    }
+
+    /// What is told of it, where a viewer saw this count last.
+    pub(crate) fn told(&self, seen: u64) -> Told {
+        (self.numbers(), self.outlet.items().len(), self.inputs, seen)
     }
 }
 
@@ -214,6 +223,29 @@ pub(crate) fn packed<G: Gate + Sync, R: Threads + Wait + Sync>(
         Some(ended) => Ok((ended, seen)),
         None => Err(Fail::from(AllocError)),
     }
+}
+
+/// Packs the stream, and tells at once how the run ended.
+pub(crate) fn told<G: Gate + Sync, R: Threads + Wait + Sync>(
+    rt: &R,
+    alloc: Global,
+    job: &Job,
+    gate: &G,
+) -> Result<Told, Fail> {
+    let (ended, seen) = packed(rt, alloc, job, gate)?;
+    Ok(ended.told(seen))
+}
+
+/// The same, and whether the items that it gave are a beginning of these.
+pub(crate) fn told_beside<G: Gate + Sync, R: Threads + Wait + Sync>(
+    rt: &R,
+    alloc: Global,
+    job: &Job,
+    gate: &G,
+    whole: &[Item],
+) -> Result<(Told, bool), Fail> {
+    let (ended, seen) = packed(rt, alloc, job, gate)?;
+    Ok((ended.told(seen), whole.starts_with(ended.outlet.items())))
 }
 
 /// The count of the first rendition that a viewer sees.

@@ -1,5 +1,5 @@
 use crate::gates::{AllBut, Meeting};
-use crate::run_jobs::{Job, Numbers, SEVEN, TWO, WELL, packed};
+use crate::run_jobs::{Job, Numbers, SEVEN, TWO, WELL, told};
 use ladder_items::PackFault;
 use std::test::Fail;
 use work_desk::FreeGate;
@@ -13,10 +13,11 @@ fn workers_seal_both_segments(rt: HostRuntime) -> Result<(), Fail> {
                 workers,
                 ..WELL
             };
-            let (ended, seen) = packed(&rt, rt.alloc(), &job, &FreeGate)?;
-            assert!(rt; matches!(ended.numbers(), Ok((2, 2, 0, 0, _))));
-            assert_eq!(rt; ended.outlet.items().len(), 10);
-            assert_eq!(rt; seen, 2);
+            let told = told(&rt, rt.alloc(), &job, &FreeGate)?;
+            assert!(rt;
+                matches!(told, (Ok((2, 2, 0, 0, _)), 10, 1, 2)),
+                "{workers} workers, pieces of {piece}: {told:?}"
+            );
         }
     }
     Ok(())
@@ -44,10 +45,12 @@ fn rounds_begin_with_enough_plans(rt: HostRuntime) -> Result<(), Fail> {
             queue,
             ..WELL
         };
-        let (ended, seen) = packed(&rt, rt.alloc(), &job, &FreeGate)?;
-        assert_eq!(rt; ended.numbers(), Ok((7, 7, 0, 0, rounds)));
-        assert_eq!(rt; ended.outlet.items().len(), 30);
-        assert_eq!(rt; seen, 7);
+        let told = told(&rt, rt.alloc(), &job, &FreeGate)?;
+        assert_eq!(rt;
+            told,
+            (Ok((7, 7, 0, 0, rounds)), 30, 1, 7),
+            "{workers} workers, pieces of {piece}"
+        );
     }
     Ok(())
 }
@@ -68,25 +71,21 @@ fn all_workers_meet(rt: HostRuntime) -> Result<(), Fail> {
             workers,
             ..WELL
         };
-        let (ended, seen) = packed(&rt, rt.alloc(), &job, &gate)?;
-        assert_eq!(rt; ended.numbers(), Ok(numbers));
-        assert_eq!(rt; ended.outlet.items().len(), items);
-        assert_eq!(rt; seen, numbers.0);
-        let (asked, passed) = gate.record();
-        let (met, others) = asked.split_at(workers.min(4));
-        assert!(rt; met.iter().all(|count| *count == 1));
-        assert!(rt; others.iter().all(|count| *count == 0));
-        assert_eq!(rt; passed, workers as u64);
+        let told = told(&rt, rt.alloc(), &job, &gate)?;
+        assert_eq!(rt; told, (Ok(numbers), items, 1, numbers.0));
+        let mut asked = [0; 4];
+        for (n, there) in asked.iter_mut().enumerate() {
+            *there = u64::from(n < workers);
+        }
+        assert_eq!(rt; gate.record(), (asked, workers as u64));
     }
     Ok(())
 }
 
 #[test]
 fn a_held_segment_stops_the_run(rt: HostRuntime) -> Result<(), Fail> {
-    let (ended, seen) = packed(&rt, rt.alloc(), &WELL, &AllBut(0))?;
-    assert_eq!(rt; ended.numbers(), Err(PackFault::Held(0, 0)));
-    assert_eq!(rt; ended.outlet.items().len(), 0);
-    assert_eq!(rt; seen, 0);
+    let told = told(&rt, rt.alloc(), &WELL, &AllBut(0))?;
+    assert_eq!(rt; told, (Err(PackFault::Held(0, 0)), 0, 1, 0));
     Ok(())
 }
 
@@ -94,11 +93,8 @@ fn a_held_segment_stops_the_run(rt: HostRuntime) -> Result<(), Fail> {
 fn a_run_has_1_to_64_workers(rt: HostRuntime) -> Result<(), Fail> {
     for workers in [0, 65] {
         let job = Job { workers, ..WELL };
-        let (ended, seen) = packed(&rt, rt.alloc(), &job, &FreeGate)?;
-        assert_eq!(rt; ended.numbers(), Err(PackFault::Settings));
-        assert_eq!(rt; ended.outlet.items().len(), 0);
-        assert_eq!(rt; ended.inputs, 1);
-        assert_eq!(rt; seen, 0);
+        let told = told(&rt, rt.alloc(), &job, &FreeGate)?;
+        assert_eq!(rt; told, (Err(PackFault::Settings), 0, 1, 0), "{workers}");
     }
     Ok(())
 }

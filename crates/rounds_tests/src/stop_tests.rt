@@ -1,7 +1,7 @@
 //! Runs that a read, a put or a gate stops, and runs in which a later segment is sealed first.
 
 use crate::gates::{Behind, TURNS};
-use crate::run_jobs::{Job, SEVEN, TWO, WELL, packed};
+use crate::run_jobs::{Job, SEVEN, TWO, WELL, packed, told, told_beside};
 use item_io::FailingOutlet;
 use ladder_items::PackFault;
 use std::alloc::Global;
@@ -39,9 +39,12 @@ fn items_come_in_sequence(rt: HostRuntime) -> Result<(), Fail> {
             queue,
             ..WELL
         };
-        let (ended, _) = packed(&rt, rt.alloc(), &job, &Behind::new(other, TURNS))?;
-        assert!(rt; matches!(ended.numbers(), Ok((_, _, 0, 0, _))));
-        assert!(rt; ended.outlet.items() == whole.items());
+        let gate = Behind::new(other, TURNS);
+        let (told, begins) = told_beside(&rt, rt.alloc(), &job, &gate, whole.items())?;
+        assert!(rt;
+            begins && told.1 == whole.items().len() && matches!(told.0, Ok((_, _, 0, 0, _))),
+            "{told:?}"
+        );
     }
     Ok(())
 }
@@ -58,13 +61,11 @@ fn longer_rounds_give_the_same(rt: HostRuntime) -> Result<(), Fail> {
             batch: Some(4),
             ..WELL
         };
-        let (ended, seen) = packed(&rt, rt.alloc(), &job, &FreeGate)?;
-        let Ok((7, 7, 0, 0, rounds)) = ended.numbers() else {
-            return Err(Fail::from("not seven segments by the workers"));
-        };
-        assert!(rt; 2 <= rounds && rounds <= 4);
-        assert!(rt; ended.outlet.items() == whole.items());
-        assert_eq!(rt; seen, 7);
+        let (told, begins) = told_beside(&rt, rt.alloc(), &job, &FreeGate, whole.items())?;
+        assert!(rt;
+            begins && matches!(told, (Ok((7, 7, 0, 0, 2..=4)), 30, 1, 7)),
+            "pieces of {piece}: {told:?}"
+        );
     }
     Ok(())
 }
@@ -79,10 +80,12 @@ fn a_segment_that_waits_too_long_is_held(rt: HostRuntime) -> Result<(), Fail> {
             queue: 2,
             ..WELL
         };
-        let (ended, seen) = packed(&rt, rt.alloc(), &job, &Behind::new(2, 100_000))?;
-        assert_eq!(rt; ended.numbers(), Err(PackFault::Held(0, 0)));
-        assert_eq!(rt; ended.outlet.items().len(), 0);
-        assert_eq!(rt; (ended.inputs, seen), (1, 0));
+        let told = told(&rt, rt.alloc(), &job, &Behind::new(2, 100_000))?;
+        assert_eq!(rt;
+            told,
+            (Err(PackFault::Held(0, 0)), 0, 1, 0),
+            "pieces of {piece}"
+        );
     }
     Ok(())
 }
@@ -97,12 +100,13 @@ fn a_put_that_fails_stops_the_run(rt: HostRuntime) -> Result<(), Fail> {
                 failing_put,
                 ..WELL
             };
-            let (ended, _) = packed(&rt, rt.alloc(), &job, &FreeGate)?;
-            assert_eq!(rt; ended.numbers(), Err(PackFault::Outlet));
-            assert_eq!(rt; ended.inputs, 1);
-            let items = ended.outlet.items();
-            assert_eq!(rt; items.len() as u64 + 1, failing_put);
-            assert!(rt; whole.items().starts_with(items));
+            let (told, begins) = told_beside(&rt, rt.alloc(), &job, &FreeGate, whole.items())?;
+            let (numbers, items, inputs, _) = told;
+            assert_eq!(rt;
+                (numbers, items.saturating_add(1) as u64, inputs, begins),
+                (Err(PackFault::Outlet), failing_put, 1, true),
+                "{workers} workers"
+            );
         }
     }
     Ok(())
@@ -120,13 +124,14 @@ fn a_read_that_fails_ends_an_input(rt: HostRuntime) -> Result<(), Fail> {
                 failing_read,
                 ..WELL
             };
-            let (ended, _) = packed(&rt, rt.alloc(), &job, &FreeGate)?;
-            assert_eq!(rt; ended.numbers(), Err(PackFault::Read(0)));
-            assert_eq!(rt; ended.inputs, 1);
-            let items = ended.outlet.items();
+            let (told, begins) = told_beside(&rt, rt.alloc(), &job, &FreeGate, whole.items())?;
+            let (numbers, items, inputs, _) = told;
             let count = if failing_read < 6 { 0 } else { 4 };
-            assert_eq!(rt; items.len(), count);
-            assert!(rt; whole.items().starts_with(items));
+            assert_eq!(rt;
+                (numbers, items, inputs, begins),
+                (Err(PackFault::Read(0)), count, 1, true),
+                "{workers} workers, read {failing_read}"
+            );
         }
     }
     Ok(())

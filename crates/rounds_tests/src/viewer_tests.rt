@@ -119,6 +119,21 @@ fn watched<'r, R: Threads + Wait + Sync>(
     )
 }
 
+/// Packs once before viewers, and tells how many saw beginnings of these items, and whether the run ended well.
+fn watched_once<R: Threads + Wait + Sync>(
+    rt: &R,
+    alloc: Global,
+    job: &Job,
+    settings: &Settings,
+    items: &[Item],
+) -> Result<(usize, bool), Fail> {
+    let (publisher, viewers) = board(rt, alloc, nothing(alloc)?, VIEWERS)?;
+    let held = HeldPublisher { publisher, rt };
+    let (held, ended, right) = watched(rt, alloc, job, settings, items, held, viewers);
+    held.release().end(rt);
+    Ok((right, matches!(ended, Some(Ended { answer: Ok(_), .. }))))
+}
+
 #[test]
 fn viewers_see_beginnings_of_the_run(rt: HostRuntime) -> Result<(), Fail> {
     let alloc = rt.alloc();
@@ -127,23 +142,11 @@ fn viewers_see_beginnings_of_the_run(rt: HostRuntime) -> Result<(), Fail> {
         piece: 188,
         ..WELL
     };
-    let (whole, _) = packed(&rt, alloc, &job, &FreeGate)?;
     let settings = settings_of(alloc, &job)?;
+    let (whole, _) = packed(&rt, alloc, &job, &FreeGate)?;
     for _ in 0..TIMES {
-        let (publisher, viewers) = board(&rt, alloc, nothing(alloc)?, VIEWERS)?;
-        let held = HeldPublisher { publisher, rt: &rt };
-        let (held, ended, right) = watched(
-            &rt,
-            alloc,
-            &job,
-            &settings,
-            whole.outlet.items(),
-            held,
-            viewers,
-        );
-        held.release().end(&rt);
-        assert_eq!(rt; right, VIEWERS);
-        assert!(rt; matches!(ended, Some(Ended { answer: Ok(_), .. })));
+        let seen = watched_once(&rt, alloc, &job, &settings, whole.outlet.items())?;
+        assert_eq!(rt; seen, (VIEWERS, true));
     }
     Ok(())
 }
