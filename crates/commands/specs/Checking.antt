@@ -71,13 +71,13 @@ pub record LacksSegment (gives : List ℕ → List ℕ → Type 0) (refuses : Li
   pub lacks : RefusesOne refuses (segment_paths playlist listing)
 
 -- why a playlist wasn't checked to its end, or isn't whole
-abbrev pub IsCheckFault : (List ℕ → List ℕ → Type 0) → (List ℕ → Type 0) → List (List ℕ) → List ℕ → CheckingFault → Type 0
-IsCheckFault gives refuses keys playlist Unread = IsNoText gives refuses playlist ⊎ LacksSegment gives refuses playlist
-IsCheckFault gives refuses keys playlist (Faulty (Text why)) = (text : List ℕ) × gives playlist text × IsUnread text why
-IsCheckFault gives refuses keys playlist (Faulty (Segments why)) =
+abbrev pub IsCheckFault : (List ℕ → List ℕ → Type 0) → (List ℕ → Type 0) → (List ℕ → Type 0) → List (List ℕ) → List ℕ → CheckingFault → Type 0
+IsCheckFault gives refuses wants keys playlist Unread = IsNoText gives refuses playlist ⊎ LacksSegment gives refuses playlist
+IsCheckFault gives refuses wants keys playlist (Faulty (Text why)) = (text : List ℕ) × gives playlist text × IsUnread text why
+IsCheckFault gives refuses wants keys playlist (Faulty (Segments why)) =
     (text : List ℕ) × (segments : List (List ℕ)) × GivesAll gives playlist text segments × IsFaulty text segments keys (Segments why)
-IsCheckFault gives refuses keys playlist Unwritten = ⊥
-IsCheckFault gives refuses keys playlist NoMemory = ⊤
+IsCheckFault gives refuses wants keys playlist Unwritten = ⊥
+IsCheckFault gives refuses wants keys playlist NoMemory = wants playlist ⊎ ((text : List ℕ) × (listing : Listing) × GivesListing gives playlist text listing)
 
 -- what the program prints of a playlist that is whole
 abbrev pub checked_line : Checked → List ℕ

@@ -18,25 +18,35 @@ pub record ReadsMost (reads reads_then failures failures_then : ℕ) : Type 0 wh
   pub each_gave : reads_then ≡ reads + READS
   pub none_failed : failures_then ≡ failures
 
+-- fewer than 2^40 reads gave a byte, and none failed
+pub record ReadsFewer (reads reads_then failures failures_then : ℕ) : Type 0 where
+  pub fewer : reads_then < reads + READS
+  pub none_failed : failures_then ≡ failures
+
+-- fewer than 2^40 reads gave a byte, and the last read failed
+pub record ReadsToFailure (reads reads_then failures failures_then : ℕ) : Type 0 where
+  pub fewer : reads_then < reads + READS
+  pub last_failed : failures_then ≡ failures + 1
+
 -- what the counts say where an input wasn't read to its end
 abbrev pub ReadingCounts : ℕ → ℕ → ℕ → ℕ → ReadingFault → Type 0
-ReadingCounts reads reads_then failures failures_then reading.Unread = failures_then ≡ failures + 1
+ReadingCounts reads reads_then failures failures_then reading.Unread = ReadsToFailure reads reads_then failures failures_then
 ReadingCounts reads reads_then failures failures_then reading.ReadLimit = ReadsMost reads reads_then failures failures_then
-ReadingCounts reads reads_then failures failures_then reading.NoMemory = failures_then ≡ failures
+ReadingCounts reads reads_then failures failures_then reading.NoMemory = ReadsFewer reads reads_then failures failures_then
 
 -- what they say at each fault of `seal`
 abbrev pub SealingCounts : ℕ → ℕ → ℕ → ℕ → SealingFault → Type 0
-SealingCounts reads reads_then failures failures_then sealing.Unread = failures_then ≡ failures + 1
+SealingCounts reads reads_then failures failures_then sealing.Unread = ReadsToFailure reads reads_then failures failures_then
 SealingCounts reads reads_then failures failures_then sealing.ReadLimit = ReadsMost reads reads_then failures failures_then
-SealingCounts reads reads_then failures failures_then sealing.Unwritten = failures_then ≡ failures
-SealingCounts reads reads_then failures failures_then sealing.NoMemory = failures_then ≡ failures
+SealingCounts reads reads_then failures failures_then sealing.Unwritten = ReadsFewer reads reads_then failures failures_then
+SealingCounts reads reads_then failures failures_then sealing.NoMemory = ReadsFewer reads reads_then failures failures_then
 
 -- what they say at each fault of `open`
 abbrev pub OpeningCounts : ℕ → ℕ → ℕ → ℕ → OpeningFault → Type 0
-OpeningCounts reads reads_then failures failures_then opening.Unread = failures_then ≡ failures + 1
+OpeningCounts reads reads_then failures failures_then opening.Unread = ReadsToFailure reads reads_then failures failures_then
 OpeningCounts reads reads_then failures failures_then opening.ReadLimit = ReadsMost reads reads_then failures failures_then
-OpeningCounts reads reads_then failures failures_then opening.BadHex = failures_then ≡ failures
-OpeningCounts reads reads_then failures failures_then opening.NotBlocks = failures_then ≡ failures
-OpeningCounts reads reads_then failures failures_then opening.BadPadding = failures_then ≡ failures
-OpeningCounts reads reads_then failures failures_then opening.Unwritten = failures_then ≡ failures
-OpeningCounts reads reads_then failures failures_then opening.NoMemory = failures_then ≡ failures
+OpeningCounts reads reads_then failures failures_then opening.BadHex = ReadsFewer reads reads_then failures failures_then
+OpeningCounts reads reads_then failures failures_then opening.NotBlocks = ReadsFewer reads reads_then failures failures_then
+OpeningCounts reads reads_then failures failures_then opening.BadPadding = ReadsFewer reads reads_then failures failures_then
+OpeningCounts reads reads_then failures failures_then opening.Unwritten = ReadsFewer reads reads_then failures failures_then
+OpeningCounts reads reads_then failures failures_then opening.NoMemory = ReadsFewer reads reads_then failures failures_then

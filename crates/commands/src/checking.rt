@@ -112,6 +112,7 @@ fn segment_path(
 fn read_text<F: FileReader>(alloc: Global, files: &F, playlist: &str) -> Result<String, FileFault>
     ensures ok { IfOk result (λ text. F.gives files.now playlist.now (string_bytes text)) }
     ensures unread { IsErrOf result FileFault.Unread → Checking.IsNoText (F.gives files.now) (F.refuses files.now) playlist.now }
+    ensures no_memory { IsErrOf result FileFault.NoMemory → F.wants files.now playlist.now }
 {
     let bytes = files.read(alloc, playlist)?;
     match String::from_utf8(bytes) {
@@ -146,7 +147,7 @@ fn check_files<F: FileReader>(
     playlist: &str,
 ) -> Result<Checked, CheckingFault>
     ensures ok { IfOk result (Checking.ChecksWell (F.gives files.now) keys.now playlist.now) }
-    ensures err { IfErr result (Checking.IsCheckFault (F.gives files.now) (F.refuses files.now) keys.now playlist.now) }
+    ensures err { IfErr result (Checking.IsCheckFault (F.gives files.now) (F.refuses files.now) (F.wants files.now) keys.now playlist.now) }
 {
     let text = read_text(alloc, files, playlist)?;
     let listing = read_media(alloc, &text)?;
@@ -170,8 +171,8 @@ fn checked_line(alloc: Global, checked: Checked) -> Result<String, AllocError>
 /// their rendition, and writes how many there are and to how many bytes they unpack, as the line `ok SEGMENTS BYTES`.
 ///
 /// A playlist that can't be read, or isn't UTF-8, is Unread. What is none is told before a segment that can't be read,
-/// and that before all that a segment holds. Before every fault but Unwritten nothing was written; at Unwritten a
-/// beginning of the line was.
+/// and that before all that a segment holds. NoMemory comes only where the file of the playlist wanted it, or gave a
+/// playlist. Before every fault but Unwritten nothing was written; at Unwritten a beginning of the line was.
 pub fn check<F: FileReader, W: Write>(
     alloc: Global,
     files: &F,
@@ -181,7 +182,7 @@ pub fn check<F: FileReader, W: Write>(
 ) -> Result<(), CheckingFault>
     ensures ok { OnOk result (Checking.WritesChecked (F.gives files.now) keys.now playlist.now (W.contents output.old) (W.contents output.new)) }
     ensures unwritten { IsErrOf result CheckingFault.Unwritten → Checking.BeginsChecked (F.gives files.now) keys.now playlist.now (W.contents output.old) (W.contents output.new) }
-    ensures other { IfErr result (λ fault. fault ≢ CheckingFault.Unwritten → Checking.IsCheckFault (F.gives files.now) (F.refuses files.now) keys.now playlist.now fault) }
+    ensures other { IfErr result (λ fault. fault ≢ CheckingFault.Unwritten → Checking.IsCheckFault (F.gives files.now) (F.refuses files.now) (F.wants files.now) keys.now playlist.now fault) }
     ensures untouched { IfErr result (λ fault. fault ≢ CheckingFault.Unwritten → output.new ≡ output.old) }
 {
     let checked = check_files(alloc, files, keys, playlist)?;

@@ -42,10 +42,14 @@ pub trait FileReader {
     /// Reading the file at a path may fail.
     ghost refuses: { Self → List ℕ → Type 0 };
 
+    /// Reading the file at a path may want memory that isn't there.
+    ghost wants: { Self → List ℕ → Type 0 };
+
     /// The bytes of the file at a path.
     fn read(&self, alloc: Global, path: &str) -> Result<Vec<u8>, FileFault>
         ensures ok { IfOk result (λ bytes. gives self.now path.now bytes.items) }
-        ensures unread { IsErrOf result FileFault.Unread → refuses self.now path.now };
+        ensures unread { IsErrOf result FileFault.Unread → refuses self.now path.now }
+        ensures no_memory { IsErrOf result FileFault.NoMemory → wants self.now path.now };
 }
 
 /// The files of the system. What they hold is the system's, so nothing is claimed of it.
@@ -53,6 +57,8 @@ impl FileReader for HostRuntime {
     ghost gives = { λ _ _ _. ⊤ };
 
     ghost refuses = { λ _ _. ⊤ };
+
+    ghost wants = { λ _ _. ⊤ };
 
     fn read(&self, _alloc: Global, path: &str) -> Result<Vec<u8>, FileFault> {
         match fs::read(self, path) {

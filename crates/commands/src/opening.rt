@@ -1,6 +1,6 @@
-ghost use Rattle.std.specs.Prelude.{◌≡◌, ◌≢◌, ◌⊎◌, OnOk, IfOk, IfErr, IsErrOf, true, is_err, Ok};
+ghost use Rattle.std.specs.Prelude.{◌≡◌, ◌≢◌, ◌⊎◌, ◌%◌, length, OnOk, IfOk, IfErr, IsErrOf, true, is_err, Ok};
 ghost use Rattle.hex.specs.Hex.{decode_of};
-ghost use Rattle.commands.specs.Counts.{HasRoom, OpeningCounts};
+ghost use Rattle.commands.specs.Counts.{HasRoom, ReadsFewer, OpeningCounts};
 ghost use Rattle.commands.specs.Hex.{without_end};
 ghost use Rattle.commands.specs.Streams.{WritesOpened, BeginsOpened, ReadsOther, ReadsNoBlocks, ReadsNoSealed};
 
@@ -86,10 +86,12 @@ fn without_end(text: &[u8]) -> &[u8]
     }
 }
 
-/// The bytes that a line of hex digits of either case stands for; its end may be missing.
+/// The bytes that a line of hex digits of either case stands for; its end may be missing. An odd number of them is told
+/// before memory is taken.
 fn decode_line(alloc: Global, line: &[u8]) -> Result<Vec<u8>, OpeningFault>
     ensures ok { IfOk result (λ bytes. decode_of (without_end line.now) ≡ Ok bytes.items) }
     ensures bad { IsErrOf result OpeningFault.BadHex → is_err (decode_of (without_end line.now)) ≡ true }
+    ensures no_memory { IsErrOf result OpeningFault.NoMemory → length (without_end line.now) % 2 ≢ 1 }
     ensures only { IfErr result (λ fault. (fault ≡ OpeningFault.BadHex) ⊎ (fault ≡ OpeningFault.NoMemory)) }
 {
     match hex::decode(alloc, without_end(line)) {
@@ -102,9 +104,9 @@ fn decode_line(alloc: Global, line: &[u8]) -> Result<Vec<u8>, OpeningFault>
 /// The command `open`: reads one line of hex digits to the input's end, opens the bytes that they stand for under a key
 /// and a vector, and writes the text that has those sealed bytes as one line of lower-case hex digits.
 ///
-/// Unread is told exactly where a read failed, and ReadLimit only after 2^40 reads. BadHex is told before NotBlocks, and
-/// that before BadPadding. Before every fault but Unwritten nothing was written; at Unwritten a beginning of that line
-/// was.
+/// Unread is told exactly where a read failed, and ReadLimit exactly where 2^40 reads each gave a byte. BadHex is told
+/// before NotBlocks, and that before BadPadding. Before every fault but Unwritten nothing was written; at Unwritten a
+/// beginning of that line was.
 pub fn open<S: Source, W: Write>(
     alloc: Global,
     key: &Key,
@@ -114,7 +116,7 @@ pub fn open<S: Source, W: Write>(
 ) -> Result<(), OpeningFault>
     requires room { HasRoom (S.reads input.old) (S.failures input.old) }
     ensures ok { OnOk result (WritesOpened key.now vector.now (S.remaining input.old) (S.remaining input.new) (W.contents output.old) (W.contents output.new)) }
-    ensures ok_counts { OnOk result (S.failures input.new ≡ S.failures input.old) }
+    ensures ok_counts { OnOk result (ReadsFewer (S.reads input.old) (S.reads input.new) (S.failures input.old) (S.failures input.new)) }
     ensures unwritten { IsErrOf result OpeningFault.Unwritten → BeginsOpened key.now vector.now (S.remaining input.old) (S.remaining input.new) (W.contents output.old) (W.contents output.new) }
     ensures bad_hex { IsErrOf result OpeningFault.BadHex → ReadsOther (S.remaining input.old) (S.remaining input.new) }
     ensures not_blocks { IsErrOf result OpeningFault.NotBlocks → ReadsNoBlocks (S.remaining input.old) (S.remaining input.new) }

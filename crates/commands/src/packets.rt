@@ -1,6 +1,6 @@
 ghost use Rattle.std.specs.Prelude.{◌≡◌, ℕ, List, OnOk, IfOk, IfErr};
 ghost use Rattle.ts_packet.specs.Packets.{packets};
-ghost use Rattle.commands.specs.Counts.{HasRoom, ReadingCounts};
+ghost use Rattle.commands.specs.Counts.{HasRoom, ReadsFewer, ReadingCounts};
 ghost use Rattle.commands.specs.Streams.{ReadsAll};
 
 use crate::reading::ReadingFault;
@@ -8,7 +8,8 @@ use item_io::{PIECE, READS, Source};
 use std::alloc::Global;
 use ts_packet::Reader;
 
-/// All packets of an input, which is read to its end.
+/// All packets of an input, which is read to its end. Of the last read that it may have no byte is kept, as in
+/// [`read_all`](crate::reading::read_all).
 pub(crate) fn read_packets<S: Source>(
     alloc: Global,
     input: &mut S,
@@ -16,19 +17,23 @@ pub(crate) fn read_packets<S: Source>(
     requires room { HasRoom (S.reads input.old) (S.failures input.old) }
     ensures packets { IfOk result (λ found. (bytes : List ℕ)
         × ReadsAll (S.remaining input.old) (S.remaining input.new) bytes × (found.items ≡ packets bytes)) }
-    ensures ok_counts { OnOk result (S.failures input.new ≡ S.failures input.old) }
+    ensures ok_counts { OnOk result (ReadsFewer (S.reads input.old) (S.reads input.new) (S.failures input.old) (S.failures input.new)) }
     ensures counts { IfErr result (ReadingCounts (S.reads input.old) (S.reads input.new) (S.failures input.old) (S.failures input.new)) }
 {
     let mut reader = Reader::new();
     let mut packets = Vec::new(alloc);
     let mut piece = [0; PIECE];
-    for _ in 0..READS {
+    for _ in 0..READS - 1 {
         let count = input.read(&mut piece)?;
         if count == 0 {
             reader.finish(&mut packets)?;
             return Ok(packets);
         }
         reader.feed(&piece[..count], &mut packets)?;
+    }
+    if input.read(&mut piece)? == 0 {
+        reader.finish(&mut packets)?;
+        return Ok(packets);
     }
     Err(ReadingFault::ReadLimit)
 }

@@ -1,5 +1,5 @@
 ghost use Rattle.std.specs.Prelude.{◌≡◌, OnOk, IfOk, IfErr};
-ghost use Rattle.commands.specs.Counts.{HasRoom, ReadingCounts};
+ghost use Rattle.commands.specs.Counts.{HasRoom, ReadsFewer, ReadingCounts};
 ghost use Rattle.commands.specs.Streams.{ReadsAll};
 
 use item_io::{PIECE, READS, ReadFault, Source};
@@ -36,21 +36,25 @@ impl From<ReadFault> for ReadingFault {
     }
 }
 
-/// All bytes of an input, which is read to its end.
+/// All bytes of an input, which is read to its end. Of the last read that it may have no byte is kept, so want of memory is
+/// never told in place of the limit.
 pub(crate) fn read_all<S: Source>(alloc: Global, input: &mut S) -> Result<Vec<u8>, ReadingFault>
     requires room { HasRoom (S.reads input.old) (S.failures input.old) }
     ensures all { IfOk result (λ bytes. ReadsAll (S.remaining input.old) (S.remaining input.new) bytes.items) }
-    ensures ok_counts { OnOk result (S.failures input.new ≡ S.failures input.old) }
+    ensures ok_counts { OnOk result (ReadsFewer (S.reads input.old) (S.reads input.new) (S.failures input.old) (S.failures input.new)) }
     ensures counts { IfErr result (ReadingCounts (S.reads input.old) (S.reads input.new) (S.failures input.old) (S.failures input.new)) }
 {
     let mut bytes = Vec::new(alloc);
     let mut piece = [0; PIECE];
-    for _ in 0..READS {
+    for _ in 0..READS - 1 {
         let count = input.read(&mut piece)?;
         if count == 0 {
             return Ok(bytes);
         }
         bytes.extend_from_slice(&piece[..count])?;
+    }
+    if input.read(&mut piece)? == 0 {
+        return Ok(bytes);
     }
     Err(ReadingFault::ReadLimit)
 }

@@ -1,5 +1,5 @@
 ghost use Rattle.std.specs.Prelude.{◌≡◌, ◌≢◌, OnOk, IfErr, IsErrOf};
-ghost use Rattle.commands.specs.Counts.{HasRoom, SealingCounts};
+ghost use Rattle.commands.specs.Counts.{HasRoom, ReadsFewer, SealingCounts};
 ghost use Rattle.commands.specs.Streams.{WritesSealed, BeginsSealed};
 
 use crate::output::write_hex_line;
@@ -64,8 +64,8 @@ impl From<OutletFault> for SealingFault {
 /// The command `seal`: reads the input to its end, takes its packets, and writes them, sealed under a key and a vector
 /// without a segment head, as one line of lower-case hex digits.
 ///
-/// Unread is told exactly where a read failed, and ReadLimit only after 2^40 reads. Before every fault but Unwritten
-/// nothing was written; at Unwritten a beginning of that line was.
+/// Unread is told exactly where a read failed, and ReadLimit exactly where 2^40 reads each gave a byte. Before every fault
+/// but Unwritten nothing was written; at Unwritten a beginning of that line was.
 pub fn seal<S: Source, W: Write>(
     alloc: Global,
     key: &Key,
@@ -75,7 +75,7 @@ pub fn seal<S: Source, W: Write>(
 ) -> Result<(), SealingFault>
     requires room { HasRoom (S.reads input.old) (S.failures input.old) }
     ensures ok { OnOk result (WritesSealed key.now vector.now (S.remaining input.old) (S.remaining input.new) (W.contents output.old) (W.contents output.new)) }
-    ensures ok_counts { OnOk result (S.failures input.new ≡ S.failures input.old) }
+    ensures ok_counts { OnOk result (ReadsFewer (S.reads input.old) (S.reads input.new) (S.failures input.old) (S.failures input.new)) }
     ensures unwritten { IsErrOf result SealingFault.Unwritten → BeginsSealed key.now vector.now (S.remaining input.old) (S.remaining input.new) (W.contents output.old) (W.contents output.new) }
     ensures untouched { IfErr result (λ fault. fault ≢ SealingFault.Unwritten → output.new ≡ output.old) }
     ensures counts { IfErr result (SealingCounts (S.reads input.old) (S.reads input.new) (S.failures input.old) (S.failures input.new)) }

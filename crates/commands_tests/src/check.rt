@@ -30,6 +30,8 @@ impl FileReader for MemoryFiles {
 
     ghost refuses = { λ _ _. ⊤ };
 
+    ghost wants = { λ _ _. ⊤ };
+
     fn read(&self, alloc: Global, path: &str) -> Result<Vec<u8>, FileFault> {
         for file in &self.files {
             if file.path.as_str() == path {
@@ -72,18 +74,22 @@ impl MemoryFiles {
     }
 }
 
-/// The files of the standard stream, in the folder `hls`.
-fn packed(alloc: Global) -> Result<MemoryFiles, Fail> {
+/// The items of the standard stream.
+fn outlet(alloc: Global) -> Result<MemoryOutlet, Fail> {
     let settings = settings(alloc, "1x1")?;
     let stream = stream_bytes(alloc)?;
     let mut sources = Vec::new(alloc);
     sources.push(ReaderSource::new(stream.as_slice()))?;
     let mut outlet = MemoryOutlet::new(alloc);
-    pack_serial(alloc, &mut sources, &settings, &mut outlet).map_err(|_| "packing")?;
-    let mut files = MemoryFiles {
-        files: Vec::new(alloc),
-    };
-    for item in outlet.items() {
+    match pack_serial(alloc, &mut sources, &settings, &mut outlet) {
+        Ok(_) => Ok(outlet),
+        Err(_) => Err(Fail::from("packing")),
+    }
+}
+
+/// Writes the segments and the media playlists of items, in the folder `hls`.
+fn write_items(alloc: Global, files: &mut MemoryFiles, items: &[Item]) -> Result<(), AllocError> {
+    for item in items {
         match item {
             Item::Segment { number, bytes, .. } => {
                 let path = format!(in alloc; "hls/v.{number}.ts")?;
@@ -93,6 +99,16 @@ fn packed(alloc: Global) -> Result<MemoryFiles, Fail> {
             _ => {}
         }
     }
+    Ok(())
+}
+
+/// The files of the standard stream, in the folder `hls`.
+fn packed(alloc: Global) -> Result<MemoryFiles, Fail> {
+    let outlet = outlet(alloc)?;
+    let mut files = MemoryFiles {
+        files: Vec::new(alloc),
+    };
+    write_items(alloc, &mut files, outlet.items())?;
     Ok(files)
 }
 
@@ -145,78 +161,135 @@ fn a_whole_playlist(rt: HostRuntime) -> Result<(), Fail> {
     Ok(())
 }
 
+/// What is done to files.
+#[derive(Clone, Copy, Debug)]
+enum Change {
+    None,
+    Damage(&'static str),
+    Write(&'static str, &'static [u8]),
+    Remove(&'static str),
+}
+
+/// Changes files.
+fn make_change(alloc: Global, files: &mut MemoryFiles, change: Change) -> Result<(), AllocError> {
+    match change {
+        Change::None => {}
+        Change::Damage(path) => files.damage(path),
+        Change::Write(path, bytes) => files.write(alloc, path, bytes)?,
+        Change::Remove(path) => files.remove(path),
+    }
+    Ok(())
+}
+
 #[test]
 fn faults_in_their_order(rt: HostRuntime) -> Result<(), Fail> {
-    let alloc = rt.alloc();
-    let mut files = packed(alloc)?;
-    assert!(rt; is_fault(told(alloc, &files, "v.m3u8")?, CheckingFault::Unread));
-    files.damage("hls/v.1.ts");
-    assert!(rt; is_fault(told(alloc, &files, "hls/v.m3u8")?, closed(1)));
-    files.write(alloc, "hls/v.1.ts", &[])?;
-    assert!(rt; is_fault(told(alloc, &files, "hls/v.m3u8")?, closed(1)));
-    files.damage("hls/v.0.ts");
-    assert!(rt; is_fault(told(alloc, &files, "hls/v.m3u8")?, closed(0)));
-    files.remove("hls/v.1.ts");
-    assert!(rt; is_fault(told(alloc, &files, "hls/v.m3u8")?, CheckingFault::Unread));
-    files.write(alloc, "hls/v.m3u8", b"#EXTM3U\n#EXT-X-VERSION:3\n")?;
-    assert!(rt; is_fault(told(alloc, &files, "hls/v.m3u8")?, wrong_line(2)));
-    files.write(alloc, "hls/v.m3u8", b"#EXTM3U\n\xFF")?;
-    assert!(rt; is_fault(told(alloc, &files, "hls/v.m3u8")?, CheckingFault::Unread));
+    let table = [
+        (Change::None, "v.m3u8", CheckingFault::Unread),
+        (Change::Damage("hls/v.1.ts"), "hls/v.m3u8", closed(1)),
+        (Change::Write("hls/v.1.ts", &[]), "hls/v.m3u8", closed(1)),
+        (Change::Damage("hls/v.0.ts"), "hls/v.m3u8", closed(0)),
+        (
+            Change::Remove("hls/v.1.ts"),
+            "hls/v.m3u8",
+            CheckingFault::Unread,
+        ),
+        (
+            Change::Write("hls/v.m3u8", b"#EXTM3U\n#EXT-X-VERSION:3\n"),
+            "hls/v.m3u8",
+            wrong_line(2),
+        ),
+        (
+            Change::Write("hls/v.m3u8", b"#EXTM3U\n\xFF"),
+            "hls/v.m3u8",
+            CheckingFault::Unread,
+        ),
+    ];
+    let mut files = packed(rt.alloc())?;
+    for (step, playlist, wanted) in table {
+        make_change(rt.alloc(), &mut files, step)?;
+        let told = told(rt.alloc(), &files, playlist)?;
+        assert!(rt; is_fault(told, wanted), "behind {step:?}");
+    }
     Ok(())
+}
+
+/// The files of the folder `hls` in another folder.
+fn moved(alloc: Global, files: &[MemoryFile], folder: &str) -> Result<MemoryFiles, AllocError> {
+    let mut moved = MemoryFiles {
+        files: Vec::new(alloc),
+    };
+    for file in files {
+        let name = file.path.as_str().strip_prefix("hls/").unwrap_or("");
+        let path = format!(in alloc; "{folder}{name}")?;
+        moved.write(alloc, path.as_str(), &file.bytes)?;
+    }
+    Ok(moved)
+}
+
+/// What is told of the playlist there.
+fn told_in(alloc: Global, files: &[MemoryFile], folder: &str) -> Result<Told, Fail> {
+    let playlist = format!(in alloc; "{folder}v.m3u8")?;
+    let files = moved(alloc, files, folder)?;
+    told(alloc, &files, playlist.as_str())
 }
 
 #[test]
 fn segments_lie_beside_their_playlist(rt: HostRuntime) -> Result<(), Fail> {
-    let alloc = rt.alloc();
-    let packed = packed(alloc)?;
+    let packed = packed(rt.alloc())?;
     for folder in ["", "./", "/", "a b/hls/", "../"] {
-        let mut files = MemoryFiles {
-            files: Vec::new(alloc),
-        };
-        for file in &packed.files {
-            let name = file.path.as_str().strip_prefix("hls/").unwrap_or("");
-            let path = format!(in alloc; "{folder}{name}")?;
-            files.write(alloc, path.as_str(), &file.bytes)?;
-        }
-        let playlist = format!(in alloc; "{folder}v.m3u8")?;
-        assert!(rt; is_whole(told(alloc, &files, playlist.as_str())?));
+        let told = told_in(rt.alloc(), &packed.files, folder)?;
+        assert!(rt; is_whole(told), "in '{folder}'");
     }
     Ok(())
+}
+
+/// What is told of a playlist of the system: before it is there, with its segments, and without the first.
+fn told_of_system(rt: &HostRuntime, files: &[MemoryFile]) -> Result<[Told; 3], Fail> {
+    let before = told(rt.alloc(), rt, "hls/v.m3u8")?;
+    for file in files {
+        fs::write(rt, file.path.as_str(), file.bytes.as_slice())?;
+    }
+    let whole = told(rt.alloc(), rt, "hls/v.m3u8")?;
+    fs::remove_file(rt, "hls/v.0.ts")?;
+    let behind = told(rt.alloc(), rt, "hls/v.m3u8")?;
+    Ok([before, whole, behind])
 }
 
 #[test]
 fn files_of_the_system(rt: HostRuntime) -> Result<(), Fail> {
-    let packed = packed(rt.alloc())?;
     let _ = fs::remove_dir_all(&rt, "hls");
     fs::create_dir(&rt, "hls")?;
-    assert!(rt; is_fault(told(rt.alloc(), &rt, "hls/v.m3u8")?, CheckingFault::Unread));
-    for file in &packed.files {
-        fs::write(&rt, file.path.as_str(), file.bytes.as_slice())?;
-    }
-    assert!(rt; is_whole(told(rt.alloc(), &rt, "hls/v.m3u8")?));
-    fs::remove_file(&rt, "hls/v.0.ts")?;
-    assert!(rt; is_fault(told(rt.alloc(), &rt, "hls/v.m3u8")?, CheckingFault::Unread));
+    let packed = packed(rt.alloc())?;
+    let [before, whole, behind] = told_of_system(&rt, &packed.files)?;
+    assert!(rt; is_fault(before, CheckingFault::Unread));
+    assert!(rt; is_whole(whole));
+    assert!(rt; is_fault(behind, CheckingFault::Unread));
     fs::remove_dir_all(&rt, "hls")?;
     Ok(())
 }
 
+/// The fault of a check whose writer takes so many bytes, and whether those are a beginning of the line.
+fn told_to_a_full_writer(
+    alloc: Global,
+    files: &MemoryFiles,
+    room: usize,
+) -> (Result<(), CheckingFault>, bool) {
+    let mut output = FullWriter {
+        taken: Vec::new(alloc),
+        room,
+    };
+    let answer = check(alloc, files, &KEYS, "hls/v.m3u8", &mut output);
+    let begins = output.taken.len() == room && b"ok 2 752\n".starts_with(&output.taken);
+    (answer, begins)
+}
+
 #[test]
 fn a_failed_write_leaves_a_beginning(rt: HostRuntime) -> Result<(), Fail> {
-    let alloc = rt.alloc();
-    let files = packed(alloc)?;
+    let files = packed(rt.alloc())?;
     for room in [0, 1, 8] {
-        let mut output = FullWriter {
-            taken: Vec::new(alloc),
-            room,
-        };
-        let answer = check(alloc, &files, &KEYS, "hls/v.m3u8", &mut output);
+        let told = told_to_a_full_writer(rt.alloc(), &files, room);
         assert!(rt;
-            answer == Err(CheckingFault::Unwritten),
-            "with room for {room}"
-        );
-        assert_eq!(rt; output.taken.len(), room);
-        assert!(rt;
-            b"ok 2 752\n".starts_with(&output.taken),
+            told == (Err(CheckingFault::Unwritten), true),
             "with room for {room}"
         );
     }
