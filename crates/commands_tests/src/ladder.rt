@@ -54,13 +54,17 @@ fn two(alloc: Global) -> Result<LadderOptions<'static>, Fail> {
 fn a_ladder_of_two(rt: HostRuntime) -> Result<(), Fail> {
     let options = two(rt.alloc())?;
     let renditions = &options.settings.renditions;
-    assert_eq!(rt; renditions.len(), 2);
-    assert_eq!(rt;
-        (renditions[0].name.as_str(), renditions[1].name.as_str()),
-        ("b", "a")
+    let [b, a] = renditions.as_slice() else {
+        return Err(Fail::from("not two renditions"));
+    };
+    let told = (
+        b.name.as_str(),
+        b.width,
+        b.salt.is_some(),
+        a.name.as_str(),
+        a.height,
     );
-    assert_eq!(rt; (renditions[0].width, renditions[1].height), (1280, 360));
-    assert!(rt; renditions[0].salt.is_some());
+    assert_eq!(rt; told, ("b", 1280, true, "a", 360));
     assert!(rt; options.settings.kind == Kind::Event);
     assert_eq!(rt; (options.settings.queue, options.pool.workers), (16, 4));
     assert_eq!(rt; options.paths.as_slice(), ["b.ts", "/in/a:1.ts"].as_slice());
@@ -77,16 +81,23 @@ fn told<'a>(
     read_ladder_options(alloc, words(entries, salt), period(turns), no_pool()).err()
 }
 
+/// Entries, a salt and a period, and what is told of them.
+const FAULTS: [(&[&str], Option<&str>, u64, LadderFault); 7] = [
+    (&[A, NO_SIZE, "x"], Some("0"), 0, LadderFault::BadEntry(2)),
+    (&["a:b:1x1:00:p"], None, 1, LadderFault::BadEntry(1)),
+    (&[A], Some("0"), 0, LadderFault::BadVector),
+    (&[A, A], None, 0, LadderFault::ZeroPeriod),
+    (&[A, A], None, 1, LadderFault::Settings),
+    (&[A, NO_PIXELS], None, 1, LadderFault::Settings),
+    (&[], None, 1, LadderFault::Settings),
+];
+
 #[test]
 fn faults_in_their_order(rt: HostRuntime) -> Result<(), Fail> {
-    let alloc = rt.alloc();
-    assert!(rt; told(alloc, &[A, NO_SIZE, "x"], Some("0"), 0) == Some(LadderFault::BadEntry(2)));
-    assert!(rt; told(alloc, &["a:b:1x1:00:p"], None, 1) == Some(LadderFault::BadEntry(1)));
-    assert!(rt; told(alloc, &[A], Some("0"), 0) == Some(LadderFault::BadVector));
-    assert!(rt; told(alloc, &[A, A], None, 0) == Some(LadderFault::ZeroPeriod));
-    assert!(rt; told(alloc, &[A, A], None, 1) == Some(LadderFault::Settings));
-    assert!(rt; told(alloc, &[A, NO_PIXELS], None, 1) == Some(LadderFault::Settings));
-    assert!(rt; told(alloc, &[], None, 1) == Some(LadderFault::Settings));
+    for (entries, salt, period, fault) in FAULTS {
+        let told = told(rt.alloc(), entries, salt, period);
+        assert!(rt; told == Some(fault), "of {entries:?}, {salt:?}, {period}");
+    }
     Ok(())
 }
 
@@ -121,12 +132,17 @@ fn a_pool_out_of_range(rt: HostRuntime) -> Result<(), Fail> {
 
 #[test]
 fn statuses_of_ladders(rt: HostRuntime) -> Result<(), Fail> {
-    assert_eq!(rt; LadderFault::BadEntry(3).status(), 2);
-    assert_eq!(rt; LadderFault::BadVector.status(), 2);
-    assert_eq!(rt; LadderFault::TooMany.status(), 1);
-    assert_eq!(rt; LadderFault::ZeroPeriod.status(), 1);
-    assert_eq!(rt; LadderFault::Settings.status(), 1);
-    assert_eq!(rt; LadderFault::NoMemory.status(), 1);
+    let table = [
+        (LadderFault::BadEntry(3), 2),
+        (LadderFault::BadVector, 2),
+        (LadderFault::TooMany, 1),
+        (LadderFault::ZeroPeriod, 1),
+        (LadderFault::Settings, 1),
+        (LadderFault::NoMemory, 1),
+    ];
+    for (fault, status) in table {
+        assert_eq!(rt; fault.status(), status, "of {fault:?}");
+    }
     Ok(())
 }
 

@@ -1,17 +1,32 @@
 use crate::fixtures::{BrokenReader, settings, stream_bytes};
-use commands::one;
+use commands::{Packed, one};
 use pipeline::PackFault;
+use std::alloc::Global;
 use std::test::Fail;
+
+/// What `one` writes of a stream that it reads to its end.
+fn whole(alloc: Global, stream: &[u8]) -> Result<String, Fail> {
+    let settings = settings(alloc, "640x360")?;
+    let Packed {
+        source,
+        outlet,
+        answer,
+    } = one(alloc, &settings, stream, Vec::new(alloc));
+    let left = source.into_reader().len();
+    let text = String::from_utf8(outlet.into_writer());
+    if answer.is_err() || left > 0 {
+        return Err(Fail::from("not packed to its end"));
+    }
+    match text {
+        Ok(text) => Ok(text),
+        Err(_) => Err(Fail::from("not UTF-8")),
+    }
+}
 
 #[test]
 fn ten_items(rt: HostRuntime) -> Result<(), Fail> {
     let alloc = rt.alloc();
-    let settings = settings(alloc, "640x360")?;
-    let stream = stream_bytes(alloc)?;
-    let packed = one(alloc, &settings, stream.as_slice(), Vec::new(alloc));
-    assert!(rt; packed.answer.is_ok());
-    assert!(rt; packed.source.into_reader().is_empty());
-    let text = String::from_utf8(packed.outlet.into_writer()).map_err(|_| "not UTF-8")?;
+    let text = whole(alloc, &stream_bytes(alloc)?)?;
     let wanted = [
         "segment v.0.ts 768",
         "media v.m3u8 8",
@@ -31,8 +46,7 @@ fn ten_items(rt: HostRuntime) -> Result<(), Fail> {
             || line.starts_with("frames ")
             || line.starts_with("master ")
         {
-            assert!(rt; found < 10);
-            assert_eq!(rt; line, wanted[found]);
+            assert_eq!(rt; Some(&line), wanted.get(found));
             found += 1;
         }
     }
@@ -46,34 +60,42 @@ fn no_program(rt: HostRuntime) -> Result<(), Fail> {
     let settings = settings(alloc, "640x360")?;
     let empty: &[u8] = &[];
     let packed = one(alloc, &settings, empty, Vec::new(alloc));
-    assert!(rt; packed.outlet.into_writer().is_empty());
-    assert!(rt; packed.answer == Err(PackFault::NoProgram(0)));
+    let count = packed.outlet.into_writer().len();
+    assert!(rt; packed.answer == Err(PackFault::NoProgram(0)) && count == 0);
     Ok(())
 }
 
+/// What `one` writes of a stream whose reader fails behind its bytes, how many of those it left, and its fault.
+fn before_a_failed_read(
+    alloc: Global,
+    bytes: &[u8],
+) -> Result<(Vec<u8>, usize, Option<PackFault>), Fail> {
+    let settings = settings(alloc, "640x360")?;
+    let Packed {
+        source,
+        outlet,
+        answer,
+    } = one(alloc, &settings, BrokenReader { bytes }, Vec::new(alloc));
+    let left = source.into_reader().bytes.len();
+    Ok((outlet.into_writer(), left, answer.err()))
+}
+
+/// The first 940 of the stream's 1,128 bytes end behind the packet that closes the first segment.
 #[test]
 fn a_read_that_fails_in_mid_stream(rt: HostRuntime) -> Result<(), Fail> {
     let alloc = rt.alloc();
-    let settings = settings(alloc, "640x360")?;
     let stream = stream_bytes(alloc)?;
-    let whole = one(alloc, &settings, stream.as_slice(), Vec::new(alloc));
-    assert!(rt; whole.answer.is_ok());
-    let whole = String::from_utf8(whole.outlet.into_writer()).map_err(|_| "not UTF-8")?;
-    let Some((first, _)) = whole.as_str().split_once("segment v.1.ts") else {
-        return Err(Fail::from("no second segment"));
-    };
-    let Some(front) = stream.get(..940) else {
-        return Err(Fail::from("a short stream"));
-    };
-    let packed = one(
-        alloc,
-        &settings,
-        BrokenReader { bytes: front },
-        Vec::new(alloc),
+    let (front, _) = stream.split_at(stream.len().min(940));
+    let (output, left, fault) = before_a_failed_read(alloc, front)?;
+    assert_eq!(rt;
+        (front.len(), left, fault),
+        (940, 0, Some(PackFault::Read(0)))
     );
-    assert!(rt; packed.answer == Err(PackFault::Read(0)));
-    assert!(rt; packed.source.into_reader().bytes.is_empty());
-    let output = packed.outlet.into_writer();
-    assert!(rt; output.as_slice() == first.as_bytes());
+    let whole = whole(alloc, &stream)?;
+    let first = whole
+        .as_str()
+        .split_once("segment v.1.ts")
+        .map(|parts| parts.0.as_bytes());
+    assert!(rt; Some(output.as_slice()) == first);
     Ok(())
 }

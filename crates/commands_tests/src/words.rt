@@ -1,4 +1,4 @@
-use crate::fixtures::{KEY, VECTOR, no_numbers, words};
+use crate::fixtures::{KEY, VECTOR, no_numbers, settings, words};
 use commands::{
     CheckWords, CipherFault, CipherWords, DEFAULT_FRAME, DEFAULT_GAP, DEFAULT_MOST, DEFAULT_NAME,
     DEFAULT_PERIOD, DEFAULT_TARGET, DEFAULT_WINDOW, EntryWords, KeyListFault, NumberWords,
@@ -12,19 +12,35 @@ use std::test::Fail;
 #[test]
 fn defaults(rt: HostRuntime) -> Result<(), Fail> {
     let numbers = no_numbers().numbers();
-    assert_eq!(rt; (numbers.target, numbers.segment), (6, 6));
-    assert_eq!(rt; (numbers.window, numbers.frame), (5, 3600));
-    assert_eq!(rt; (numbers.gap, numbers.most), (900_000, 1_000_000));
-    assert_eq!(rt; numbers.period, 1);
+    let told = [
+        numbers.target,
+        numbers.segment,
+        numbers.window,
+        numbers.frame,
+        numbers.gap,
+        numbers.most,
+        numbers.period,
+    ];
+    assert_eq!(rt; told, [6, 6, 5, 3600, 900_000, 1_000_000, 1]);
     assert!(rt; numbers.program.is_none());
-    assert_eq!(rt; (DEFAULT_TARGET, DEFAULT_WINDOW), (6, 5));
-    assert_eq!(rt; (DEFAULT_FRAME, DEFAULT_GAP), (3600, 900_000));
-    assert_eq!(rt; (DEFAULT_MOST, DEFAULT_PERIOD), (1_000_000, 1));
-    let settings = read_settings(rt.alloc(), words("1x1", KEY), no_numbers()).map_err(
-        |_| "settings",
-    )?;
-    assert_eq!(rt; settings.renditions[0].name.as_str(), DEFAULT_NAME);
-    assert_eq!(rt; settings.cut.segment, 6 * TICKS);
+    let named = [
+        DEFAULT_TARGET,
+        DEFAULT_WINDOW,
+        DEFAULT_FRAME,
+        DEFAULT_GAP,
+        DEFAULT_MOST,
+        DEFAULT_PERIOD,
+    ];
+    assert_eq!(rt; named, [6, 5, 3600, 900_000, 1_000_000, 1]);
+    let settings = settings(rt.alloc(), "1x1")?;
+    let name = settings
+        .renditions
+        .first()
+        .map(|rendition| rendition.name.as_str());
+    assert_eq!(rt;
+        (name, settings.cut.segment),
+        (Some(DEFAULT_NAME), 6 * TICKS)
+    );
     Ok(())
 }
 
@@ -75,17 +91,27 @@ fn keys_and_a_playlist(rt: HostRuntime) -> Result<(), Fail> {
 
 #[test]
 fn statuses(rt: HostRuntime) -> Result<(), Fail> {
-    assert_eq!(rt; CipherFault::BadKey.status(), 2);
-    assert_eq!(rt; CipherFault::BadVector.status(), 2);
-    assert_eq!(rt; KeyListFault::BadKey.status(), 2);
-    assert_eq!(rt; KeyListFault::NoMemory.status(), 1);
-    assert_eq!(rt; SettingsFault::BadKey.status(), 2);
-    assert_eq!(rt; SettingsFault::BadSize.status(), 2);
-    assert_eq!(rt; SettingsFault::BadVector.status(), 2);
-    assert_eq!(rt; SettingsFault::TooMany.status(), 1);
-    assert_eq!(rt; SettingsFault::ZeroPeriod.status(), 1);
-    assert_eq!(rt; SettingsFault::Settings.status(), 1);
-    assert_eq!(rt; SettingsFault::NoMemory.status(), 1);
+    let of_cipher = (
+        CipherFault::BadKey.status(),
+        CipherFault::BadVector.status(),
+    );
+    let of_keys = (
+        KeyListFault::BadKey.status(),
+        KeyListFault::NoMemory.status(),
+    );
+    assert_eq!(rt; (of_cipher, of_keys), ((2, 2), (2, 1)));
+    let table = [
+        (SettingsFault::BadKey, 2),
+        (SettingsFault::BadSize, 2),
+        (SettingsFault::BadVector, 2),
+        (SettingsFault::TooMany, 1),
+        (SettingsFault::ZeroPeriod, 1),
+        (SettingsFault::Settings, 1),
+        (SettingsFault::NoMemory, 1),
+    ];
+    for (fault, status) in table {
+        assert_eq!(rt; fault.status(), status, "of {fault:?}");
+    }
     Ok(())
 }
 
@@ -159,18 +185,14 @@ fn parts(alloc: Global, text: &str) -> Result<EntryWords<'_>, Fail> {
 fn entries_at_their_first_four_colons(rt: HostRuntime) -> Result<(), Fail> {
     let good = "a %20:avc1:640x360:000102030405060708090a0b0c0d0e0f:/in/a:b.ts";
     let read = parts(rt.alloc(), good)?;
-    assert_eq!(rt; (read.name, read.codecs), ("a %20", "avc1"));
-    assert_eq!(rt; (read.size, read.keys), ("640x360", KEY));
-    assert_eq!(rt; read.path, "/in/a:b.ts");
-    assert!(rt; first_bad(&[good]).is_none());
-    assert_eq!(rt; first_bad(&[good, "a:b:1x1:00:p", "a"]), Some(1));
-    assert_eq!(rt;
+    let words = [read.name, read.codecs, read.size, read.keys, read.path];
+    assert_eq!(rt; words, ["a %20", "avc1", "640x360", KEY, "/in/a:b.ts"]);
+    let bad = [
+        first_bad(&[good]),
+        first_bad(&[good, "a:b:1x1:00:p", "a"]),
         first_bad(&["a:b:1:000102030405060708090a0b0c0d0e0f:p"]),
-        Some(0)
-    );
-    assert_eq!(rt;
         first_bad(&["a:b:1x1:000102030405060708090a0b0c0d0e0f"]),
-        Some(0)
-    );
+    ];
+    assert_eq!(rt; bad, [None, Some(1), Some(0), Some(0)]);
     Ok(())
 }
