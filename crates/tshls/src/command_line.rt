@@ -6,7 +6,7 @@ use crate::fault::Fault;
 use crate::help;
 use crate::options::{
     check_words, cipher_words, number_words, packing_words, with_check_options,
-    with_cipher_options, with_numbers, with_rendition,
+    with_cipher_options, with_stream,
 };
 use crate::pack_options::{entry_words, pool_words, with_ladder};
 use clap::error::ErrorKind;
@@ -54,6 +54,17 @@ pub fn line<'a, S: AsStr>(alloc: Global, words: &'a [S]) -> Result<Job<'a>, Faul
 {
     let mut command = program(alloc)?;
     let matches = command.try_get_matches_from_mut(words)?;
+    job_of(alloc, &mut command, &matches)
+}
+
+/// The job of the command that was matched, by its options.
+fn job_of<'a>(
+    alloc: Global,
+    command: &mut Command<'a>,
+    matches: &ArgMatches<'a>,
+) -> Result<Job<'a>, Fault>
+    ensures { IfErr result IsOfCommandLine }
+{
     match matches.subcommand() {
         Some(("seal", options)) => {
             let options = read_cipher_options(cipher_words(options))?;
@@ -94,36 +105,62 @@ fn ladder_job<'a>(alloc: Global, options: &ArgMatches<'a>) -> Result<LadderJob<'
     })
 }
 
-fn program<'a>(alloc: Global) -> Result<Command<'a>, AllocError> {
+/// The program with its command `seal`.
+fn with_seal<'a>(alloc: Global, program: Command<'a>) -> Result<Command<'a>, AllocError> {
     let seal = Command::new(alloc, "seal")
         .about("Read a transport stream, and print its packets, sealed, as one line of hex digits")
         .after_help(help::SEAL);
+    program.subcommand(with_cipher_options(alloc, seal)?)
+}
+
+/// The program with its command `open`.
+fn with_open<'a>(alloc: Global, program: Command<'a>) -> Result<Command<'a>, AllocError> {
     let open = Command::new(alloc, "open")
         .about("Read what seal prints, and print what was sealed, as one line of hex digits")
         .after_help(help::OPEN);
+    program.subcommand(with_cipher_options(alloc, open)?)
+}
+
+/// The program with its command `one`.
+fn with_one<'a>(alloc: Global, program: Command<'a>) -> Result<Command<'a>, AllocError> {
     let one = Command::new(alloc, "one")
         .about(
             "Read a transport stream, and print its segments, sealed, and its playlists as lines",
         )
         .after_help(help::ONE);
+    program.subcommand(with_stream(alloc, one)?)
+}
+
+/// The program with its command `pack`.
+fn with_pack<'a>(alloc: Global, program: Command<'a>) -> Result<Command<'a>, AllocError> {
     let pack = Command::new(alloc, "pack")
         .about(
             "Read the transport streams of a ladder, and write its segments, sealed, and its playlists as files of a folder",
         )
         .after_help(help::PACK);
+    program.subcommand(with_ladder(alloc, pack)?)
+}
+
+/// The program with its command `check`.
+fn with_check<'a>(alloc: Global, program: Command<'a>) -> Result<Command<'a>, AllocError> {
     let check = Command::new(alloc, "check")
         .about(
             "Read a media playlist and the segments beside it, and print how many bytes they unpack to",
         )
         .after_help(help::CHECK);
-    Command::new(alloc, "tshls")
+    program.subcommand(with_check_options(alloc, check)?)
+}
+
+/// The program, with its commands in the order in which help shows them.
+fn program<'a>(alloc: Global) -> Result<Command<'a>, AllocError> {
+    let program = Command::new(alloc, "tshls")
         .about("MPEG-2 transport streams to encrypted HLS")
         .version(help::VERSION)
         .subcommand_required(true)
-        .arg_required_else_help(true)
-        .subcommand(with_cipher_options(alloc, seal)?)?
-        .subcommand(with_cipher_options(alloc, open)?)?
-        .subcommand(with_numbers(alloc, with_rendition(alloc, one)?)?)?
-        .subcommand(with_numbers(alloc, with_ladder(alloc, pack)?)?)?
-        .subcommand(with_check_options(alloc, check)?)
+        .arg_required_else_help(true);
+    let program = with_seal(alloc, program)?;
+    let program = with_open(alloc, program)?;
+    let program = with_one(alloc, program)?;
+    let program = with_pack(alloc, program)?;
+    with_check(alloc, program)
 }

@@ -9,11 +9,11 @@ pub fn with_cipher_options<'a>(
     alloc: Global,
     command: Command<'a>,
 ) -> Result<Command<'a>, AllocError> {
-    let key = text(alloc, "key", "HEX", "The key: 32 hex digits").required(true);
     let seq = "The segment's number, which gives the vector";
-    let seq = text(alloc, "seq", "NUMBER", seq).value_parser(clap::value_parser!(u64));
-    let iv = text(alloc, "iv", "HEX", "The vector itself: 32 hex digits");
-    command.arg(key)?.arg(seq)?.arg(iv)
+    let command = command
+        .arg(text(alloc, "key", "HEX", "The key: 32 hex digits").required(true))?
+        .arg(number(alloc, "seq", "NUMBER", seq))?;
+    command.arg(text(alloc, "iv", "HEX", "The vector itself: 32 hex digits"))
 }
 
 /// The words of a key and a vector.
@@ -25,30 +25,36 @@ pub fn cipher_words<'a>(options: &ArgMatches<'a>) -> CipherWords<'a> {
     }
 }
 
-/// The command with the options of one rendition, and of which segments are listed.
-pub fn with_rendition<'a>(alloc: Global, command: Command<'a>) -> Result<Command<'a>, AllocError> {
+/// The command with the options of a stream of one rendition.
+pub fn with_stream<'a>(alloc: Global, command: Command<'a>) -> Result<Command<'a>, AllocError> {
+    let command = with_rendition(alloc, command)?;
+    let command = with_forms(alloc, command)?;
+    with_numbers(alloc, command, &NUMBERS)
+}
+
+/// The command with the options of one rendition.
+fn with_rendition<'a>(alloc: Global, command: Command<'a>) -> Result<Command<'a>, AllocError> {
     let codecs = "The codecs, as a master playlist lists them";
     let size = "The width and the height of the pictures, 1 to 16384 pixels each";
     let keys = "The keys, 32 hex digits each, 1 to 4096 of them";
     let name = "The name of the rendition";
-    let command = command
+    command
         .arg(text(alloc, "codecs", "CODECS", codecs).required(true))?
         .arg(text(alloc, "size", "WIDTHxHEIGHT", size).required(true))?
         .arg(text(alloc, "keys", "KEY[+KEY..]", keys).required(true))?
-        .arg(text(alloc, "name", "NAME", name).default_value("v"))?;
-    with_forms(alloc, command)
+        .arg(text(alloc, "name", "NAME", name).default_value("v"))
 }
 
 /// The command with the options of vectors, and of which segments are listed.
 pub fn with_forms<'a>(alloc: Global, command: Command<'a>) -> Result<Command<'a>, AllocError> {
     let salt =
         "A salt of the segments' vectors, 32 hex digits: each is then the salt xor the number, and is listed";
-    let event = "List all segments, as those of an event";
+    let command = command.arg(text(alloc, "salt", "HEX", salt))?;
     let event = Arg::new(alloc, "event")
         .long("event")
         .action(ArgAction::SetTrue)
-        .help(event);
-    command.arg(text(alloc, "salt", "HEX", salt))?.arg(event)
+        .help("List all segments, as those of an event");
+    command.arg(event)
 }
 
 /// The words of a rendition.
@@ -67,26 +73,81 @@ pub fn packing_words<'a>(options: &ArgMatches<'a>) -> PackingWords<'a> {
     }
 }
 
-/// The command with the numbers of a packager.
-pub fn with_numbers<'a>(alloc: Global, command: Command<'a>) -> Result<Command<'a>, AllocError> {
-    let target = "The target duration, 1 to 3600";
-    let segment =
-        "Cut at the first key frame so long after a segment's start, 1 to the target [default: the target]";
-    let window = "The least number of segments that a playlist lists, 1 to 10000";
-    let frame = "What the last frame before a jump of time lasts, 1 to 900000";
-    let gap = "How far time may step without being a jump, 1 to 4294967295";
-    let most = "The most packets of a segment, 1 to 1000000";
-    let period = "How many segments in a row a key seals, from 1 on";
-    let program = "The program to pack, 1 to 65535 [default: the first]";
-    command
-        .arg(number(alloc, "target", "SECONDS", target).default_value("6"))?
-        .arg(number(alloc, "segment", "SECONDS", segment))?
-        .arg(number(alloc, "window", "SEGMENTS", window).default_value("5"))?
-        .arg(number(alloc, "frame", "TICKS", frame).default_value("3600"))?
-        .arg(number(alloc, "gap", "TICKS", gap).default_value("900000"))?
-        .arg(number(alloc, "most", "PACKETS", most).default_value("1000000"))?
-        .arg(number(alloc, "period", "SEGMENTS", period).default_value("1"))?
-        .arg(number(alloc, "program", "NUMBER", program))
+/// An option whose value is a number: its name, what it counts, what help says of it, and what stands where it is absent.
+pub(crate) type NumberOption = (
+    &'static str,
+    &'static str,
+    &'static str,
+    Option<&'static str>,
+);
+
+/// The numbers of a packager.
+pub(crate) const NUMBERS: [NumberOption; 8] = [
+    (
+        "target",
+        "SECONDS",
+        "The target duration, 1 to 3600",
+        Some("6"),
+    ),
+    (
+        "segment",
+        "SECONDS",
+        "Cut at the first key frame so long after a segment's start, 1 to the target [default: the target]",
+        None,
+    ),
+    (
+        "window",
+        "SEGMENTS",
+        "The least number of segments that a playlist lists, 1 to 10000",
+        Some("5"),
+    ),
+    (
+        "frame",
+        "TICKS",
+        "What the last frame before a jump of time lasts, 1 to 900000",
+        Some("3600"),
+    ),
+    (
+        "gap",
+        "TICKS",
+        "How far time may step without being a jump, 1 to 4294967295",
+        Some("900000"),
+    ),
+    (
+        "most",
+        "PACKETS",
+        "The most packets of a segment, 1 to 1000000",
+        Some("1000000"),
+    ),
+    (
+        "period",
+        "SEGMENTS",
+        "How many segments in a row a key seals, from 1 on",
+        Some("1"),
+    ),
+    (
+        "program",
+        "NUMBER",
+        "The program to pack, 1 to 65535 [default: the first]",
+        None,
+    ),
+];
+
+/// The command with options whose values are numbers.
+pub(crate) fn with_numbers<'a>(
+    alloc: Global,
+    command: Command<'a>,
+    numbers: &[NumberOption],
+) -> Result<Command<'a>, AllocError> {
+    let mut command = command;
+    for &(name, value, help, default) in numbers {
+        let mut option = number(alloc, name, value, help);
+        if let Some(default) = default {
+            option = option.default_value(default);
+        }
+        command = command.arg(option)?;
+    }
+    Ok(command)
 }
 
 /// The numbers that were given.
@@ -109,13 +170,12 @@ pub fn with_check_options<'a>(
     command: Command<'a>,
 ) -> Result<Command<'a>, AllocError> {
     let keys = "The keys of the rendition, 32 hex digits each";
+    let command = command.arg(text(alloc, "keys", "KEY[+KEY..]", keys).required(true))?;
     let playlist = Arg::new(alloc, "playlist")
         .value_name("PLAYLIST")
         .required(true)
         .help("The media playlist; its segments lie in the same folder");
-    command
-        .arg(text(alloc, "keys", "KEY[+KEY..]", keys).required(true))?
-        .arg(playlist)
+    command.arg(playlist)
 }
 
 /// The words of `check`.

@@ -1,16 +1,43 @@
 //! The options of `pack`: how help shows them, and the words that were given.
-use crate::options::{given_number, number, text, with_forms};
+use crate::options::{NUMBERS, NumberOption, given_number, text, with_forms, with_numbers};
 use clap::{Arg, ArgAction, ArgMatches, Command};
 use commands::PoolWords;
 use std::alloc::{AllocError, Global};
 
-/// The command with the options of a ladder and of the threads that seal it, and with its entries.
+/// The command with the options of a ladder and of the threads that seal it, with its entries, and with the numbers of a packager.
 pub fn with_ladder<'a>(alloc: Global, command: Command<'a>) -> Result<Command<'a>, AllocError> {
     let out = "The folder that the files are written to, which has to be there";
-    let workers = "How many threads seal, 1 to 64";
-    let queue = "How many segments may be on their way, 1 to 256";
-    let batch =
-        "With how many closed segments a round of sealing begins at the latest, 1 to 256: 1 for a live stream [default: the workers, or the queue where that is less]";
+    let command = command.arg(text(alloc, "out", "DIR", out).required(true))?;
+    let command = with_numbers(alloc, command, &POOL)?;
+    let command = with_entries(alloc, command)?;
+    let command = with_forms(alloc, command)?;
+    with_numbers(alloc, command, &NUMBERS)
+}
+
+/// The numbers of the threads that seal.
+const POOL: [NumberOption; 3] = [
+    (
+        "workers",
+        "NUMBER",
+        "How many threads seal, 1 to 64",
+        Some("4"),
+    ),
+    (
+        "queue",
+        "SEGMENTS",
+        "How many segments may be on their way, 1 to 256",
+        Some("16"),
+    ),
+    (
+        "batch",
+        "SEGMENTS",
+        "With how many closed segments a round of sealing begins at the latest, 1 to 256: 1 for a live stream [default: the workers, or the queue where that is less]",
+        None,
+    ),
+];
+
+/// The command with the entries of a ladder.
+fn with_entries<'a>(alloc: Global, command: Command<'a>) -> Result<Command<'a>, AllocError> {
     let entry =
         "A rendition: its name, codecs, size, keys and the path of its stream, with a colon between";
     let entries = Arg::new(alloc, "entries")
@@ -19,13 +46,7 @@ pub fn with_ladder<'a>(alloc: Global, command: Command<'a>) -> Result<Command<'a
         .num_args(1..)
         .action(ArgAction::Append)
         .help(entry);
-    let command = command
-        .arg(text(alloc, "out", "DIR", out).required(true))?
-        .arg(number(alloc, "workers", "NUMBER", workers).default_value("4"))?
-        .arg(number(alloc, "queue", "SEGMENTS", queue).default_value("16"))?
-        .arg(number(alloc, "batch", "SEGMENTS", batch))?
-        .arg(entries)?;
-    with_forms(alloc, command)
+    command.arg(entries)
 }
 
 /// The texts of a ladder's renditions.

@@ -14,8 +14,7 @@ fn keys_on_the_command_line(rt: HostRuntime) -> Result<(), Fail> {
     ];
     for (key, text, status) in table {
         let told = told(rt.alloc(), &["tshls", "seal", "--key", key, "--seq", "0"])?;
-        assert_eq!(rt; told.0.as_str(), text, "at {key:?}");
-        assert_eq!(rt; told.1, status, "at {key:?}");
+        assert_eq!(rt; (told.0.as_str(), told.1), (text, status), "at {key:?}");
     }
     Ok(())
 }
@@ -41,8 +40,7 @@ fn vectors_on_the_command_line(rt: HostRuntime) -> Result<(), Fail> {
     ];
     for (words, text) in table {
         let told = told(rt.alloc(), words)?;
-        assert_eq!(rt; told.0.as_str(), text, "at {words:?}");
-        assert_eq!(rt; told.1, 2, "at {words:?}");
+        assert_eq!(rt; (told.0.as_str(), told.1), (text, 2), "at {words:?}");
     }
     let last = [
         "tshls",
@@ -75,8 +73,7 @@ fn clap_refuses_with_status_2(rt: HostRuntime) -> Result<(), Fail> {
     ];
     for words in table {
         let told = told(rt.alloc(), words)?;
-        assert!(rt; !told.0.is_empty(), "at {words:?}");
-        assert_eq!(rt; told.1, 2, "at {words:?}");
+        assert_eq!(rt; (told.0.is_empty(), told.1), (false, 2), "at {words:?}");
     }
     Ok(())
 }

@@ -108,8 +108,11 @@ fn each_command_tells_its_faults(rt: HostRuntime) -> Result<(), Fail> {
     ];
     for (command, text) in table {
         let help = told(rt.alloc(), &["tshls", command, "--help"])?;
-        assert!(rt; help.0.as_str().contains(text), "at {command}");
-        assert_eq!(rt; help.1, 2);
+        assert_eq!(rt;
+            (help.0.as_str().contains(text), help.1),
+            (true, 2),
+            "at {command}"
+        );
     }
     let version = told(rt.alloc(), &["tshls", "--version"])?;
     assert_eq!(rt; (version.0.as_str(), version.1), ("tshls 0.1.0\n", 2));

@@ -37,17 +37,15 @@ fn defaults(rt: HostRuntime) -> Result<(), Fail> {
     let settings = settings(rt.alloc(), &["--size", "640x360", "--keys", KEY]).map_err(|_| "line")?;
     assert_eq!(rt; settings.renditions.len(), 1);
     let rendition = &settings.renditions[0];
-    assert_eq!(rt; rendition.name.as_str(), "v");
-    assert_eq!(rt; rendition.codecs.as_str(), "avc1.4d401e");
-    assert_eq!(rt; (rendition.width, rendition.height), (640, 360));
-    assert_eq!(rt; rendition.keys.index(7), 0);
-    assert_eq!(rt; settings.window, 5);
+    let words = (rendition.name.as_str(), rendition.codecs.as_str());
+    let size = (rendition.width, rendition.height);
+    assert_eq!(rt; (words, size), (("v", "avc1.4d401e"), (640, 360)));
+    assert!(rt; rendition.keys.index(7) == 0 && rendition.salt.is_none());
+    assert!(rt; settings.window == 5 && settings.kind == Kind::Live);
     let cut = settings.cut;
-    assert_eq!(rt; (cut.target, cut.segment), (6, 540_000));
-    assert_eq!(rt; (cut.frame, cut.gap, cut.most), (3600, 900_000, 1_000_000));
+    let numbers = [cut.target, cut.segment, cut.frame, cut.gap, cut.most];
+    assert_eq!(rt; numbers, [6, 540_000, 3600, 900_000, 1_000_000]);
     assert!(rt; cut.program.is_none());
-    assert!(rt; settings.kind == Kind::Live);
-    assert!(rt; rendition.salt.is_none());
     Ok(())
 }
 
@@ -81,15 +79,23 @@ fn settings_of_options(rt: HostRuntime) -> Result<(), Fail> {
     let settings = settings(rt.alloc(), &words).map_err(|_| "line")?;
     assert_eq!(rt; settings.renditions.len(), 1);
     let rendition = &settings.renditions[0];
-    assert_eq!(rt; rendition.name.as_str(), "hd");
-    assert_eq!(rt; (rendition.width, rendition.height), (1, 7));
-    assert_eq!(rt; rendition.keys.index(1), 0);
-    assert_eq!(rt; rendition.keys.key(2)[0], 0x10);
-    assert_eq!(rt; settings.window, 3);
+    let of_rendition = (rendition.name.as_str(), rendition.width, rendition.height);
+    assert_eq!(rt; of_rendition, ("hd", 1, 7));
+    let keys = (rendition.keys.index(1), rendition.keys.key(2)[0]);
+    assert_eq!(rt; keys, (0, 0x10));
     let cut = settings.cut;
-    assert_eq!(rt; (cut.target, cut.segment), (8, 180_000));
-    assert_eq!(rt; (cut.frame, cut.gap, cut.most), (4, 5, 6));
-    assert_eq!(rt; cut.program, Some(65_535));
+    let numbers = [
+        settings.window,
+        cut.target,
+        cut.segment,
+        cut.frame,
+        cut.gap,
+        cut.most,
+    ];
+    assert_eq!(rt;
+        (numbers, cut.program),
+        ([3, 8, 180_000, 4, 5, 6], Some(65_535))
+    );
     Ok(())
 }
 
@@ -101,8 +107,8 @@ fn a_salt_and_an_event(rt: HostRuntime) -> Result<(), Fail> {
     assert!(rt; settings.kind == Kind::Event);
     assert_eq!(rt; settings.renditions.len(), 1);
     let rendition = &settings.renditions[0];
-    assert_eq!(rt; rendition.keys.vector(0)[15], 0xFF);
-    assert_eq!(rt; rendition.keys.vector(1)[15], 0xFE);
+    let vectors = [rendition.keys.vector(0)[15], rendition.keys.vector(1)[15]];
+    assert_eq!(rt; vectors, [0xFF, 0xFE]);
     assert_eq!(rt; rendition.salt, rendition.keys.salt());
     Ok(())
 }
@@ -167,8 +173,7 @@ fn refusals(rt: HostRuntime) -> Result<(), Fail> {
         }
         words.extend_from_slice(more)?;
         let told = told(rt.alloc(), words.as_slice())?;
-        assert_eq!(rt; told.0.as_str(), text, "at {words:?}");
-        assert_eq!(rt; told.1, status, "at {words:?}");
+        assert_eq!(rt; (told.0.as_str(), told.1), (text, status), "at {words:?}");
     }
     Ok(())
 }

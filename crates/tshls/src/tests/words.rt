@@ -68,9 +68,15 @@ fn options(rt: HostRuntime) -> Result<(), Fail> {
         words.extend_from_slice(&["tshls", "check"])?;
         words.extend_from_slice(more)?;
         let told = line_told(rt.alloc(), words.as_slice())?;
-        assert_eq!(rt; told.text.as_str(), text, "at {more:?}");
-        assert!(rt; told.keys.as_slice() == keys, "at {more:?}");
-        assert_eq!(rt; told.status, status, "at {more:?}");
+        assert_eq!(rt;
+            (
+                told.text.as_str(),
+                told.keys.as_slice() == keys,
+                told.status
+            ),
+            (text, true, status),
+            "at {more:?}"
+        );
     }
     for more in ["--keys", "v.m3u8"] {
         assert_eq!(rt; line_told(rt.alloc(), &["tshls", "check", more])?.status, 2);
