@@ -22,7 +22,7 @@ check_one() {
 # A segment is there as soon as the packet behind it has come, while the input is still open.
 gives_a_segment_at_once() {
     local first
-    coproc ONE { timeout 120 "$program" "${one[@]}" 2>"$work/err"; }
+    coproc ONE { timeout 120 "$program" "${one[@]}" 2>"$work/killed_err"; }
     head -c 940 "$work/worked/standard.ts" >&"${ONE[1]}"
     read -r -t 60 first <&"${ONE[0]}"
     kill "$ONE_PID"
