@@ -3,8 +3,6 @@
 
 mod fault;
 mod laws;
-#[cfg(test)]
-mod tests;
 mod text;
 mod variant;
 

@@ -10,8 +10,6 @@ mod lines;
 mod media;
 mod row;
 mod start;
-#[cfg(test)]
-mod tests;
 mod vector_key;
 mod window;
 

@@ -8,8 +8,6 @@ mod attribute;
 mod line;
 mod name;
 mod number;
-#[cfg(test)]
-mod tests;
 mod uri;
 mod vectors;
 

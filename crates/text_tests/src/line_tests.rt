@@ -1,12 +1,12 @@
 ghost use Rattle.std.specs.Prelude.{◌≤◌, IfOk};
 
-use super::fixtures::items;
-use super::outlets::put_all;
-use crate::{Item, LineOutlet, Outlet};
+use crate::fixtures::assert_same;
+use crate::items::put_items;
+use item_io::{Item, LineOutlet, Outlet};
 use std::alloc::{AllocError, Global};
 use std::io;
 use std::io::{ErrorKind, Write};
-use std::test::Fail;
+use std::process::Abort;
 
 /// The lines of one item of each kind.
 const LINES: &[u8] = b"segment hd%201.7.ts 4\n0047abff\n\
@@ -82,67 +82,95 @@ fn lines_with(alloc: Global, trouble: Trouble) -> Result<(Vec<u8>, u64), AllocEr
         calls: 0,
     };
     let mut outlet = LineOutlet::new(alloc, writer);
-    let failures = put_all(&mut outlet, &items(alloc)?);
+    let failures = put_items(alloc, &mut outlet)?;
     let TroubledWriter { taken, .. } = outlet.into_writer();
     Ok((taken, failures))
 }
 
-#[test]
-fn items_of_each_kind_as_lines(rt: HostRuntime) -> Result<(), Fail> {
-    let items = items(rt.alloc())?;
-    let mut outlet = LineOutlet::new(rt.alloc(), Vec::new(rt.alloc()));
-    assert_eq!(rt; put_all(&mut outlet, &items), 0);
-    assert_eq!(rt; outlet.into_writer().as_slice(), LINES);
+/// Fails unless such a writer gets so many bytes of the lines, and so many puts fail.
+fn assert_lines(
+    rt: &impl Abort,
+    alloc: Global,
+    trouble: Trouble,
+    count: usize,
+    failed: u64,
+) -> Result<(), AllocError> {
+    let (taken, failures) = lines_with(alloc, trouble)?;
+    let wanted = (LINES.get(..count), failed);
+    assert_same(rt, count, (Some(taken.as_slice()), failures), wanted);
     Ok(())
 }
 
 #[test]
-fn a_writer_that_fails_at_each_byte(rt: HostRuntime) -> Result<(), Fail> {
-    for (room, _) in LINES.iter().enumerate() {
-        let (taken, failures) = lines_with(rt.alloc(), Trouble::FullOnce(room))?;
-        let whole = [31, 76, 108].iter().filter(|end| **end <= room).count();
-        assert_eq!(rt;
-            Some(taken.as_slice()),
-            LINES.get(..room),
-            "room for {room}"
-        );
-        assert_eq!(rt; failures, 4 - whole as u64, "room for {room}");
+fn items_of_each_kind_as_lines(rt: HostRuntime) -> Result<(), AllocError> {
+    let mut outlet = LineOutlet::new(rt.alloc(), Vec::new(rt.alloc()));
+    let failures = put_items(rt.alloc(), &mut outlet)?;
+    let lines = outlet.into_writer();
+    assert_same(&rt, "lines", (lines.as_slice(), failures), (LINES, 0));
+    Ok(())
+}
+
+#[test]
+fn a_writer_that_fails_at_each_byte(rt: HostRuntime) -> Result<(), AllocError> {
+    for room in 0..LINES.len() {
+        let failed = match room {
+            0..31 => 4,
+            31..76 => 3,
+            76..108 => 2,
+            _ => 1,
+        };
+        assert_lines(&rt, rt.alloc(), Trouble::FullOnce(room), room, failed)?;
     }
     Ok(())
 }
 
 #[test]
-fn interrupted_writes_and_failed_flushes(rt: HostRuntime) -> Result<(), Fail> {
-    let (taken, failures) = lines_with(rt.alloc(), Trouble::Interrupted)?;
-    assert_eq!(rt; taken.as_slice(), LINES);
-    assert_eq!(rt; failures, 0);
-    let (taken, failures) = lines_with(rt.alloc(), Trouble::Unflushed)?;
-    assert_eq!(rt; Some(taken.as_slice()), LINES.get(..31));
-    assert_eq!(rt; failures, 4);
-    Ok(())
+fn interrupted_writes_and_failed_flushes(rt: HostRuntime) -> Result<(), AllocError> {
+    assert_lines(&rt, rt.alloc(), Trouble::Interrupted, LINES.len(), 0)?;
+    assert_lines(&rt, rt.alloc(), Trouble::Unflushed, 31, 4)
+}
+
+/// A segment of so many bytes.
+fn segment(alloc: Global, len: usize) -> Result<Item, AllocError> {
+    let name = String::from_str(alloc, "v")?;
+    Ok(Item::Segment {
+        rendition: 0,
+        number: 0,
+        name,
+        bytes: vec![in alloc; 0x5A; len]?,
+    })
+}
+
+/// What an outlet writes of it, and whether it takes it.
+fn lines_of(alloc: Global, len: usize) -> Result<(Vec<u8>, bool), AllocError> {
+    let segment = segment(alloc, len)?;
+    let mut outlet = LineOutlet::new(alloc, Vec::new(alloc));
+    let put = outlet.put(&segment).is_ok();
+    Ok((outlet.into_writer(), put))
+}
+
+/// A line, and one of the digits of so many bytes.
+fn with_digits(alloc: Global, first: &str, len: usize) -> Result<String, AllocError> {
+    let digits = "5a".repeat(alloc, len)?;
+    format!(in alloc; "{first}\n{digits}\n")
 }
 
 #[test]
-fn a_long_segment_is_one_line(rt: HostRuntime) -> Result<(), Fail> {
-    let alloc = rt.alloc();
+fn a_long_segment_is_one_line(rt: HostRuntime) -> Result<(), AllocError> {
     for (len, first) in [
         (0, "segment v.0.ts 0"),
         (8191, "segment v.0.ts 8191"),
         (8192, "segment v.0.ts 8192"),
         (20_000, "segment v.0.ts 20000"),
     ] {
-        let bytes = vec![in alloc; 0x5A; len]?;
-        let digits = hex::encode(alloc, bytes.as_slice())?;
-        let segment = Item::Segment {
-            rendition: 0,
-            number: 0,
-            name: String::from_str(alloc, "v")?,
-            bytes,
-        };
-        let mut outlet = LineOutlet::new(alloc, Vec::new(alloc));
-        assert!(rt; outlet.put(&segment).is_ok());
-        let wanted = format!(in alloc; "{first}\n{digits}\n")?;
-        assert_eq!(rt; outlet.into_writer().as_slice(), wanted.as_bytes());
+        let (lines, put) = lines_of(rt.alloc(), len)?;
+        let wanted = with_digits(rt.alloc(), first, len)?;
+        assert_same(
+            &rt,
+            first,
+            (lines.as_slice(), put),
+            (wanted.as_bytes(), true),
+        );
     }
     Ok(())
 }

@@ -1,5 +1,5 @@
 use Rattle.std.proofs.Common.{◌≤◌}
-use Rattle.item_io.proofs.tests.sources.drain.Given as goal
+use Rattle.text_tests.proofs.source_tests.drain.Given as goal
 
 abbrev pub invariant-loop : goal.invariant-loop
 invariant-loop g l = record {

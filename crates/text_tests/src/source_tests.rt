@@ -1,10 +1,10 @@
 ghost use Rattle.std.specs.Prelude.{◌≡◌};
 
-use crate::{FailingReader, ReaderSource, Source};
+use crate::fixtures::assert_same;
+use item_io::{FailingReader, ReaderSource, Source};
 use std::alloc::{AllocError, Global};
 use std::io;
 use std::io::{ErrorKind, Read};
-use std::test::Fail;
 
 /// All that a source gives in reads of 300 bytes at most, and how many of them failed.
 fn drain<S: Source>(alloc: Global, source: &mut S) -> Result<(Vec<u8>, u64), AllocError>
@@ -46,7 +46,7 @@ fn drain_pieces(alloc: Global, piece: usize, n: u64) -> Result<(Vec<u8>, u64), A
 }
 
 #[test]
-fn pieces_and_a_failure(rt: HostRuntime) -> Result<(), Fail> {
+fn pieces_and_a_failure(rt: HostRuntime) -> Result<(), AllocError> {
     for (piece, n, failed) in [
         (1, 0, 0),
         (1, 1, 1),
@@ -61,8 +61,12 @@ fn pieces_and_a_failure(rt: HostRuntime) -> Result<(), Fail> {
         (940, 6, 0),
     ] {
         let (bytes, failures) = drain_pieces(rt.alloc(), piece, n)?;
-        assert_eq!(rt; bytes.as_slice(), packets().as_slice(), "pieces of {piece}");
-        assert_eq!(rt; failures, failed, "pieces of {piece}, read {n}");
+        assert_same(
+            &rt,
+            (piece, n),
+            (failures, bytes.as_slice()),
+            (failed, packets().as_slice()),
+        );
     }
     Ok(())
 }
@@ -104,7 +108,7 @@ fn drain_faltering(
 }
 
 #[test]
-fn interrupted_reads_are_made_again(rt: HostRuntime) -> Result<(), Fail> {
+fn interrupted_reads_are_made_again(rt: HostRuntime) -> Result<(), AllocError> {
     for (kind, times, failed) in [
         (ErrorKind::Interrupted, 0, 0),
         (ErrorKind::Interrupted, 1, 0),
@@ -114,17 +118,21 @@ fn interrupted_reads_are_made_again(rt: HostRuntime) -> Result<(), Fail> {
         (ErrorKind::WouldBlock, 2, 8),
     ] {
         let (bytes, failures) = drain_faltering(rt.alloc(), kind, times)?;
-        assert_eq!(rt; bytes.as_slice(), b"abc".as_slice(), "{kind:?}");
-        assert_eq!(rt; failures, failed, "{kind:?}, {times} times");
+        assert_same(
+            &rt,
+            (kind, times),
+            (failures, bytes.as_slice()),
+            (failed, b"abc".as_slice()),
+        );
     }
     Ok(())
 }
 
 #[test]
-fn a_reader_is_given_back(rt: HostRuntime) -> Result<(), Fail> {
+fn a_reader_is_given_back(rt: HostRuntime) {
     let mut source = ReaderSource::new(b"abcdef".as_slice());
     let mut buffer = [0; 4];
-    assert_eq!(rt; source.read(&mut buffer).ok(), Some(4));
-    assert_eq!(rt; source.into_reader(), b"ef".as_slice());
-    Ok(())
+    let count = source.read(&mut buffer).ok();
+    let left = source.into_reader();
+    assert_same(&rt, "abcdef", (count, left), (Some(4), b"ef".as_slice()));
 }

@@ -1,6 +1,6 @@
 use Rattle.std.proofs.Common.{◌≡◌, map, take}
 use Rattle.std.specs.String.{string_bytes}
-use Rattle.master_playlist.proofs.tests.variants.Given as goal
+use Rattle.text_tests.proofs.master_tests.variants.Given as goal
 
 abbrev pub invariant-loop-rendition : goal.invariant-loop-rendition
 invariant-loop-rendition l =

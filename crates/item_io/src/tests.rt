@@ -1,5 +1,0 @@
-mod fixtures;
-mod folder;
-mod lines;
-mod outlets;
-mod sources;
