@@ -19,8 +19,6 @@ mod round;
 mod sbox;
 mod schedule;
 mod tables;
-#[cfg(test)]
-mod tests;
 mod unmixing;
 mod word;
 

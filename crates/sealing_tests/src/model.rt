@@ -1,12 +1,10 @@
 //! A flow as plain lists of names, each event as the relation has it.
 
+use crate::told::{Name, Told};
 use std::alloc::{AllocError, Global};
 
-/// A plan, by its rendition and its number.
-pub(crate) type Name = (usize, u64);
-
 /// One event, or an attempt at one.
-#[derive(Clone, Copy, Debug, PartialEq, Eq)]
+#[derive(Clone, Copy, PartialEq, Eq)]
 pub(crate) enum Letter {
     /// The next plan of a rendition is fed.
     Feed(usize),
@@ -31,7 +29,7 @@ pub(crate) enum Letter {
 }
 
 /// What became of a plan.
-#[derive(Clone, Copy, Debug, PartialEq, Eq)]
+#[derive(Clone, Copy, PartialEq, Eq)]
 pub(crate) enum Made {
     Right,
     Wrong,
@@ -39,25 +37,9 @@ pub(crate) enum Made {
     Held,
 }
 
-/// What is answered.
-#[derive(Clone, Copy, Debug, PartialEq, Eq)]
-pub(crate) enum Told {
-    /// There is nothing to be done.
-    Nothing,
-    Done,
-    Full,
-    Closed,
-    Twice,
-    Claimed(usize, Name),
-    /// So many segments of the rendition stand without a gap.
-    Came(u64),
-    Thrown,
-    Shown(Name),
-}
-
 /// What is seen from outside: how many plans are outstanding, whether it is closed, something waits or is done, how many
 /// pieces were thrown away, whether there is room, and the numbers that two renditions expect next.
-#[derive(Clone, Copy, Debug, PartialEq, Eq)]
+#[derive(Clone, Copy, PartialEq, Eq)]
 pub(crate) struct Seen {
     pub outstanding: usize,
     pub closed: bool,
@@ -189,13 +171,13 @@ impl Model {
 
     fn feed(&mut self, name: Name) -> Result<Told, AllocError> {
         if self.outstanding() >= self.most {
-            return Ok(Told::Full);
+            return Ok(Told::Full(name));
         }
         if self.closed {
-            return Ok(Told::Closed);
+            return Ok(Told::Closed(name));
         }
         if self.stands(name) {
-            return Ok(Told::Twice);
+            return Ok(Told::Twice(name));
         }
         self.waiting.push(name)?;
         if !has(&self.fed, name) {

@@ -1,4 +1,4 @@
-use Rattle.flow_core_tests.proofs.flow_tests.play_all.Given as goal
+use Rattle.sealing_tests.proofs.flow.play.Given as goal
 
 abbrev pub ghosts-play_with-L-Ledger : goal.ghosts-play_with-L-Ledger
 ghosts-play_with-L-Ledger a = record { name = a.claims.name; parts = a.claims.parts }

@@ -1,4 +1,4 @@
-use Rattle.flow_core_tests.proofs.queue_tests.played.Given as goal
+use Rattle.sealing_tests.proofs.queue.played.Given as goal
 
 abbrev pub ghosts-played_with-L-Ledger : goal.ghosts-played_with-L-Ledger
 ghosts-played_with-L-Ledger a = record { name = a.claims.name; parts = a.claims.parts }

@@ -1,13 +1,15 @@
+//! Tests of the flow: all lists of a few events, played on a flow and on the model.
+
 ghost use Rattle.std.specs.Prelude.{◌≡◌};
 
-use crate::fixtures::{key_of, keys_of, plans_of};
-use crate::model::{Letter, Model, Name, Seen, Told};
+use crate::fixtures::{Things, keys_of, misses};
+use crate::model::{Letter, Model, Seen};
+use crate::told::{Name, Told, claimed, ended, fed, name, received};
 use Letter::{Again, Close, Deliver, Feed, Hold, Mistake, Own, Publish, Refuse, Stop, Stray, Take};
-use cutter::{Plan, PlanRef};
-use flow_core::{Claim, CollectFault, FeedFault, Flow, Taken};
-use segment_job::{Keys, Sealed, seal_plan};
-use standard_stream::STREAM;
-use std::alloc::Global;
+use cutter::PlanRef;
+use flow_core::{Claim, Flow, Taken};
+use segment_job::{Keys, seal_plan};
+use std::alloc::{AllocError, Global};
 use std::marker::Brand;
 use std::sync::ledger::{Blank, Ledger, Share};
 use std::test::Fail;
@@ -36,30 +38,19 @@ const LETTERS: [Letter; 17] = [
 /// How many events there are in the longest lists.
 const LONGEST: usize = 7;
 
-/// Plans without a body, of two renditions, and the keys.
-#[derive(Drop)]
-struct Things<'s> {
-    alloc: Global,
-    plans: &'s [Plan],
-    right: Keys,
-    wrong: Keys,
-}
-
-impl<'s> Things<'s> {
-    /// The plan of a name.
-    fn plan(&self, name: Name) -> Result<PlanRef<'s>, Fail> {
-        for plan in self.plans {
-            if plan.number == name.1 {
-                return Ok(PlanRef {
-                    rendition: name.0,
-                    body: &[],
-                    frames: &[],
-                    ..plan.lend()
-                });
-            }
+/// The plan of a name, without a body.
+fn plan(things: &Things, name: Name) -> Result<PlanRef<'_>, Fail> {
+    for plan in &things.plans {
+        if plan.number == name.1 {
+            return Ok(PlanRef {
+                rendition: name.0,
+                body: &[],
+                frames: &[],
+                ..plan.lend()
+            });
         }
-        Err(Fail::from("no such plan"))
     }
+    Err(Fail::from("no such plan"))
 }
 
 /// A flow with the one share of each of its books, and the claims that stand.
@@ -74,46 +65,53 @@ struct Bench<'s, L: Ledger, M: Ledger> {
 }
 
 impl<'s, L: Ledger, M: Ledger> Bench<'s, L, M> {
-    /// Feeds a plan, and once more where there was no memory, which changes nothing.
-    fn feed(&mut self, plan: PlanRef<'s>) -> Result<Told, Fail> {
+    fn feed_once(&mut self, plan: PlanRef<'s>) -> Result<Told, Fail> {
         if plan.rendition >= self.flow.renditions() || plan.number > 9 {
             return Err(Fail::from("no such rendition"));
         }
-        let seen = self.seen();
-        let mut fed = self.flow.feed(plan);
-        if let Err(FeedFault::NoMemory(_)) = fed {
-            if self.seen() != seen {
-                return Err(Fail::from("a refused plan changed something"));
-            }
-            fed = self.flow.feed(plan);
-        }
-        match fed {
-            Ok(()) => Ok(Told::Done),
-            Err(FeedFault::Full(_)) => Ok(Told::Full),
-            Err(FeedFault::Closed(_)) => Ok(Told::Closed),
-            Err(FeedFault::Twice(_)) => Ok(Told::Twice),
-            Err(FeedFault::NoMemory(_)) => Err(Fail::from("out of memory")),
-        }
+        Ok(fed(self.flow.feed(plan)))
     }
 
-    fn claim(&mut self, worker: usize) -> Result<Told, Fail> {
+    /// Feeds a plan, and once more where there was no memory, which changes nothing.
+    fn feed(&mut self, things: &'s Things, plan_name: Option<Name>) -> Result<Told, Fail> {
+        let Some(plan_name) = plan_name else {
+            return Ok(Told::Nothing);
+        };
+        let plan = plan(things, plan_name)?;
+        let seen = self.seen();
+        let told = self.feed_once(plan)?;
+        if told != Told::NoMemory(plan_name) {
+            return Ok(told);
+        }
+        if self.seen() != seen {
+            return Err(Fail::from("a refused plan changed something"));
+        }
+        self.feed_once(plan)
+    }
+
+    fn claim(&mut self, worker: usize) -> Result<Told, AllocError> {
         let Bench {
             flow,
             claimer,
             claims,
             ..
         } = self;
-        let Some(claim) = flow.claim(worker, claimer) else {
-            return Ok(Told::Nothing);
-        };
-        let plan = claim.plan();
-        let told = Told::Claimed(claim.worker(), (plan.rendition, plan.number));
-        claims.push(claim)?;
-        Ok(told)
+        claimed(flow.claim(worker, claimer), claims)
+    }
+
+    /// Delivers a claim, sealed under these keys.
+    fn deliver(
+        &mut self,
+        alloc: Global,
+        claim: Claim<'s>,
+        keys: &Keys,
+    ) -> Result<bool, AllocError> {
+        let piece = seal_plan(alloc, claim.plan(), keys)?;
+        Ok(self.flow.deliver(claim, piece))
     }
 
     /// Ends the claim that stands the longest.
-    fn finish(&mut self, things: &Things<'s>, letter: Letter) -> Result<Told, Fail> {
+    fn finish(&mut self, things: &Things, letter: Letter) -> Result<Told, AllocError> {
         if self.claims.is_empty() {
             return Ok(Told::Nothing);
         }
@@ -121,16 +119,10 @@ impl<'s, L: Ledger, M: Ledger> Bench<'s, L, M> {
         let stood = match letter {
             Refuse => self.flow.refuse(claim),
             Hold => self.flow.hold(claim),
-            Deliver => {
-                let piece = seal_plan(things.alloc, claim.plan(), &things.right)?;
-                self.flow.deliver(claim, piece)
-            }
-            _ => {
-                let piece = seal_plan(things.alloc, claim.plan(), &things.wrong)?;
-                self.flow.deliver(claim, piece)
-            }
+            Deliver => self.deliver(things.alloc, claim, &things.right)?,
+            _ => self.deliver(things.alloc, claim, &things.wrong)?,
         };
-        Ok(if stood { Told::Done } else { Told::Nothing })
+        Ok(ended(stood))
     }
 
     fn take(&mut self) -> Result<Told, Fail> {
@@ -145,20 +137,27 @@ impl<'s, L: Ledger, M: Ledger> Bench<'s, L, M> {
         }
     }
 
-    fn receive(&mut self, piece: Sealed<'s>) -> Result<Told, Fail> {
+    /// Receives the piece of a plan, sealed under these keys.
+    fn receive(
+        &mut self,
+        things: &'s Things,
+        plan_name: Option<Name>,
+        keys: &Keys,
+    ) -> Result<Told, Fail> {
+        let Some(plan_name) = plan_name else {
+            return Ok(Told::Nothing);
+        };
+        let plan = plan(things, plan_name)?;
         if self.flow.thrown() > 9 {
             return Err(Fail::from("too many were thrown away"));
         }
-        match self.flow.receive(piece) {
-            Ok(collected) => Ok(Told::Came(collected.ready)),
-            Err(CollectFault::NoMemory(_)) => Err(Fail::from("out of memory")),
-            Err(_) => Ok(Told::Thrown),
-        }
+        let piece = seal_plan(things.alloc, plan, keys)?;
+        Ok(thrown(received(&self.flow.receive(piece))))
     }
 
     fn publish(&mut self, rendition: usize) -> Told {
         match self.flow.publish(rendition) {
-            Some(piece) => Told::Shown((piece.plan().rendition, piece.plan().number)),
+            Some(piece) => Told::Shown(name(piece.plan())),
             None => Told::Nothing,
         }
     }
@@ -195,38 +194,31 @@ impl<'s, L: Ledger, M: Ledger> Bench<'s, L, M> {
     }
 
     /// Does what a letter says, where the model has something to be done.
-    fn step(&mut self, things: &Things<'s>, model: &Model, letter: Letter) -> Result<Told, Fail> {
+    fn step(&mut self, things: &'s Things, model: &Model, letter: Letter) -> Result<Told, Fail> {
         match letter {
-            Feed(_) | Again => match model.plan(letter) {
-                Some(name) => self.feed(things.plan(name)?),
-                None => Ok(Told::Nothing),
-            },
-            Letter::Claim(worker) => self.claim(worker),
-            Deliver | Mistake | Refuse | Hold => self.finish(things, letter),
+            Feed(_) | Again => self.feed(things, model.plan(letter)),
+            Letter::Claim(worker) => Ok(self.claim(worker)?),
+            Deliver | Mistake | Refuse | Hold => Ok(self.finish(things, letter)?),
             Take => self.take(),
-            Stray => {
-                let piece = seal_plan(things.alloc, things.plan((0, 0))?, &things.wrong)?;
-                self.receive(piece)
-            }
-            Own(rendition) => match model.missing(rendition) {
-                Some(name) => {
-                    let piece = seal_plan(things.alloc, things.plan(name)?, &things.right)?;
-                    self.receive(piece)
-                }
-                None => Ok(Told::Nothing),
-            },
+            Stray => self.receive(things, Some((0, 0)), &things.wrong),
+            Own(rendition) => self.receive(things, model.missing(rendition), &things.right),
             Close | Stop => Ok(self.close(letter == Stop)),
             Publish(rendition) => Ok(self.publish(rendition)),
         }
     }
 
-    /// Whether the plans that are missing are these.
-    fn misses(&self, things: &Things<'s>, names: &[Name]) -> Result<bool, Fail> {
-        let mut found = Vec::new(things.alloc);
-        for plan in &self.flow.collector().missing()? {
-            found.push((plan.plan().rendition, plan.plan().number))?;
-        }
-        Ok(found.as_slice() == names)
+    /// Whether it misses the plans that the model misses.
+    fn misses(&self, model: &Model, alloc: Global) -> Result<bool, AllocError> {
+        let names = model.all_missing(alloc)?;
+        misses(self.flow.collector(), &names)
+    }
+}
+
+/// What a flow does with a piece that its collector gives back.
+fn thrown(told: Told) -> Told {
+    match told {
+        Told::Stray(_) | Told::Double(_) => Told::Thrown,
+        told => told,
     }
 }
 
@@ -242,7 +234,7 @@ enum Tried {
 
 /// Does what a letter says on a flow and on the model, and compares them.
 fn try_letter<'s, L: Ledger, M: Ledger>(
-    things: &Things<'s>,
+    things: &'s Things,
     bench: &mut Bench<'s, L, M>,
     model: &mut Model,
     letter: Letter,
@@ -251,18 +243,18 @@ fn try_letter<'s, L: Ledger, M: Ledger>(
     if model.step(letter)? != told || model.seen() != bench.seen() {
         return Ok(Tried::Differs);
     }
-    if !bench.misses(things, &model.all_missing(things.alloc)?)? {
+    if !bench.misses(model, things.alloc)? {
         return Ok(Tried::Differs);
     }
     match told {
-        Told::Nothing | Told::Full | Told::Closed | Told::Twice => Ok(Tried::Refused),
+        Told::Nothing | Told::Full(_) | Told::Closed(_) | Told::Twice(_) => Ok(Tried::Refused),
         _ => Ok(Tried::Event),
     }
 }
 
 /// The next event of a list: the first letter from here on that changes something. The number of letters where none does.
 fn next_event<'s, L: Ledger, M: Ledger>(
-    things: &Things<'s>,
+    things: &'s Things,
     bench: &mut Bench<'s, L, M>,
     model: &mut Model,
     from: usize,
@@ -279,31 +271,15 @@ fn next_event<'s, L: Ledger, M: Ledger>(
 
 /// Plays the events of a list, and goes on with the first that can follow, up to the longest list. False where the flow
 /// isn't as the model.
-fn play_with<L: Ledger, M: Ledger>(
-    claims: Blank,
-    takes: Blank,
-    things: &Things<'_>,
-    most: usize,
+fn follow<'s, L: Ledger, M: Ledger>(
+    things: &'s Things,
+    bench: &mut Bench<'s, L, M>,
+    model: &mut Model,
     path: &mut Vec<usize>,
-) -> Result<bool, Fail>
-    requires claims { (claims.name ≡ L.name) × (claims.parts ≡ L.parts) × (L.parts ≡ 1) }
-    requires takes { (takes.name ≡ M.name) × (takes.parts ≡ M.parts) × (M.parts ≡ 1) }
-{
-    let alloc = things.alloc;
-    let (claims, claimer) = claims.open::<L>();
-    let (takes, taker) = takes.open::<M>();
-    let keys = keys_of(alloc, 2)?;
-    let mut bench = Bench {
-        flow: Flow::starting(alloc, keys, Vec::new(alloc), most, claims, takes)?,
-        claimer,
-        taker,
-        claims: Vec::new(alloc),
-    };
-    let mut model = Model::new(alloc, most);
+) -> Result<bool, Fail> {
     for depth in 0..LONGEST {
         let known = path.get(depth).copied();
-        let from = known.unwrap_or(0);
-        let Some(at) = next_event(things, &mut bench, &mut model, from)? else {
+        let Some(at) = next_event(things, bench, model, known.unwrap_or(0))? else {
             return Ok(false);
         };
         if known != Some(at) {
@@ -317,8 +293,54 @@ fn play_with<L: Ledger, M: Ledger>(
     Ok(true)
 }
 
+/// A flow of so many plans, on which nothing happened.
+fn new_bench<'s, L: Ledger, M: Ledger>(
+    alloc: Global,
+    claims: Blank,
+    takes: Blank,
+    most: usize,
+) -> Result<Bench<'s, L, M>, Fail>
+    requires claims { (claims.name ≡ L.name) × (claims.parts ≡ L.parts) × (L.parts ≡ 1) }
+    requires takes { (takes.name ≡ M.name) × (takes.parts ≡ M.parts) × (M.parts ≡ 1) }
+{
+    let keys = keys_of(alloc, 2)?;
+    let (claims, claimer) = claims.open::<L>();
+    let (takes, taker) = takes.open::<M>();
+    Ok(Bench {
+        flow: Flow::starting(alloc, keys, Vec::new(alloc), most, claims, takes)?,
+        claimer,
+        taker,
+        claims: Vec::new(alloc),
+    })
+}
+
+/// Plays a list on a flow and a model of so many plans.
+fn play_with<L: Ledger, M: Ledger>(
+    claims: Blank,
+    takes: Blank,
+    things: &Things,
+    most: usize,
+    path: &mut Vec<usize>,
+) -> Result<bool, Fail>
+    requires claims { (claims.name ≡ L.name) × (claims.parts ≡ L.parts) × (L.parts ≡ 1) }
+    requires takes { (takes.name ≡ M.name) × (takes.parts ≡ M.parts) × (M.parts ≡ 1) }
+{
+    let mut bench = new_bench::<L, M>(things.alloc, claims, takes, most)?;
+    follow(
+        things,
+        &mut bench,
+        &mut Model::new(things.alloc, most),
+        path,
+    )
+}
+
+/// The same, with books of its own.
+fn play(things: &Things, most: usize, path: &mut Vec<usize>) -> Result<bool, Fail> {
+    play_with::<Brand, Brand>(Blank::new(1), Blank::new(1), things, most, path)
+}
+
 /// Goes on to the next list. False where there is none.
-fn go_on(path: &mut Vec<usize>) -> Result<bool, Fail> {
+fn go_on(path: &mut Vec<usize>) -> Result<bool, AllocError> {
     for _ in 0..=LONGEST {
         let Some(last) = path.pop() else {
             return Ok(false);
@@ -332,16 +354,10 @@ fn go_on(path: &mut Vec<usize>) -> Result<bool, Fail> {
 }
 
 /// How many lists were played, each list once, and whether all flows were as the model.
-fn play_all(things: &Things<'_>, most: usize) -> Result<(u64, bool), Fail> {
+fn play_all(things: &Things, most: usize) -> Result<(u64, bool), Fail> {
     let mut path = Vec::new(things.alloc);
     for played in 0..1_000_000 {
-        let same = play_with::<Brand, Brand>(
-            Blank::new(1),
-            Blank::new(1),
-            things,
-            most,
-            &mut path,
-        )?;
+        let same = play(things, most, &mut path)?;
         if !same || !go_on(&mut path)? {
             return Ok((played, same));
         }
@@ -351,13 +367,7 @@ fn play_all(things: &Things<'_>, most: usize) -> Result<(u64, bool), Fail> {
 
 /// Plays all lists with so many plans outstanding at most.
 fn plays(alloc: Global, most: usize) -> Result<(u64, bool), Fail> {
-    let plans = plans_of(alloc, 0, &STREAM)?;
-    let things = Things {
-        alloc,
-        plans: &plans,
-        right: key_of(alloc, 7)?,
-        wrong: key_of(alloc, 8)?,
-    };
+    let things = Things::new(alloc)?;
     play_all(&things, most)
 }
 
@@ -373,22 +383,11 @@ fn all_lists_in_a_queue_of_two(rt: HostRuntime) -> Result<(), Fail> {
     Ok(())
 }
 
-/// Plays one list, which feeds and expects a plan, and ends with its segment shown.
-fn plays_one(alloc: Global) -> Result<bool, Fail> {
-    let plans = plans_of(alloc, 0, &STREAM)?;
-    let things = Things {
-        alloc,
-        plans: &plans,
-        right: key_of(alloc, 7)?,
-        wrong: key_of(alloc, 8)?,
-    };
-    // fed, claimed, delivered, taken, closed and shown
-    let mut path = Vec::from_array(alloc, [0, 3, 5, 9, 13, 15])?;
-    play_with::<Brand, Brand>(Blank::new(1), Blank::new(1), &things, 1, &mut path)
-}
-
 #[test]
 fn a_plan_from_its_feed_to_its_show(rt: HostRuntime) -> Result<(), Fail> {
-    assert_eq!(rt; plays_one(rt.alloc())?, true);
+    let things = Things::new(rt.alloc())?;
+    // fed, claimed, delivered, taken, closed and shown
+    let mut path = Vec::from_array(rt.alloc(), [0, 3, 5, 9, 13, 15])?;
+    assert_eq!(rt; play(&things, 1, &mut path)?, true);
     Ok(())
 }

@@ -1,0 +1,19 @@
+//! Tests of sealing: the cipher, sealed segments, and the queue, the collector and the flow.
+#![tactic(auto)]
+
+#[cfg(test)]
+mod cipher;
+#[cfg(test)]
+mod collector;
+#[cfg(test)]
+mod fixtures;
+#[cfg(test)]
+mod flow;
+#[cfg(test)]
+mod model;
+#[cfg(test)]
+mod queue;
+#[cfg(test)]
+mod segments;
+#[cfg(test)]
+mod told;

@@ -1,0 +1,92 @@
+//! What is answered to a test.
+
+use cutter::PlanRef;
+use flow_core::{Claim, CollectFault, Collected, FeedFault, Outcome, Piece};
+use std::alloc::AllocError;
+
+/// A plan, by its rendition and its number.
+pub(crate) type Name = (usize, u64);
+
+/// What a queue, a collector, a flow or a desk answers.
+#[derive(Clone, Copy, Debug, PartialEq, Eq)]
+pub(crate) enum Told {
+    /// There is nothing to be done.
+    Nothing,
+    Done,
+    /// Why a plan isn't fed or expected. It comes back.
+    Full(Name),
+    Closed(Name),
+    Twice(Name),
+    NoMemory(Name),
+    /// The plan is the worker's.
+    Claimed(usize, Name),
+    /// What became of a plan that was claimed.
+    Sealed(Name),
+    Refused(Name),
+    Held(Name),
+    /// So many segments of the rendition stand without a gap.
+    Came(u64),
+    /// Why a piece isn't taken. It comes back.
+    Stray(Name),
+    Double(Name),
+    Thrown,
+    Shown(Name),
+    /// How many plans are outstanding, whether it is closed, whether a plan waits, whether something is done.
+    Seen(usize, bool, bool, bool),
+    Is(bool),
+    /// The number of the next plan.
+    Next(u64),
+}
+
+/// Of which rendition a plan is, and its number.
+pub(crate) fn name(plan: PlanRef<'_>) -> Name {
+    (plan.rendition, plan.number)
+}
+
+/// What is told of a plan that is fed.
+pub(crate) fn fed(answer: Result<(), FeedFault<'_>>) -> Told {
+    match answer {
+        Ok(()) => Told::Done,
+        Err(FeedFault::Full(back)) => Told::Full(name(back)),
+        Err(FeedFault::Closed(back)) => Told::Closed(name(back)),
+        Err(FeedFault::Twice(back)) => Told::Twice(name(back)),
+        Err(FeedFault::NoMemory(back)) => Told::NoMemory(name(back)),
+    }
+}
+
+/// What is told of a claim, which joins those that were made.
+pub(crate) fn claimed<'s>(
+    claim: Option<Claim<'s>>,
+    claims: &mut Vec<Claim<'s>>,
+) -> Result<Told, AllocError> {
+    let Some(claim) = claim else {
+        return Ok(Told::Nothing);
+    };
+    let told = Told::Claimed(claim.worker(), name(claim.plan()));
+    claims.push(claim)?;
+    Ok(told)
+}
+
+/// What is told of a claim that is ended: whether somebody has it.
+pub(crate) fn ended(stood: bool) -> Told {
+    if stood { Told::Done } else { Told::Nothing }
+}
+
+/// What is told of a piece that a queue or a desk gives.
+pub(crate) fn given(piece: &Piece<'_>) -> Told {
+    match &piece.outcome {
+        Outcome::Sealed(sealed) => Told::Sealed((piece.rendition, sealed.plan().number)),
+        Outcome::Refused => Told::Refused((piece.rendition, piece.number)),
+        Outcome::Held => Told::Held((piece.rendition, piece.number)),
+    }
+}
+
+/// What is told of a piece that a collector or a flow takes or gives back.
+pub(crate) fn received(answer: &Result<Collected, CollectFault<'_>>) -> Told {
+    match answer {
+        Ok(collected) => Told::Came(collected.ready),
+        Err(CollectFault::Stray(piece)) => Told::Stray(name(piece.plan())),
+        Err(CollectFault::Double(piece)) => Told::Double(name(piece.plan())),
+        Err(CollectFault::NoMemory(piece)) => Told::NoMemory(name(piece.plan())),
+    }
+}
