@@ -52,16 +52,6 @@ impl Going {
         })
     }
 
-    /// A segment of this number, with no packet yet.
-    #[cfg(test)]
-    pub(crate) fn numbered(head: &Point<'_>, number: u32) -> Result<Going, AllocError> {
-        let first = Going::first(head)?;
-        Ok(Going {
-            number: u64::from(number),
-            ..first
-        })
-    }
-
     /// The segment behind this one, with no packet yet.
     pub(crate) fn next(&self, head: &Point<'_>) -> Result<Going, AllocError>
         requires { self.now.number < 2 ^ 32 }

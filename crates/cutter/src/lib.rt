@@ -4,15 +4,11 @@
 
 mod cutter;
 mod fault;
-#[cfg(test)]
-mod fixtures;
 mod following;
 mod framing;
 mod going;
 mod laws;
 mod lent;
-#[cfg(test)]
-mod limit_tests;
 mod look;
 mod place;
 mod plan;
@@ -21,11 +17,7 @@ mod reel;
 mod settings;
 mod spool;
 mod spool_cutter;
-#[cfg(test)]
-mod spool_tests;
 mod stream;
-#[cfg(test)]
-mod tests;
 
 pub use crate::cutter::Cutter;
 pub use fault::CutFault;

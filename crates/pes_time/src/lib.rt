@@ -5,8 +5,6 @@
 mod clock;
 mod laws;
 mod pes;
-#[cfg(test)]
-mod tests;
 
 pub use clock::{Clock, ClockFault, Stamp};
 pub use laws::{stamps_go_on, times_are_the_ones};

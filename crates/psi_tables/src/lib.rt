@@ -7,13 +7,7 @@ mod assembler;
 mod choice;
 mod crc;
 mod fault;
-#[cfg(test)]
-mod fixtures;
 mod gather;
-#[cfg(test)]
-mod gathering_tests;
-#[cfg(test)]
-mod head_tests;
 mod laws;
 mod next;
 mod pat;
@@ -21,11 +15,7 @@ mod pmt;
 mod section;
 mod segment_head;
 mod tables;
-#[cfg(test)]
-mod tests;
 mod watch;
-#[cfg(test)]
-mod watch_tests;
 
 pub use assembler::Assembler;
 pub use crc::crc_32;

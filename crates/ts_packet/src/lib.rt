@@ -8,8 +8,6 @@ mod packet;
 mod pieces;
 mod reader;
 mod scan;
-#[cfg(test)]
-mod tests;
 
 pub use laws::{decided_is_the_longest, each_byte_is_counted, packets_are_at_their_positions};
 pub use lengths::{PACKET, UNDECIDED};

@@ -1,10 +1,68 @@
-use crate::fixtures::Sent::{Exactly, Filled};
-use crate::fixtures::{Carried, Sent, bytes_of, first_wrong};
-use crate::tests::{PAT, PMT};
-use crate::{Assembler, Pat};
+//! The sections of a PID that packets carry.
+
+use crate::table_fixtures::Sent::{Exactly, Filled};
+use crate::table_fixtures::{PAT, PMT, Sent, bytes_of};
+use psi_tables::{Assembler, Pat};
 use std::alloc::Global;
+use std::process::Abort;
 use std::test::Fail;
 use ts_packet::Packet;
+
+/// Packets, and the sections of a PID that they carry.
+struct Carried {
+    name: &'static str,
+    pid: u16,
+    packets: &'static [Sent],
+    sections: &'static [&'static [u8]],
+}
+
+/// Shows a packet to an assembler.
+fn show(assembler: &mut Assembler, sent: Sent, found: &mut Vec<Vec<u8>>) -> Result<(), Fail> {
+    let bytes = bytes_of(sent);
+    let packet = Packet::parse(&bytes)?;
+    assembler.push(&packet, found)?;
+    Ok(())
+}
+
+/// Whether sections are these.
+fn are(found: &[Vec<u8>], sections: &[&[u8]]) -> bool {
+    if found.len() != sections.len() {
+        return false;
+    }
+    for at in 0..found.len() {
+        if found[at].as_slice() != sections[at] {
+            return false;
+        }
+    }
+    true
+}
+
+/// Refuses packets that carry other sections.
+fn carries(
+    assembler: &mut Assembler,
+    found: &mut Vec<Vec<u8>>,
+    case: &Carried,
+) -> Result<(), Fail> {
+    for sent in case.packets {
+        show(assembler, *sent, found)?;
+    }
+    if are(found, case.sections) {
+        return Ok(());
+    }
+    Err(Fail::new(format_args!("{}: {found:?}", case.name)))
+}
+
+/// Refuses the first packets that carry other sections.
+fn carry(alloc: Global, cases: &[Carried]) -> Result<(), Fail> {
+    for case in cases {
+        let mut assembler = Assembler::new(alloc, case.pid);
+        let mut found = Vec::new(alloc);
+        let end = carries(&mut assembler, &mut found, case);
+        drop((assembler, found));
+        end?;
+    }
+    Ok(())
+}
 
 /// The first half of the PAT behind its pointer_field.
 const FRONT: &[u8] = b"\x00\x00\xb0\x0d\x00\x01\xc1\x00\x00";
@@ -65,8 +123,7 @@ const HALVES: [Carried; 6] = [
 
 #[test]
 fn a_section_in_two_packets(rt: HostRuntime) -> Result<(), Fail> {
-    assert_eq!(rt; first_wrong(rt.alloc(), &HALVES)?, None);
-    Ok(())
+    carry(rt.alloc(), &HALVES)
 }
 
 const SCRAMBLED: Sent = Filled([0x47, 0x00, 0x00, 0x91], BACK);
@@ -131,8 +188,7 @@ const WITH_OTHERS: [Carried; 8] = [
 
 #[test]
 fn packets_that_do_not_count(rt: HostRuntime) -> Result<(), Fail> {
-    assert_eq!(rt; first_wrong(rt.alloc(), &WITH_OTHERS)?, None);
-    Ok(())
+    carry(rt.alloc(), &WITH_OTHERS)
 }
 
 /// The first third of the PMT, at the end of a packet.
@@ -185,8 +241,7 @@ const THIRDS: [Carried; 4] = [
 
 #[test]
 fn a_section_in_three_packets(rt: HostRuntime) -> Result<(), Fail> {
-    assert_eq!(rt; first_wrong(rt.alloc(), &THIRDS)?, None);
-    Ok(())
+    carry(rt.alloc(), &THIRDS)
 }
 
 const TO_THE_END: Sent = Exactly(
@@ -257,8 +312,7 @@ const POINTERS: [Carried; 6] = [
 
 #[test]
 fn sections_behind_a_pointer(rt: HostRuntime) -> Result<(), Fail> {
-    assert_eq!(rt; first_wrong(rt.alloc(), &POINTERS)?, None);
-    Ok(())
+    carry(rt.alloc(), &POINTERS)
 }
 
 /// A short section of another table.
@@ -299,8 +353,7 @@ const ONE_BEHIND_ANOTHER: [Carried; 3] = [
 
 #[test]
 fn sections_one_behind_another(rt: HostRuntime) -> Result<(), Fail> {
-    assert_eq!(rt; first_wrong(rt.alloc(), &ONE_BEHIND_ANOTHER)?, None);
-    Ok(())
+    carry(rt.alloc(), &ONE_BEHIND_ANOTHER)
 }
 
 const LONG: Sent = Filled([0x47, 0x50, 0x00, 0x10], b"\x00\x02\xb3\xfe");
@@ -363,24 +416,7 @@ const TOO_GREAT: [Carried; 5] = [
 
 #[test]
 fn lengths_that_are_too_great(rt: HostRuntime) -> Result<(), Fail> {
-    assert_eq!(rt; first_wrong(rt.alloc(), &TOO_GREAT)?, None);
-    Ok(())
-}
-
-/// How many bytes an assembler keeps behind each of some packets.
-fn kept(
-    assembler: &mut Assembler,
-    packets: &[Sent; 8],
-    found: &mut Vec<Vec<u8>>,
-) -> Result<[usize; 8], Fail> {
-    let mut kept = [0; 8];
-    for (there, sent) in kept.iter_mut().zip(packets) {
-        let bytes = bytes_of(*sent);
-        let packet = Packet::parse(&bytes)?;
-        assembler.push(&packet, found)?;
-        *there = assembler.kept();
-    }
-    Ok(kept)
+    carry(rt.alloc(), &TOO_GREAT)
 }
 
 /// The choice of the PAT that the first section is.
@@ -394,26 +430,40 @@ fn chosen(alloc: Global, found: &[Vec<u8>]) -> Option<(u16, u16)> {
     }
 }
 
-/// The PAT, and a section of 1,024 bytes, the most.
-const LONGEST: [Sent; 8] = [
-    FRONT_HALF,
-    BACK_HALF,
-    Filled([0x47, 0x40, 0x00, 0x12], b"\x00\x42\xb3\xfd"),
-    Filled([0x47, 0x00, 0x00, 0x13], b""),
-    Filled([0x47, 0x00, 0x00, 0x14], b""),
-    Filled([0x47, 0x00, 0x00, 0x15], b""),
-    Filled([0x47, 0x00, 0x00, 0x16], b""),
-    Filled([0x47, 0x00, 0x00, 0x17], b""),
+/// The PAT, and a section of 1,024 bytes, the most; and how many bytes are kept behind each packet.
+const LONGEST: [(Sent, usize); 8] = [
+    (FRONT_HALF, 8),
+    (BACK_HALF, 0),
+    (Filled([0x47, 0x40, 0x00, 0x12], b"\x00\x42\xb3\xfd"), 183),
+    (Filled([0x47, 0x00, 0x00, 0x13], b""), 367),
+    (Filled([0x47, 0x00, 0x00, 0x14], b""), 551),
+    (Filled([0x47, 0x00, 0x00, 0x15], b""), 735),
+    (Filled([0x47, 0x00, 0x00, 0x16], b""), 919),
+    (Filled([0x47, 0x00, 0x00, 0x17], b""), 0),
 ];
+
+fn keeps(
+    rt: &impl Abort,
+    alloc: Global,
+    assembler: &mut Assembler,
+    found: &mut Vec<Vec<u8>>,
+) -> Result<(), Fail> {
+    for (sent, kept) in &LONGEST {
+        show(assembler, *sent, found)?;
+        assert_eq!(rt; assembler.kept(), *kept);
+    }
+    assert_eq!(rt;
+        (assembler.pid(), found.len(), chosen(alloc, found)),
+        (0, 2, Some((1, 0x1000)))
+    );
+    Ok(())
+}
 
 #[test]
 fn keeps_what_was_begun(rt: HostRuntime) -> Result<(), Fail> {
     let mut assembler = Assembler::new(rt.alloc(), 0);
     let mut found = Vec::new(rt.alloc());
-    let kept = kept(&mut assembler, &LONGEST, &mut found)?;
-    assert_eq!(rt; kept, [8, 0, 183, 367, 551, 735, 919, 0]);
-    assert_eq!(rt; assembler.pid(), 0);
-    assert_eq!(rt; found.len(), 2);
-    assert_eq!(rt; chosen(rt.alloc(), &found), Some((1, 0x1000)));
-    Ok(())
+    let end = keeps(&rt, rt.alloc(), &mut assembler, &mut found);
+    drop((assembler, found));
+    end
 }

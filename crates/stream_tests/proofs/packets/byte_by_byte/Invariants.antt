@@ -1,5 +1,5 @@
 use Rattle.std.proofs.Common.{◌≡◌, length}
-use Rattle.ts_packet.proofs.tests.byte_by_byte.Given as goal
+use Rattle.stream_tests.proofs.packets.byte_by_byte.Given as goal
 
 abbrev pub invariant-loop-byte : goal.invariant-loop-byte
 invariant-loop-byte l = length l.reader ≡ l.byte-index

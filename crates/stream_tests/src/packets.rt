@@ -1,8 +1,8 @@
 ghost use Rattle.std.specs.Prelude.{◌≤◌, ◌+◌, ◌<◌, ◌^◌, length};
 
-use crate::{Packet, PacketFault, Reader, Skipped, Stream, read_pieces};
 use std::alloc::{AllocError, Global};
 use std::test::Fail;
+use ts_packet::{Packet, PacketFault, Reader, Skipped, Stream, read_pieces};
 
 /// A packet that begins with these bytes and is filled with FF.
 fn packet(front: &[u8]) -> [u8; 188]

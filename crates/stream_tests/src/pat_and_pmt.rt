@@ -1,18 +1,29 @@
-use crate::fixtures::write;
-use crate::{Pat, Pmt, TableFault, crc_32};
+//! CRCs, and what is read from the sections of PATs and PMTs.
+
+use crate::table_fixtures::{PAT, PMT, PMT_WITH_SOUND, first, write};
+use psi_tables::{Pat, Pmt, TableFault, crc_32};
 use std::alloc::Global;
-use std::test::Fail;
 
-/// Program 1 with its PMT on PID 0x1000.
-pub(crate) const PAT: &[u8] = b"\x00\xb0\x0d\x00\x01\xc1\x00\x00\x00\x01\xf0\x00\x2a\xb1\x04\xb2";
+/// Bytes and their CRC_32.
+const CRCS: [(&[u8], u32); 6] = [
+    (PAT, 0),
+    (PMT, 0),
+    (PMT_WITH_SOUND, 0),
+    (
+        b"\x00\xb0\x0d\x00\x01\xc1\x00\x00\x00\x01\xf0\x00",
+        0x2AB1_04B2,
+    ),
+    // the check value of CRC-32/MPEG-2 in catalogues of CRCs
+    (b"123456789", 0x0376_E6E7),
+    (b"", 0xFFFF_FFFF),
+];
 
-/// Program 1, H.264 on PID 0x100 with the PCR.
-pub(crate) const PMT: &[u8] =
-    b"\x02\xb0\x12\x00\x01\xc1\x00\x00\xe1\x00\xf0\x00\x1b\xe1\x00\xf0\x00\x15\xbd\x4d\x56";
-
-/// The same with AAC on PID 0x101.
-pub(crate) const PMT_WITH_SOUND: &[u8] =
-    b"\x02\xb0\x17\x00\x01\xc1\x00\x00\xe1\x00\xf0\x00\x1b\xe1\x00\xf0\x00\x0f\xe1\x01\xf0\x00\x2f\x44\xb9\x9b";
+#[test]
+fn computes_crcs(rt: HostRuntime) {
+    for (bytes, crc) in &CRCS {
+        assert_eq!(rt; crc_32(bytes), *crc, "of {bytes:?}");
+    }
+}
 
 /// Sections and what is wrong with each as a PAT. The CRCs here come from a bitwise CRC-32/MPEG-2 in Python.
 const FAULTY_PATS: [(&[u8], TableFault); 12] = [
@@ -118,9 +129,125 @@ const PMT_WITH_DESCRIPTORS: &[u8] =
 const PAT_WITH_NETWORK: &[u8] =
     b"\x00\xb0\x15\x12\x34\xc1\x00\x00\x00\x00\xe0\x10\x00\x01\xe1\x00\x00\x02\xe2\x00\x38\xfc\x93\x56";
 
-/// The fault of a PMT section of so many bytes, 1,024 or one more: these bytes, zero bytes of descriptors, one stream, the
-/// CRC. Or its video.
-fn long_pmt(
+/// A PAT without entries.
+const EMPTY_PAT: &[u8] = b"\x00\xb0\x09\x00\x01\xc1\x00\x00\xef\x22\x62\x17";
+
+/// The stream of a PAT, and what it chooses for each of some programs.
+type Choices = (u16, [Option<(u16, u16)>; 4]);
+
+fn choices(
+    alloc: Global,
+    section: &[u8],
+    programs: [Option<u16>; 4],
+) -> Result<Choices, TableFault> {
+    let pat = Pat::read(alloc, section)?;
+    let [a, b, c, d] = programs;
+    let chosen = [pat.choose(a), pat.choose(b), pat.choose(c), pat.choose(d)];
+    Ok((pat.transport_stream_id(), chosen))
+}
+
+const PATS: [(&[u8], [Option<u16>; 4], Choices); 3] = [
+    (
+        PAT,
+        [None, Some(1), Some(2), Some(0)],
+        (1, [Some((1, 0x1000)), Some((1, 0x1000)), None, None]),
+    ),
+    (
+        PAT_WITH_NETWORK,
+        [None, Some(0), Some(2), Some(3)],
+        (
+            0x1234,
+            [Some((1, 0x100)), Some((0, 0x10)), Some((2, 0x200)), None],
+        ),
+    ),
+    (
+        EMPTY_PAT,
+        [None, Some(0), Some(1), Some(2)],
+        (1, [None, None, None, None]),
+    ),
+];
+
+#[test]
+fn reads_a_pat(rt: HostRuntime) {
+    for (section, programs, chosen) in &PATS {
+        assert_eq!(rt;
+            choices(rt.alloc(), section, *programs),
+            Ok(*chosen),
+            "in {section:?}"
+        );
+    }
+}
+
+/// The program of a PMT, its video, and whether it carries each of some PIDs.
+type Carried = (u16, Option<u16>, [bool; 5]);
+
+fn carried(alloc: Global, section: &[u8], pids: [u16; 5]) -> Result<Carried, TableFault> {
+    let pmt = Pmt::read(alloc, section)?;
+    let [a, b, c, d, e] = pids;
+    let carried = [
+        pmt.carries(a),
+        pmt.carries(b),
+        pmt.carries(c),
+        pmt.carries(d),
+        pmt.carries(e),
+    ];
+    Ok((pmt.program(), pmt.video(), carried))
+}
+
+const PMTS: [(&[u8], [u16; 5], Carried); 3] = [
+    (
+        PMT,
+        [0x100, 0x101, 0x1B, 0, 0x1FFF],
+        (1, Some(0x100), [true, false, false, false, false]),
+    ),
+    (
+        PMT_WITH_SOUND,
+        [0x100, 0x101, 0x1B, 0, 0x1FFF],
+        (1, Some(0x100), [true, true, false, false, false]),
+    ),
+    (
+        PMT_WITH_DESCRIPTORS,
+        [0x1FF, 0x1F00, 0x123, 0x1FFF, 0x504],
+        (3, Some(0x1FF), [true, true, true, true, false]),
+    ),
+];
+
+#[test]
+fn reads_a_pmt(rt: HostRuntime) {
+    for (section, pids, there) in &PMTS {
+        assert_eq!(rt;
+            carried(rt.alloc(), section, *pids),
+            Ok(*there),
+            "in {section:?}"
+        );
+    }
+}
+
+#[test]
+fn tells_each_fault_of_a_pat(rt: HostRuntime) {
+    for (section, fault) in &FAULTY_PATS {
+        assert_eq!(rt;
+            Pat::read(rt.alloc(), section).err(),
+            Some(*fault),
+            "in {section:?}"
+        );
+    }
+}
+
+#[test]
+fn tells_each_fault_of_a_pmt(rt: HostRuntime) {
+    for (section, fault) in &FAULTY_PMTS {
+        assert_eq!(rt;
+            Pmt::read(rt.alloc(), section).err(),
+            Some(*fault),
+            "in {section:?}"
+        );
+    }
+}
+
+/// The video of a PMT section of so many bytes, 1,024 or one more: these bytes, zero bytes of descriptors, one stream, the
+/// CRC.
+fn video_of_long(
     alloc: Global,
     front: &[u8],
     len: usize,
@@ -130,138 +257,25 @@ fn long_pmt(
     write(&mut section, 0, front);
     write(&mut section, len.saturating_sub(9), b"\x1b\xe1\x00\xf0\x00");
     write(&mut section, len.saturating_sub(4), crc);
-    let (section, _) = section.split_at(usize::min(len, 1025));
-    Ok(Pmt::read(alloc, section)?.video())
-}
-
-#[test]
-fn computes_crcs(rt: HostRuntime) {
-    assert_eq!(rt; crc_32(PAT), 0);
-    assert_eq!(rt; crc_32(PMT), 0);
-    assert_eq!(rt; crc_32(PMT_WITH_SOUND), 0);
-    assert_eq!(rt;
-        crc_32(b"\x00\xb0\x0d\x00\x01\xc1\x00\x00\x00\x01\xf0\x00"),
-        0x2AB1_04B2
-    );
-    // The check value of CRC-32/MPEG-2 in catalogues of CRCs.
-    assert_eq!(rt; crc_32(b"123456789"), 0x0376_E6E7);
-    assert_eq!(rt; crc_32(b""), 0xFFFF_FFFF);
-}
-
-/// A PAT without entries.
-const EMPTY_PAT: &[u8] = b"\x00\xb0\x09\x00\x01\xc1\x00\x00\xef\x22\x62\x17";
-
-/// The stream of a PAT, and what it chooses for each of some programs.
-fn choices(
-    alloc: Global,
-    section: &[u8],
-    programs: [Option<u16>; 4],
-) -> Result<(u16, [Option<(u16, u16)>; 4]), TableFault> {
-    let pat = Pat::read(alloc, section)?;
-    let [a, b, c, d] = programs;
-    let chosen = [pat.choose(a), pat.choose(b), pat.choose(c), pat.choose(d)];
-    Ok((pat.transport_stream_id(), chosen))
-}
-
-#[test]
-fn reads_a_pat(rt: HostRuntime) {
-    let one = Some((1, 0x1000));
-    assert_eq!(rt;
-        choices(rt.alloc(), PAT, [None, Some(1), Some(2), Some(0)]),
-        Ok((1, [one, one, None, None]))
-    );
-    assert_eq!(rt;
-        choices(
-            rt.alloc(),
-            PAT_WITH_NETWORK,
-            [None, Some(0), Some(2), Some(3)]
-        ),
-        Ok((
-            0x1234,
-            [Some((1, 0x100)), Some((0, 0x10)), Some((2, 0x200)), None]
-        ))
-    );
-    assert_eq!(rt;
-        choices(rt.alloc(), EMPTY_PAT, [None, Some(0), Some(1), Some(2)]),
-        Ok((1, [None; 4]))
-    );
-}
-
-/// The program of a PMT, its video, and whether it carries each of some PIDs.
-fn carried(
-    alloc: Global,
-    section: &[u8],
-    pids: [u16; 5],
-) -> Result<(u16, Option<u16>, [bool; 5]), TableFault> {
-    let pmt = Pmt::read(alloc, section)?;
-    let mut carried = [false; 5];
-    for (there, pid) in carried.iter_mut().zip(pids) {
-        *there = pmt.carries(pid);
-    }
-    Ok((pmt.program(), pmt.video(), carried))
-}
-
-#[test]
-fn reads_a_pmt(rt: HostRuntime) {
-    let pids = [0x100, 0x101, 0x1B, 0, 0x1FFF];
-    assert_eq!(rt;
-        carried(rt.alloc(), PMT, pids),
-        Ok((1, Some(0x100), [true, false, false, false, false]))
-    );
-    assert_eq!(rt;
-        carried(rt.alloc(), PMT_WITH_SOUND, pids),
-        Ok((1, Some(0x100), [true, true, false, false, false]))
-    );
-    assert_eq!(rt;
-        carried(
-            rt.alloc(),
-            PMT_WITH_DESCRIPTORS,
-            [0x1FF, 0x1F00, 0x123, 0x1FFF, 0x504]
-        ),
-        Ok((3, Some(0x1FF), [true, true, true, true, false]))
-    );
-}
-
-/// The first PAT in which something else is wrong.
-fn first_wrong_pat(alloc: Global) -> Option<usize> {
-    for (n, (section, fault)) in FAULTY_PATS.iter().enumerate() {
-        if Pat::read(alloc, section).err() != Some(*fault) {
-            return Some(n);
-        }
-    }
-    None
-}
-
-/// The first PMT in which something else is wrong.
-fn first_wrong_pmt(alloc: Global) -> Option<usize> {
-    for (n, (section, fault)) in FAULTY_PMTS.iter().enumerate() {
-        if Pmt::read(alloc, section).err() != Some(*fault) {
-            return Some(n);
-        }
-    }
-    None
-}
-
-#[test]
-fn tells_each_fault(rt: HostRuntime) {
-    assert_eq!(rt; first_wrong_pat(rt.alloc()), None);
-    assert_eq!(rt; first_wrong_pmt(rt.alloc()), None);
+    Ok(Pmt::read(alloc, first(&section, len))?.video())
 }
 
 #[test]
 fn reads_the_longest_section(rt: HostRuntime) {
-    let longest = long_pmt(
+    let longest = video_of_long(
         rt.alloc(),
         b"\x02\xb3\xfd\x00\x01\xc1\x00\x00\xe1\x00\xf3\xeb",
         1024,
         b"\x05\x26\x68\x59",
     );
-    assert_eq!(rt; longest, Ok(Some(0x100)));
-    let longer = long_pmt(
+    let longer = video_of_long(
         rt.alloc(),
         b"\x02\xb3\xfe\x00\x01\xc1\x00\x00\xe1\x00\xf3\xec",
         1025,
         b"\x1b\x80\x35\x9f",
     );
-    assert_eq!(rt; longer, Err(TableFault::BadLengths));
+    assert_eq!(rt;
+        [longest, longer],
+        [Ok(Some(0x100)), Err(TableFault::BadLengths)]
+    );
 }

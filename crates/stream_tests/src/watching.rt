@@ -1,10 +1,72 @@
-use crate::fixtures::Sent::{Carrying, Exactly, Filled};
-use crate::fixtures::{Behind, Sent, Told, first_other, watched};
-use crate::tests::{PAT, PMT, PMT_WITH_SOUND};
-use crate::{Tables, Watch};
+//! The tables in force behind packets.
+
+use crate::table_fixtures::Sent::{Carrying, Exactly, Filled};
+use crate::table_fixtures::{PAT, PMT, PMT_WITH_SOUND, Sent, bytes_of};
+use psi_tables::{Tables, Watch};
 use std::alloc::Global;
+use std::process::Abort;
 use std::test::Fail;
 use ts_packet::Packet;
+
+/// The stream, the program, the PMT's PID and the video's of some tables.
+type Told = Option<(u16, u16, u16, Option<u16>)>;
+
+/// Packets, the program that is asked for, and the tables in force behind them.
+struct Behind {
+    name: &'static str,
+    program: Option<u16>,
+    packets: &'static [Sent],
+    tables: Told,
+}
+
+/// Shows a packet to a watch.
+pub(crate) fn show(watch: &mut Watch, bytes: &[u8; 188]) -> Result<(), Fail> {
+    let packet = Packet::parse(bytes)?;
+    watch.push(&packet)?;
+    Ok(())
+}
+
+/// Shows packets to a watch.
+fn show_all(watch: &mut Watch, packets: &[Sent]) -> Result<(), Fail> {
+    for sent in packets {
+        show(watch, &bytes_of(*sent))?;
+    }
+    Ok(())
+}
+
+/// What tables tell.
+fn told(tables: Option<&Tables>) -> Told {
+    let Some(tables) = tables else {
+        return None;
+    };
+    Some((
+        tables.stream_id(),
+        tables.program(),
+        tables.pmt_pid(),
+        tables.video(),
+    ))
+}
+
+/// Refuses packets behind which other tables are in force.
+fn puts_in_force(watch: &mut Watch, case: &Behind) -> Result<(), Fail> {
+    show_all(watch, case.packets)?;
+    let told = told(watch.tables());
+    if told == case.tables {
+        return Ok(());
+    }
+    Err(Fail::new(format_args!("{}: {told:?}", case.name)))
+}
+
+/// Refuses the first packets behind which other tables are in force.
+fn put_in_force(alloc: Global, cases: &[Behind]) -> Result<(), Fail> {
+    for case in cases {
+        let mut watch = Watch::new(alloc, case.program);
+        let end = puts_in_force(&mut watch, case);
+        drop(watch);
+        end?;
+    }
+    Ok(())
+}
 
 /// Stream 2, and program 1 with its PMT on PID 0x1000. The CRCs of these sections come from a bitwise CRC-32/MPEG-2 in
 /// Python.
@@ -80,8 +142,7 @@ const ORDERS: [Behind; 5] = [
 
 #[test]
 fn tables_come_in_order(rt: HostRuntime) -> Result<(), Fail> {
-    assert_eq!(rt; first_other(rt.alloc(), &ORDERS)?, None);
-    Ok(())
+    put_in_force(rt.alloc(), &ORDERS)
 }
 
 /// Stream 0x1234: the network PID 0x10, program 1 on 0x100, program 2 on 0x200. And a PMT of each.
@@ -130,8 +191,7 @@ const ASKED: [Behind; 5] = [
 
 #[test]
 fn the_program_that_was_asked_for(rt: HostRuntime) -> Result<(), Fail> {
-    assert_eq!(rt; first_other(rt.alloc(), &ASKED)?, None);
-    Ok(())
+    put_in_force(rt.alloc(), &ASKED)
 }
 
 /// A PAT that chooses otherwise.
@@ -193,8 +253,7 @@ const STAYS: [Behind; 5] = [
 
 #[test]
 fn tables_stay_in_force(rt: HostRuntime) -> Result<(), Fail> {
-    assert_eq!(rt; first_other(rt.alloc(), &STAYS)?, None);
-    Ok(())
+    put_in_force(rt.alloc(), &STAYS)
 }
 
 /// Program 1 with its PMT on PID 0.
@@ -253,8 +312,7 @@ const ON_THE_PID_OF_PATS: [Behind; 5] = [
 
 #[test]
 fn sections_on_the_pid_of_pats(rt: HostRuntime) -> Result<(), Fail> {
-    assert_eq!(rt; first_other(rt.alloc(), &ON_THE_PID_OF_PATS)?, None);
-    Ok(())
+    put_in_force(rt.alloc(), &ON_THE_PID_OF_PATS)
 }
 
 /// Another choice and the same one, in one packet.
@@ -314,8 +372,7 @@ const GATHERED: [Behind; 6] = [
 
 #[test]
 fn gathered_anew_where_the_pid_changes(rt: HostRuntime) -> Result<(), Fail> {
-    assert_eq!(rt; first_other(rt.alloc(), &GATHERED)?, None);
-    Ok(())
+    put_in_force(rt.alloc(), &GATHERED)
 }
 
 /// A PMT with sound and then one without, in one packet.
@@ -325,36 +382,46 @@ const TWO_PMTS: Sent = Carrying(
     b"\x02\xb0\x17\x00\x01\xc1\x00\x00\xe1\x00\xf0\x00\x1b\xe1\x00\xf0\x00\x0f\xe1\x01\xf0\x00\x2f\x44\xb9\x9b\x02\xb0\x12\x00\x01\xc1\x00\x00\xe1\x00\xf0\x00\x1b\xe1\x00\xf0\x00\x15\xbd\x4d\x56",
 );
 
-#[test]
-fn the_last_of_several(rt: HostRuntime) -> Result<(), Fail> {
-    let watch = watched(rt.alloc(), None, &[PAT_PACKET, TWO_PMTS])?;
+fn has_the_last(rt: &impl Abort, watch: &mut Watch) -> Result<(), Fail> {
+    show_all(watch, &[PAT_PACKET, TWO_PMTS])?;
     assert_eq!(rt; watch.tables().map(Tables::section), Some(PMT));
     Ok(())
 }
 
 #[test]
-fn tables_from_the_next_packet_on(rt: HostRuntime) -> Result<(), Fail> {
-    assert!(rt; Watch::new(rt.alloc(), None).tables().is_none());
-    assert!(rt; watched(rt.alloc(), None, &[PAT_PACKET])?.tables().is_none());
-    Ok(())
+fn the_last_of_several(rt: HostRuntime) -> Result<(), Fail> {
+    let mut watch = Watch::new(rt.alloc(), None);
+    let end = has_the_last(&rt, &mut watch);
+    drop(watch);
+    end
 }
 
-/// A copy of the tables in force.
-fn copied(watch: &Watch) -> Result<Tables, Fail> {
+const NONE_YET: [Behind; 2] = [
+    Behind {
+        name: "no packet",
+        program: None,
+        packets: &[],
+        tables: None,
+    },
+    Behind {
+        name: "a PAT",
+        program: None,
+        packets: &[PAT_PACKET],
+        tables: None,
+    },
+];
+
+#[test]
+fn tables_from_the_next_packet_on(rt: HostRuntime) -> Result<(), Fail> {
+    put_in_force(rt.alloc(), &NONE_YET)
+}
+
+/// The tables in force.
+pub(crate) fn in_force(watch: &Watch) -> Result<&Tables, Fail> {
     match watch.tables() {
-        Some(tables) => Ok(tables.copy()?),
+        Some(tables) => Ok(tables),
         None => Err(Fail::from("no tables")),
     }
-}
-
-/// The tables of the PMT without sound, and those that a PMT with sound makes of them.
-fn changed(alloc: Global) -> Result<(Tables, Tables), Fail> {
-    let mut watch = watched(alloc, None, &[PAT_PACKET, PMT_PACKET])?;
-    let first = copied(&watch)?;
-    let bytes = crate::fixtures::bytes_of(Carrying(0x1000, 1, PMT_WITH_SOUND));
-    let packet = Packet::parse(&bytes)?;
-    watch.push(&packet)?;
-    Ok((first, copied(&watch)?))
 }
 
 /// Whether tables are of this section, and carry the video and the sound.
@@ -366,11 +433,30 @@ fn has(tables: &Tables, section: &[u8]) -> (bool, bool, bool) {
     )
 }
 
+/// The tables of the PMT without sound are left as they were by a PMT with sound, which makes others.
+fn change(rt: &impl Abort, watch: &mut Watch, first: &Tables) -> Result<(), Fail> {
+    show_all(watch, &[Carrying(0x1000, 1, PMT_WITH_SOUND)])?;
+    let second = in_force(watch)?;
+    let same = (first.same(first), first.same(second));
+    assert_eq!(rt;
+        (has(first, PMT), has(second, PMT_WITH_SOUND), same),
+        ((true, true, false), (true, true, true), (true, false))
+    );
+    Ok(())
+}
+
+fn change_behind(rt: &impl Abort, watch: &mut Watch) -> Result<(), Fail> {
+    show_all(watch, &[PAT_PACKET, PMT_PACKET])?;
+    let first = in_force(watch)?.copy()?;
+    let end = change(rt, watch, &first);
+    drop(first);
+    end
+}
+
 #[test]
 fn tables_that_change(rt: HostRuntime) -> Result<(), Fail> {
-    let (first, second) = changed(rt.alloc())?;
-    assert_eq!(rt; has(&first, PMT), (true, true, false));
-    assert_eq!(rt; has(&second, PMT_WITH_SOUND), (true, true, true));
-    assert_eq!(rt; (first.same(&first), first.same(&second)), (true, false));
-    Ok(())
+    let mut watch = Watch::new(rt.alloc(), None);
+    let end = change_behind(&rt, &mut watch);
+    drop(watch);
+    end
 }

@@ -1,9 +1,9 @@
 //! Plans that are closed in spools are those of the stream, wherever the spools are turned out.
 ghost use Rattle.std.specs.Prelude.{◌≡◌, []};
 
-use crate::fixtures::Step::{Key, Pat, Pmt, Sound, Video};
-use crate::fixtures::{Outcome, SETTINGS, Step, cut, is_allowed, stream};
-use crate::{CutFault, CutSettings, Lent, Plan, Spool, SpoolCutter};
+use crate::stream_fixtures::Step::{Key, Pat, Pmt, Sound, Video};
+use crate::stream_fixtures::{SETTINGS, Step, is_allowed, stream};
+use cutter::{CutFault, CutSettings, Plan, Spool, SpoolCutter};
 use std::alloc::Global;
 use std::test::Fail;
 
@@ -99,107 +99,144 @@ fn cut_in_spools(
     (turned, end)
 }
 
-/// Whether the spools of a stream hold its plans, and its fault is told.
+/// Whether the spools of a cutter hold the plans of a stream, and its fault is told.
 fn holds(
-    alloc: Global,
-    settings: CutSettings,
+    cutter: &mut SpoolCutter,
+    first: Spool,
     packets: &[[u8; 188]],
     turns: Turns,
-    outcome: &Outcome,
-) -> Result<bool, CutFault> {
-    if !is_allowed(settings) {
-        return Err(CutFault::Ended);
-    }
-    let mut cutter = SpoolCutter::new(alloc, 0, settings);
-    let spool = Spool::new(alloc);
-    let (turned, end) = cut_in_spools(&mut cutter, packets, turns, spool, &outcome.plans);
+    plans: &[Plan],
+    fault: Option<CutFault>,
+) -> Result<bool, CutFault>
+    requires { cutter.old.list ≡ [] }
+{
+    let (turned, end) = cut_in_spools(cutter, packets, turns, first, plans);
     let left = cutter.plans();
     let told = turned.count.map(|count| count.wrapping_add(left));
     // once more, where the turn is refused
-    let last = turn_out(&mut cutter, turned, &outcome.plans);
-    let last = turn_out(&mut cutter, last, &outcome.plans);
+    let last = turn_out(cutter, turned, plans);
+    let Turned { spool, count } = turn_out(cutter, last, plans);
+    drop(spool);
     match end {
         Err(CutFault::NoMemory) => Err(CutFault::NoMemory),
-        _ => Ok(
-            end.err() == outcome.fault
-                && told == last.count
-                && last.count == Some(outcome.plans.len()),
-        ),
+        _ => Ok(end.err() == fault && told == count && count == Some(plans.len())),
     }
 }
 
-/// Whether a stream has the same plans and the same fault, wherever its spools are turned out.
+/// Whether a stream has these plans and this fault, wherever its spools are turned out.
 pub(crate) fn hold(
     alloc: Global,
     settings: CutSettings,
     packets: &[[u8; 188]],
-    outcome: &Outcome,
+    plans: &[Plan],
+    fault: Option<CutFault>,
 ) -> Result<bool, CutFault> {
-    for turns in TURNS {
-        if !holds(alloc, settings, packets, turns, outcome)? {
-            return Ok(false);
-        }
+    if !is_allowed(settings) {
+        return Err(CutFault::Ended);
     }
-    Ok(true)
+    let mut hold = true;
+    for turns in TURNS {
+        let mut cutter = SpoolCutter::new(alloc, 0, settings);
+        let spool = Spool::new(alloc);
+        let held = holds(&mut cutter, spool, packets, turns, plans, fault);
+        drop(cutter);
+        hold &= held?;
+    }
+    Ok(hold)
 }
 
 /// Two segments, the first of two I-frames.
 const TWO: &[Step] = &[Pat, Pmt, Key(0), Key(180_000), Video, Key(540_000), Sound];
 
-/// The I-frames of the first plan of a spool, each as offset, length and start.
-fn first_frames(spool: &Spool) -> Option<[(u64, u64, u64); 2]> {
+/// How many plans a spool holds, the I-frames of the first one, each as offset, length and start, and the number of the one
+/// behind them.
+type Told = (usize, [(u64, u64, u64); 2], Option<u64>);
+
+fn told(spool: &Spool) -> Option<Told> {
     let plan = spool.plan(0)?;
     let [first, second] = plan.frames else {
         return None;
     };
-    Some([
+    let frames = [
         (first.offset, first.len, first.start),
         (second.offset, second.len, second.start),
-    ])
+    ];
+    let plans = spool.plans();
+    Some((plans, frames, spool.plan(plans).map(|plan| plan.number)))
+}
+
+/// What the spool that is turned out tells.
+fn turned_out(cutter: &mut SpoolCutter, spool: Spool) -> Option<Told> {
+    match cutter.turn(spool) {
+        Ok(full) => {
+            let told = told(&full);
+            drop(full);
+            told
+        }
+        Err(spare) => {
+            drop(spare);
+            None
+        }
+    }
+}
+
+/// What is told at the end of a stream of spools that are turned out behind each four packets, how many plans stood in them,
+/// how many are left, and what the last spool tells.
+type End = (Result<bool, CutFault>, Option<usize>, usize, Option<Told>);
+
+fn end_in_spools(cutter: &mut SpoolCutter, first: Spool, packets: &[[u8; 188]]) -> End
+    requires { cutter.old.list ≡ [] }
+{
+    let (turned, end) = cut_in_spools(cutter, packets, Turns::Packets(4), first, &[]);
+    let Turned { spool, count } = turned;
+    let left = cutter.plans();
+    (end, count, left, turned_out(cutter, spool))
 }
 
 #[test]
 fn a_turn_within_an_iframe(rt: HostRuntime) -> Result<(), Fail> {
-    let alloc = rt.alloc();
-    let packets = stream(alloc, TWO)?;
-    let mut cutter = SpoolCutter::new(alloc, 7, SETTINGS);
-    let spool = Spool::new(alloc);
-    let (turned, end) = cut_in_spools(&mut cutter, &packets, Turns::Packets(4), spool, &[]);
-    assert_eq!(rt; end, Ok(true));
-    assert_eq!(rt; turned.count, Some(0));
-    assert_eq!(rt; cutter.plans(), 2);
-    let Ok(full) = cutter.turn(turned.spool) else {
-        return Err(Fail::from(CutFault::NoMemory));
-    };
-    assert_eq!(rt; full.plans(), 2);
-    assert_eq!(rt;
-        first_frames(&full),
-        Some([(0, 188, 0), (188, 376, 180_000)])
-    );
-    assert_eq!(rt; full.plan(2).map(|plan| plan.number), None);
-    Ok(())
-}
-
-#[test]
-fn a_spool_cutter_ends(rt: HostRuntime) -> Result<(), Fail> {
-    let mut cutter = SpoolCutter::new(rt.alloc(), 7, SETTINGS);
-    assert_eq!(rt; cutter.push(&[0; 188]), Ok(false));
-    assert_eq!(rt; cutter.finish(), Err(CutFault::NoProgram));
-    assert_eq!(rt; cutter.push(&[0; 188]), Err(CutFault::Ended));
-    assert_eq!(rt; cutter.finish(), Err(CutFault::Ended));
-    assert_eq!(rt; cutter.plans(), 0);
-    Ok(())
-}
-
-#[test]
-fn a_lent_plan_is_the_plan(rt: HostRuntime) -> Result<(), Fail> {
     let packets = stream(rt.alloc(), TWO)?;
-    let cut = cut(rt.alloc(), SETTINGS, &packets)?;
-    let [first, second] = cut.plans.as_slice() else {
-        return Err(Fail::from(CutFault::Ended));
-    };
-    let lent = Lent::of(first.lend());
-    assert!(rt; lent.plan().same(first.lend()));
-    assert!(rt; !lent.plan().same(second.lend()));
+    let mut cutter = SpoolCutter::new(rt.alloc(), 7, SETTINGS);
+    let end = end_in_spools(&mut cutter, Spool::new(rt.alloc()), &packets);
+    drop(cutter);
+    assert_eq!(rt;
+        end,
+        (
+            Ok(true),
+            Some(0),
+            2,
+            Some((2, [(0, 188, 0), (188, 376, 180_000)], None))
+        )
+    );
     Ok(())
+}
+
+/// What a spool cutter tells of a packet, at the end, of a packet behind it, and at the end once more.
+fn ended(cutter: &mut SpoolCutter) -> [Result<bool, CutFault>; 4]
+    requires { cutter.old.list ≡ [] }
+{
+    [
+        cutter.push(&[0; 188]),
+        cutter.finish(),
+        cutter.push(&[0; 188]),
+        cutter.finish(),
+    ]
+}
+
+#[test]
+fn a_spool_cutter_ends(rt: HostRuntime) {
+    let mut cutter = SpoolCutter::new(rt.alloc(), 7, SETTINGS);
+    let told = ended(&mut cutter);
+    let plans = cutter.plans();
+    drop(cutter);
+    assert_eq!(rt;
+        told,
+        [
+            Ok(false),
+            Err(CutFault::NoProgram),
+            Err(CutFault::Ended),
+            Err(CutFault::Ended)
+        ]
+    );
+    assert_eq!(rt; plans, 0);
 }
