@@ -1,5 +1,5 @@
 //! What is packed is read back.
-use crate::run::{PLAY, Play, last_media, played};
+use crate::run::{PLAY, Play, Ran, last_media, played};
 use crate::stream::Video::{Key, Other};
 use hls_check::{Entry, ListFault, Listing, check, read_media};
 use item_io::Item;
@@ -57,6 +57,17 @@ pub fn first_lost(
         }
     }
     Ok(None)
+}
+
+/// Whether a run of one rendition ended well with so many items, and all that it packed under these keys comes back.
+pub fn is_whole(
+    alloc: Global,
+    ran: &Ran,
+    count: usize,
+    keys: &[[u8; 16]],
+) -> Result<bool, AllocError> {
+    let lost = first_lost(alloc, ran.outlet.items(), 0, keys)?;
+    Ok(lost.is_none() && ran.told() == (None, count))
 }
 
 /// The lines of an entry behind one with this key.
@@ -181,11 +192,10 @@ const JUMP: Play = Play {
 /// Its last playlist.
 fn playlist(alloc: Global) -> Result<String, Fail> {
     let ran = played(alloc, &JUMP)?;
-    let items = ran.outlet.items();
-    if ran.told().0.is_some() || first_lost(alloc, items, 0, &[[0; 16], [1; 16]])?.is_some() {
+    if !is_whole(alloc, &ran, 18, &[[0; 16], [1; 16]])? {
         return Err(Fail::from("lost"));
     }
-    Ok(String::from_str(alloc, last_media(items))?)
+    Ok(String::from_str(alloc, last_media(ran.outlet.items()))?)
 }
 
 #[test]

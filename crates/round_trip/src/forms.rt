@@ -1,6 +1,6 @@
 //! Salted vectors, playlists of an event, as many renditions as there may be, and each beginning of a stream.
 use crate::allowed::NAMES;
-use crate::back::first_lost;
+use crate::back::is_whole;
 use crate::cases::SEVEN;
 use crate::ladder::{SEVEN_BEHIND_A_JUMP, packed_alike};
 use crate::run::{
@@ -61,10 +61,9 @@ v.1.ts
 fn two_segments_under_a_salt(rt: HostRuntime) -> Result<(), Fail> {
     let form = SALTED;
     let ran = played_each_way(&rt, rt.alloc(), &Play { form, ..PLAY })?;
+    assert!(rt; is_whole(rt.alloc(), &ran, 10, &[[0; 16]])?);
     let items = ran.outlet.items();
-    assert_eq!(rt; ran.told(), (None, 10));
     assert_eq!(rt; (last_media(items), last_frames(items)), (MEDIA, FRAMES));
-    assert_eq!(rt; first_lost(rt.alloc(), items, 0, &[[0; 16]])?, None);
     Ok(())
 }
 
@@ -78,8 +77,7 @@ fn keys_take_turns_under_a_salt(rt: HostRuntime) -> Result<(), Fail> {
         ..PLAY
     };
     let ran = played_each_way(&rt, rt.alloc(), &play)?;
-    let lost = first_lost(rt.alloc(), ran.outlet.items(), 0, &[[0; 16], [1; 16]])?;
-    assert_eq!(rt; (ran.told(), lost), ((None, 30), None));
+    assert!(rt; is_whole(rt.alloc(), &ran, 30, &[[0; 16], [1; 16]])?);
     Ok(())
 }
 
@@ -92,9 +90,8 @@ fn an_event_lists_all_segments(rt: HostRuntime) -> Result<(), Fail> {
         ..PLAY
     };
     let ran = played_each_way(&rt, rt.alloc(), &play)?;
+    assert!(rt; is_whole(rt.alloc(), &ran, 30, &[[0; 16]])?);
     let items = ran.outlet.items();
-    let lost = first_lost(rt.alloc(), items, 0, &[[0; 16]])?;
-    assert_eq!(rt; (ran.told(), lost), ((None, 30), None));
     let lines = (
         Some("#EXT-X-MEDIA-SEQUENCE:0"),
         Some("#EXT-X-PLAYLIST-TYPE:EVENT"),

@@ -1,5 +1,5 @@
 //! Several renditions, keys that take turns, and a window that slides.
-use crate::back::first_lost;
+use crate::back::{first_lost, is_whole};
 use crate::run::{
     CUT, PLAY, Play, Ran, WELL, last_master, last_media, played_each_way, run_each_way, settings,
     values,
@@ -80,17 +80,12 @@ fn keys_take_turns(rt: HostRuntime) -> Result<(), Fail> {
         ..PLAY
     };
     let ran = played_each_way(&rt, rt.alloc(), &play)?;
-    let items = ran.outlet.items();
-    let lost = first_lost(rt.alloc(), items, 0, &[[0; 16], [1; 16]])?;
-    assert_eq!(rt; (ran.told(), lost), ((None, 22), None));
-    assert_eq!(rt;
-        values(
-            rt.alloc(),
-            last_media(items),
-            "#EXT-X-KEY:METHOD=AES-128,URI="
-        )?
-        .as_str(),
-        "\"v.0.key\" \"v.1.key\" \"v.0.key\" "
+    assert!(rt; is_whole(rt.alloc(), &ran, 22, &[[0; 16], [1; 16]])?);
+    let media = last_media(ran.outlet.items());
+    let keys = values(rt.alloc(), media, "#EXT-X-KEY:METHOD=AES-128,URI=")?;
+    assert!(rt;
+        keys.as_str() == "\"v.0.key\" \"v.1.key\" \"v.0.key\" ",
+        "{keys}"
     );
     Ok(())
 }
@@ -153,9 +148,8 @@ fn a_window_slides_past_a_discontinuity(rt: HostRuntime) -> Result<(), Fail> {
         ..PLAY
     };
     let ran = played_each_way(&rt, rt.alloc(), &play)?;
-    let items = ran.outlet.items();
-    let lost = first_lost(rt.alloc(), items, 0, &[[0; 16]])?;
-    assert_eq!(rt; (ran.told(), lost), ((None, 30), None));
-    assert_eq!(rt; slides_of(rt.alloc(), items)?.as_str(), SLIDES);
+    assert!(rt; is_whole(rt.alloc(), &ran, 30, &[[0; 16]])?);
+    let slides = slides_of(rt.alloc(), ran.outlet.items())?;
+    assert!(rt; slides.as_str() == SLIDES, "{slides}");
     Ok(())
 }
