@@ -1,5 +1,4 @@
-use crate::command_line::LadderJob;
-use crate::fault::Fault;
+use command_line::{Fault, LadderJob};
 use commands::{PackedLadder, pack};
 use item_io::FolderOutlet;
 use read_ahead::open_all;

@@ -1,19 +1,10 @@
 //! tshls: MPEG-2 transport streams to encrypted HLS.
 #![tactic(auto)]
 
-mod command_line;
-mod fault;
-mod fault_text;
-mod help;
 mod ladder;
-mod options;
-mod pack_options;
-#[cfg(test)]
-mod tests;
 
-use crate::command_line::{Job, StreamJob, line};
-use crate::fault::Fault;
 use crate::ladder::pack_into_folder;
+use command_line::{Fault, Job, StreamJob, line};
 use commands::{Packed, check, one, open, seal};
 use item_io::ReaderSource;
 use std::process::ExitCode;

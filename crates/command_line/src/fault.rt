@@ -36,7 +36,7 @@ pub enum Fault {
 }
 
 impl Fault {
-    ghost use Rattle.tshls.specs.Faults.{status_of};
+    ghost use Rattle.command_line.specs.Faults.{status_of};
 
     /// The status that the process ends with: 2 for a refused command line, else 1.
     pub fn status(&self) -> u8
@@ -54,7 +54,7 @@ impl Fault {
 }
 
 impl From<AllocError> for Fault {
-    ghost use Rattle.tshls.specs.declared.fault.Fault.TheVariants.{NoMemory};
+    ghost use Rattle.command_line.specs.declared.fault.Fault.TheVariants.{NoMemory};
 
     ghost from_gives = { λ _ fault. fault ≡ NoMemory };
 
@@ -64,7 +64,7 @@ impl From<AllocError> for Fault {
 }
 
 impl<T: Drop> From<AllocFailed<T>> for Fault {
-    ghost use Rattle.tshls.specs.declared.fault.Fault.TheVariants.{NoMemory};
+    ghost use Rattle.command_line.specs.declared.fault.Fault.TheVariants.{NoMemory};
 
     ghost from_gives = { λ _ fault. fault ≡ NoMemory };
 
@@ -74,7 +74,7 @@ impl<T: Drop> From<AllocFailed<T>> for Fault {
 }
 
 impl From<clap::Error> for Fault {
-    ghost use Rattle.tshls.specs.Faults.{IsOfCommandLine};
+    ghost use Rattle.command_line.specs.Faults.{IsOfCommandLine};
 
     ghost from_gives = { λ _ fault. IsOfCommandLine fault };
 
@@ -87,7 +87,7 @@ impl From<clap::Error> for Fault {
 }
 
 impl From<CipherFault> for Fault {
-    ghost use Rattle.tshls.specs.declared.fault.Fault.TheVariants.{Cipher};
+    ghost use Rattle.command_line.specs.declared.fault.Fault.TheVariants.{Cipher};
 
     ghost from_gives = { λ why fault. fault ≡ Cipher why };
 
@@ -97,7 +97,7 @@ impl From<CipherFault> for Fault {
 }
 
 impl From<SettingsFault> for Fault {
-    ghost use Rattle.tshls.specs.declared.fault.Fault.TheVariants.{Settings};
+    ghost use Rattle.command_line.specs.declared.fault.Fault.TheVariants.{Settings};
 
     ghost from_gives = { λ why fault. fault ≡ Settings why };
 
@@ -107,7 +107,7 @@ impl From<SettingsFault> for Fault {
 }
 
 impl From<KeyListFault> for Fault {
-    ghost use Rattle.tshls.specs.declared.fault.Fault.TheVariants.{KeyList};
+    ghost use Rattle.command_line.specs.declared.fault.Fault.TheVariants.{KeyList};
 
     ghost from_gives = { λ why fault. fault ≡ KeyList why };
 
@@ -117,7 +117,7 @@ impl From<KeyListFault> for Fault {
 }
 
 impl From<SealingFault> for Fault {
-    ghost use Rattle.tshls.specs.declared.fault.Fault.TheVariants.{Sealing};
+    ghost use Rattle.command_line.specs.declared.fault.Fault.TheVariants.{Sealing};
 
     ghost from_gives = { λ why fault. fault ≡ Sealing why };
 
@@ -127,7 +127,7 @@ impl From<SealingFault> for Fault {
 }
 
 impl From<OpeningFault> for Fault {
-    ghost use Rattle.tshls.specs.declared.fault.Fault.TheVariants.{Opening};
+    ghost use Rattle.command_line.specs.declared.fault.Fault.TheVariants.{Opening};
 
     ghost from_gives = { λ why fault. fault ≡ Opening why };
 
@@ -137,7 +137,7 @@ impl From<OpeningFault> for Fault {
 }
 
 impl From<PackFault> for Fault {
-    ghost use Rattle.tshls.specs.declared.fault.Fault.TheVariants.{Packing};
+    ghost use Rattle.command_line.specs.declared.fault.Fault.TheVariants.{Packing};
 
     ghost from_gives = { λ why fault. fault ≡ Packing why };
 
@@ -147,7 +147,7 @@ impl From<PackFault> for Fault {
 }
 
 impl From<CheckingFault> for Fault {
-    ghost use Rattle.tshls.specs.declared.fault.Fault.TheVariants.{Checking};
+    ghost use Rattle.command_line.specs.declared.fault.Fault.TheVariants.{Checking};
 
     ghost from_gives = { λ why fault. fault ≡ Checking why };
 
@@ -157,7 +157,7 @@ impl From<CheckingFault> for Fault {
 }
 
 impl From<LadderFault> for Fault {
-    ghost use Rattle.tshls.specs.declared.fault.Fault.TheVariants.{Ladder};
+    ghost use Rattle.command_line.specs.declared.fault.Fault.TheVariants.{Ladder};
 
     ghost from_gives = { λ why fault. fault ≡ Ladder why };
 
@@ -167,7 +167,7 @@ impl From<LadderFault> for Fault {
 }
 
 impl From<OpenFault> for Fault {
-    ghost use Rattle.tshls.specs.declared.fault.Fault.TheVariants.{Unopened};
+    ghost use Rattle.command_line.specs.declared.fault.Fault.TheVariants.{Unopened};
 
     ghost from_gives = { λ why fault. fault ≡ Unopened why };
 
@@ -177,7 +177,7 @@ impl From<OpenFault> for Fault {
 }
 
 impl From<LadderPackingFault> for Fault {
-    ghost use Rattle.tshls.specs.declared.fault.Fault.TheVariants.{LadderPacking};
+    ghost use Rattle.command_line.specs.declared.fault.Fault.TheVariants.{LadderPacking};
 
     ghost from_gives = { λ why fault. fault ≡ LadderPacking why };
 
@@ -188,7 +188,7 @@ impl From<LadderPackingFault> for Fault {
 
 /// One viewer always finds a place.
 impl From<BoardFault> for Fault {
-    ghost use Rattle.tshls.specs.declared.fault.Fault.TheVariants.{NoMemory};
+    ghost use Rattle.command_line.specs.declared.fault.Fault.TheVariants.{NoMemory};
 
     ghost from_gives = { λ _ fault. fault ≡ NoMemory };
 

@@ -1,8 +1,8 @@
 -- What faults of the program stand for.
 use Rattle.std.specs.Prelude.{ℕ}
 use Rattle.commands.specs.Statuses.{cipher_status, key_list_status, ladder_status, settings_status}
-use Rattle.tshls.specs.declared.fault.Fault.{Fault}
-use Rattle.tshls.specs.declared.fault.Fault.TheVariants.{Usage, NotUtf8, Cipher, Settings, KeyList, Ladder, NoMemory, Sealing, Opening, Unopened, Packing, LadderPacking, Checking}
+use Rattle.command_line.specs.declared.fault.Fault.{Fault}
+use Rattle.command_line.specs.declared.fault.Fault.TheVariants.{Usage, NotUtf8, Cipher, Settings, KeyList, Ladder, NoMemory, Sealing, Opening, Unopened, Packing, LadderPacking, Checking}
 
 -- the status that the process ends with
 abbrev pub status_of : Fault → ℕ

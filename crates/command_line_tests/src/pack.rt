@@ -1,5 +1,5 @@
 use super::words::KEY;
-use crate::command_line::{Job, line};
+use command_line::{Job, line};
 use std::alloc::Global;
 use std::test::Fail;
 

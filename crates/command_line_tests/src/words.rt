@@ -1,5 +1,4 @@
-use crate::command_line::{Job, StreamJob, line};
-use crate::fault::Fault;
+use command_line::{Fault, Job, StreamJob, line};
 use commands::CheckOptions;
 use std::alloc::{AllocError, Global};
 use std::test::Fail;

@@ -1,4 +1,4 @@
-use crate::fault::Fault;
+use command_line::Fault;
 use commands::{
     CheckingFault, CipherFault, KeyListFault, LadderFault, LadderPackingFault, OpeningFault,
     SealingFault, SettingsFault,

@@ -1,6 +1,6 @@
 //! The command line: which command it asks for, with its options as values.
 ghost use Rattle.std.specs.Prelude.{IfErr};
-ghost use Rattle.tshls.specs.Faults.{IsOfCommandLine};
+ghost use Rattle.command_line.specs.Faults.{IsOfCommandLine};
 
 use crate::fault::Fault;
 use crate::help;

@@ -1,6 +1,5 @@
 use super::words::KEY;
-use crate::command_line::{Job, StreamJob, line};
-use crate::fault::Fault;
+use command_line::{Fault, Job, StreamJob, line};
 use pipeline::{Kind, Settings};
 use std::alloc::Global;
 use std::test::Fail;

@@ -1,6 +1,0 @@
-mod cipher;
-mod faults;
-mod help;
-mod one;
-mod pack;
-mod words;
