@@ -1,5 +1,5 @@
 -- The segments of a stream: where it is cut, which plans come of it, and what fault it has.
-use Rattle.std.specs.Prelude.{◌≡◌, ℕ, ◌+◌, nat_le, List, [], ◌∷◌, ◌++◌, Option, Some, None, is_none, if◌then◌else◌}
+use Rattle.std.specs.Prelude.{◌≡◌, ◌⊎◌, ℕ, ◌+◌, nat_le, List, [], ◌∷◌, ◌++◌, Option, Some, None, is_none, if◌then◌else◌}
 use Rattle.ghost_list.specs.Lists.{IsBeginning}
 use Rattle.psi_tables.specs.InForce.{InForce}
 use Rattle.psi_tables.specs.Head.{packet_count}
@@ -134,3 +134,21 @@ pub record GivesFront (r : ℕ) (s : CutSettings) (ps : List (List ℕ)) (old ne
   pub given : List SegmentPlan
   pub grown : new ≡ old ++ given
   pub front : IsBeginning given (plans r s ps)
+
+-- memory is wanting at a packet, and neither it nor those before it bring a fault; behind the plans that were there stand
+-- those that were closed before it
+pub record StopsAtPacket (r : ℕ) (s : CutSettings) (ps : List (List ℕ)) (old new : List SegmentPlan) : Type 0 where
+  pub before : List (List ℕ)
+  pub packet : List ℕ
+  pub behind : List (List ℕ)
+  pub split : ps ≡ before ++ packet ∷ behind
+  pub sound : (cuts r s (before ++ packet ∷ [])).fault ≡ None
+  pub plans : new ≡ old ++ closed r s before
+
+-- memory is wanting at the end of a stream without a fault
+pub record StopsAtEnd (r : ℕ) (s : CutSettings) (ps : List (List ℕ)) (old new : List SegmentPlan) : Type 0 where
+  pub sound : fault r s ps ≡ None
+  pub plans : new ≡ old ++ closed r s ps
+
+abbrev pub Stops : ℕ → CutSettings → List (List ℕ) → List SegmentPlan → List SegmentPlan → Type 0
+Stops r s ps old new = StopsAtPacket r s ps old new ⊎ StopsAtEnd r s ps old new
