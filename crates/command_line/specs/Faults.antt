@@ -1,5 +1,8 @@
 -- What faults of the program stand for.
-use Rattle.std.specs.Prelude.{ℕ}
+use Rattle.std.specs.Prelude.{◌≡◌, ◌≢◌, ℕ}
+use Rattle.clap.specs.declared.error.Error.{Error}
+use Rattle.clap.specs.declared.error.kind.ErrorKind.TheVariants.{OutOfMemory}
+use Rattle.clap.specs.Values.{kind_of}
 use Rattle.commands.specs.Statuses.{cipher_status, key_list_status, ladder_status, settings_status}
 use Rattle.command_line.specs.declared.fault.Fault.{Fault}
 use Rattle.command_line.specs.declared.fault.Fault.TheVariants.{Usage, NotUtf8, Cipher, Settings, KeyList, Ladder, NoMemory, Sealing, Opening, Unopened, Packing, LadderPacking, Checking}
@@ -35,3 +38,9 @@ IsOfCommandLine (Unopened fault) = ⊥
 IsOfCommandLine (Packing fault) = ⊥
 IsOfCommandLine (LadderPacking fault) = ⊥
 IsOfCommandLine (Checking fault) = ⊥
+
+-- What a refusal of clap is told as: as want of memory where it is that, and else as a command line that isn't one.
+pub record IsRefusal (why : Error) (fault : Fault) : Type 0 where
+  pub memory : kind_of why ≡ OutOfMemory → fault ≡ NoMemory
+  pub usage : kind_of why ≢ OutOfMemory → fault ≡ Usage why
+  pub early : IsOfCommandLine fault

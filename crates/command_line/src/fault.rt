@@ -74,9 +74,9 @@ impl<T: Drop> From<AllocFailed<T>> for Fault {
 }
 
 impl From<clap::Error> for Fault {
-    ghost use Rattle.command_line.specs.Faults.{IsOfCommandLine};
+    ghost use Rattle.command_line.specs.Faults.{IsRefusal};
 
-    ghost from_gives = { λ _ fault. IsOfCommandLine fault };
+    ghost from_gives = { IsRefusal };
 
     fn from(error: clap::Error) -> Fault {
         match error.kind() {
