@@ -1,8 +1,7 @@
 //! Which settings are allowed.
-use crate::run::{CUT, WELL, run};
+use crate::run::{CUT, WELL, rendition, run};
 use cutter::CutSettings;
 use pipeline::{Kind, PackFault, Rendition, Settings};
-use segment_job::Keys;
 use std::alloc::Global;
 use std::test::Fail;
 
@@ -28,23 +27,11 @@ fn is_allowed(alloc: Global, settings: &Settings, inputs: usize) -> Result<bool,
     }
 }
 
-/// A rendition of one key.
-fn rendition(alloc: Global, name: &str, width: u64) -> Result<Rendition, Fail> {
-    Ok(Rendition {
-        name: String::from_str(alloc, name)?,
-        codecs: String::from_str(alloc, "avc1.4d401e")?,
-        width,
-        height: 360,
-        keys: Keys::new(Vec::from_array(alloc, [[7; 16]])?, 1)?,
-        salt: None,
-    })
-}
-
 /// Whether renditions of these names are allowed, with so many inputs.
 fn names(alloc: Global, names: &[&str], inputs: usize) -> Result<bool, Fail> {
     let mut renditions = Vec::new(alloc);
     for name in names {
-        renditions.push(rendition(alloc, name, 640)?)?;
+        renditions.push(rendition(alloc, name, 1, 1, None)?)?;
     }
     let settings = Settings {
         renditions,
@@ -58,8 +45,21 @@ fn names(alloc: Global, names: &[&str], inputs: usize) -> Result<bool, Fail> {
 
 /// Whether one rendition is allowed, of this width, cut like this, with this window and this queue.
 fn one(alloc: Global, width: u64, cut: CutSettings, window: u64, queue: u64) -> Result<bool, Fail> {
+    let mut rendition = rendition(alloc, "v", 1, 1, None)?;
+    rendition.width = width;
+    alone(alloc, rendition, cut, window, queue)
+}
+
+/// Whether this rendition is allowed, cut like this, with this window and this queue.
+fn alone(
+    alloc: Global,
+    rendition: Rendition,
+    cut: CutSettings,
+    window: u64,
+    queue: u64,
+) -> Result<bool, Fail> {
     let mut renditions = Vec::new(alloc);
-    renditions.push(rendition(alloc, "v", width)?)?;
+    renditions.push(rendition)?;
     let settings = Settings {
         renditions,
         cut,
@@ -94,21 +94,9 @@ fn numbers_of_renditions_and_inputs(rt: HostRuntime) -> Result<(), Fail> {
 
 /// Whether a rendition of one key is allowed that has this salt, while its keys have that one.
 fn salts(alloc: Global, own: Option<[u8; 16]>, of_keys: Option<[u8; 16]>) -> Result<bool, Fail> {
-    let mut rendition = rendition(alloc, "v", 640)?;
+    let mut rendition = rendition(alloc, "v", 1, 1, of_keys)?;
     rendition.salt = own;
-    if let Some(salt) = of_keys {
-        rendition.keys = Keys::salted(Vec::from_array(alloc, [[7; 16]])?, 1, salt)?;
-    }
-    let mut renditions = Vec::new(alloc);
-    renditions.push(rendition)?;
-    let settings = Settings {
-        renditions,
-        cut: CUT,
-        kind: Kind::Live,
-        window: 5,
-        queue: 4,
-    };
-    is_allowed(alloc, &settings, 1)
+    alone(alloc, rendition, CUT, 5, 4)
 }
 
 #[test]
@@ -131,14 +119,24 @@ fn keys_hold_the_salt(rt: HostRuntime) -> Result<(), Fail> {
 }
 
 #[test]
-fn renditions_that_can_not_be_listed(rt: HostRuntime) -> Result<(), Fail> {
-    let master = names(rt.alloc(), &["master"], 1)?;
-    let same = names(rt.alloc(), &["a", "a"], 2)?;
-    let other = names(rt.alloc(), &["a", "A"], 2)?;
-    assert_eq!(rt; (master, same, other), (false, false, true));
-    let table = [(0, false), (1, true), (16_384, true), (16_385, false)];
-    for (width, allowed) in table {
-        assert_eq!(rt; one(rt.alloc(), width, CUT, 5, 4)?, allowed, "{width}");
+fn names_that_can_be_listed(rt: HostRuntime) -> Result<(), Fail> {
+    let table: [(&[&str], bool); 3] = [
+        (&["master"], false),
+        (&["a", "a"], false),
+        (&["a", "A"], true),
+    ];
+    for (listed, allowed) in table {
+        let told = names(rt.alloc(), listed, listed.len())?;
+        assert_eq!(rt; told, allowed, "{listed:?}");
+    }
+    Ok(())
+}
+
+#[test]
+fn widths(rt: HostRuntime) -> Result<(), Fail> {
+    for (width, allowed) in [(0, false), (1, true), (16_384, true), (16_385, false)] {
+        let told = one(rt.alloc(), width, CUT, 5, 4)?;
+        assert_eq!(rt; told, allowed, "{width}");
     }
     Ok(())
 }
@@ -213,22 +211,31 @@ fn targets_and_segments(rt: HostRuntime) -> Result<(), Fail> {
 
 #[test]
 fn gaps_frames_and_sizes(rt: HostRuntime) -> Result<(), Fail> {
-    for (gap, allowed) in [
-        (0, false),
-        (1, true),
-        (0xFFFF_FFFF, true),
-        (0x1_0000_0000, false),
-    ] {
-        let told = cut(rt.alloc(), CutSettings { gap, ..CUT })?;
-        assert_eq!(rt; told, allowed, "{gap}");
-    }
-    for (frame, allowed) in [(0, false), (1, true), (900_000, true), (900_001, false)] {
-        let told = cut(rt.alloc(), CutSettings { frame, ..CUT })?;
-        assert_eq!(rt; told, allowed, "{frame}");
-    }
-    for (most, allowed) in [(0, false), (1, true), (1_000_000, true), (1_000_001, false)] {
-        let told = cut(rt.alloc(), CutSettings { most, ..CUT })?;
-        assert_eq!(rt; told, allowed, "{most}");
+    let table = [
+        (0, CUT.frame, CUT.most, false),
+        (1, CUT.frame, CUT.most, true),
+        (0xFFFF_FFFF, CUT.frame, CUT.most, true),
+        (0x1_0000_0000, CUT.frame, CUT.most, false),
+        (CUT.gap, 0, CUT.most, false),
+        (CUT.gap, 1, CUT.most, true),
+        (CUT.gap, 900_000, CUT.most, true),
+        (CUT.gap, 900_001, CUT.most, false),
+        (CUT.gap, CUT.frame, 0, false),
+        (CUT.gap, CUT.frame, 1, true),
+        (CUT.gap, CUT.frame, 1_000_000, true),
+        (CUT.gap, CUT.frame, 1_000_001, false),
+    ];
+    for (gap, frame, most, allowed) in table {
+        let told = cut(
+            rt.alloc(),
+            CutSettings {
+                gap,
+                frame,
+                most,
+                ..CUT
+            },
+        )?;
+        assert_eq!(rt; told, allowed, "{gap} {frame} {most}");
     }
     Ok(())
 }

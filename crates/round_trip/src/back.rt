@@ -70,30 +70,41 @@ pub fn is_whole(
     Ok(lost.is_none() && ran.told() == (None, count))
 }
 
-/// The lines of an entry behind one with this key.
-fn entry_lines(
+/// Adds the line of a key.
+fn push_key_line(alloc: Global, name: &str, key: u64, text: &mut String) -> Result<(), AllocError> {
+    let line = format!(in alloc; "#EXT-X-KEY:METHOD=AES-128,URI=\"{name}.{key}.key\"\n")?;
+    text.push_str(line.as_str())
+}
+
+/// Adds the lines of a segment.
+fn push_segment_lines(
+    alloc: Global,
+    name: &str,
+    entry: &Entry,
+    text: &mut String,
+) -> Result<(), AllocError> {
+    let seconds = entry.micros / 1_000_000;
+    let rest = entry.micros % 1_000_000;
+    let number = entry.number;
+    let lines = format!(in alloc; "#EXTINF:{seconds}.{rest:06},\n{name}.{number}.ts\n")?;
+    text.push_str(lines.as_str())
+}
+
+/// Adds the lines of an entry behind one with this key.
+fn push_entry(
     alloc: Global,
     name: &str,
     before: Option<u64>,
     entry: &Entry,
-) -> Result<String, AllocError> {
-    let mut lines = String::new(alloc);
+    text: &mut String,
+) -> Result<(), AllocError> {
     if entry.discontinuity {
-        lines.push_str("#EXT-X-DISCONTINUITY\n")?;
+        text.push_str("#EXT-X-DISCONTINUITY\n")?;
     }
     if before != Some(entry.key) {
-        let key = entry.key;
-        lines.push_str(format!(in alloc;
-            "#EXT-X-KEY:METHOD=AES-128,URI=\"{name}.{key}.key\"\n"
-        )?.as_str())?;
+        push_key_line(alloc, name, entry.key, text)?;
     }
-    let seconds = entry.micros / 1_000_000;
-    let rest = entry.micros % 1_000_000;
-    let number = entry.number;
-    lines.push_str(format!(in alloc;
-        "#EXTINF:{seconds}.{rest:06},\n{name}.{number}.ts\n"
-    )?.as_str())?;
-    Ok(lines)
+    push_segment_lines(alloc, name, entry, text)
 }
 
 /// The text of a playlist whose name needs no escapes.
@@ -107,7 +118,7 @@ fn written(alloc: Global, listing: &Listing) -> Result<String, AllocError> {
     text.push_str(format!(in alloc; "#EXT-X-DISCONTINUITY-SEQUENCE:{count}\n")?.as_str())?;
     let mut before = None;
     for entry in &listing.entries {
-        text.push_str(entry_lines(alloc, &listing.name, before, entry)?.as_str())?;
+        push_entry(alloc, &listing.name, before, entry, &mut text)?;
         before = Some(entry.key);
     }
     if listing.ended {

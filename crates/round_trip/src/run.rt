@@ -129,27 +129,32 @@ pub fn told_beside<R: Threads + Wait + Sync>(
     Ok((fault, count, whole.starts_with(ran.outlet.items())))
 }
 
+/// So many keys.
+fn keys_of(alloc: Global, keys: u8, period: u64, salt: Option<[u8; 16]>) -> Result<Keys, Fail> {
+    let mut all = Vec::new(alloc);
+    for key in 0..keys {
+        all.push([key; 16])?;
+    }
+    Ok(match salt {
+        None => Keys::new(all, period)?,
+        Some(salt) => Keys::salted(all, period, salt)?,
+    })
+}
+
 /// A rendition with keys of its own.
-fn rendition(
+pub fn rendition(
     alloc: Global,
     name: &str,
     keys: u8,
     period: u64,
     salt: Option<[u8; 16]>,
 ) -> Result<Rendition, Fail> {
-    let mut all = Vec::new(alloc);
-    for key in 0..keys {
-        all.push([key; 16])?;
-    }
     Ok(Rendition {
         name: String::from_str(alloc, name)?,
         codecs: String::from_str(alloc, "avc1.4d401e")?,
         width: 640,
         height: 360,
-        keys: match salt {
-            None => Keys::new(all, period)?,
-            Some(salt) => Keys::salted(all, period, salt)?,
-        },
+        keys: keys_of(alloc, keys, period, salt)?,
         salt,
     })
 }
