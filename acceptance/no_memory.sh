@@ -35,26 +35,3 @@ writes_nothing() { is_empty 'standard output' "$work/out"; }
 writes_a_beginning() {
     cmp -s -n "$(wc -c <"$work/out")" "$work/out" "$work/whole" || { echo 'not a beginning'; return 1; }
 }
-
-# takes_again PROGRAM REWORD WORD AGAIN: each run prints what one with all memory prints, once the script REWORD has taken the
-# refusals out of it, whose lines have the WORD. AGAIN counts them by what they are of, over all runs.
-takes_again() {
-    local name=$1 reword=$2 word=$3 wanted=$4 number again
-    local fixture=$here/../crates/$name
-    cc -shared -fPIC -o "$work/refuse_memory.so" "$here/refuse_memory.c" -ldl || return
-    : >"$work/again"
-    for ((number = 1; number <= 400; number++)); do
-        rm -f "$work/was_refused"
-        timeout 120 env REFUSED="$number" MARK="$work/was_refused" LD_PRELOAD="$work/refuse_memory.so" \
-            "$fixture/out/$name" >"$work/out" 2>&1 || return
-        if ! sed "$reword" "$work/out" | cmp -s - "$fixture/stdout"; then
-            echo "at allocation $number: $(cat "$work/out")"
-            return 1
-        fi
-        grep "$word" "$work/out" >>"$work/again"
-        [ -e "$work/was_refused" ] || break
-    done
-    again=$(cut -d: -f1 "$work/again" | sort | uniq -c | tr -s ' \n' ' ')
-    echo "$number runs, again:$again"
-    [ ! -e "$work/was_refused" ] && [ "$again" = " $wanted " ]
-}

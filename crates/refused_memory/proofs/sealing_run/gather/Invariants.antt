@@ -1,5 +1,5 @@
 use Rattle.std.specs.Prelude.{◌≡◌, ◌+◌, vec_len}
-use Rattle.refused_sealing.proofs.run.gather.Given as goal
+use Rattle.refused_memory.proofs.sealing_run.gather.Given as goal
 
 abbrev pub invariant-loop-child : goal.invariant-loop-child
 invariant-loop-child g l = l.rest.parts + vec_len l.left ≡ l.fn.rest.parts + vec_len l.fn.running

@@ -1,13 +1,9 @@
-//! Shows three snapshots on a board. Where one is refused for want of memory it sees that the board shows what it showed,
-//! and shows it again. Prints for each snapshot `at once`, `again` or `wrong`, and then the count that a viewer sees; `no board`
-//! where there is none.
-#![tactic(auto)]
+//! A board that is asked.
 
 ghost use Rattle.std.specs.Prelude.{◌≡◌};
 
 use live_board::{BoardFault, HeldPublisher, Publisher, Snapshot, Viewer, board};
 use std::alloc::{AllocError, Global};
-use std::process::ExitCode;
 use std::sync::Wait;
 
 /// A snapshot of one rendition with so many segments.
@@ -91,8 +87,8 @@ fn go_on<R: Wait>(
     }
 }
 
-/// Three snapshots, and what the viewer then sees.
-fn run<R: Wait + Print>(rt: &R, alloc: Global) -> Option<u64> {
+/// Shows three snapshots, and looks. None where there is no memory to begin.
+pub(crate) fn publishing<R: Wait + Print>(rt: &R, alloc: Global) -> Option<()> {
     let first = made(alloc, 0).ok()?;
     let (publisher, mut viewers) = board(rt, alloc, first, 1).ok()?;
     let mut held = HeldPublisher { publisher, rt };
@@ -102,18 +98,7 @@ fn run<R: Wait + Print>(rt: &R, alloc: Global) -> Option<u64> {
     let (viewer, three) = go_on(rt, alloc, &mut held.publisher, viewer, 2);
     let mut viewer = viewer;
     held.publisher.tell(&mut viewer);
-    let _ = println!(rt; "{one}, {two}, {three}");
-    seen(viewer).1
-}
-
-fn main(rt: HostRuntime) -> ExitCode {
-    match run(&rt, rt.alloc()) {
-        Some(count) => {
-            let _ = rt.println(&count);
-        }
-        None => {
-            let _ = rt.println(&"no board");
-        }
-    }
-    ExitCode::SUCCESS
+    let count = seen(viewer).1.unwrap_or(0);
+    let _ = println!(rt; "board: {one}, {two}, {three}, then {count}");
+    Some(())
 }

@@ -63,7 +63,7 @@ fn feeding_with<L: Ledger, M: Ledger, R: Print>(
     let one = feed(&mut queue, plans.first()?.lend());
     let two = feed(&mut queue, plans.get(1)?.lend());
     let count = queue.outstanding();
-    let _ = println!(rt; "feed: {one}, {two}, then {count} outstanding");
+    let _ = println!(rt; "queue: {one}, {two}, then {count} outstanding");
     Some(())
 }
 

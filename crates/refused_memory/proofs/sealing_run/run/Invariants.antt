@@ -1,4 +1,4 @@
-use Rattle.refused_sealing.proofs.run.run.Given as goal
+use Rattle.refused_memory.proofs.sealing_run.run.Given as goal
 
 abbrev pub ghosts-run_with-L-Ledger : goal.ghosts-run_with-L-Ledger
 ghosts-run_with-L-Ledger g a = record { name = a.claims.name; parts = a.claims.parts }

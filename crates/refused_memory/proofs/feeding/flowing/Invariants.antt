@@ -1,4 +1,4 @@
-use Rattle.refused_flow.proofs.feeding.flowing.Given as goal
+use Rattle.refused_memory.proofs.feeding.flowing.Given as goal
 
 abbrev pub ghosts-flowing_with-L-Ledger : goal.ghosts-flowing_with-L-Ledger
 ghosts-flowing_with-L-Ledger g a = record { name = a.claims.name; parts = a.claims.parts }

@@ -64,6 +64,6 @@ pub(crate) fn listing<R: Print>(rt: &R, alloc: Global) -> Option<()> {
     let one = push(alloc, &mut window)?;
     let two = push(alloc, &mut window)?;
     let (media, frames) = lines(&window)?;
-    let _ = println!(rt; "row: {one}, {two}, then {media} and {frames} lines");
+    let _ = println!(rt; "window: {one}, {two}, then {media} and {frames} lines");
     Some(())
 }

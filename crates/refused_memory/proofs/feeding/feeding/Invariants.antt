@@ -1,4 +1,4 @@
-use Rattle.refused_flow.proofs.feeding.feeding.Given as goal
+use Rattle.refused_memory.proofs.feeding.feeding.Given as goal
 
 abbrev pub ghosts-feeding_with-L-Ledger : goal.ghosts-feeding_with-L-Ledger
 ghosts-feeding_with-L-Ledger g a = record { name = a.claims.name; parts = a.claims.parts }

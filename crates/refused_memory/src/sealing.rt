@@ -1,17 +1,10 @@
-//! Two workers seal eight plans, 200 times over, where memory may be refused to them. Each plan is either sealed or refused,
-//! once.
-//!
-//! Prints how many were sealed and how many refused, or `wrong` where a run told anything else.
-#![tactic(auto)]
+//! Two workers that seal eight plans, 200 times over. Each plan is either sealed or refused, once.
 
-mod run;
-
+use crate::sealing_run::{Told, run};
 use cutter::Plan;
-use run::{Told, run};
 use segment_job::Keys;
 use standard_stream::{keys, plans};
 use std::alloc::Global;
-use std::process::ExitCode;
 use std::sync::Wait;
 use std::thread::Threads;
 
@@ -36,20 +29,12 @@ fn runs<R: Threads + Wait + Sync>(
     Some(all)
 }
 
-fn told<R: Threads + Wait + Sync>(rt: &R, alloc: Global) -> Option<Told> {
+/// Seals all plans. Tells how many were sealed and how many refused. None where there is no memory to begin, or a run told
+/// anything else.
+pub(crate) fn sealing<R: Threads + Wait + Print + Sync>(rt: &R, alloc: Global) -> Option<()> {
     let plans = plans(alloc)?;
     let keys = keys(alloc)?;
-    runs(rt, alloc, &plans, &keys)
-}
-
-fn main(rt: HostRuntime) -> ExitCode {
-    match told(&rt, rt.alloc()) {
-        Some(Told { sealed, refused }) => {
-            let _ = println!(&rt; "{sealed} sealed, {refused} refused");
-        }
-        None => {
-            let _ = rt.println(&"wrong");
-        }
-    }
-    ExitCode::SUCCESS
+    let Told { sealed, refused } = runs(rt, alloc, &plans, &keys)?;
+    let _ = println!(rt; "desk: {sealed} sealed, {refused} refused");
+    Some(())
 }

@@ -50,5 +50,5 @@ pub(crate) fn reading<R: Print>(rt: &R, alloc: Global, stream: &[u8]) {
     let two = feed(&mut reader, back, &mut out);
     let end = finish(&mut reader, &mut out);
     let same = out.as_flattened() == stream;
-    let _ = println!(rt; "feed: {one}, {two}, {end}, then the same bytes: {same}");
+    let _ = println!(rt; "reader: {one}, {two}, {end}, then the same bytes: {same}");
 }
