@@ -25,21 +25,27 @@ const FRAME: [u8; 18] = [
     0x3D, 0x61,
 ];
 
+/// The fields of a packet: its PID, its counter, how long its payload is, whether a unit starts in it, whether it is scrambled,
+/// and whether it is one of random access.
+fn fields(bytes: &[u8; 188]) -> Option<(u16, u8, usize, [bool; 3])> {
+    let packet = Packet::parse(bytes).ok()?;
+    Some((
+        packet.pid(),
+        packet.counter(),
+        packet.payload().len(),
+        [packet.starts(), packet.scrambled(), packet.random_access()],
+    ))
+}
+
 #[test]
-fn fields_of_a_key_frame(rt: HostRuntime) -> Result<(), Fail> {
-    let bytes = packet(&KEY_FRAME);
-    let key_frame = Packet::parse(&bytes)?;
-    assert_eq!(rt; key_frame.pid(), 0x100);
-    assert!(rt; key_frame.starts());
-    assert!(rt; !key_frame.scrambled());
-    assert_eq!(rt; key_frame.counter(), 0);
-    assert!(rt; key_frame.random_access());
-    assert_eq!(rt; key_frame.payload().len(), 182);
-    let bytes = packet(&FRAME);
-    let frame = Packet::parse(&bytes)?;
-    assert_eq!(rt; frame.counter(), 1);
-    assert!(rt; !frame.random_access());
-    assert_eq!(rt; frame.payload().len(), 184);
+fn fields_of_frames(rt: HostRuntime) -> Result<(), Fail> {
+    assert_eq!(rt;
+        (fields(&packet(&KEY_FRAME)), fields(&packet(&FRAME))),
+        (
+            Some((0x100, 0, 182, [true, false, true])),
+            Some((0x100, 1, 184, [true, false, false]))
+        )
+    );
     Ok(())
 }
 
@@ -116,113 +122,205 @@ fn byte_by_byte(alloc: Global, bytes: &[u8]) -> Result<Stream, AllocError>
     Ok(Stream { packets, skipped })
 }
 
+/// Whether a stream was read as these packets, and so many bytes were in none.
+fn is_read(all: &Stream, packets: &[u8], skipped: u64) -> bool {
+    all.packets.as_flattened() == packets && all.skipped == Skipped { bytes: skipped }
+}
+
+/// The first place at which a stream of few bytes, cut in two there, isn't read as these packets and five bytes in none.
+fn first_wrong_cut(
+    alloc: Global,
+    bytes: &[u8],
+    packets: &[u8],
+) -> Result<Option<usize>, AllocError> {
+    if bytes.len() > 2000 {
+        return Ok(Some(bytes.len()));
+    }
+    for at in 0..=bytes.len() {
+        let all = cut(alloc, bytes, at)?;
+        if !is_read(&all, packets, 5) {
+            return Ok(Some(at));
+        }
+    }
+    Ok(None)
+}
+
+/// Whether a stream of few bytes that comes byte by byte is read as these packets and five bytes in none.
+fn is_read_by_bytes(alloc: Global, bytes: &[u8], packets: &[u8]) -> Result<bool, AllocError> {
+    if bytes.len() > 2000 {
+        return Ok(false);
+    }
+    Ok(is_read(&byte_by_byte(alloc, bytes)?, packets, 5))
+}
+
+/// The packets behind five bytes of none.
+fn behind_noise(alloc: Global, packets: &[u8]) -> Result<Vec<u8>, AllocError> {
+    let mut bytes = Vec::new(alloc);
+    bytes.extend_from_slice(&[0x00, 0x47, 0x00, 0x01, 0x02])?;
+    bytes.extend_from_slice(packets)?;
+    Ok(bytes)
+}
+
+/// What comes of the packets behind five bytes of none: how many bytes they are, the first cut that isn't read as these
+/// packets, and whether they are read so byte by byte.
+fn told_of_cuts(alloc: Global, packets: &[u8]) -> Result<(usize, Option<usize>, bool), AllocError> {
+    let bytes = behind_noise(alloc, packets)?;
+    let wrong = first_wrong_cut(alloc, &bytes, packets);
+    let by_bytes = is_read_by_bytes(alloc, &bytes, packets);
+    Ok((bytes.len(), wrong?, by_bytes?))
+}
+
 #[test]
 fn the_cut_does_not_matter(rt: HostRuntime) -> Result<(), Fail> {
-    let alloc = rt.alloc();
-    let mut bytes = [0x00, 0x47, 0x00, 0x01, 0x02].to_vec(alloc)?;
-    let packets = six_packets(alloc)?;
-    bytes.extend_from_slice(&packets)?;
-    let len = bytes.len();
-    assert_eq!(rt; len, 1133);
-    for at in 0..=len {
-        let all = cut(alloc, &bytes, at)?;
-        assert_eq!(rt; all.packets.len(), 6, "cut at {at}");
-        assert_eq!(rt;
-            all.packets.as_flattened(),
-            packets.as_slice(),
-            "cut at {at}"
-        );
-        assert_eq!(rt; all.skipped, Skipped { bytes: 5 }, "cut at {at}");
-    }
-    let all = byte_by_byte(alloc, &bytes)?;
-    assert_eq!(rt; all.packets.as_flattened(), packets.as_slice());
-    assert_eq!(rt; all.skipped, Skipped { bytes: 5 });
+    let packets = six_packets(rt.alloc())?;
+    let told = told_of_cuts(rt.alloc(), &packets)?;
+    assert_eq!(rt; told, (1133, None, true));
     Ok(())
+}
+
+/// What a stream of few bytes gives that is cut in two: how long its packets are together, whether they are its own from the
+/// front on, and how many bytes lie in none.
+fn told_of(alloc: Global, bytes: &[u8]) -> Result<(usize, bool, u64), AllocError> {
+    if bytes.len() < 100 || bytes.len() > 2000 {
+        return Ok((0, false, 0));
+    }
+    let all = cut(alloc, bytes, 100)?;
+    let packets = all.packets.as_flattened();
+    Ok((packets.len(), bytes.starts_with(packets), all.skipped.bytes))
 }
 
 #[test]
 fn a_packet_that_is_cut_off_is_skipped(rt: HostRuntime) -> Result<(), Fail> {
-    let alloc = rt.alloc();
-    let mut bytes = six_packets(alloc)?;
-    bytes.truncate(1127);
-    assert_eq!(rt; bytes.len(), 1127);
-    let all = cut(alloc, &bytes, 1000)?;
-    assert_eq!(rt; all.skipped, Skipped { bytes: 187 });
-    bytes.truncate(940);
-    assert_eq!(rt; all.packets.as_flattened(), bytes.as_slice());
-    bytes.truncate(187);
-    assert_eq!(rt; bytes.len(), 187);
-    let none = cut(alloc, &bytes, 100)?;
-    assert!(rt; none.packets.is_empty());
-    assert_eq!(rt; none.skipped, Skipped { bytes: 187 });
+    let stream = six_packets(rt.alloc())?;
+    for (len, packets) in [(1127, 940), (187, 0)] {
+        let told = told_of(rt.alloc(), stream.get(..len).unwrap_or(&[]))?;
+        assert_eq!(rt; told, (packets, true, 187), "{len} bytes");
+    }
     Ok(())
+}
+
+/// What a reader keeps of a stream of few bytes, and how many bytes it skipped, twice: the first time, and once it was finished.
+fn read_twice(
+    bytes: &[u8],
+    first: &mut Vec<[u8; 188]>,
+    second: &mut Vec<[u8; 188]>,
+) -> Result<(usize, u64, u64), AllocError> {
+    if bytes.len() > 2000 {
+        return Ok((0, 0, 0));
+    }
+    let mut reader = Reader::new();
+    reader.feed(bytes, first)?;
+    let kept = reader.kept();
+    let skipped = reader.finish(first)?;
+    reader.feed(bytes, second)?;
+    let again = reader.finish(second)?;
+    Ok((kept, skipped.bytes, again.bytes))
+}
+
+/// Whether a reader that was finished gives a stream once more, with what it kept and skipped.
+fn told_twice(alloc: Global, bytes: &[u8]) -> Result<(bool, (usize, u64, u64)), AllocError> {
+    let (mut first, mut second) = (Vec::new(alloc), Vec::new(alloc));
+    let told = read_twice(bytes, &mut first, &mut second);
+    let same = first.as_flattened() == bytes && second.as_flattened() == bytes;
+    Ok((same, told?))
 }
 
 #[test]
 fn a_finished_reader_stands_as_a_new_one(rt: HostRuntime) -> Result<(), Fail> {
-    let alloc = rt.alloc();
-    let bytes = six_packets(alloc)?;
-    assert_eq!(rt; bytes.len(), 1128);
-    let mut reader = Reader::new();
-    let mut first = Vec::new(alloc);
-    reader.feed(&bytes, &mut first)?;
-    assert_eq!(rt; reader.kept(), 0);
-    assert_eq!(rt; reader.finish(&mut first)?, Skipped { bytes: 0 });
-    let mut second = Vec::new(alloc);
-    reader.feed(&bytes, &mut second)?;
-    assert_eq!(rt; reader.finish(&mut second)?, Skipped { bytes: 0 });
-    assert_eq!(rt; first.as_flattened(), bytes.as_slice());
-    assert_eq!(rt; second.as_flattened(), bytes.as_slice());
+    let bytes = six_packets(rt.alloc())?;
+    let told = told_twice(rt.alloc(), &bytes)?;
+    assert_eq!(rt; told, (true, (0, 0, 0)));
     Ok(())
+}
+
+/// Seven packets without byte 751, the last of the fourth, and what is read of them: the fourth takes the first byte of the
+/// fifth, which is lost.
+fn with_a_lost_byte(alloc: Global) -> Result<(Vec<u8>, Vec<u8>), AllocError> {
+    let mut bytes = six_packets(alloc)?;
+    bytes.extend_from_slice(&packet(&FRAME))?;
+    let mut lost = Vec::new(alloc);
+    let mut read = Vec::new(alloc);
+    for (at, byte) in bytes.iter().enumerate() {
+        if at != 751 {
+            lost.push(*byte)?;
+        }
+        if at != 751 && (at < 753 || at >= 940) {
+            read.push(*byte)?;
+        }
+    }
+    Ok((lost, read))
+}
+
+/// Whether a stream of few bytes that is cut in two is read as these packets, and so many bytes are in none.
+fn is_read_cut(
+    alloc: Global,
+    bytes: &[u8],
+    packets: &[u8],
+    skipped: u64,
+) -> Result<bool, AllocError> {
+    if bytes.len() < 600 || bytes.len() > 2000 {
+        return Ok(false);
+    }
+    Ok(is_read(&cut(alloc, bytes, 600)?, packets, skipped))
 }
 
 #[test]
 fn lock_comes_back_behind_a_lost_byte(rt: HostRuntime) -> Result<(), Fail> {
-    let alloc = rt.alloc();
-    let mut bytes = six_packets(alloc)?;
-    bytes.extend_from_slice(&packet(&FRAME))?;
-    assert_eq!(rt; bytes.len(), 1316);
-    bytes.remove(751);
-    assert_eq!(rt; bytes.len(), 1315);
-    let all = cut(alloc, &bytes, 600)?;
-    // The fourth packet takes the first byte of the fifth, which is lost.
-    let (front, back) = bytes.split_at(752);
-    let (_, back) = back.split_at(187);
-    let mut want = front.to_vec(alloc)?;
-    want.extend_from_slice(back)?;
-    assert_eq!(rt; all.packets.as_flattened(), want.as_slice());
-    assert_eq!(rt; all.skipped, Skipped { bytes: 187 });
+    let (bytes, packets) = with_a_lost_byte(rt.alloc())?;
+    let is = is_read_cut(rt.alloc(), &bytes, &packets, 187)?;
+    assert_eq!(rt; (bytes.len(), is), (1315, true));
     Ok(())
 }
 
+/// How many packets a reader that was fed little lends at the front of bytes `from` to `to` of a stream.
+fn lend(
+    reader: &mut Reader,
+    stream: &[u8],
+    from: usize,
+    to: usize,
+    packets: &mut Vec<[u8; 188]>,
+) -> Result<usize, AllocError>
+    requires { length reader.old < 2 ^ 40 }
+    ensures { length reader.new ≤ length reader.old + 2000 }
+{
+    let piece = stream.get(from..to).unwrap_or(&[]);
+    if piece.len() > 2000 {
+        return Ok(usize::MAX);
+    }
+    let lent = reader.feed_lending(piece, packets)?;
+    if piece.starts_with(lent.as_flattened()) {
+        return Ok(lent.len());
+    }
+    Ok(usize::MAX)
+}
+
+/// How many packets a reader lends of each piece of a stream, which are three packets, two, the beginning of one and the rest of
+/// it; and how many bytes it skips.
+fn lent(stream: &[u8], packets: &mut Vec<[u8; 188]>) -> Result<([usize; 4], u64), AllocError> {
+    let mut reader = Reader::new();
+    let first = lend(&mut reader, stream, 0, 564, packets)?;
+    let second = lend(&mut reader, stream, 564, 940, packets)?;
+    let begun = lend(&mut reader, stream, 940, 1000, packets)?;
+    let ended = lend(&mut reader, stream, 1000, 1128, packets)?;
+    Ok(([first, second, begun, ended], reader.finish(packets)?.bytes))
+}
+
+/// The same, and whether what the reader appends is the other packets.
+fn told_lent(alloc: Global, stream: &[u8]) -> Result<(([usize; 4], u64), bool), AllocError> {
+    let mut packets = Vec::new(alloc);
+    let told = lent(stream, &mut packets);
+    let appended = packets.as_flattened();
+    let are = appended.starts_with(&stream[..stream.len().min(564)])
+        && appended.ends_with(&stream[stream.len().min(940)..])
+        && packets.len() == 4;
+    Ok((told?, are))
+}
+
+/// None is lent of the first piece, since no packet ended before it.
 #[test]
 fn packets_are_lent_where_they_stand(rt: HostRuntime) -> Result<(), Fail> {
-    let alloc = rt.alloc();
-    let bytes = six_packets(alloc)?;
-    assert_eq!(rt; bytes.len(), 1128);
-    let (first, rest) = bytes.split_at(564);
-    let (second, third) = rest.split_at(376);
-    let (begun, ended) = third.split_at(100);
-    let mut reader = Reader::new();
-    let mut packets = Vec::new(alloc);
-    assert!(rt;
-        reader.feed_lending(first, &mut packets)?.is_empty(),
-        "nothing ends before the first"
-    );
-    assert_eq!(rt; packets.as_flattened(), first);
-    assert_eq!(rt;
-        reader.feed_lending(second, &mut packets)?.as_flattened(),
-        second
-    );
-    assert!(rt;
-        reader.feed_lending(begun, &mut packets)?.is_empty(),
-        "a part of one"
-    );
-    assert!(rt;
-        reader.feed_lending(ended, &mut packets)?.is_empty(),
-        "the other part"
-    );
-    assert_eq!(rt; packets.len(), 4);
-    assert_eq!(rt; reader.finish(&mut packets)?, Skipped { bytes: 0 });
+    let stream = six_packets(rt.alloc())?;
+    let told = told_lent(rt.alloc(), &stream)?;
+    assert_eq!(rt; told, (([0, 2, 0, 0], 0), true));
     Ok(())
 }
