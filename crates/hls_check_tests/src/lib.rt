@@ -2,10 +2,12 @@
 #![tactic(auto)]
 
 #[cfg(test)]
+mod changed_tests;
+#[cfg(test)]
 mod reading_tests;
 #[cfg(test)]
-mod salted_tests;
-#[cfg(test)]
 mod text_tests;
+#[cfg(test)]
+mod texts;
 #[cfg(test)]
 mod unpacking_tests;

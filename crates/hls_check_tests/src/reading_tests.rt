@@ -1,138 +1,55 @@
+//! What is read of texts.
+use crate::texts::{EVENT, MEDIA, SALT, SALTED, changed, fault};
 use hls_check::{ListFault, Listing, read_media};
-use std::alloc::Global;
+use std::alloc::{AllocError, Global};
 use std::test::Fail;
 
-/// The text that lists the segments of the standard stream.
-pub const MEDIA: &str = "#EXTM3U
-#EXT-X-VERSION:4
-#EXT-X-TARGETDURATION:6
-#EXT-X-MEDIA-SEQUENCE:0
-#EXT-X-DISCONTINUITY-SEQUENCE:0
-#EXT-X-KEY:METHOD=AES-128,URI=\"v.0.key\"
-#EXTINF:6.000000,
-v.0.ts
-#EXTINF:3.040000,
-v.1.ts
-#EXT-X-ENDLIST
-";
+/// An entry: its number, the index of its key, its microseconds, and whether it is a discontinuity.
+type Row = (u64, u64, u64, bool);
 
-/// The standard text with one of its lines in another way.
-fn changed(alloc: Global, line: usize, other: &str) -> Result<String, Fail> {
-    let mut text = String::new(alloc);
-    for (at, one) in MEDIA.lines().enumerate() {
-        text.push_str(if at.wrapping_add(1) == line {
-            other
-        } else {
-            one
-        })?;
-        text.push('\n')?;
-    }
-    Ok(text)
+/// Whether a listing has a name; its target, sequence and discontinuity sequence; whether it is of an event and has ended; its
+/// salt; and its entries, of which there are two.
+type Read = (
+    bool,
+    (u64, u64, u64),
+    (bool, bool),
+    Option<[u8; 16]>,
+    [Option<Row>; 3],
+);
+
+fn facts(listing: &Listing, name: &str) -> Read {
+    let entry = |at: usize| {
+        let entry = listing.entries.get(at)?;
+        Some((entry.number, entry.key, entry.micros, entry.discontinuity))
+    };
+    (
+        listing.name.as_str() == name,
+        (
+            listing.target,
+            listing.sequence,
+            listing.discontinuity_sequence,
+        ),
+        (listing.event, listing.ended),
+        listing.salt,
+        [entry(0), entry(1), entry(2)],
+    )
 }
 
-/// Why a text isn't read, or None.
-fn fault(alloc: Global, text: &str) -> Option<ListFault> {
-    read_media(alloc, text).err()
+/// What is read of a text of a rendition of this name.
+fn read(alloc: Global, text: &str, name: &str) -> Result<Read, ListFault> {
+    let listing = read_media(alloc, text)?;
+    Ok(facts(&listing, name))
 }
 
-#[test]
-fn the_standard_text(rt: HostRuntime) -> Result<(), Fail> {
-    let Listing {
-        name,
-        target,
-        sequence,
-        discontinuity_sequence,
-        event,
-        salt,
-        entries,
-        ended,
-    } = read_media(rt.alloc(), MEDIA)?;
-    assert_eq!(rt; name.as_str(), "v");
-    assert_eq!(rt;
-        (target, sequence, discontinuity_sequence, ended),
-        (6, 0, 0, true)
-    );
-    assert!(rt; !event && salt.is_none());
-    let mut told = entries
-        .iter()
-        .map(|e| (e.number, e.key, e.micros, e.discontinuity));
-    assert_eq!(rt; told.next(), Some((0, 0, 6_000_000, false)));
-    assert_eq!(rt; told.next(), Some((1, 0, 3_040_000, false)));
-    assert_eq!(rt; told.next(), None);
-    Ok(())
-}
+/// The segments of the standard stream.
+const ENTRIES: [Option<Row>; 3] = [
+    Some((0, 0, 6_000_000, false)),
+    Some((1, 0, 3_040_000, false)),
+    None,
+];
 
-#[test]
-fn texts_that_end_early(rt: HostRuntime) -> Result<(), Fail> {
-    let alloc = rt.alloc();
-    assert_eq!(rt; fault(alloc, ""), Some(ListFault::NotProfile(1)));
-    assert_eq!(rt;
-        fault(alloc, "\u{feff}#EXTM3U\n"),
-        Some(ListFault::NotProfile(1))
-    );
-    assert_eq!(rt; fault(alloc, "#EXTM3U\r\n"), Some(ListFault::NotProfile(1)));
-    let mut text = String::from_str(alloc, MEDIA)?;
-    text.pop();
-    assert_eq!(rt; fault(alloc, &text), Some(ListFault::NotProfile(11)));
-    text.push_str("\n\n")?;
-    assert_eq!(rt; fault(alloc, &text), Some(ListFault::NotProfile(12)));
-    let mut text = String::new(alloc);
-    for (at, line) in MEDIA.lines().enumerate() {
-        let told = match at {
-            8 | 10 => None,
-            _ => Some(ListFault::NotProfile(at as u64 + 1)),
-        };
-        assert_eq!(rt; fault(alloc, &text), told, "{at}");
-        text.push_str(line)?;
-        text.push('\n')?;
-    }
-    Ok(())
-}
-
-#[test]
-fn lines_in_another_way(rt: HostRuntime) -> Result<(), Fail> {
-    let table: [(usize, &str, u64); 26] = [
-        (1, "#EXTM3U ", 1),
-        (2, "#EXT-X-VERSION:3", 2),
-        (3, "#EXT-X-TARGETDURATION:06", 3),
-        (3, "#EXT-X-TARGETDURATION:0", 3),
-        (3, "#EXT-X-TARGETDURATION:3601", 3),
-        (3, "#EXT-X-TARGETDURATION:5", 7),
-        (4, "#EXT-X-MEDIA-SEQUENCE:4294967295", 4),
-        (4, "#EXT-X-MEDIA-SEQUENCE:+0", 4),
-        (4, "#EXT-X-MEDIA-SEQUENCE:1", 8),
-        (5, "#EXT-X-DISCONTINUITY-SEQUENCE:4294967296", 5),
-        (6, "#EXTINF:6.000000,", 6),
-        (6, "#EXT-X-KEY:METHOD=AES-128,URI=\"v.4096.key\"", 6),
-        (6, "#EXT-X-KEY:METHOD=AES-128,URI=\"v.00.key\"", 6),
-        (6, "#EXT-X-KEY:METHOD=AES-128,URI=\"%76.0.key\"", 6),
-        (6, "#EXT-X-KEY:METHOD=AES-128,URI=\"master.0.key\"", 6),
-        (6, "#EXT-X-KEY:METHOD=AES-128,URI=\"%FF.0.key\"", 6),
-        (6, "#EXT-X-KEY:METHOD=AES-128,URI=\"w.0.key\"", 8),
-        (7, "#EXTINF:06.000000,", 7),
-        (7, "#EXTINF:6.00000,", 7),
-        (7, "#EXTINF:6.500000,", 7),
-        (7, "#EXTINF:0.000000,", 7),
-        (9, "#EXT-X-KEY:METHOD=AES-128,URI=\"v.0.key\"", 9),
-        (9, "#EXT-X-DISCONTINUITY", 10),
-        (10, "v.2.ts", 10),
-        (10, "v.01.ts", 10),
-        (11, "#EXT-X-ENDLIST ", 11),
-    ];
-    for (line, other, told) in table {
-        let text = changed(rt.alloc(), line, other)?;
-        assert_eq!(rt;
-            fault(rt.alloc(), &text),
-            Some(ListFault::NotProfile(told)),
-            "{line} {other}"
-        );
-    }
-    Ok(())
-}
-
-#[test]
-fn other_texts(rt: HostRuntime) -> Result<(), Fail> {
-    let text = "#EXTM3U
+/// The least and the greatest numbers, and a name with escapes.
+const BOUNDS: &str = "#EXTM3U
 #EXT-X-VERSION:4
 #EXT-X-TARGETDURATION:3600
 #EXT-X-MEDIA-SEQUENCE:4294967293
@@ -145,12 +62,154 @@ hd%201%C3%A9.4294967293.ts
 #EXTINF:3600.499999,
 hd%201%C3%A9.4294967294.ts
 ";
-    let mut whole = String::from_str(rt.alloc(), text)?;
-    let listing = read_media(rt.alloc(), &whole)?;
-    assert_eq!(rt; listing.name.as_str(), "hd 1é");
-    assert_eq!(rt; listing.entries.len(), 2);
-    assert!(rt; !listing.ended);
-    whole.push_str("#EXTINF:6.000000,\n")?;
-    assert_eq!(rt; fault(rt.alloc(), &whole), Some(ListFault::NotProfile(13)));
+
+/// A salted text whose first segments are gone.
+const LATER: &str = "#EXTM3U
+#EXT-X-VERSION:4
+#EXT-X-TARGETDURATION:6
+#EXT-X-MEDIA-SEQUENCE:256
+#EXT-X-DISCONTINUITY-SEQUENCE:1
+#EXT-X-KEY:METHOD=AES-128,URI=\"v.3.key\",IV=0xF0F1F2F3F4F5F6F7F8F9FAFBFCFDFFFF
+#EXTINF:6.000000,
+v.256.ts
+#EXT-X-DISCONTINUITY
+#EXT-X-KEY:METHOD=AES-128,URI=\"v.0.key\",IV=0xF0F1F2F3F4F5F6F7F8F9FAFBFCFDFFFE
+#EXTINF:3.040000,
+v.257.ts
+";
+
+/// Texts, the names of their renditions, and what is read of them.
+const TEXTS: [(&str, &str, Read); 5] = [
+    (MEDIA, "v", (true, (6, 0, 0), (false, true), None, ENTRIES)),
+    (
+        SALTED,
+        "v",
+        (true, (6, 0, 0), (false, true), Some(SALT), ENTRIES),
+    ),
+    (EVENT, "v", (true, (6, 0, 0), (true, false), None, ENTRIES)),
+    (
+        BOUNDS,
+        "hd 1é",
+        (
+            true,
+            (3600, 4_294_967_293, 4_294_967_295),
+            (false, false),
+            None,
+            [
+                Some((4_294_967_293, 4095, 1, true)),
+                Some((4_294_967_294, 0, 3_600_499_999, false)),
+                None,
+            ],
+        ),
+    ),
+    (
+        LATER,
+        "v",
+        (
+            true,
+            (6, 256, 1),
+            (false, false),
+            Some(SALT),
+            [
+                Some((256, 3, 6_000_000, false)),
+                Some((257, 0, 3_040_000, true)),
+                None,
+            ],
+        ),
+    ),
+];
+
+#[test]
+fn texts_are_read(rt: HostRuntime) -> Result<(), Fail> {
+    for (text, name, told) in TEXTS {
+        assert_eq!(rt; read(rt.alloc(), text, name), Ok(told), "{text}");
+    }
+    Ok(())
+}
+
+/// What is read of a text with these lines in place of its sixth.
+fn read_changed(
+    alloc: Global,
+    text: &str,
+    sixth: &[&str],
+) -> Result<Result<Read, ListFault>, AllocError> {
+    let text = changed(alloc, text, 6, sixth)?;
+    Ok(read(alloc, &text, "v"))
+}
+
+/// The line of an event before the first key line of the salted text.
+const SALTED_EVENT: [&str; 2] = [
+    "#EXT-X-PLAYLIST-TYPE:EVENT",
+    "#EXT-X-KEY:METHOD=AES-128,URI=\"v.0.key\",IV=0xF0F1F2F3F4F5F6F7F8F9FAFBFCFDFEFF",
+];
+
+#[test]
+fn an_event_by_its_line_alone(rt: HostRuntime) -> Result<(), Fail> {
+    let table: [(&str, &[&str], Read); 2] = [
+        (
+            SALTED,
+            &SALTED_EVENT,
+            (true, (6, 0, 0), (true, true), Some(SALT), ENTRIES),
+        ),
+        (EVENT, &[], (true, (6, 0, 0), (false, false), None, ENTRIES)),
+    ];
+    for (text, sixth, told) in table {
+        assert_eq!(rt; read_changed(rt.alloc(), text, sixth)?, Ok(told), "{text}");
+    }
+    Ok(())
+}
+
+/// The line that is told of a text that ends in another way: of the standard text without its last line end, with one more, and
+/// of the text that ends at the last possible number with a segment more.
+fn told_of_ends(alloc: Global) -> Result<[Option<ListFault>; 3], AllocError> {
+    let mut text = String::new(alloc);
+    text.push_str(MEDIA)?;
+    text.pop();
+    let without = fault(alloc, &text);
+    text.push_str("\n\n")?;
+    let with = fault(alloc, &text);
+    text.clear();
+    text.push_str(BOUNDS)?;
+    text.push_str("#EXTINF:6.000000,\n")?;
+    Ok([without, with, fault(alloc, &text)])
+}
+
+#[test]
+fn texts_that_end_in_another_way(rt: HostRuntime) -> Result<(), Fail> {
+    assert_eq!(rt;
+        told_of_ends(rt.alloc())?,
+        [11, 12, 13].map(|line| Some(ListFault::NotProfile(line)))
+    );
+    for text in ["", "\u{feff}#EXTM3U\n", "#EXTM3U\r\n"] {
+        assert_eq!(rt;
+            fault(rt.alloc(), text),
+            Some(ListFault::NotProfile(1)),
+            "{text}"
+        );
+    }
+    Ok(())
+}
+
+/// The first number of lines after which the standard text ends early and is told otherwise: the line behind the last is, but
+/// where a playlist may end.
+fn first_end_told_otherwise(alloc: Global) -> Result<Option<usize>, AllocError> {
+    let mut text = String::new(alloc);
+    for (at, line) in MEDIA.lines().enumerate() {
+        let told = match at {
+            8 | 10 => None,
+            _ => Some(ListFault::NotProfile(at as u64 + 1)),
+        };
+        if fault(alloc, &text) != told {
+            return Ok(Some(at));
+        }
+        text.push_str(line)?;
+        text.push('\n')?;
+    }
+    Ok(None)
+}
+
+#[test]
+fn texts_that_end_early(rt: HostRuntime) -> Result<(), Fail> {
+    assert_eq!(rt; first_end_told_otherwise(rt.alloc())?, None);
     Ok(())
 }

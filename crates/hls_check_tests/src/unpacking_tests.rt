@@ -1,11 +1,10 @@
-use crate::reading_tests::MEDIA;
-use crate::salted_tests::{SALT, SALTED};
+//! What the segments of a playlist unpack to.
+use crate::texts::{MEDIA, SALT, SALTED};
 use aes_cbc::{Key, seal};
 use hls_check::{
     CheckFault, Checked, Entry, ListFault, Listing, UnpackFault, check, check_listing, unpack,
 };
 use playlist_text::salted_vector;
-use segment_job::vector;
 use standard_stream::{FRAME, KEY_FRAME, LAST_FRAME, PAT, PMT, SECOND_KEY_FRAME, append_packets};
 use std::alloc::{AllocError, Global};
 use std::test::Fail;
@@ -22,49 +21,84 @@ const NEXT_PMT: &[u8] =
 const BAD_PMT: &[u8] =
     b"\x47\x50\x00\x10\x00\x02\xb0\x12\x00\x01\xc1\x00\x00\xe1\x00\xf0\x00\x1b\xe1\x00\xf0\x00\x15\xbd\x4d\x57";
 
-/// A key frame at 0 ticks, and another frame.
-const FIRST: [&[u8]; 2] = [KEY_FRAME, FRAME];
+/// The bodies of the standard stream's segments, a key frame and another frame each.
+const BODIES: [&[u8]; 4] = [KEY_FRAME, FRAME, SECOND_KEY_FRAME, LAST_FRAME];
 
-/// A key frame at 540,000 ticks, and another frame.
-const SECOND: [&[u8]; 2] = [SECOND_KEY_FRAME, LAST_FRAME];
+const KEY: [u8; 16] = [7; 16];
 
-const KEYS: [[u8; 16]; 2] = [[7; 16], [9; 16]];
+const OTHER_KEY: [u8; 16] = [9; 16];
 
-/// The segment of a number, of such packets, sealed.
-fn segment(
-    alloc: Global,
-    key: &[u8; 16],
+const KEYS: [[u8; 16]; 2] = [KEY, OTHER_KEY];
+
+/// A sealed segment: its packets, or none for 16 bytes of value 0; its key, its number, its salt, and how many bytes are cut off
+/// at its end.
+#[derive(Clone, Copy)]
+struct Packed {
+    packets: Option<[&'static [u8]; 4]>,
+    key: [u8; 16],
     number: u64,
-    head: [&[u8]; 2],
-    body: [&[u8]; 2],
-) -> Result<Vec<u8>, AllocError> {
-    segment_under(alloc, key, &vector(number), head, body)
+    salt: Option<[u8; 16]>,
+    cut: usize,
 }
 
-/// The segment of such packets, sealed under a vector.
-fn segment_under(
-    alloc: Global,
-    key: &[u8; 16],
-    vector: &[u8; 16],
-    head: [&[u8]; 2],
-    body: [&[u8]; 2],
-) -> Result<Vec<u8>, AllocError> {
+/// The first segment of the standard stream.
+const FIRST: Packed = Packed {
+    packets: Some([PAT, PMT, KEY_FRAME, FRAME]),
+    key: KEY,
+    number: 0,
+    salt: None,
+    cut: 0,
+};
+
+/// The second one.
+const SECOND: Packed = Packed {
+    packets: Some([NEXT_PAT, NEXT_PMT, SECOND_KEY_FRAME, LAST_FRAME]),
+    number: 1,
+    ..FIRST
+};
+
+/// The second one under the second key.
+const OTHER: Packed = Packed {
+    key: OTHER_KEY,
+    ..SECOND
+};
+
+/// The first one without its last byte.
+const CUT: Packed = Packed { cut: 1, ..FIRST };
+
+/// No packets.
+const NO_HEAD: Packed = Packed {
+    packets: None,
+    ..FIRST
+};
+
+/// Appends what is sealed.
+fn push_text(text: &mut Vec<u8>, packed: Packed) -> Result<(), AllocError> {
+    match packed.packets {
+        Some(packets) => append_packets(text, &packets),
+        None => text.extend_from_slice(&[0; 16]),
+    }
+}
+
+fn sealed(alloc: Global, packed: Packed) -> Result<Vec<u8>, AllocError> {
     let mut text = Vec::new(alloc);
-    append_packets(&mut text, &head)?;
-    append_packets(&mut text, &body)?;
-    seal(alloc, &Key::new(*key), vector, &text)
+    push_text(&mut text, packed)?;
+    let vector = salted_vector(packed.salt, packed.number);
+    let mut bytes = seal(alloc, &Key::new(packed.key), &vector, &text)?;
+    bytes.truncate(bytes.len().saturating_sub(packed.cut));
+    Ok(bytes)
 }
 
-/// The segments of the standard stream.
-fn two_segments(alloc: Global, second_key: &[u8; 16]) -> Result<Vec<Vec<u8>>, AllocError> {
-    let mut all = Vec::new(alloc);
-    all.push(segment(alloc, &KEYS[0], 0, [PAT, PMT], FIRST)?)?;
-    all.push(segment(alloc, second_key, 1, [NEXT_PAT, NEXT_PMT], SECOND)?)?;
-    Ok(all)
+fn all_sealed(alloc: Global, all: &[Packed]) -> Result<Vec<Vec<u8>>, AllocError> {
+    let mut segments = Vec::new(alloc);
+    for packed in all {
+        segments.push(sealed(alloc, *packed)?)?;
+    }
+    Ok(segments)
 }
 
-/// What lists two segments, the second under the key of an index.
-fn listing(alloc: Global, second_key: u64) -> Result<Listing, AllocError> {
+/// What lists two segments under a salt or none, the second under the key of an index.
+fn listing(alloc: Global, second_key: u64, salt: Option<[u8; 16]>) -> Result<Listing, AllocError> {
     let entries = vec![in alloc;
         Entry {
             number: 0,
@@ -85,176 +119,261 @@ fn listing(alloc: Global, second_key: u64) -> Result<Listing, AllocError> {
         sequence: 0,
         discontinuity_sequence: 0,
         event: false,
-        salt: None,
+        salt,
         entries,
         ended: true,
     })
 }
 
-/// Cuts off the last byte of a segment.
-fn cut(segments: &mut [Vec<u8>], at: usize) {
-    if let Some(segment) = segments.get_mut(at) {
-        segment.pop();
+/// Segments, the index of the key under which the second is listed, the salt that is listed, how many keys are handed in, and the
+/// fault; without one they unpack to the bodies.
+#[derive(Clone, Copy)]
+struct Case {
+    segments: &'static [Packed],
+    second_key: u64,
+    salt: Option<[u8; 16]>,
+    keys: usize,
+    fault: Option<UnpackFault>,
+}
+
+/// The standard stream.
+const WHOLE: Case = Case {
+    segments: &[FIRST, SECOND],
+    second_key: 0,
+    salt: None,
+    keys: 2,
+    fault: None,
+};
+
+const SALTED_SEGMENTS: &[Packed] = &[
+    Packed {
+        salt: Some(SALT),
+        ..FIRST
+    },
+    Packed {
+        salt: Some(SALT),
+        ..SECOND
+    },
+];
+
+/// What unpacks.
+const UNPACKED: [Case; 5] = [
+    WHOLE,
+    Case {
+        segments: &[FIRST, SECOND, NO_HEAD],
+        ..WHOLE
+    },
+    Case {
+        segments: SALTED_SEGMENTS,
+        salt: Some(SALT),
+        ..WHOLE
+    },
+    Case {
+        segments: &[FIRST, OTHER],
+        second_key: 1,
+        ..WHOLE
+    },
+    // any counter of a PAT will do
+    Case {
+        segments: &[
+            FIRST,
+            Packed {
+                packets: Some([PAT, NEXT_PMT, SECOND_KEY_FRAME, LAST_FRAME]),
+                ..SECOND
+            },
+        ],
+        ..WHOLE
+    },
+];
+
+/// What is missing comes first, and what doesn't open before what has no head, each at its least entry.
+const FAULTS: [Case; 11] = [
+    Case {
+        segments: &[CUT, OTHER],
+        second_key: 1,
+        keys: 1,
+        fault: Some(UnpackFault::Missing(1)),
+        ..WHOLE
+    },
+    Case {
+        segments: &[CUT],
+        fault: Some(UnpackFault::Missing(1)),
+        ..WHOLE
+    },
+    Case {
+        segments: &[NO_HEAD],
+        fault: Some(UnpackFault::Missing(1)),
+        ..WHOLE
+    },
+    Case {
+        segments: &[CUT, OTHER],
+        second_key: 1,
+        fault: Some(UnpackFault::Closed(0)),
+        ..WHOLE
+    },
+    Case {
+        segments: &[FIRST, OTHER],
+        fault: Some(UnpackFault::Closed(1)),
+        ..WHOLE
+    },
+    Case {
+        segments: &[NO_HEAD, Packed { cut: 1, ..SECOND }],
+        fault: Some(UnpackFault::Closed(1)),
+        ..WHOLE
+    },
+    Case {
+        segments: &[NO_HEAD, SECOND],
+        fault: Some(UnpackFault::NoHead(0)),
+        ..WHOLE
+    },
+    Case {
+        segments: &[
+            NO_HEAD,
+            Packed {
+                number: 1,
+                ..NO_HEAD
+            },
+        ],
+        fault: Some(UnpackFault::NoHead(0)),
+        ..WHOLE
+    },
+    Case {
+        segments: &[SECOND, FIRST],
+        fault: Some(UnpackFault::NoHead(0)),
+        ..WHOLE
+    },
+    Case {
+        segments: SALTED_SEGMENTS,
+        fault: Some(UnpackFault::NoHead(0)),
+        ..WHOLE
+    },
+    Case {
+        segments: &[
+            FIRST,
+            Packed {
+                packets: Some([PAT, BAD_PMT, SECOND_KEY_FRAME, LAST_FRAME]),
+                ..SECOND
+            },
+        ],
+        fault: Some(UnpackFault::NoHead(1)),
+        ..WHOLE
+    },
+];
+
+/// Whether bytes are the packets of both bodies.
+fn are_bodies(alloc: Global, bytes: &[u8]) -> Result<bool, AllocError> {
+    let mut wanted = Vec::new(alloc);
+    append_packets(&mut wanted, &BODIES)?;
+    Ok(bytes == wanted.as_slice())
+}
+
+/// Whether segments unpack to both bodies, or the fault.
+fn unpacked(
+    alloc: Global,
+    listing: &Listing,
+    segments: &[Vec<u8>],
+    keys: &[[u8; 16]],
+) -> Result<bool, UnpackFault> {
+    let bytes = unpack(alloc, listing, segments, keys)?;
+    match are_bodies(alloc, &bytes) {
+        Ok(are) => Ok(are),
+        Err(_) => Err(UnpackFault::NoMemory),
     }
 }
 
-#[test]
-fn the_standard_stream(rt: HostRuntime) -> Result<(), Fail> {
-    let alloc = rt.alloc();
-    let segments = two_segments(alloc, &KEYS[0])?;
-    let bytes = unpack(alloc, &listing(alloc, 0)?, &segments, &KEYS)?;
-    let mut wanted = Vec::new(alloc);
-    append_packets(&mut wanted, &FIRST)?;
-    append_packets(&mut wanted, &SECOND)?;
-    assert_eq!(rt; bytes.len(), 752);
-    assert!(rt; bytes == wanted);
-    Ok(())
+/// What comes of a case where its segments are unpacked, and where they are counted.
+fn told(
+    alloc: Global,
+    case: &Case,
+) -> Result<(Result<bool, UnpackFault>, Result<Checked, UnpackFault>), AllocError> {
+    let segments = all_sealed(alloc, case.segments)?;
+    let listing = listing(alloc, case.second_key, case.salt)?;
+    let keys = &KEYS[..case.keys.min(2)];
+    Ok((
+        unpacked(alloc, &listing, &segments, keys),
+        check_listing(alloc, &listing, &segments, keys),
+    ))
 }
 
-#[test]
-fn the_salted_stream(rt: HostRuntime) -> Result<(), Fail> {
-    let alloc = rt.alloc();
-    let first = salted_vector(Some(SALT), 0);
-    let second = salted_vector(Some(SALT), 1);
-    let mut segments = Vec::new(alloc);
-    segments.push(segment_under(alloc, &KEYS[0], &first, [PAT, PMT], FIRST)?)?;
-    segments.push(segment_under(alloc, &KEYS[0], &second, [NEXT_PAT, NEXT_PMT], SECOND)?)?;
-    let mut salted = listing(alloc, 0)?;
-    salted.salt = Some(SALT);
-    let bytes = unpack(alloc, &salted, &segments, &KEYS)?;
-    let mut wanted = Vec::new(alloc);
-    append_packets(&mut wanted, &FIRST)?;
-    append_packets(&mut wanted, &SECOND)?;
-    assert!(rt; bytes == wanted);
+/// The first of some cases of which another thing is told: its fault, or how much its segments have, which are both bodies.
+fn first_other(alloc: Global, cases: &[Case]) -> Result<Option<usize>, AllocError> {
     let whole = Checked {
         segments: 2,
         bytes: 752,
     };
-    assert_eq!(rt; check(alloc, SALTED, &segments, &KEYS)?, whole);
-    let told = unpack(alloc, &listing(alloc, 0)?, &segments, &KEYS).err();
-    assert_eq!(rt; told, Some(UnpackFault::NoHead(0)));
-    Ok(())
-}
-
-#[test]
-fn keys_in_turn(rt: HostRuntime) -> Result<(), Fail> {
-    let alloc = rt.alloc();
-    let segments = two_segments(alloc, &KEYS[1])?;
-    let bytes = unpack(alloc, &listing(alloc, 1)?, &segments, &KEYS)?;
-    assert_eq!(rt; bytes.len(), 752);
-    let told = unpack(alloc, &listing(alloc, 0)?, &segments, &KEYS).err();
-    assert_eq!(rt; told, Some(UnpackFault::Closed(1)));
-    Ok(())
-}
-
-#[test]
-fn what_is_missing_comes_first(rt: HostRuntime) -> Result<(), Fail> {
-    let alloc = rt.alloc();
-    let mut segments = two_segments(alloc, &KEYS[1])?;
-    cut(&mut segments, 0);
-    let told = unpack(alloc, &listing(alloc, 1)?, &segments, &[KEYS[0]]).err();
-    assert_eq!(rt; told, Some(UnpackFault::Missing(1)));
-    let told = unpack(alloc, &listing(alloc, 1)?, &segments, &KEYS).err();
-    assert_eq!(rt; told, Some(UnpackFault::Closed(0)));
-    segments.pop();
-    let told = unpack(alloc, &listing(alloc, 0)?, &segments, &KEYS).err();
-    assert_eq!(rt; told, Some(UnpackFault::Missing(1)));
-    Ok(())
-}
-
-#[test]
-fn what_does_not_open_comes_before_heads(rt: HostRuntime) -> Result<(), Fail> {
-    let alloc = rt.alloc();
-    let mut segments = Vec::new(alloc);
-    segments.push(seal(alloc, &Key::new(KEYS[0]), &vector(0), &[0; 16])?)?;
-    segments.push(segment(alloc, &KEYS[0], 1, [NEXT_PAT, NEXT_PMT], SECOND)?)?;
-    let told = unpack(alloc, &listing(alloc, 0)?, &segments, &KEYS).err();
-    assert_eq!(rt; told, Some(UnpackFault::NoHead(0)));
-    cut(&mut segments, 1);
-    let told = unpack(alloc, &listing(alloc, 0)?, &segments, &KEYS).err();
-    assert_eq!(rt; told, Some(UnpackFault::Closed(1)));
-    Ok(())
-}
-
-#[test]
-fn segments_exchanged(rt: HostRuntime) -> Result<(), Fail> {
-    let alloc = rt.alloc();
-    let mut segments = two_segments(alloc, &KEYS[0])?;
-    segments.reverse();
-    let told = unpack(alloc, &listing(alloc, 0)?, &segments, &KEYS).err();
-    assert_eq!(rt; told, Some(UnpackFault::NoHead(0)));
-    Ok(())
-}
-
-#[test]
-fn a_head_has_a_good_section(rt: HostRuntime) -> Result<(), Fail> {
-    let alloc = rt.alloc();
-    let mut segments = two_segments(alloc, &KEYS[0])?;
-    segments.pop();
-    segments.push(segment(alloc, &KEYS[0], 1, [PAT, NEXT_PMT], SECOND)?)?;
-    assert_eq!(rt;
-        unpack(alloc, &listing(alloc, 0)?, &segments, &KEYS)?.len(),
-        752
-    );
-    segments.pop();
-    segments.push(segment(alloc, &KEYS[0], 1, [PAT, BAD_PMT], SECOND)?)?;
-    let told = unpack(alloc, &listing(alloc, 0)?, &segments, &KEYS).err();
-    assert_eq!(rt; told, Some(UnpackFault::NoHead(1)));
-    Ok(())
-}
-
-#[test]
-fn a_playlist_and_its_segments(rt: HostRuntime) -> Result<(), Fail> {
-    let alloc = rt.alloc();
-    let mut segments = two_segments(alloc, &KEYS[0])?;
-    assert_eq!(rt;
-        check(alloc, MEDIA, &segments, &KEYS),
-        Ok(Checked {
-            segments: 2,
-            bytes: 752
-        })
-    );
-    assert_eq!(rt;
-        check(alloc, "", &segments, &KEYS),
-        Err(CheckFault::Text(ListFault::NotProfile(1)))
-    );
-    cut(&mut segments, 0);
-    assert_eq!(rt;
-        check(alloc, MEDIA, &segments, &KEYS),
-        Err(CheckFault::Segments(UnpackFault::Closed(0)))
-    );
-    segments.pop();
-    assert_eq!(rt;
-        check(alloc, MEDIA, &segments, &KEYS),
-        Err(CheckFault::Segments(UnpackFault::Missing(1)))
-    );
-    Ok(())
-}
-
-#[test]
-fn a_listing_and_its_segments(rt: HostRuntime) -> Result<(), Fail> {
-    let alloc = rt.alloc();
-    let mut segments = two_segments(alloc, &KEYS[0])?;
-    segments.push(Vec::new(alloc))?;
-    let listing = listing(alloc, 0)?;
-    assert_eq!(rt;
-        check_listing(alloc, &listing, &segments, &KEYS),
-        Ok(Checked {
-            segments: 2,
-            bytes: 752
-        })
-    );
-    segments.clear();
-    for number in [0, 1] {
-        segments.push(seal(alloc, &Key::new(KEYS[0]), &vector(number), &[0; 16])?)?;
+    for (at, case) in cases.iter().enumerate() {
+        let wanted = match case.fault {
+            None => (Ok(true), Ok(whole)),
+            Some(fault) => (Err(fault), Err(fault)),
+        };
+        if told(alloc, case)? != wanted {
+            return Ok(Some(at));
+        }
     }
-    let told = check_listing(alloc, &listing, &segments, &KEYS).err();
-    assert_eq!(rt; told, Some(UnpackFault::NoHead(0)));
-    cut(&mut segments, 1);
-    let told = check_listing(alloc, &listing, &segments, &KEYS).err();
-    assert_eq!(rt; told, Some(UnpackFault::Closed(1)));
-    segments.pop();
-    let told = check_listing(alloc, &listing, &segments, &KEYS).err();
-    assert_eq!(rt; told, Some(UnpackFault::Missing(1)));
+    Ok(None)
+}
+
+#[test]
+fn segments_unpack(rt: HostRuntime) -> Result<(), Fail> {
+    assert_eq!(rt; first_other(rt.alloc(), &UNPACKED)?, None);
+    Ok(())
+}
+
+#[test]
+fn segments_that_do_not_unpack(rt: HostRuntime) -> Result<(), Fail> {
+    assert_eq!(rt; first_other(rt.alloc(), &FAULTS)?, None);
+    Ok(())
+}
+
+/// Texts, the segments beside them, and what is told.
+const TEXTS: [(&str, &[Packed], Result<Checked, CheckFault>); 5] = [
+    (
+        MEDIA,
+        &[FIRST, SECOND],
+        Ok(Checked {
+            segments: 2,
+            bytes: 752,
+        }),
+    ),
+    (
+        SALTED,
+        SALTED_SEGMENTS,
+        Ok(Checked {
+            segments: 2,
+            bytes: 752,
+        }),
+    ),
+    (
+        "",
+        &[FIRST, SECOND],
+        Err(CheckFault::Text(ListFault::NotProfile(1))),
+    ),
+    (
+        MEDIA,
+        &[CUT, SECOND],
+        Err(CheckFault::Segments(UnpackFault::Closed(0))),
+    ),
+    (
+        MEDIA,
+        &[CUT],
+        Err(CheckFault::Segments(UnpackFault::Missing(1))),
+    ),
+];
+
+/// What is told of a text and the segments beside it.
+fn checked(
+    alloc: Global,
+    text: &str,
+    segments: &[Packed],
+) -> Result<Result<Checked, CheckFault>, AllocError> {
+    let segments = all_sealed(alloc, segments)?;
+    Ok(check(alloc, text, &segments, &KEYS))
+}
+
+#[test]
+fn playlists_and_their_segments(rt: HostRuntime) -> Result<(), Fail> {
+    for (text, segments, told) in TEXTS {
+        assert_eq!(rt; checked(rt.alloc(), text, segments)?, told);
+    }
     Ok(())
 }
