@@ -209,21 +209,27 @@ fn targets_and_segments(rt: HostRuntime) -> Result<(), Fail> {
     Ok(())
 }
 
+const GAP: u64 = 900_000;
+
+const FRAME: u64 = 3600;
+
+const MOST: u64 = 1_000_000;
+
 #[test]
 fn gaps_frames_and_sizes(rt: HostRuntime) -> Result<(), Fail> {
     let table = [
-        (0, CUT.frame, CUT.most, false),
-        (1, CUT.frame, CUT.most, true),
-        (0xFFFF_FFFF, CUT.frame, CUT.most, true),
-        (0x1_0000_0000, CUT.frame, CUT.most, false),
-        (CUT.gap, 0, CUT.most, false),
-        (CUT.gap, 1, CUT.most, true),
-        (CUT.gap, 900_000, CUT.most, true),
-        (CUT.gap, 900_001, CUT.most, false),
-        (CUT.gap, CUT.frame, 0, false),
-        (CUT.gap, CUT.frame, 1, true),
-        (CUT.gap, CUT.frame, 1_000_000, true),
-        (CUT.gap, CUT.frame, 1_000_001, false),
+        (0, FRAME, MOST, false),
+        (1, FRAME, MOST, true),
+        (0xFFFF_FFFF, FRAME, MOST, true),
+        (0x1_0000_0000, FRAME, MOST, false),
+        (GAP, 0, MOST, false),
+        (GAP, 1, MOST, true),
+        (GAP, 900_000, MOST, true),
+        (GAP, 900_001, MOST, false),
+        (GAP, FRAME, 0, false),
+        (GAP, FRAME, 1, true),
+        (GAP, FRAME, 1_000_000, true),
+        (GAP, FRAME, 1_000_001, false),
     ];
     for (gap, frame, most, allowed) in table {
         let told = cut(

@@ -13,15 +13,10 @@ use std::sync::Wait;
 use std::test::Fail;
 use std::thread::Threads;
 
-/// A stream, how it is packed, and what is wanted: the fault, how many items, the sizes of the segments, and what stands
-/// behind a tag of the last media and of the last I-frame playlist.
+/// What is wanted of a run: the fault, how many items, the sizes of the segments, and what stands behind a tag of the last media
+/// and of the last I-frame playlist.
 #[derive(Clone, Copy)]
-struct Case {
-    frames: &'static [Video],
-    change: Change,
-    cut: CutSettings,
-    window: u64,
-    ways: Ways,
+struct Wanted {
     fault: Option<PackFault>,
     items: usize,
     sizes: &'static [usize],
@@ -29,27 +24,36 @@ struct Case {
     iframes: (&'static str, &'static str),
 }
 
-/// Two segments, given whole.
-const WHOLE: Case = Case {
+/// A stream that is given whole: its frames, what is done to it, its target duration, how many segments are listed at least, how
+/// many items are given, and what they have.
+#[derive(Clone, Copy)]
+struct Whole {
+    frames: &'static [Video],
+    change: Change,
+    target: u64,
+    window: u64,
+    items: usize,
+    sizes: &'static [usize],
+    media: (&'static str, &'static str),
+    iframes: (&'static str, &'static str),
+}
+
+/// Two segments.
+const TWO: Whole = Whole {
     frames: TWO_SEGMENTS,
     change: Change::None,
-    cut: CUT,
+    target: 6,
     window: 5,
-    ways: WELL,
-    fault: None,
     items: 10,
     sizes: &[768, 768],
     media: (DURATION, "6.000000, 3.040000, "),
     iframes: (RANGE, "188@376 188@376 "),
 };
 
-/// Nothing is given.
-const NOTHING: Case = Case {
-    items: 0,
-    sizes: &[],
-    media: (DURATION, ""),
-    iframes: (RANGE, ""),
-    ..WHOLE
+/// Two segments of one packet each.
+const SHORT: Whole = Whole {
+    sizes: &[576, 576],
+    ..TWO
 };
 
 const DURATION: &str = "#EXTINF:";
@@ -72,26 +76,20 @@ pub const SEVEN: &[Video] = &[
     Other(3_776_400),
 ];
 
-/// Two segments of one packet each.
-const SHORT: Case = Case {
-    sizes: &[576, 576],
-    ..WHOLE
-};
-
 /// Streams with bytes too many or too few.
-const DAMAGED: [Case; 3] = [
-    Case {
+const DAMAGED: [Whole; 3] = [
+    Whole {
         change: Change::NoiseBefore,
-        ..WHOLE
+        ..TWO
     },
-    Case {
+    Whole {
         change: Change::LeaveOut(6 * 188 - 1),
         sizes: &[768, 576],
         media: (DURATION, "6.000000, 0.040000, "),
-        ..WHOLE
+        ..TWO
     },
     // a packet without its last byte is read with the next one's sync byte, and the next one is lost
-    Case {
+    Whole {
         frames: &[
             Key(0),
             Other(180_000),
@@ -100,31 +98,31 @@ const DAMAGED: [Case; 3] = [
             Other(810_000),
         ],
         change: Change::LeaveOut(4 * 188 - 1),
-        ..WHOLE
+        ..TWO
     },
 ];
 
 /// Where streams are cut, and how long their segments last.
-const CUT_UP: [Case; 4] = [
+const CUT_UP: [Whole; 4] = [
     // the time wraps
-    Case {
+    Whole {
         frames: &[Key(8_589_934_000), Key(539_408)],
         media: (DURATION, "6.000000, 0.040000, "),
         ..SHORT
     },
-    Case {
+    Whole {
         frames: &[Key(0), Key(720_000)],
-        cut: CutSettings { target: 8, ..CUT },
+        target: 8,
         media: (DURATION, "8.000000, 0.040000, "),
         ..SHORT
     },
-    Case {
+    Whole {
         frames: &[Key(0), Key(585_000)],
-        cut: CutSettings { target: 7, ..CUT },
+        target: 7,
         media: (DURATION, "6.500000, 0.040000, "),
         ..SHORT
     },
-    Case {
+    Whole {
         frames: &[Key(0), Key(584_999)],
         media: (DURATION, "6.499989, 0.040000, "),
         ..SHORT
@@ -132,138 +130,77 @@ const CUT_UP: [Case; 4] = [
 ];
 
 /// A jump of time, and two I-frames in a segment.
-const JUMPS: [Case; 4] = [
+const JUMPS: [Whole; 4] = [
     // a jump of time
-    Case {
+    Whole {
         frames: &[Key(0), Other(270_000), Other(324_270_000), Key(324_540_000)],
         sizes: &[944, 576],
         media: (DURATION, "3.040000, 0.040000, "),
-        ..WHOLE
+        ..TWO
     },
-    Case {
+    Whole {
         frames: &[Key(0), Other(270_000), Other(324_270_000), Key(324_540_000)],
         sizes: &[944, 576],
         media: ("#EXT-X-DISCONTINUITY", "-SEQUENCE:0  "),
-        ..WHOLE
+        ..TWO
     },
     // two I-frames in a segment
-    Case {
+    Whole {
         frames: &[Key(0), Key(180_000), Key(540_000)],
         sizes: &[768, 576],
         media: (DURATION, "6.000000, 0.040000, "),
         iframes: (RANGE, "188@376 188@564 188@376 "),
-        ..WHOLE
+        ..TWO
     },
-    Case {
+    Whole {
         frames: &[Key(0), Key(180_000), Key(540_000)],
         sizes: &[768, 576],
         media: (DURATION, "6.000000, 0.040000, "),
         iframes: (DURATION, "2.000000, 4.000000, 0.040000, "),
-        ..WHOLE
+        ..TWO
     },
 ];
 
-/// What stays listed, and the most packets of a segment.
-const LISTED: [Case; 4] = [
-    // three targets stay listed
-    Case {
-        frames: SEVEN,
-        window: 3,
-        items: 30,
-        sizes: &[576, 576, 576, 576, 576, 576, 768],
-        media: (SEQUENCE, "4 "),
-        iframes: (SEQUENCE, "4 "),
-        ..WHOLE
-    },
-    Case {
-        frames: SEVEN,
-        window: 1,
-        items: 30,
-        sizes: &[576, 576, 576, 576, 576, 576, 768],
-        media: (SEQUENCE, "4 "),
-        iframes: (SEQUENCE, "4 "),
-        ..WHOLE
-    },
-    Case {
-        cut: CutSettings { most: 2, ..CUT },
-        ..WHOLE
-    },
-    Case {
-        cut: CutSettings { most: 1, ..CUT },
-        fault: Some(PackFault::BigSegment(0, 0)),
-        ..NOTHING
-    },
-];
+/// Three targets stay listed.
+const LISTED: Whole = Whole {
+    frames: SEVEN,
+    items: 30,
+    sizes: &[576, 576, 576, 576, 576, 576, 768],
+    media: (SEQUENCE, "4 "),
+    iframes: (SEQUENCE, "4 "),
+    ..TWO
+};
 
-/// Streams of which nothing is given.
-const REFUSED: [Case; 5] = [
-    Case {
-        change: Change::BadCrc,
-        fault: Some(PackFault::NoProgram(0)),
-        ..NOTHING
-    },
-    Case {
-        change: Change::Empty,
-        fault: Some(PackFault::NoProgram(0)),
-        ..NOTHING
-    },
-    Case {
-        frames: &[],
-        fault: Some(PackFault::NoStart(0)),
-        ..NOTHING
-    },
-    Case {
-        frames: &[Key(0), Key(720_000)],
-        fault: Some(PackFault::LongSegment(0, 0)),
-        ..NOTHING
-    },
-    Case {
-        frames: &[Key(0), Key(585_000)],
-        fault: Some(PackFault::LongSegment(0, 0)),
-        ..NOTHING
-    },
-];
-
-/// A read and a put that fail.
-const STOPPED: [Case; 2] = [
-    // a read that fails is no end
-    Case {
-        ways: Ways {
-            piece: 940,
-            failing_read: 2,
-            ..WELL
-        },
-        fault: Some(PackFault::Read(0)),
-        items: 4,
-        sizes: &[768],
-        media: (END, ""),
-        iframes: (END, ""),
-        ..WHOLE
-    },
-    // a put that fails stops the run
-    Case {
-        ways: Ways {
-            failing_put: 3,
-            ..WELL
-        },
-        fault: Some(PackFault::Outlet),
-        items: 2,
-        sizes: &[768],
-        media: (DURATION, "6.000000, "),
-        iframes: (RANGE, ""),
-        ..WHOLE
-    },
+/// Streams of which nothing is given, what is done to them, and their faults.
+const REFUSED: [(&[Video], Change, PackFault); 5] = [
+    (TWO_SEGMENTS, Change::BadCrc, PackFault::NoProgram(0)),
+    (TWO_SEGMENTS, Change::Empty, PackFault::NoProgram(0)),
+    (&[], Change::None, PackFault::NoStart(0)),
+    (
+        &[Key(0), Key(720_000)],
+        Change::None,
+        PackFault::LongSegment(0, 0),
+    ),
+    (
+        &[Key(0), Key(585_000)],
+        Change::None,
+        PackFault::LongSegment(0, 0),
+    ),
 ];
 
 /// The first of the items and texts that isn't as wanted.
-fn wrong(alloc: Global, case: &Case, items: &[Item]) -> Result<Option<&'static str>, AllocError> {
-    if !are_sizes(items, case.sizes) {
+fn wrong(
+    alloc: Global,
+    wanted: &Wanted,
+    items: &[Item],
+) -> Result<Option<&'static str>, AllocError> {
+    if !are_sizes(items, wanted.sizes) {
         return Ok(Some("sizes"));
     }
-    if values(alloc, last_media(items), case.media.0)?.as_str() != case.media.1 {
+    if values(alloc, last_media(items), wanted.media.0)?.as_str() != wanted.media.1 {
         return Ok(Some("media"));
     }
-    if values(alloc, last_frames(items), case.iframes.0)?.as_str() != case.iframes.1 {
+    if values(alloc, last_frames(items), wanted.iframes.0)?.as_str() != wanted.iframes.1 {
         return Ok(Some("I-frames"));
     }
     if first_lost(alloc, items, 0, &[[0; 16]])?.is_some() {
@@ -275,35 +212,53 @@ fn wrong(alloc: Global, case: &Case, items: &[Item]) -> Result<Option<&'static s
     Ok(None)
 }
 
-/// The first thing that isn't as wanted of a run of this case.
+/// The first thing that isn't as wanted of a run.
 fn wrong_in<R: Threads + Wait + Sync>(
     rt: &R,
     alloc: Global,
-    case: &Case,
+    play: &Play,
+    wanted: &Wanted,
 ) -> Result<Option<&'static str>, Fail> {
-    let play = Play {
-        frames: case.frames,
-        change: case.change,
-        cut: case.cut,
-        window: case.window,
-        ways: case.ways,
-        ..PLAY
-    };
-    let ran = played_each_way(rt, alloc, &play)?;
-    if ran.told() != (case.fault, case.items) {
+    let ran = played_each_way(rt, alloc, play)?;
+    if ran.told() != (wanted.fault, wanted.items) {
         return Ok(Some("fault or items"));
     }
-    Ok(wrong(alloc, case, ran.outlet.items())?)
+    Ok(wrong(alloc, wanted, ran.outlet.items())?)
 }
 
-/// The first of some cases that isn't as wanted.
+impl Whole {
+    fn play(self) -> Play {
+        Play {
+            frames: self.frames,
+            change: self.change,
+            cut: CutSettings {
+                target: self.target,
+                ..CUT
+            },
+            window: self.window,
+            ..PLAY
+        }
+    }
+
+    fn wanted(self) -> Wanted {
+        Wanted {
+            fault: None,
+            items: self.items,
+            sizes: self.sizes,
+            media: self.media,
+            iframes: self.iframes,
+        }
+    }
+}
+
+/// The first of some streams that isn't given whole as wanted.
 fn first_wrong<R: Threads + Wait + Sync>(
     rt: &R,
     alloc: Global,
-    cases: &[Case],
+    streams: &[Whole],
 ) -> Result<Option<(usize, &'static str)>, Fail> {
-    for (n, case) in cases.iter().enumerate() {
-        if let Some(wrong) = wrong_in(rt, alloc, case)? {
+    for (n, whole) in streams.iter().enumerate() {
+        if let Some(wrong) = wrong_in(rt, alloc, &whole.play(), &whole.wanted())? {
             return Ok(Some((n, wrong)));
         }
     }
@@ -329,19 +284,81 @@ fn jumps_and_iframes(rt: HostRuntime) -> Result<(), Fail> {
 }
 
 #[test]
-fn lists_and_limits(rt: HostRuntime) -> Result<(), Fail> {
-    assert_eq!(rt; first_wrong(&rt, rt.alloc(), &LISTED)?, None);
+fn a_window_of_any_size_lists_three_targets(rt: HostRuntime) -> Result<(), Fail> {
+    for window in [3, 1] {
+        let listed = Whole { window, ..LISTED };
+        let wrong = wrong_in(&rt, rt.alloc(), &listed.play(), &listed.wanted())?;
+        assert_eq!(rt; wrong, None, "{window}");
+    }
     Ok(())
+}
+
+/// The fault of a stream, and how many items it gives.
+fn told_of<R: Threads + Wait + Sync>(
+    rt: &R,
+    alloc: Global,
+    play: &Play,
+) -> Result<(Option<PackFault>, usize), Fail> {
+    Ok(played_each_way(rt, alloc, play)?.told())
 }
 
 #[test]
 fn faults_of_streams(rt: HostRuntime) -> Result<(), Fail> {
-    assert_eq!(rt; first_wrong(&rt, rt.alloc(), &REFUSED)?, None);
+    for (frames, change, fault) in REFUSED {
+        let play = Play {
+            frames,
+            change,
+            ..PLAY
+        };
+        let told = told_of(&rt, rt.alloc(), &play)?;
+        assert_eq!(rt; told, (Some(fault), 0), "{change:?}");
+    }
     Ok(())
 }
 
 #[test]
-fn reads_and_puts_that_fail(rt: HostRuntime) -> Result<(), Fail> {
-    assert_eq!(rt; first_wrong(&rt, rt.alloc(), &STOPPED)?, None);
+fn the_most_packets_of_a_segment(rt: HostRuntime) -> Result<(), Fail> {
+    for (most, fault, items) in [(2, None, 10), (1, Some(PackFault::BigSegment(0, 0)), 0)] {
+        let cut = CutSettings { most, ..CUT };
+        let told = told_of(&rt, rt.alloc(), &Play { cut, ..PLAY })?;
+        assert_eq!(rt; told, (fault, items), "{most}");
+    }
+    Ok(())
+}
+
+#[test]
+fn a_read_that_fails_is_no_end(rt: HostRuntime) -> Result<(), Fail> {
+    let ways = Ways {
+        piece: 940,
+        failing_read: 2,
+        ..WELL
+    };
+    let wanted = Wanted {
+        fault: Some(PackFault::Read(0)),
+        items: 4,
+        sizes: &[768],
+        media: (END, ""),
+        iframes: (END, ""),
+    };
+    let wrong = wrong_in(&rt, rt.alloc(), &Play { ways, ..PLAY }, &wanted)?;
+    assert_eq!(rt; wrong, None);
+    Ok(())
+}
+
+#[test]
+fn a_put_that_fails_stops_the_run(rt: HostRuntime) -> Result<(), Fail> {
+    let ways = Ways {
+        failing_put: 3,
+        ..WELL
+    };
+    let wanted = Wanted {
+        fault: Some(PackFault::Outlet),
+        items: 2,
+        sizes: &[768],
+        media: (DURATION, "6.000000, "),
+        iframes: (RANGE, ""),
+    };
+    let wrong = wrong_in(&rt, rt.alloc(), &Play { ways, ..PLAY }, &wanted)?;
+    assert_eq!(rt; wrong, None);
     Ok(())
 }
