@@ -1,7 +1,7 @@
 use super::words::KEY;
 use command_line::{Fault, Job, StreamJob, line};
 use pipeline::{Kind, Settings};
-use std::alloc::Global;
+use std::alloc::{AllocError, Global};
 use std::test::Fail;
 
 /// The settings of a command line that ends with these words.
@@ -31,69 +31,107 @@ fn told(alloc: Global, more: &[&str]) -> Result<(String, u8), Fail> {
     }
 }
 
-#[test]
-fn defaults(rt: HostRuntime) -> Result<(), Fail> {
-    let settings = settings(rt.alloc(), &["--size", "640x360", "--keys", KEY]).map_err(|_| "line")?;
-    assert_eq!(rt; settings.renditions.len(), 1);
-    let rendition = &settings.renditions[0];
-    let words = (rendition.name.as_str(), rendition.codecs.as_str());
-    let size = (rendition.width, rendition.height);
-    assert_eq!(rt; (words, size), (("v", "avc1.4d401e"), (640, 360)));
-    assert!(rt; rendition.keys.index(7) == 0 && rendition.salt.is_none());
-    assert!(rt; settings.window == 5 && settings.kind == Kind::Live);
-    let cut = settings.cut;
-    let numbers = [cut.target, cut.segment, cut.frame, cut.gap, cut.most];
-    assert_eq!(rt; numbers, [6, 540_000, 3600, 900_000, 1_000_000]);
-    assert!(rt; cut.program.is_none());
-    Ok(())
+/// The numbers of settings: of the window, and of how a stream is cut; and the program.
+fn numbers(settings: &Settings) -> ([u64; 6], Option<u16>) {
+    let cut = &settings.cut;
+    (
+        [
+            settings.window,
+            cut.target,
+            cut.segment,
+            cut.frame,
+            cut.gap,
+            cut.most,
+        ],
+        cut.program,
+    )
+}
+
+/// The name, the codecs and the size of the one rendition of settings, if there is one.
+fn rendition(settings: &Settings) -> Option<(&str, &str, u64, u64)> {
+    let [one] = settings.renditions.as_slice() else {
+        return None;
+    };
+    Some((
+        one.name.as_str(),
+        one.codecs.as_str(),
+        one.width,
+        one.height,
+    ))
+}
+
+/// The index of the key of segment 1, the first byte of the key of segment 2, whether the keys hold the salt of the rendition,
+/// and the last bytes of the vectors of segments 0 and 1.
+fn keys(settings: &Settings) -> Option<(u64, u8, bool, [u8; 2])> {
+    let [one] = settings.renditions.as_slice() else {
+        return None;
+    };
+    Some((
+        one.keys.index(1),
+        one.keys.key(2)[0],
+        one.keys.salt() == one.salt,
+        [one.keys.vector(0)[15], one.keys.vector(1)[15]],
+    ))
 }
 
 #[test]
-fn settings_of_options(rt: HostRuntime) -> Result<(), Fail> {
-    let keys = "000102030405060708090a0b0c0d0e0f+100102030405060708090A0B0C0D0E0F";
-    let words = [
-        "--size",
-        "+1x0007",
-        "--keys",
-        keys,
-        "--name",
-        "hd",
-        "--target",
-        "8",
-        "--segment",
-        "2",
-        "--window",
-        "3",
-        "--frame",
-        "4",
-        "--gap",
-        "5",
-        "--most",
-        "6",
-        "--period",
-        "2",
-        "--program",
-        "65535",
-    ];
+fn defaults(rt: HostRuntime) -> Result<(), Fail> {
+    let words = ["--size", "640x360", "--keys", KEY];
     let settings = settings(rt.alloc(), &words).map_err(|_| "line")?;
-    assert_eq!(rt; settings.renditions.len(), 1);
-    let rendition = &settings.renditions[0];
-    let of_rendition = (rendition.name.as_str(), rendition.width, rendition.height);
-    assert_eq!(rt; of_rendition, ("hd", 1, 7));
-    let keys = (rendition.keys.index(1), rendition.keys.key(2)[0]);
-    assert_eq!(rt; keys, (0, 0x10));
-    let cut = settings.cut;
-    let numbers = [
-        settings.window,
-        cut.target,
-        cut.segment,
-        cut.frame,
-        cut.gap,
-        cut.most,
-    ];
+    let is_live = settings.kind == Kind::Live;
     assert_eq!(rt;
-        (numbers, cut.program),
-        ([3, 8, 180_000, 4, 5, 6], Some(65_535))
+        (
+            rendition(&settings),
+            numbers(&settings),
+            keys(&settings),
+            is_live
+        ),
+        (
+            Some(("v", "avc1.4d401e", 640, 360)),
+            ([5, 6, 540_000, 3600, 900_000, 1_000_000], None),
+            Some((0, 0, true, [0, 1])),
+            true
+        )
+    );
+    Ok(())
+}
+
+/// An option for each thing that can be said.
+const OPTIONS: [&str; 22] = [
+    "--size",
+    "+1x0007",
+    "--keys",
+    "000102030405060708090a0b0c0d0e0f+100102030405060708090A0B0C0D0E0F",
+    "--name",
+    "hd",
+    "--target",
+    "8",
+    "--segment",
+    "2",
+    "--window",
+    "3",
+    "--frame",
+    "4",
+    "--gap",
+    "5",
+    "--most",
+    "6",
+    "--period",
+    "2",
+    "--program",
+    "65535",
+];
+
+#[test]
+fn settings_of_options(rt: HostRuntime) -> Result<(), Fail> {
+    let settings = settings(rt.alloc(), &OPTIONS).map_err(|_| "line")?;
+    assert_eq!(rt;
+        (rendition(&settings), numbers(&settings), keys(&settings)),
+        (
+            Some(("hd", "avc1.4d401e", 1, 7)),
+            ([3, 8, 180_000, 4, 5, 6], Some(65_535)),
+            Some((0, 0x10, true, [0, 1]))
+        )
     );
     Ok(())
 }
@@ -103,12 +141,11 @@ fn a_salt_and_an_event(rt: HostRuntime) -> Result<(), Fail> {
     let salt = "f0f1f2f3f4f5f6f7f8f9FAFBFCFDFEFF";
     let words = ["--size", "1x1", "--keys", KEY, "--salt", salt, "--event"];
     let settings = settings(rt.alloc(), &words).map_err(|_| "line")?;
-    assert!(rt; settings.kind == Kind::Event);
-    assert_eq!(rt; settings.renditions.len(), 1);
-    let rendition = &settings.renditions[0];
-    let vectors = [rendition.keys.vector(0)[15], rendition.keys.vector(1)[15]];
-    assert_eq!(rt; vectors, [0xFF, 0xFE]);
-    assert_eq!(rt; rendition.salt, rendition.keys.salt());
+    let is_event = settings.kind == Kind::Event;
+    assert_eq!(rt;
+        (keys(&settings), is_event),
+        (Some((0, 0, true, [0xFF, 0xFE])), true)
+    );
     Ok(())
 }
 
@@ -163,35 +200,58 @@ const REFUSALS: [Refusal; 13] = [
     ),
 ];
 
+/// Whether a command line with these words prints this, and ends with this status.
+fn is_told(alloc: Global, more: &[&str], text: &str, status: u8) -> Result<bool, Fail> {
+    let told = told(alloc, more)?;
+    Ok(told.0.as_str() == text && told.1 == status)
+}
+
+/// The same of a size, keys and more options.
+fn is_refused(alloc: Global, refusal: Refusal) -> Result<bool, Fail> {
+    let (size, keys, more, text, status) = refusal;
+    let mut words: Vec<&'static str> = Vec::new(alloc);
+    words.extend_from_slice(&["--size", size, "--keys", keys])?;
+    words.extend_from_slice(more)?;
+    is_told(alloc, words.as_slice(), text, status)
+}
+
 #[test]
 fn refusals(rt: HostRuntime) -> Result<(), Fail> {
-    for (size, keys, more, text, status) in REFUSALS {
-        let mut words: Vec<&'static str> = Vec::new(rt.alloc());
-        for word in ["--size", size, "--keys", keys] {
-            words.push(word)?;
-        }
-        words.extend_from_slice(more)?;
-        let told = told(rt.alloc(), words.as_slice())?;
-        assert_eq!(rt; (told.0.as_str(), told.1), (text, status), "at {words:?}");
+    for refusal in REFUSALS {
+        let is = is_refused(rt.alloc(), refusal)?;
+        assert!(rt; is, "at {refusal:?}");
     }
     Ok(())
 }
 
-#[test]
-fn too_many_keys(rt: HostRuntime) -> Result<(), Fail> {
-    let alloc = rt.alloc();
-    let mut keys = String::from_str(alloc, KEY)?;
-    for _ in 1..4096 {
+/// Appends so many keys.
+fn push_keys(keys: &mut String, count: usize) -> Result<(), AllocError> {
+    keys.push_str(KEY)?;
+    for _ in 1..count {
         keys.push_str("+")?;
         keys.push_str(KEY)?;
     }
-    assert_eq!(rt;
-        told(alloc, &["--size", "1x1", "--keys", keys.as_str()])?.1,
-        0
-    );
-    keys.push_str("+")?;
-    keys.push_str(KEY)?;
-    let words = ["--size", "1x1", "--keys", keys.as_str(), "--period", "0"];
-    assert_eq!(rt; told(alloc, &words)?.0.as_str(), "tshls: TooMany\n");
+    Ok(())
+}
+
+/// Whether so many keys, with this period, print this, and end with this status.
+fn are_told(
+    alloc: Global,
+    count: usize,
+    period: &str,
+    text: &str,
+    status: u8,
+) -> Result<bool, Fail> {
+    let mut keys = String::new(alloc);
+    push_keys(&mut keys, count)?;
+    let words = ["--size", "1x1", "--keys", keys.as_str(), "--period", period];
+    is_told(alloc, &words, text, status)
+}
+
+#[test]
+fn too_many_keys(rt: HostRuntime) -> Result<(), Fail> {
+    let most = are_told(rt.alloc(), 4096, "1", "", 0)?;
+    let more = are_told(rt.alloc(), 4097, "0", "tshls: TooMany\n", 1)?;
+    assert_eq!(rt; (most, more), (true, true));
     Ok(())
 }

@@ -1,4 +1,3 @@
-use super::words::KEY;
 use command_line::{Job, line};
 use std::alloc::Global;
 use std::test::Fail;
@@ -24,44 +23,42 @@ fn asked(alloc: Global, more: &[&str]) -> Result<String, Fail> {
     Ok(text)
 }
 
-/// An entry of this name and path.
-fn entry(alloc: Global, name: &str, path: &str) -> Result<String, Fail> {
-    Ok(format!(in alloc; "{name}:c:2x1:{KEY}:{path}")?)
+/// Whether a command line of `pack` with these words asks for this, or prints it.
+fn is_asked(alloc: Global, more: &[&str], text: &str) -> Result<bool, Fail> {
+    Ok(asked(alloc, more)?.as_str() == text)
 }
+
+const V: &str = "v:c:2x1:000102030405060708090a0b0c0d0e0f:a.ts";
+
+const W: &str = "w:c:2x1:000102030405060708090a0b0c0d0e0f:b:c d";
+
+const POOL: [&str; 9] = [
+    "--workers",
+    "2",
+    "--queue",
+    "3",
+    "--batch",
+    "1",
+    "--out",
+    "a",
+    V,
+];
+
+/// Words, and what they ask for or print.
+const LADDERS: [(&[&str], &str); 6] = [
+    (&["--out", "hls", V], "hls 4 16 0 a.ts"),
+    (&[W, V, "--out", "hls"], "hls 4 16 0 b:c d a.ts"),
+    (&POOL, "a 2 3 1 a.ts"),
+    (&["--out", "hls", V, "w:c:2x1"], "tshls: BadEntry 2\n"),
+    (&["--out", "hls", "--salt", "0", V], "tshls: BadVector\n"),
+    (&["--out", "hls", "--workers", "0", V], "tshls: Settings\n"),
+];
 
 #[test]
 fn words_of_a_ladder(rt: HostRuntime) -> Result<(), Fail> {
-    let alloc = rt.alloc();
-    let v = entry(alloc, "v", "a.ts")?;
-    let w = entry(alloc, "w", "b:c d")?;
-    let one = asked(alloc, &["--out", "hls", &v])?;
-    assert_eq!(rt; one.as_str(), "hls 4 16 0 a.ts");
-    let two = asked(alloc, &[&w, &v, "--out", "hls"])?;
-    assert_eq!(rt; two.as_str(), "hls 4 16 0 b:c d a.ts");
-    let pool = [
-        "--workers",
-        "2",
-        "--queue",
-        "3",
-        "--batch",
-        "1",
-        "--out",
-        "a",
-        &v,
-    ];
-    assert_eq!(rt; asked(alloc, &pool)?.as_str(), "a 2 3 1 a.ts");
-    Ok(())
-}
-
-#[test]
-fn refused_words_of_a_ladder(rt: HostRuntime) -> Result<(), Fail> {
-    let alloc = rt.alloc();
-    let v = entry(alloc, "v", "a.ts")?;
-    let bad = asked(alloc, &["--out", "hls", &v, "w:c:2x1"])?;
-    assert_eq!(rt; bad.as_str(), "tshls: BadEntry 2\n");
-    let salt = asked(alloc, &["--out", "hls", "--salt", "0", &v])?;
-    assert_eq!(rt; salt.as_str(), "tshls: BadVector\n");
-    let none = asked(alloc, &["--out", "hls", "--workers", "0", &v])?;
-    assert_eq!(rt; none.as_str(), "tshls: Settings\n");
+    for (words, text) in LADDERS {
+        let is = is_asked(rt.alloc(), words, text)?;
+        assert!(rt; is, "at {words:?}");
+    }
     Ok(())
 }

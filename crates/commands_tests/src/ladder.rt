@@ -3,8 +3,8 @@ use commands::{
     LadderFault, LadderOptions, LadderWords, NumberWords, PoolWords, read_ladder_options, summary,
 };
 use limits::MOST_KEYS;
-use pipeline::{Kind, Report};
-use std::alloc::Global;
+use pipeline::{Kind, Rendition, Report, Settings};
+use std::alloc::{AllocError, Global};
 use std::test::Fail;
 
 const A: &str = "a:avc1.4d401e:640x360:000102030405060708090a0b0c0d0e0f:/in/a:1.ts";
@@ -50,24 +50,40 @@ fn two(alloc: Global) -> Result<LadderOptions<'static>, Fail> {
     Ok(read_ladder_options(alloc, words, no_numbers(), no_pool()).map_err(|_| "options")?)
 }
 
+/// A rendition's name, its size, and whether it has a salt.
+fn facts(rendition: &Rendition) -> (&str, u64, u64, bool) {
+    (
+        rendition.name.as_str(),
+        rendition.width,
+        rendition.height,
+        rendition.salt.is_some(),
+    )
+}
+
+/// Whether there are two renditions, b and a, and these are the paths of their inputs.
+fn are_two(options: &LadderOptions) -> bool {
+    let [b, a] = options.settings.renditions.as_slice() else {
+        return false;
+    };
+    facts(b) == ("b", 1280, 720, true)
+        && facts(a) == ("a", 640, 360, true)
+        && options.paths.as_slice() == ["b.ts", "/in/a:1.ts"].as_slice()
+}
+
 #[test]
 fn a_ladder_of_two(rt: HostRuntime) -> Result<(), Fail> {
     let options = two(rt.alloc())?;
-    let renditions = &options.settings.renditions;
-    let [b, a] = renditions.as_slice() else {
-        return Err(Fail::from("not two renditions"));
-    };
-    let told = (
-        b.name.as_str(),
-        b.width,
-        b.salt.is_some(),
-        a.name.as_str(),
-        a.height,
+    let settings = &options.settings;
+    let is_event = settings.kind == Kind::Event;
+    assert_eq!(rt;
+        (
+            are_two(&options),
+            is_event,
+            settings.queue,
+            options.pool.workers
+        ),
+        (true, true, 16, 4)
     );
-    assert_eq!(rt; told, ("b", 1280, true, "a", 360));
-    assert!(rt; options.settings.kind == Kind::Event);
-    assert_eq!(rt; (options.settings.queue, options.pool.workers), (16, 4));
-    assert_eq!(rt; options.paths.as_slice(), ["b.ts", "/in/a:1.ts"].as_slice());
     Ok(())
 }
 
@@ -101,19 +117,26 @@ fn faults_in_their_order(rt: HostRuntime) -> Result<(), Fail> {
     Ok(())
 }
 
+/// Appends an entry with a key more than there may be.
+fn push_many(entry: &mut String) -> Result<(), AllocError> {
+    entry.push_str("m:avc1.4d401e:640x360:")?;
+    for _ in 0..MOST_KEYS {
+        entry.push_str(KEY)?;
+        entry.push_str("+")?;
+    }
+    entry.push_str(KEY)?;
+    entry.push_str(":m.ts")
+}
+
 #[test]
 fn too_many_keys_before_no_period(rt: HostRuntime) -> Result<(), Fail> {
     let alloc = rt.alloc();
-    let mut many = String::from_str(alloc, "m:avc1.4d401e:640x360:")?;
-    for _ in 0..MOST_KEYS {
-        many.push_str(KEY)?;
-        many.push_str("+")?;
-    }
-    many.push_str(KEY)?;
-    many.push_str(":m.ts")?;
+    let mut many = String::new(alloc);
+    push_many(&mut many)?;
     let many = many.as_str();
-    assert!(rt; told(alloc, &[many], Some("0"), 0) == Some(LadderFault::BadVector));
-    assert!(rt; told(alloc, &[many], None, 0) == Some(LadderFault::TooMany));
+    let salted = told(alloc, &[many], Some("0"), 0) == Some(LadderFault::BadVector);
+    let plain = told(alloc, &[many], None, 0) == Some(LadderFault::TooMany);
+    assert!(rt; salted && plain);
     Ok(())
 }
 
@@ -146,11 +169,9 @@ fn statuses_of_ladders(rt: HostRuntime) -> Result<(), Fail> {
     Ok(())
 }
 
-#[test]
-fn lines_in_byte_order_of_names(rt: HostRuntime) -> Result<(), Fail> {
-    let alloc = rt.alloc();
-    let options = two(alloc)?;
-    let report = Report {
+/// What a run of b and a tells.
+fn report(alloc: Global) -> Result<Report, AllocError> {
+    Ok(Report {
         counts: vec![in alloc; 2, 11]?,
         micros: vec![in alloc; 9_040_000, 66_000_001]?,
         peaks: vec![in alloc; 2022, 4044]?,
@@ -160,11 +181,20 @@ fn lines_in_byte_order_of_names(rt: HostRuntime) -> Result<(), Fail> {
         own: 13,
         thrown: 0,
         rounds: 0,
-    };
-    let text = summary(alloc, &options.settings, &report)?;
-    assert_eq!(rt;
-        text.as_str(),
-        "a 11 66.000001 4044 2720\nb 2 9.040000 2022 1360\n"
-    );
+    })
+}
+
+/// Whether this is the summary of such a run.
+fn is_summary(alloc: Global, settings: &Settings, wanted: &str) -> Result<bool, Fail> {
+    let report = report(alloc)?;
+    Ok(summary(alloc, settings, &report)?.as_str() == wanted)
+}
+
+#[test]
+fn lines_in_byte_order_of_names(rt: HostRuntime) -> Result<(), Fail> {
+    let options = two(rt.alloc())?;
+    let wanted = "a 11 66.000001 4044 2720\nb 2 9.040000 2022 1360\n";
+    let is = is_summary(rt.alloc(), &options.settings, wanted)?;
+    assert!(rt; is);
     Ok(())
 }
