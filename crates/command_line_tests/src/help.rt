@@ -69,11 +69,24 @@ fn defaults(rt: HostRuntime) -> Result<(), Fail> {
             "at {option}"
         );
     }
-    let name = shown(rt.alloc(), "one", "--name")?;
-    let text = format!(in rt.alloc(); "[default: {DEFAULT_NAME}]")?;
-    assert!(rt; name.as_str().ends_with(text.as_str()));
-    let segment = shown(rt.alloc(), "one", "--segment")?;
-    assert!(rt; segment.as_str().ends_with("[default: the target]"));
+    Ok(())
+}
+
+/// Whether help of `one` tells of an option at the end of its line what stands where it is absent.
+fn ends(alloc: Global, option: &str, text: &str) -> Result<bool, Fail> {
+    Ok(shown(alloc, "one", option)?.as_str().ends_with(text))
+}
+
+#[test]
+fn what_is_absent_that_is_no_number(rt: HostRuntime) -> Result<(), Fail> {
+    let name = format!(in rt.alloc(); "[default: {DEFAULT_NAME}]")?;
+    for (option, text) in [
+        ("--name", name.as_str()),
+        ("--segment", "[default: the target]"),
+    ] {
+        let told = ends(rt.alloc(), option, text)?;
+        assert!(rt; told, "at {option}");
+    }
     Ok(())
 }
 
@@ -97,6 +110,12 @@ fn of_a_pool(rt: HostRuntime) -> Result<(), Fail> {
     Ok(())
 }
 
+/// Whether a command's help has this text, and ends with status 2.
+fn has_text(alloc: Global, command: &str, text: &str) -> Result<bool, Fail> {
+    let help = told(alloc, &["tshls", command, "--help"])?;
+    Ok(help.0.as_str().contains(text) && help.1 == 2)
+}
+
 #[test]
 fn each_command_tells_its_faults(rt: HostRuntime) -> Result<(), Fail> {
     let table = [
@@ -107,13 +126,14 @@ fn each_command_tells_its_faults(rt: HostRuntime) -> Result<(), Fail> {
         ("check", "\n  NotProfile  "),
     ];
     for (command, text) in table {
-        let help = told(rt.alloc(), &["tshls", command, "--help"])?;
-        assert_eq!(rt;
-            (help.0.as_str().contains(text), help.1),
-            (true, 2),
-            "at {command}"
-        );
+        let has = has_text(rt.alloc(), command, text)?;
+        assert!(rt; has, "at {command}");
     }
+    Ok(())
+}
+
+#[test]
+fn the_version(rt: HostRuntime) -> Result<(), Fail> {
     let version = told(rt.alloc(), &["tshls", "--version"])?;
     assert_eq!(rt; (version.0.as_str(), version.1), ("tshls 0.1.0\n", 2));
     Ok(())

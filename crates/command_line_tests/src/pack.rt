@@ -1,18 +1,9 @@
-use command_line::{Job, line};
-use std::alloc::Global;
+use command_line::{Job, LadderJob, line};
+use std::alloc::{AllocError, Global};
 use std::test::Fail;
 
-/// What a command line of `pack` with these words asks for: its folder, the numbers of its pool and its paths; or what its
-/// refusal prints.
-fn asked(alloc: Global, more: &[&str]) -> Result<String, Fail> {
-    let mut words = Vec::new(alloc);
-    words.extend_from_slice(&["tshls", "pack"])?;
-    words.extend_from_slice(more)?;
-    let job = match line(alloc, words.as_slice()) {
-        Ok(Job::Ladder(job)) => job,
-        Ok(_) => return Err(Fail::from("another command")),
-        Err(fault) => return Ok(format!(in alloc; "{fault}")?),
-    };
+/// What a job asks for: its folder, the numbers of its pool and its paths.
+fn text_of(alloc: Global, job: &LadderJob<'_>) -> Result<String, AllocError> {
     let pool = job.options.pool;
     let batch = pool.batch.unwrap_or(0);
     let mut text = format!(in alloc; "{} {} {} {batch}", job.folder, pool.workers, pool.queue)?;
@@ -21,6 +12,18 @@ fn asked(alloc: Global, more: &[&str]) -> Result<String, Fail> {
         text.push_str(path)?;
     }
     Ok(text)
+}
+
+/// What a command line of `pack` with these words asks for, or what its refusal prints.
+fn asked(alloc: Global, more: &[&str]) -> Result<String, Fail> {
+    let mut words = Vec::new(alloc);
+    words.extend_from_slice(&["tshls", "pack"])?;
+    words.extend_from_slice(more)?;
+    match line(alloc, words.as_slice()) {
+        Ok(Job::Ladder(job)) => Ok(text_of(alloc, &job)?),
+        Ok(_) => Err(Fail::from("another command")),
+        Err(fault) => Ok(format!(in alloc; "{fault}")?),
+    }
 }
 
 /// Whether a command line of `pack` with these words asks for this, or prints it.

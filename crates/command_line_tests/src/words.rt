@@ -14,71 +14,71 @@ pub fn told(alloc: Global, words: &[&str]) -> Result<(String, u8), AllocError> {
     }
 }
 
-const KEYS: [[u8; 16]; 1] = [[0, 1, 2, 3, 4, 5, 6, 7, 8, 9, 10, 11, 12, 13, 14, 15]];
-
-/// A playlist and the keys that a command line asks for, or what its refusal prints; with the status.
-#[derive(Drop)]
-struct LineTold {
-    text: String,
-    keys: Vec<[u8; 16]>,
-    status: u8,
-}
-
-fn line_told(alloc: Global, words: &[&str]) -> Result<LineTold, AllocError> {
-    match line(alloc, words) {
-        Ok(Job::Stream(StreamJob::Check(options))) => {
-            let CheckOptions { keys, playlist } = options;
-            Ok(LineTold {
-                text: playlist,
-                keys,
-                status: 0,
-            })
-        }
+/// How many keys a command line of `check` asks for, the first byte of each of two at most, and its playlist; or what its
+/// refusal prints. With the status.
+fn asked(alloc: Global, words: &[&str]) -> Result<((usize, [u8; 2]), String, u8), AllocError> {
+    let options = match line(alloc, words) {
+        Ok(Job::Stream(StreamJob::Check(options))) => options,
         Ok(job) => {
             drop(job);
-            Ok(LineTold {
-                text: String::new(alloc),
-                keys: Vec::new(alloc),
-                status: 0,
-            })
+            return Ok(((0, [0; 2]), String::new(alloc), 0));
         }
-        Err(fault) => Ok(LineTold {
-            text: format!(in alloc; "{fault}")?,
-            keys: Vec::new(alloc),
-            status: fault.status(),
-        }),
-    }
+        Err(fault) => {
+            return Ok(((0, [0; 2]), format!(in alloc; "{fault}")?, fault.status()));
+        }
+    };
+    let CheckOptions { keys, playlist } = options;
+    let first = [0, 1].map(|at| keys.get(at).map(|key| key[0]).unwrap_or(0));
+    Ok(((keys.len(), first), playlist, 0))
 }
+
+/// Whether a command line of `check` with these words asks for such keys and this playlist, or prints this; with the status.
+fn is_asked(
+    alloc: Global,
+    more: &[&str],
+    keys: (usize, [u8; 2]),
+    text: &str,
+    status: u8,
+) -> Result<bool, AllocError> {
+    let mut words = Vec::new(alloc);
+    words.extend_from_slice(&["tshls", "check"])?;
+    words.extend_from_slice(more)?;
+    let told = asked(alloc, words.as_slice())?;
+    Ok(told.0 == keys && told.1.as_str() == text && told.2 == status)
+}
+
+const TWO_KEYS: &str = "010102030405060708090a0b0c0d0e0f+100102030405060708090A0B0C0D0E0F";
 
 #[test]
 fn options(rt: HostRuntime) -> Result<(), Fail> {
-    let keys = "000102030405060708090a0b0c0d0e0f+100102030405060708090A0B0C0D0E0F";
-    let mut other = KEYS[0];
-    other[0] = 0x10;
-    let two = [KEYS[0], other];
-    let table: [(&[&str], &str, &[[u8; 16]], u8); 4] = [
-        (&["--keys", KEY, "a/v.m3u8"], "a/v.m3u8", &KEYS, 0),
-        (&["v.m3u8", "--keys", keys], "v.m3u8", &two, 0),
-        (&["--keys", "00", "v.m3u8"], "tshls: BadKey\n", &[], 2),
-        (&["--keys", "", "v.m3u8"], "tshls: BadKey\n", &[], 2),
+    let table: [(&[&str], (usize, [u8; 2]), &str, u8); 4] = [
+        (&["--keys", KEY, "a/v.m3u8"], (1, [0, 0]), "a/v.m3u8", 0),
+        (
+            &["v.m3u8", "--keys", TWO_KEYS],
+            (2, [0x01, 0x10]),
+            "v.m3u8",
+            0,
+        ),
+        (
+            &["--keys", "00", "v.m3u8"],
+            (0, [0, 0]),
+            "tshls: BadKey\n",
+            2,
+        ),
+        (&["--keys", "", "v.m3u8"], (0, [0, 0]), "tshls: BadKey\n", 2),
     ];
-    for (more, text, keys, status) in table {
-        let mut words = Vec::new(rt.alloc());
-        words.extend_from_slice(&["tshls", "check"])?;
-        words.extend_from_slice(more)?;
-        let told = line_told(rt.alloc(), words.as_slice())?;
-        assert_eq!(rt;
-            (
-                told.text.as_str(),
-                told.keys.as_slice() == keys,
-                told.status
-            ),
-            (text, true, status),
-            "at {more:?}"
-        );
+    for (more, keys, text, status) in table {
+        let is = is_asked(rt.alloc(), more, keys, text, status)?;
+        assert!(rt; is, "at {more:?}");
     }
+    Ok(())
+}
+
+#[test]
+fn keys_and_a_playlist_are_wanted(rt: HostRuntime) -> Result<(), Fail> {
     for more in ["--keys", "v.m3u8"] {
-        assert_eq!(rt; line_told(rt.alloc(), &["tshls", "check", more])?.status, 2);
+        let told = told(rt.alloc(), &["tshls", "check", more])?;
+        assert_eq!(rt; told.1, 2);
     }
     Ok(())
 }
