@@ -1,12 +1,12 @@
 use crate::fixtures::{KEY, VECTOR, no_numbers, settings, words};
 use commands::{
-    CheckWords, CipherFault, CipherWords, DEFAULT_FRAME, DEFAULT_GAP, DEFAULT_MOST, DEFAULT_NAME,
-    DEFAULT_PERIOD, DEFAULT_TARGET, DEFAULT_WINDOW, EntryWords, KeyListFault, NumberWords,
+    CheckOptions, CheckWords, CipherFault, CipherWords, DEFAULT_FRAME, DEFAULT_GAP, DEFAULT_MOST,
+    DEFAULT_NAME, DEFAULT_PERIOD, DEFAULT_TARGET, DEFAULT_WINDOW, EntryWords, KeyListFault,
     SettingsFault, entries, first_bad, one, read_check_options, read_cipher_options, read_settings,
 };
 use limits::{MOST_KEYS, MOST_PROGRAM, TICKS};
 use pipeline::PackFault;
-use std::alloc::Global;
+use std::alloc::{AllocError, Global};
 use std::test::Fail;
 
 #[test]
@@ -71,21 +71,23 @@ fn a_vector_is_given_in_one_way(rt: HostRuntime) -> Result<(), Fail> {
     Ok(())
 }
 
-#[test]
-fn keys_and_a_playlist(rt: HostRuntime) -> Result<(), Fail> {
+/// How many keys are read of these words, and the last byte of the first; or why none are. The playlist comes as it is.
+fn checked(alloc: Global, keys: &str) -> Result<(usize, Option<u8>, bool), KeyListFault> {
     let words = CheckWords {
-        keys: KEY,
+        keys,
         playlist: "a/v.m3u8",
     };
-    let options = read_check_options(rt.alloc(), words).map_err(|_| "options")?;
-    assert_eq!(rt; options.playlist.as_str(), "a/v.m3u8");
-    assert_eq!(rt; (options.keys.len(), options.keys[0][15]), (1, 15));
-    let words = CheckWords {
-        keys: "00",
-        playlist: "v.m3u8",
-    };
-    let told = read_check_options(rt.alloc(), words).err();
-    assert!(rt; told == Some(KeyListFault::BadKey));
+    let CheckOptions { keys, playlist } = read_check_options(alloc, words)?;
+    let last = keys.first().map(|key| key[15]);
+    Ok((keys.len(), last, playlist.as_str() == "a/v.m3u8"))
+}
+
+#[test]
+fn keys_and_a_playlist(rt: HostRuntime) -> Result<(), Fail> {
+    assert_eq!(rt;
+        (checked(rt.alloc(), KEY), checked(rt.alloc(), "00")),
+        (Ok((1, Some(15), true)), Err(KeyListFault::BadKey))
+    );
     Ok(())
 }
 
@@ -115,55 +117,60 @@ fn statuses(rt: HostRuntime) -> Result<(), Fail> {
     Ok(())
 }
 
-#[test]
-fn as_many_keys_as_there_may_be(rt: HostRuntime) -> Result<(), Fail> {
-    let alloc = rt.alloc();
-    let mut keys = String::from_str(alloc, KEY)?;
-    for _ in 1..MOST_KEYS {
+/// Appends so many keys.
+fn push_keys(keys: &mut String, count: u64) -> Result<(), AllocError> {
+    keys.push_str(KEY)?;
+    for _ in 1..count {
         keys.push_str("+")?;
         keys.push_str(KEY)?;
     }
-    assert!(rt; read_settings(alloc, words("1x1", keys.as_str()), no_numbers()).is_ok());
-    keys.push_str("+")?;
-    keys.push_str(KEY)?;
-    let told = read_settings(alloc, words("1x1", keys.as_str()), no_numbers()).err();
-    assert!(rt; told == Some(SettingsFault::TooMany));
     Ok(())
 }
 
-/// Whether settings of a size and a program are taken.
-fn is_taken(rt: &HostRuntime, size: &str, numbers: NumberWords) -> Result<bool, Fail> {
-    let settings = match read_settings(rt.alloc(), words(size, KEY), numbers) {
+/// Why so many keys aren't taken.
+fn fault_of_keys(alloc: Global, count: u64) -> Result<Option<SettingsFault>, AllocError> {
+    let mut keys = String::new(alloc);
+    push_keys(&mut keys, count)?;
+    Ok(read_settings(alloc, words("1x1", keys.as_str()), no_numbers()).err())
+}
+
+#[test]
+fn as_many_keys_as_there_may_be(rt: HostRuntime) -> Result<(), Fail> {
+    let most = fault_of_keys(rt.alloc(), MOST_KEYS)?;
+    let more = fault_of_keys(rt.alloc(), MOST_KEYS + 1)?;
+    assert_eq!(rt; (most, more), (None, Some(SettingsFault::TooMany)));
+    Ok(())
+}
+
+/// Whether settings of a size and a program, or none, are taken.
+fn is_taken(alloc: Global, size: &str, program: Option<u64>) -> bool {
+    let mut numbers = no_numbers();
+    numbers.program = program;
+    let settings = match read_settings(alloc, words(size, KEY), numbers) {
         Ok(settings) => settings,
-        Err(fault) => return Ok(fault != SettingsFault::Settings),
+        Err(fault) => return fault != SettingsFault::Settings,
     };
     let empty: &[u8] = &[];
-    let packed = one(rt.alloc(), &settings, empty, Vec::new(rt.alloc()));
-    Ok(packed.answer == Err(PackFault::NoProgram(0)))
+    let packed = one(alloc, &settings, empty, Vec::new(alloc));
+    packed.answer == Err(PackFault::NoProgram(0))
 }
 
 #[test]
 fn the_ends_of_sizes_and_programs(rt: HostRuntime) -> Result<(), Fail> {
     let table = [
-        ("1x1", true),
-        ("16384x16384", true),
-        ("16385x1", false),
-        ("1x16385", false),
-        ("0x1", false),
+        ("1x1", None, true),
+        ("16384x16384", None, true),
+        ("16385x1", None, false),
+        ("1x16385", None, false),
+        ("0x1", None, false),
+        ("1x1", Some(1), true),
+        ("1x1", Some(MOST_PROGRAM), true),
+        ("1x1", Some(MOST_PROGRAM + 1), false),
+        ("1x1", Some(0), false),
     ];
-    for (size, wanted) in table {
-        assert_eq!(rt; is_taken(&rt, size, no_numbers())?, wanted, "at {size}");
-    }
-    let table = [
-        (1, true),
-        (MOST_PROGRAM, true),
-        (MOST_PROGRAM + 1, false),
-        (0, false),
-    ];
-    for (program, wanted) in table {
-        let mut numbers = no_numbers();
-        numbers.program = Some(program);
-        assert_eq!(rt; is_taken(&rt, "1x1", numbers)?, wanted, "at {program}");
+    for (size, program, wanted) in table {
+        let told = is_taken(rt.alloc(), size, program);
+        assert_eq!(rt; told, wanted, "at {size}, {program:?}");
     }
     Ok(())
 }
