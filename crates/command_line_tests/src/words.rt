@@ -14,21 +14,23 @@ pub fn told(alloc: Global, words: &[&str]) -> Result<(String, u8), AllocError> {
     }
 }
 
-/// How many keys a command line of `check` asks for, the first byte of each of two at most, and its playlist; or what its
-/// refusal prints. With the status.
-fn asked(alloc: Global, words: &[&str]) -> Result<((usize, [u8; 2]), String, u8), AllocError> {
+/// How many keys, and two of them at most.
+type Keys = (usize, [[u8; 16]; 2]);
+
+/// The keys that a command line of `check` asks for, and its playlist; or what its refusal prints. With the status.
+fn asked(alloc: Global, words: &[&str]) -> Result<(Keys, String, u8), AllocError> {
     let options = match line(alloc, words) {
         Ok(Job::Stream(StreamJob::Check(options))) => options,
         Ok(job) => {
             drop(job);
-            return Ok(((0, [0; 2]), String::new(alloc), 0));
+            return Ok((NO_KEYS, String::new(alloc), 0));
         }
         Err(fault) => {
-            return Ok(((0, [0; 2]), format!(in alloc; "{fault}")?, fault.status()));
+            return Ok((NO_KEYS, format!(in alloc; "{fault}")?, fault.status()));
         }
     };
     let CheckOptions { keys, playlist } = options;
-    let first = [0, 1].map(|at| keys.get(at).map(|key| key[0]).unwrap_or(0));
+    let first = [0, 1].map(|at| keys.get(at).copied().unwrap_or([0; 16]));
     Ok(((keys.len(), first), playlist, 0))
 }
 
@@ -36,7 +38,7 @@ fn asked(alloc: Global, words: &[&str]) -> Result<((usize, [u8; 2]), String, u8)
 fn is_asked(
     alloc: Global,
     more: &[&str],
-    keys: (usize, [u8; 2]),
+    keys: Keys,
     text: &str,
     status: u8,
 ) -> Result<bool, AllocError> {
@@ -47,25 +49,31 @@ fn is_asked(
     Ok(told.0 == keys && told.1.as_str() == text && told.2 == status)
 }
 
-const TWO_KEYS: &str = "010102030405060708090a0b0c0d0e0f+100102030405060708090A0B0C0D0E0F";
+const NO_KEYS: Keys = (0, [[0; 16]; 2]);
+
+const ONE: [u8; 16] = [0, 1, 2, 3, 4, 5, 6, 7, 8, 9, 10, 11, 12, 13, 14, 15];
+
+const OTHER: [u8; 16] = [16, 1, 2, 3, 4, 5, 6, 7, 8, 9, 10, 11, 12, 13, 14, 15];
+
+const TWO_KEYS: &str = "000102030405060708090a0b0c0d0e0f+100102030405060708090A0B0C0D0E0F";
 
 #[test]
 fn options(rt: HostRuntime) -> Result<(), Fail> {
-    let table: [(&[&str], (usize, [u8; 2]), &str, u8); 4] = [
-        (&["--keys", KEY, "a/v.m3u8"], (1, [0, 0]), "a/v.m3u8", 0),
+    let table: [(&[&str], Keys, &str, u8); 4] = [
         (
-            &["v.m3u8", "--keys", TWO_KEYS],
-            (2, [0x01, 0x10]),
-            "v.m3u8",
+            &["--keys", KEY, "a/v.m3u8"],
+            (1, [ONE, [0; 16]]),
+            "a/v.m3u8",
             0,
         ),
         (
-            &["--keys", "00", "v.m3u8"],
-            (0, [0, 0]),
-            "tshls: BadKey\n",
-            2,
+            &["v.m3u8", "--keys", TWO_KEYS],
+            (2, [ONE, OTHER]),
+            "v.m3u8",
+            0,
         ),
-        (&["--keys", "", "v.m3u8"], (0, [0, 0]), "tshls: BadKey\n", 2),
+        (&["--keys", "00", "v.m3u8"], NO_KEYS, "tshls: BadKey\n", 2),
+        (&["--keys", "", "v.m3u8"], NO_KEYS, "tshls: BadKey\n", 2),
     ];
     for (more, keys, text, status) in table {
         let is = is_asked(rt.alloc(), more, keys, text, status)?;
