@@ -45,26 +45,26 @@ fn begins_item(line: &str) -> bool {
         || line.starts_with("master ")
 }
 
-/// How many items a text has that begin with these lines, up to the first that doesn't.
-fn items_of(text: &str) -> usize {
+/// How many items a text has; none where one begins with another line, or there are more.
+fn items_of(text: &str) -> Option<usize> {
     let mut wanted = ITEMS.iter();
     let mut found: usize = 0;
     for line in text.lines() {
         if begins_item(line) {
             if wanted.next() != Some(&line) {
-                return found;
+                return None;
             }
             found = found.saturating_add(1);
         }
     }
-    found
+    Some(found)
 }
 
 #[test]
 fn ten_items(rt: HostRuntime) -> Result<(), Fail> {
     let stream = stream_bytes(rt.alloc())?;
     let text = whole(rt.alloc(), &stream)?;
-    assert_eq!(rt; items_of(&text), 10);
+    assert_eq!(rt; items_of(&text), Some(10));
     Ok(())
 }
 
