@@ -317,12 +317,18 @@ fn faults_of_streams(rt: HostRuntime) -> Result<(), Fail> {
 }
 
 #[test]
-fn the_most_packets_of_a_segment(rt: HostRuntime) -> Result<(), Fail> {
-    for (most, fault, items) in [(2, None, 10), (1, Some(PackFault::BigSegment(0, 0)), 0)] {
-        let cut = CutSettings { most, ..CUT };
-        let told = told_of(&rt, rt.alloc(), &Play { cut, ..PLAY })?;
-        assert_eq!(rt; told, (fault, items), "{most}");
-    }
+fn as_many_packets_as_a_segment_may_have(rt: HostRuntime) -> Result<(), Fail> {
+    let cut = CutSettings { most: 2, ..CUT };
+    let wrong = wrong_in(&rt, rt.alloc(), &Play { cut, ..PLAY }, &TWO.wanted())?;
+    assert_eq!(rt; wrong, None);
+    Ok(())
+}
+
+#[test]
+fn a_packet_more_than_a_segment_may_have(rt: HostRuntime) -> Result<(), Fail> {
+    let cut = CutSettings { most: 1, ..CUT };
+    let told = told_of(&rt, rt.alloc(), &Play { cut, ..PLAY })?;
+    assert_eq!(rt; told, (Some(PackFault::BigSegment(0, 0)), 0));
     Ok(())
 }
 
