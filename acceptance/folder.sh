@@ -1,7 +1,7 @@
 # The checks of the outlet of files, on real folders: folder_items puts a segment of so many bytes, and three playlists.
 # shellcheck shell=bash disable=SC2154
 
-folder_items=$here/../crates/folder_items/out/folder_items
+folder_items=$here/../crates/fixture_folder_items/out/fixture_folder_items
 
 check_folder() {
     if [ ! -x "$folder_items" ]; then

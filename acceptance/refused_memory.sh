@@ -1,8 +1,8 @@
-# What takes memory where it is refused: the program of crates/refused_memory asks for each thing a few times, and again for
+# What takes memory where it is refused: the program of crates/fixture_refused_memory asks for each thing a few times, and again for
 # what was refused.
 # shellcheck shell=bash disable=SC2154
 
-asks=$here/../crates/refused_memory/out/refused_memory
+asks=$here/../crates/fixture_refused_memory/out/fixture_refused_memory
 
 # A reader grows its packets twice, a window takes room for four rows at the first, and each growth of a cutter is refused
 # once, which has ended then. A collector takes one allocation of a plan and none of a piece, a queue three of a plan, and a

@@ -8,7 +8,7 @@ PACKETS = 800_000
 
 
 def measure():
-    program = built("memory_streams", ("plans",))
+    program = built("bench_memory_streams", ("plans",))
     for word in ("plans", "spools", "all_plans", "all_in_a_spool"):
         took = best_of(5, [program, word])
         memory = peak_memory([program, word], "/dev/null")

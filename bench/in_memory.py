@@ -8,7 +8,7 @@ WORDS = ("serial", "1", "2", "4")
 
 
 def measure():
-    program = built("memory_streams", ("plans",))
+    program = built("bench_memory_streams", ("plans",))
     made = best_of(5, [program, "stream"])
     runs = {word: best_of(5, [program, word]) for word in WORDS}
     serial = runs["serial"]

@@ -9,7 +9,7 @@ ROUNDS = 5
 
 def measure():
     """Prints the figures: each pair is run in turn, the best of some rounds."""
-    program = built("view_board", ("board", "1", "0", "1"))
+    program = built("bench_view_board", ("board", "1", "0", "1"))
     for size, looks in LOOKS.items():
         for viewers in (1, 4):
             rounds = [[timed([program, word, str(viewers), str(size), str(looks)]) for word in ("board", "mutex")] for _ in range(ROUNDS)]

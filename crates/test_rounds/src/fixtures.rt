@@ -1,0 +1,25 @@
+//! The settings of runs for tests.
+
+use ladder_items::{Kind, Rendition, Settings};
+use fixture_standard_stream::{SETTINGS, key};
+use std::alloc::Global;
+use std::test::Fail;
+
+pub(crate) fn settings(alloc: Global) -> Result<Settings, Fail> {
+    let mut renditions = Vec::new(alloc);
+    renditions.push(Rendition {
+        name: String::from_str(alloc, "v")?,
+        codecs: String::from_str(alloc, "avc1.4d401e")?,
+        width: 640,
+        height: 360,
+        keys: key(alloc).ok_or("no key")?,
+        salt: None,
+    })?;
+    Ok(Settings {
+        renditions,
+        cut: SETTINGS,
+        kind: Kind::Live,
+        window: 5,
+        queue: 4,
+    })
+}

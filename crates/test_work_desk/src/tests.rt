@@ -1,0 +1,225 @@
+ghost use Rattle.std.specs.Prelude.{◌≡◌};
+
+use crate::fixtures::{Job, Told, run};
+use cutter::PlanRef;
+use fixture_standard_stream::plans;
+use std::alloc::Global;
+use std::marker::Brand;
+use std::sync::Wait;
+use std::sync::ledger::{Blank, Ledger};
+use std::test::Fail;
+use work_desk::{Desk, FeedFault, FreeGate, Gate, Opened};
+
+/// How often each run is made, so that threads meet in many orders.
+const TIMES: u64 = 200;
+
+/// What a run tells of which so many plans were sealed.
+const fn sealed(count: u64) -> Told {
+    Told {
+        sealed: count,
+        refused: 0,
+        held: 0,
+        wrong: 0,
+        claims: count,
+        left: 0,
+    }
+}
+
+#[test]
+fn two_workers_seal_both_plans(rt: HostRuntime) -> Result<(), Fail> {
+    let job = Job {
+        queue: 2,
+        workers: 2,
+        plans: 2,
+        half: false,
+        stops: false,
+        gate: &FreeGate,
+    };
+    let told = run(&rt, rt.alloc(), &job, TIMES, sealed(2))?;
+    assert_eq!(rt; told, sealed(2));
+    Ok(())
+}
+
+#[test]
+fn sixteen_workers_seal_each_plan_once(rt: HostRuntime) -> Result<(), Fail> {
+    let job = Job {
+        queue: 4,
+        workers: 16,
+        plans: 1000,
+        half: false,
+        stops: false,
+        gate: &FreeGate,
+    };
+    let told = run(&rt, rt.alloc(), &job, TIMES, sealed(1000))?;
+    assert_eq!(rt; told, sealed(1000));
+    Ok(())
+}
+
+/// A gate that holds one segment back.
+#[derive(Drop)]
+struct AllBut(u64);
+
+impl Gate for AllBut {
+    ghost lets = { λ _ _ _. Unit {0} };
+
+    ghost stops = { λ _ _ _. Unit {0} };
+
+    fn pass(&self, _rendition: usize, number: u64) -> bool {
+        number != self.0
+    }
+}
+
+#[test]
+fn a_run_goes_on_behind_a_segment_that_is_held(rt: HostRuntime) -> Result<(), Fail> {
+    let job = Job {
+        queue: 2,
+        workers: 2,
+        plans: 3,
+        half: false,
+        stops: false,
+        gate: &AllBut(1),
+    };
+    let wanted = Told {
+        sealed: 2,
+        held: 1,
+        ..sealed(3)
+    };
+    let told = run(&rt, rt.alloc(), &job, TIMES, wanted)?;
+    assert_eq!(rt; told, wanted);
+    Ok(())
+}
+
+#[test]
+fn a_run_goes_on_where_each_second_plan_is_refused(rt: HostRuntime) -> Result<(), Fail> {
+    let job = Job {
+        queue: 1,
+        workers: 2,
+        plans: 8,
+        half: true,
+        stops: false,
+        gate: &FreeGate,
+    };
+    let wanted = Told {
+        sealed: 4,
+        refused: 4,
+        ..sealed(8)
+    };
+    let told = run(&rt, rt.alloc(), &job, TIMES, wanted)?;
+    assert_eq!(rt; told, wanted);
+    Ok(())
+}
+
+#[test]
+fn a_stop_wakes_workers_that_wait(rt: HostRuntime) -> Result<(), Fail> {
+    let job = Job {
+        queue: 1,
+        workers: 4,
+        plans: 0,
+        half: false,
+        stops: true,
+        gate: &FreeGate,
+    };
+    let told = run(&rt, rt.alloc(), &job, TIMES, sealed(0))?;
+    assert_eq!(rt; told, sealed(0));
+    Ok(())
+}
+
+#[test]
+fn a_stop_wakes_a_taker_that_waits(rt: HostRuntime) -> Result<(), Fail> {
+    let job = Job {
+        queue: 1,
+        workers: 0,
+        plans: 1,
+        half: false,
+        stops: true,
+        gate: &FreeGate,
+    };
+    let told = run(&rt, rt.alloc(), &job, TIMES, sealed(0))?;
+    assert_eq!(rt; told, sealed(0));
+    Ok(())
+}
+
+/// What is told of a plan that is fed, and the number of the plan that comes back.
+fn feed<'s, L: Ledger, M: Ledger, R: Wait>(
+    rt: &R,
+    desk: &Desk<'s, L, M>,
+    plan: PlanRef<'s>,
+) -> (&'static str, u64) {
+    match desk.feed(rt, plan) {
+        Ok(()) => ("waits", plan.number),
+        Err(FeedFault::Full(back)) => ("full", back.number),
+        Err(FeedFault::Closed(back)) => ("closed", back.number),
+        Err(FeedFault::Twice(back)) => ("twice", back.number),
+        Err(FeedFault::NoMemory(back)) => ("no memory", back.number),
+    }
+}
+
+/// Feeds plan 0 twice and then plan 1, and plan 1 again where the desk was stopped. Tells each answer, and whether a claim
+/// and a piece come then.
+fn fed_with<'s, L: Ledger, M: Ledger, R: Wait>(
+    rt: &R,
+    alloc: Global,
+    claims: Blank,
+    takes: Blank,
+    queue: usize,
+    first: PlanRef<'s>,
+    second: PlanRef<'s>,
+) -> Result<(Vec<(&'static str, u64)>, bool, bool), Fail>
+    requires claims { (claims.name ≡ L.name) × (claims.parts ≡ L.parts) × (L.parts ≡ 1) }
+    requires takes { (takes.name ≡ M.name) × (takes.parts ≡ M.parts) × (M.parts ≡ 1) }
+{
+    let Opened {
+        desk,
+        mut workers,
+        mut taker,
+        ..
+    } = Desk::<'s, L, M>::new(alloc, queue, 1, claims, takes)?;
+    let Some(mut pass) = workers.pop() else {
+        return Err(Fail::from("no pass"));
+    };
+    let mut told = Vec::new(alloc);
+    told.push(feed(rt, &desk, first))?;
+    told.push(feed(rt, &desk, first))?;
+    told.push(feed(rt, &desk, second))?;
+    desk.stop(rt);
+    told.push(feed(rt, &desk, second))?;
+    let claimed = desk.claim(rt, &mut pass).is_some();
+    let done = desk.take_done(rt, &mut taker).is_some() || desk.wait_done(rt, &mut taker).is_some();
+    Ok((told, claimed, done))
+}
+
+/// The same, with books of its own.
+fn fed<R: Wait>(
+    rt: &R,
+    alloc: Global,
+    queue: usize,
+) -> Result<(Vec<(&'static str, u64)>, bool, bool), Fail> {
+    let plans = plans(alloc).ok_or("no plans")?;
+    let Some(first) = plans.first() else {
+        return Err(Fail::from("no plan"));
+    };
+    let Some(second) = plans.last() else {
+        return Err(Fail::from("no plan"));
+    };
+    fed_with::<Brand, Brand, R>(
+        rt,
+        alloc,
+        Blank::new(1),
+        Blank::new(1),
+        queue,
+        first.lend(),
+        second.lend(),
+    )
+}
+
+#[test]
+fn a_plan_is_refused_with_its_reason(rt: HostRuntime) -> Result<(), Fail> {
+    let (told, claimed, done) = fed(&rt, rt.alloc(), 2)?;
+    let wanted = [("waits", 0), ("twice", 0), ("waits", 1), ("closed", 1)];
+    assert_eq!(rt; told.as_slice(), wanted.as_slice());
+    assert_eq!(rt; (claimed, done), (false, false));
+    let (told, _, _) = fed(&rt, rt.alloc(), 1)?;
+    let wanted = [("waits", 0), ("full", 0), ("full", 1), ("closed", 1)];
+    assert_eq!(rt; told.as_slice(), wanted.as_slice());
+    Ok(())
+}
