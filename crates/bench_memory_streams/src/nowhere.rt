@@ -1,5 +1,7 @@
 //! An outlet that lets go of what is put.
 
+ghost use Rattle.item_io.specs.Views.{outlet_view};
+
 use item_io::{Item, Outlet, OutletFault};
 
 /// Counts the bytes of all items, and holds none of them.
@@ -9,11 +11,7 @@ pub struct Nowhere {
 }
 
 impl Outlet for Nowhere {
-    ghost holds = { λ _ _. ⊥ };
-
-    ghost broken = { λ _ _ _. ⊥ };
-
-    ghost failures = { λ _. 0 };
+    ghost output = { outlet_view (λ _ _. ⊥) (λ _ _ _. ⊥) (λ _. 0) };
 
     fn put(&mut self, item: &Item) -> Result<(), OutletFault> {
         let count = match item {

@@ -15,8 +15,9 @@ use Rattle.ladder_items.specs.Ladder.{Ladder}
 use Rattle.ladder_items.specs.Items.{Part, no_part, part_at}
 use Rattle.ladder_items.specs.Weave.{none_of, AreLegal, after_all, blocks}
 use Rattle.ingest.specs.Streams.{closed_of}
-use Rattle.ingest.specs.Inputs.{InputView, SourceSays}
-use Rattle.ladder_items.specs.Runs.{OutletView, outlet_of, run_of}
+use Rattle.item_io.specs.Views.{OutletView, SourceView, outlet_view}
+use Rattle.ingest.specs.Inputs.{SourceSays}
+use Rattle.ladder_items.specs.Runs.{run_of}
 use Rattle.ladder_items.specs.Putting.{PutAll}
 use Rattle.ladder_items.specs.World.{stream_at}
 use Rattle.ladder_items.specs.Packed.{IsPacked, IsCutShort, HasHalted, IsRefused, IsLeft, of_run, FaultSays}
@@ -53,7 +54,7 @@ nothing-packed ladder left held = record {
 }
 
 -- the one rendition of a run that halted
-left-alone : {X Y : Type 0} (input : InputView X) (out : OutletView Y) (ladder : Ladder) (a b : X) (x y : Y) (r : ℕ) (stop : Option Stop)
+left-alone : {X Y : Type 0} (input : SourceView X) (out : OutletView Y) (ladder : Ladder) (a b : X) (x y : Y) (r : ℕ) (stop : Option Stop)
     → (h : HasHalted (run_of input out (2 ^ 40) (a ∷ []) (b ∷ []) x y) ladder r stop)
     → (r ≡ 0) × IsLeft input (2 ^ 40) ladder 0 a b stop (stream_at h.streams 0) (part_at h.parts 0)
 left-alone input out ladder a b x y r stop h =
@@ -63,9 +64,9 @@ left-alone input out ladder a b x y r stop h =
 
 -- an outlet of lines, whose writer got these bytes
 abbrev pub lines_out : {W : Type 0} → (W → Option (List ℕ)) → OutletView (LineState W)
-lines_out got = outlet_of (λ o. HoldsLines (got o.writer) o.failures) (λ o. HoldsBeginning (got o.writer)) (λ o. o.failures)
+lines_out got = outlet_view (λ o. HoldsLines (got o.writer) o.failures) (λ o. HoldsBeginning (got o.writer)) (λ o. o.failures)
 
-module _ {X W : Type 0} (input : InputView X) (got : W → Option (List ℕ)) (ladder : Ladder) (a b : X) (x y : LineState W)
+module _ {X W : Type 0} (input : SourceView X) (got : W → Option (List ℕ)) (ladder : Ladder) (a b : X) (x y : LineState W)
     (none_failed : x.failures ≡ 0)
     (whole : (held held_then : Option (List ℕ)) (failures : ℕ) (given : List ItemValue) → Grows (HoldsLines held 0) (HoldsLines held_then failures) given → failures ≡ 0
     → Appends held held_then (lines_of given))
@@ -164,7 +165,7 @@ module _ {X W : Type 0} (input : InputView X) (got : W → Option (List ℕ)) (l
       says-as (of_run (run_of input (lines_out got) (2 ^ 40) (a ∷ []) (b ∷ []) x y) ladder) (of_one ladder (input.left a) (input.left b) (got x.writer) (got y.writer)) fault
       refused stopped (λ p. fails-to-put p.0 p.1) (λ p. wants-memory p.0 p.1) (λ r n is p. never_held r n is) s
 
-module _ {X Y : Type 0} (input : InputView X) (out : OutletView Y) (ladder : Ladder) (a b : X) (x y : Y)
+module _ {X Y : Type 0} (input : SourceView X) (out : OutletView Y) (ladder : Ladder) (a b : X) (x y : Y)
     (unread : input.reads a ≡ 0) (unfailed : input.failures a ≡ 0) (none_failed : out.failures x ≡ 0) where
   pub packed-counts : (report : Report) → IsPacked (run_of input out (2 ^ 40) (a ∷ []) (b ∷ []) x y) ladder report → NoneFailed (input.failures b) (out.failures y)
   packed-counts report p = record { reads = (p.each 0 a b refl refl).4 ∙ unfailed; puts = p.puts.unfailed ∙ none_failed }

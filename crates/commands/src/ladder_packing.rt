@@ -1,7 +1,6 @@
 ghost use Rattle.std.specs.Prelude.{◌≡◌, ◌⊎◌, ◌<◌, ◌^◌, IfOk, IfErr, OnOk, length};
 ghost use Rattle.std.specs.Io.KnownBytes.{Keeps};
-ghost use Rattle.ingest.specs.Inputs.{input_of};
-ghost use Rattle.ladder_items.specs.Runs.{outlet_of, run_of};
+ghost use Rattle.ladder_items.specs.Runs.{run_of};
 ghost use Rattle.ladder_items.specs.World.{HaveRoom};
 ghost use Rattle.live_board.specs.Counts.{counts_shown};
 ghost use Rattle.rounds.specs.Shown.{Fits, IsPackedShown};
@@ -58,14 +57,14 @@ pub fn pack<S: Source + Drop, O: Outlet + Drop, W: Write, R: Threads + Wait + Sy
     outlet: O,
     output: &mut W,
 ) -> PackedLadder<S, O>
-    requires room { HaveRoom (input_of S.remaining S.reads S.failures) READS sources.items }
-    requires failures { O.failures outlet < 2 ^ 63 }
-    ensures ok { IfOk result.answer (IsPackedShown (run_of (input_of S.remaining S.reads S.failures) (outlet_of O.holds O.broken O.failures) READS sources.items result.sources.items outlet result.outlet) settings.now pool.workers publisher.list result.publisher.list) }
+    requires room { HaveRoom S.input READS sources.items }
+    requires failures { O.output.failures outlet < 2 ^ 63 }
+    ensures ok { IfOk result.answer (IsPackedShown (run_of S.input O.output READS sources.items result.sources.items outlet result.outlet) settings.now pool.workers publisher.list result.publisher.list) }
     ensures written { IfOk result.answer (λ report. WritesSummary settings.now report (W.contents output.old) (W.contents output.new)) }
-    ensures fault { IfErr result.answer (LadderSays (run_of (input_of S.remaining S.reads S.failures) (outlet_of O.holds O.broken O.failures) READS sources.items result.sources.items outlet result.outlet) settings.now pool.workers publisher.list result.publisher.list (W.contents output.old) (W.contents output.new)) }
+    ensures fault { IfErr result.answer (LadderSays (run_of S.input O.output READS sources.items result.sources.items outlet result.outlet) settings.now pool.workers publisher.list result.publisher.list (W.contents output.old) (W.contents output.new)) }
     ensures board { result.publisher.board ≡ publisher.board }
     ensures fits { OnOk result.answer (Fits settings.now (length sources.items) pool.workers (counts_shown publisher.list)) }
-    ensures breach { IfErr result.answer (TurnsAway (run_of (input_of S.remaining S.reads S.failures) (outlet_of O.holds O.broken O.failures) READS sources.items result.sources.items outlet result.outlet) settings.now pool.workers publisher.list result.publisher.list) }
+    ensures breach { IfErr result.answer (TurnsAway (run_of S.input O.output READS sources.items result.sources.items outlet result.outlet) settings.now pool.workers publisher.list result.publisher.list) }
 {
     let Ran {
         sources,

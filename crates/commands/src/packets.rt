@@ -14,11 +14,11 @@ pub(crate) fn read_packets<S: Source>(
     alloc: Global,
     input: &mut S,
 ) -> Result<Vec<[u8; 188]>, ReadingFault>
-    requires room { HasRoom (S.reads input.old) (S.failures input.old) }
+    requires room { HasRoom (S.input.reads input.old) (S.input.failures input.old) }
     ensures packets { IfOk result (λ found. (bytes : List ℕ)
-        × ReadsAll (S.remaining input.old) (S.remaining input.new) bytes × (found.items ≡ packets bytes)) }
-    ensures ok_counts { OnOk result (ReadsFewer (S.reads input.old) (S.reads input.new) (S.failures input.old) (S.failures input.new)) }
-    ensures counts { IfErr result (ReadingCounts (S.reads input.old) (S.reads input.new) (S.failures input.old) (S.failures input.new)) }
+        × ReadsAll (S.input.left input.old) (S.input.left input.new) bytes × (found.items ≡ packets bytes)) }
+    ensures ok_counts { OnOk result (ReadsFewer (S.input.reads input.old) (S.input.reads input.new) (S.input.failures input.old) (S.input.failures input.new)) }
+    ensures counts { IfErr result (ReadingCounts (S.input.reads input.old) (S.input.reads input.new) (S.input.failures input.old) (S.input.failures input.new)) }
 {
     let mut reader = Reader::new();
     let mut packets = Vec::new(alloc);

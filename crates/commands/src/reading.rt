@@ -39,10 +39,10 @@ impl From<ReadFault> for ReadingFault {
 /// All bytes of an input, which is read to its end. Of the last read that it may have no byte is kept, so want of memory is
 /// never told in place of the limit.
 pub(crate) fn read_all<S: Source>(alloc: Global, input: &mut S) -> Result<Vec<u8>, ReadingFault>
-    requires room { HasRoom (S.reads input.old) (S.failures input.old) }
-    ensures all { IfOk result (λ bytes. ReadsAll (S.remaining input.old) (S.remaining input.new) bytes.items) }
-    ensures ok_counts { OnOk result (ReadsFewer (S.reads input.old) (S.reads input.new) (S.failures input.old) (S.failures input.new)) }
-    ensures counts { IfErr result (ReadingCounts (S.reads input.old) (S.reads input.new) (S.failures input.old) (S.failures input.new)) }
+    requires room { HasRoom (S.input.reads input.old) (S.input.failures input.old) }
+    ensures all { IfOk result (λ bytes. ReadsAll (S.input.left input.old) (S.input.left input.new) bytes.items) }
+    ensures ok_counts { OnOk result (ReadsFewer (S.input.reads input.old) (S.input.reads input.new) (S.input.failures input.old) (S.input.failures input.new)) }
+    ensures counts { IfErr result (ReadingCounts (S.input.reads input.old) (S.input.reads input.new) (S.input.failures input.old) (S.input.failures input.new)) }
 {
     let mut bytes = Vec::new(alloc);
     let mut piece = [0; PIECE];

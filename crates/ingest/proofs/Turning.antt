@@ -6,11 +6,11 @@ use Rattle.std.proofs.KnownBytes.{Consumes-nil, Consumes-kept}
 use Rattle.ingest.specs.declared.lane.Stop.TheVariants.{Read}
 use Rattle.ingest.specs.declared.lane.Lane.{Lane}
 use Rattle.ingest.specs.Streams.{closed_of}
-use Rattle.ingest.specs.Inputs.{InputView}
+use Rattle.item_io.specs.Views.{SourceView}
 use Rattle.ingest.specs.Lanes.{IsTurned}
 
 -- it took nothing, and nothing was closed
-pub read-failed : {X : Type 0} (input : InputView X) (a b : X) (lane : Lane) → Keeps (input.left a) (input.left b) → input.reads b ≡ input.reads a → input.failures b ≡ input.failures a + 1
+pub read-failed : {X : Type 0} (input : SourceView X) (a b : X) (lane : Lane) → Keeps (input.left a) (input.left b) → input.reads b ≡ input.reads a → input.failures b ≡ input.failures a + 1
     → IsTurned input a b lane (record lane { stop = Some Read })
 read-failed input a b lane kept counted failed = record {
   piece = [];

@@ -1,4 +1,4 @@
--- An input, and what it tells of its rendition's way.
+-- What a source tells of its rendition's way.
 use Rattle.std.specs.Prelude.{◌≡◌, ℕ, ◌+◌, ◌≤◌, List, length, Option, Some, None, ◌⊎◌}
 use Rattle.std.specs.Io.KnownBytes.{Consumes, IsAtEnd}
 use Rattle.ghost_list.specs.Bytes.{AreBytes}
@@ -6,27 +6,19 @@ use Rattle.cutter.specs.declared.settings.CutSettings.{CutSettings}
 use Rattle.ingest.specs.declared.lane.Stop.{Stop}
 use Rattle.ingest.specs.declared.lane.Stop.TheVariants.{Good, Cut, Read}
 use Rattle.ingest.specs.Streams.{Stays, as_cut}
+use Rattle.item_io.specs.Views.{SourceView}
 use Rattle.item_io.specs.declared.limits.TheConstants.{PIECE}
-
--- an input: the bytes left, how many reads gave a byte, and how many failed
-pub record InputView (X : Type 0) : Type 1 where
-  pub left : X → Option (List ℕ)
-  pub reads : X → ℕ
-  pub failures : X → ℕ
-
-abbrev pub input_of : {X : Type 0} → (X → Option (List ℕ)) → (X → ℕ) → (X → ℕ) → InputView X
-input_of l r f = record { left = l; reads = r; failures = f }
 
 -- What an input says of why its rendition stopped, or goes on: a read failed where that is told and else none did; at a
 -- good end no byte is left, and where bytes are left a fault stands however they go on.
-abbrev pub SourceSays : {X : Type 0} → InputView X → ℕ → CutSettings → List ℕ → Option Stop → X → X → Type 0
+abbrev pub SourceSays : {X : Type 0} → SourceView X → ℕ → CutSettings → List ℕ → Option Stop → X → X → Type 0
 SourceSays input r s stream None old new = input.failures new ≡ input.failures old
 SourceSays input r s stream (Some (Good gone)) old new = (input.failures new ≡ input.failures old) × IsAtEnd (input.left new)
 SourceSays input r s stream (Some (Cut told)) old new = (input.failures new ≡ input.failures old) × (IsAtEnd (input.left new) ⊎ Stays r s stream (as_cut told))
 SourceSays input r s stream (Some Read) old new = input.failures new ≡ input.failures old + 1
 
 -- one read of at most 18,800 bytes took this piece
-pub record IsRead {X : Type 0} (input : InputView X) (old new : X) (piece : List ℕ) : Type 0 where
+pub record IsRead {X : Type 0} (input : SourceView X) (old new : X) (piece : List ℕ) : Type 0 where
   pub consumes : Consumes (input.left old) (input.left new) piece
   pub short : length piece ≤ PIECE
   pub bytes : AreBytes piece

@@ -7,7 +7,8 @@ use Rattle.ingest.specs.declared.lane.Stop.{Stop}
 use Rattle.ingest.specs.declared.lane.Stop.TheVariants.{Good, Cut, Read}
 use Rattle.ingest.specs.declared.lane.Lane.{Lane}
 use Rattle.ingest.specs.Streams.{Taken, Stays, as_cut, untaken, plans_of, fault_of, closed_of}
-use Rattle.ingest.specs.Inputs.{InputView, SourceSays, IsRead}
+use Rattle.item_io.specs.Views.{SourceView}
+use Rattle.ingest.specs.Inputs.{SourceSays, IsRead}
 
 -- the plans of the segments that are closed, where a rendition goes on or has stopped behind these bytes
 abbrev pub made_of : Option Stop → ℕ → CutSettings → List ℕ → List SegmentPlan
@@ -71,7 +72,7 @@ pub record Takes (old new : Lane) (stream : List ℕ) : Type 0 where
   pub goes_on : new.stop ≡ None → IsOpen old.intake.rendition old.intake.settings stream new.intake
 
 -- a turn of a rendition that went on: one read, and all that it closes
-pub record IsTurned {X : Type 0} (input : InputView X) (source source_now : X) (old new : Lane) : Type 0 where
+pub record IsTurned {X : Type 0} (input : SourceView X) (source source_now : X) (old new : Lane) : Type 0 where
   pub piece : List ℕ
   pub read : IsRead input source source_now piece
   pub takes : Takes old new (old.intake.stream ++ piece)

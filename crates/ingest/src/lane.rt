@@ -1,7 +1,7 @@
 ghost use Rattle.std.specs.Prelude.{◌≡◌, ◌≢◌, ◌+◌, ◌<◌, ◌≤◌, ◌^◌, ◌++◌, ℕ, List, None, false, length, IfOk, OnOk, OnErr};
 ghost use Rattle.ghost_list.specs.Bytes.{AreBytes};
 ghost use Rattle.cutter.specs.Settings.{IsAllowed};
-ghost use Rattle.ingest.specs.Inputs.{input_of, IsRead};
+ghost use Rattle.ingest.specs.Inputs.{IsRead};
 ghost use Rattle.ingest.specs.Lanes.{is_good, IsFirst, IsOfPiece, IsOfEnd, Takes, IsTurned};
 ghost use Rattle.item_io.specs.declared.limits.TheConstants.{PIECE};
 
@@ -53,16 +53,16 @@ impl Lane {
     ///
     /// It has to go on. Want of memory leaves it of no use.
     pub fn turn<S: Source>(&mut self, source: &mut S, buffer: &mut [u8]) -> Result<(), AllocError>
-        requires reads { S.reads source.old < 2 ^ 63 }
-        requires failures { S.failures source.old < 2 ^ 63 }
+        requires reads { S.input.reads source.old < 2 ^ 63 }
+        requires failures { S.input.failures source.old < 2 ^ 63 }
         requires some { 0 < length buffer.old }
         requires short { length buffer.old ≤ PIECE }
         requires open { self.old.stop ≡ None }
         requires going { self.old.intake.ended ≡ false }
         requires few { length self.old.intake.stream + PIECE < 2 ^ 63 }
-        ensures ok { OnOk result (IsTurned (input_of S.remaining S.reads S.failures) source.old source.new self.old self.new) }
-        ensures err { OnErr result ((piece : List ℕ) × IsRead (input_of S.remaining S.reads S.failures) source.old source.new piece) }
-        ensures no_read_failed { OnErr result (S.failures source.new ≡ S.failures source.old) }
+        ensures ok { OnOk result (IsTurned S.input source.old source.new self.old self.new) }
+        ensures err { OnErr result ((piece : List ℕ) × IsRead S.input source.old source.new piece) }
+        ensures no_read_failed { OnErr result (S.input.failures source.new ≡ S.input.failures source.old) }
     {
         match source.read(buffer) {
             Err(_) => self.stop = Some(Stop::Read),

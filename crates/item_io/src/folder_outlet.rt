@@ -2,6 +2,7 @@ ghost use Rattle.std.specs.Prelude.{◌≡◌, ◌+◌, ◌<◌, ◌^◌, true, 
 ghost use Rattle.std.specs.Io.KnownBytes.{Appends};
 ghost use Rattle.item_io.specs.Items.{item_value};
 ghost use Rattle.item_io.specs.FileNames.{is_named};
+ghost use Rattle.item_io.specs.Views.{outlet_view};
 
 use crate::fault::OutletFault;
 use crate::file_name::{file_path, is_named, item_bytes, part_path};
@@ -57,11 +58,7 @@ impl<F: Files> FolderOutlet<F> {
 }
 
 impl<F: Files> Outlet for FolderOutlet<F> {
-    ghost holds = { λ _ _. ⊥ };
-
-    ghost broken = { λ _ _ _. ⊥ };
-
-    ghost failures = { λ o. o };
+    ghost output = { outlet_view (λ _ _. ⊥) (λ _ _ _. ⊥) (λ o. o) };
 
     fn put(&mut self, item: &Item) -> Result<(), OutletFault>
         requires { self.old < 2 ^ 63 }

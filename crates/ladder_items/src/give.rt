@@ -7,7 +7,6 @@ ghost use Rattle.ladder_items.specs.Ladder.{rendition_at, unmeasured, IsAllowed}
 ghost use Rattle.ladder_items.specs.Items.{Part, shown_all};
 ghost use Rattle.ladder_items.specs.Weave.{Row, End, after, after_all, block, blocks};
 ghost use Rattle.ladder_items.specs.Giving.{IsGoing, IsNext, AreNextPlans, rows, block_of};
-ghost use Rattle.ladder_items.specs.Runs.{outlet_of};
 ghost use Rattle.ladder_items.specs.Putting.{PutAll, PutSome, SaysFailures};
 
 use crate::fault::PackFault;
@@ -29,16 +28,16 @@ pub fn give_segments<O: Outlet>(
     spool: &Spool,
     playlists: &mut Vec<Playlists>,
 ) -> Result<(), PackFault>
-    requires failures { O.failures outlet.old < 2 ^ 63 }
+    requires failures { O.output.failures outlet.old < 2 ^ 63 }
     requires allowed { IsAllowed settings.now }
     requires next { (parts : List Part) × AreNextPlans settings.now r parts playlists.old.items spool.now }
     ensures ok { OnOk result ((parts : List Part) → AreNextPlans settings.now r parts playlists.old.items spool.now →
-        PutAll (outlet_of O.holds O.broken O.failures) outlet.old outlet.new (blocks settings.now parts (rows r spool.now))
+        PutAll O.output outlet.old outlet.new (blocks settings.now parts (rows r spool.now))
         × (playlists.new.items ≡ shown_all settings.now (after_all parts (rows r spool.now)))) }
     ensures err { OnErr result ((parts : List Part) → AreNextPlans settings.now r parts playlists.old.items spool.now →
-        PutSome (outlet_of O.holds O.broken O.failures) outlet.old outlet.new (blocks settings.now parts (rows r spool.now))) }
-    ensures failures { OnOk result (O.failures outlet.new ≡ O.failures outlet.old) }
-    ensures fault { IfErr result (λ fault. SaysFailures fault (O.failures outlet.old) (O.failures outlet.new)) }
+        PutSome O.output outlet.old outlet.new (blocks settings.now parts (rows r spool.now))) }
+    ensures failures { OnOk result (O.output.failures outlet.new ≡ O.output.failures outlet.old) }
+    ensures fault { IfErr result (λ fault. SaysFailures fault (O.output.failures outlet.old) (O.output.failures outlet.new)) }
 {
     for i in 0..spool.plans() {
         let Some(plan) = spool.plan(i) else {
@@ -56,15 +55,15 @@ pub fn give_end<O: Outlet>(
     r: usize,
     playlists: &[Playlists],
 ) -> Result<(), PackFault>
-    requires failures { O.failures outlet.old < 2 ^ 63 }
+    requires failures { O.output.failures outlet.old < 2 ^ 63 }
     requires rendition { r < length settings.now.renditions }
     requires within { r < length playlists.now }
     ensures ok { OnOk result ((parts : List Part) → IsGoing settings.now r parts playlists.now →
-        PutAll (outlet_of O.holds O.broken O.failures) outlet.old outlet.new (block settings.now parts (End r))) }
+        PutAll O.output outlet.old outlet.new (block settings.now parts (End r))) }
     ensures err { OnErr result ((parts : List Part) → IsGoing settings.now r parts playlists.now →
-        PutSome (outlet_of O.holds O.broken O.failures) outlet.old outlet.new (block settings.now parts (End r))) }
-    ensures failures { OnOk result (O.failures outlet.new ≡ O.failures outlet.old) }
-    ensures fault { IfErr result (λ fault. SaysFailures fault (O.failures outlet.old) (O.failures outlet.new)) }
+        PutSome O.output outlet.old outlet.new (block settings.now parts (End r))) }
+    ensures failures { OnOk result (O.output.failures outlet.new ≡ O.output.failures outlet.old) }
+    ensures fault { IfErr result (λ fault. SaysFailures fault (O.output.failures outlet.old) (O.output.failures outlet.new)) }
 {
     let rendition = rendition_of(settings, r);
     put_playlists(outlet, r, rendition, &playlists[r], true)?;
@@ -80,16 +79,16 @@ fn give_segment<O: Outlet>(
     plan: PlanRef<'_>,
     playlists: &mut Vec<Playlists>,
 ) -> Result<(), PackFault>
-    requires failures { O.failures outlet.old < 2 ^ 63 }
+    requires failures { O.output.failures outlet.old < 2 ^ 63 }
     requires allowed { IsAllowed settings.now }
     requires next { (parts : List Part) × IsNext settings.now r parts playlists.old.items (lent plan) }
     ensures ok { OnOk result ((parts : List Part) → IsNext settings.now r parts playlists.old.items (lent plan.entry) →
-        PutAll (outlet_of O.holds O.broken O.failures) outlet.old outlet.new (block settings.now parts (Row r (lent plan.entry)))
+        PutAll O.output outlet.old outlet.new (block settings.now parts (Row r (lent plan.entry)))
         × (playlists.new.items ≡ shown_all settings.now (after parts (Row r (lent plan.entry))))) }
     ensures err { OnErr result ((parts : List Part) → IsNext settings.now r parts playlists.old.items (lent plan.entry) →
-        PutSome (outlet_of O.holds O.broken O.failures) outlet.old outlet.new (block settings.now parts (Row r (lent plan.entry)))) }
-    ensures failures { OnOk result (O.failures outlet.new ≡ O.failures outlet.old) }
-    ensures fault { IfErr result (λ fault. SaysFailures fault (O.failures outlet.old) (O.failures outlet.new)) }
+        PutSome O.output outlet.old outlet.new (block settings.now parts (Row r (lent plan.entry)))) }
+    ensures failures { OnOk result (O.output.failures outlet.new ≡ O.output.failures outlet.old) }
+    ensures fault { IfErr result (λ fault. SaysFailures fault (O.output.failures outlet.old) (O.output.failures outlet.new)) }
 {
     let sealed = seal(alloc, settings, r, plan)?;
     give_sealed(alloc, outlet, settings, r, sealed, playlists)?;
@@ -119,17 +118,17 @@ pub fn give_sealed<O: Outlet>(
     sealed: Sealed<'_>,
     playlists: &mut Vec<Playlists>,
 ) -> Result<(), PackFault>
-    requires failures { O.failures outlet.old < 2 ^ 63 }
+    requires failures { O.output.failures outlet.old < 2 ^ 63 }
     requires allowed { IsAllowed settings.now }
     requires next { (parts : List Part) × IsNext settings.now r parts playlists.old.items sealed.plan }
     requires sealed { sealed ≡ sealed_segment (rendition_at settings.now r).keys sealed.plan }
     ensures ok { OnOk result ((parts : List Part) → IsNext settings.now r parts playlists.old.items sealed.entry.plan →
-        PutAll (outlet_of O.holds O.broken O.failures) outlet.old outlet.new (block settings.now parts (Row r sealed.entry.plan))
+        PutAll O.output outlet.old outlet.new (block settings.now parts (Row r sealed.entry.plan))
         × (playlists.new.items ≡ shown_all settings.now (after parts (Row r sealed.entry.plan)))) }
     ensures err { OnErr result ((parts : List Part) → IsNext settings.now r parts playlists.old.items sealed.entry.plan →
-        PutSome (outlet_of O.holds O.broken O.failures) outlet.old outlet.new (block settings.now parts (Row r sealed.entry.plan))) }
-    ensures failures { OnOk result (O.failures outlet.new ≡ O.failures outlet.old) }
-    ensures fault { IfErr result (λ fault. SaysFailures fault (O.failures outlet.old) (O.failures outlet.new)) }
+        PutSome O.output outlet.old outlet.new (block settings.now parts (Row r sealed.entry.plan))) }
+    ensures failures { OnOk result (O.output.failures outlet.new ≡ O.output.failures outlet.old) }
+    ensures fault { IfErr result (λ fault. SaysFailures fault (O.output.failures outlet.old) (O.output.failures outlet.new)) }
 {
     add_row(alloc, settings, r, &sealed, playlists)?;
     put_block(alloc, outlet, settings, r, sealed, playlists)?;
@@ -145,14 +144,14 @@ fn put_block<O: Outlet>(
     sealed: Sealed<'_>,
     playlists: &[Playlists],
 ) -> Result<(), PackFault>
-    requires failures { O.failures outlet.old < 2 ^ 63 }
+    requires failures { O.output.failures outlet.old < 2 ^ 63 }
     requires listable { fault_of (map unmeasured settings.now.renditions) ≡ None }
     requires each { length playlists.now ≡ length settings.now.renditions }
     requires within { r < length playlists.now }
     requires going { All (λ shown. shown.ended ≡ false) playlists.now }
-    ensures ok { OnOk result (PutAll (outlet_of O.holds O.broken O.failures) outlet.old outlet.new (block_of settings.now r sealed.entry playlists.now)) }
-    ensures err { OnErr result (PutSome (outlet_of O.holds O.broken O.failures) outlet.old outlet.new (block_of settings.now r sealed.entry playlists.now)) }
-    ensures fault { IfErr result (λ fault. SaysFailures fault (O.failures outlet.old) (O.failures outlet.new)) }
+    ensures ok { OnOk result (PutAll O.output outlet.old outlet.new (block_of settings.now r sealed.entry playlists.now)) }
+    ensures err { OnErr result (PutSome O.output outlet.old outlet.new (block_of settings.now r sealed.entry playlists.now)) }
+    ensures fault { IfErr result (λ fault. SaysFailures fault (O.output.failures outlet.old) (O.output.failures outlet.new)) }
 {
     let rendition = rendition_of(settings, r);
     put_segment(outlet, r, rendition, sealed)?;

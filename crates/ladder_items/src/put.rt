@@ -4,7 +4,6 @@ ghost use Rattle.item_io.specs.Items.{item_value, MasterItem};
 ghost use Rattle.master_playlist.specs.Faults.{fault_of};
 ghost use Rattle.ladder_items.specs.Ladder.{unmeasured};
 ghost use Rattle.ladder_items.specs.Masters.{master_of};
-ghost use Rattle.ladder_items.specs.Runs.{outlet_of};
 ghost use Rattle.ladder_items.specs.Putting.{PutAll, PutSome, SaysFailures};
 ghost use Rattle.ladder_items.specs.Items.{segment_of, media_of, frames_of};
 
@@ -18,10 +17,10 @@ use std::alloc::{AllocError, Global};
 
 /// Puts an item.
 fn put<O: Outlet>(outlet: &mut O, item: &Item) -> Result<(), PackFault>
-    requires { O.failures outlet.old < 2 ^ 63 }
-    ensures ok { OnOk result (PutAll (outlet_of O.holds O.broken O.failures) outlet.old outlet.new (item_value item.now ∷ [])) }
-    ensures err { OnErr result (PutSome (outlet_of O.holds O.broken O.failures) outlet.old outlet.new (item_value item.now ∷ [])) }
-    ensures fault { IfErr result (λ fault. SaysFailures fault (O.failures outlet.old) (O.failures outlet.new)) }
+    requires { O.output.failures outlet.old < 2 ^ 63 }
+    ensures ok { OnOk result (PutAll O.output outlet.old outlet.new (item_value item.now ∷ [])) }
+    ensures err { OnErr result (PutSome O.output outlet.old outlet.new (item_value item.now ∷ [])) }
+    ensures fault { IfErr result (λ fault. SaysFailures fault (O.output.failures outlet.old) (O.output.failures outlet.new)) }
 {
     match outlet.put(item) {
         Ok(()) => Ok(()),
@@ -36,10 +35,10 @@ pub fn put_segment<O: Outlet>(
     rendition: &Rendition,
     sealed: Sealed<'_>,
 ) -> Result<(), PackFault>
-    requires { O.failures outlet.old < 2 ^ 63 }
-    ensures ok { OnOk result (PutAll (outlet_of O.holds O.broken O.failures) outlet.old outlet.new (segment_of r rendition.now sealed.entry ∷ [])) }
-    ensures err { OnErr result (PutSome (outlet_of O.holds O.broken O.failures) outlet.old outlet.new (segment_of r rendition.now sealed.entry ∷ [])) }
-    ensures fault { IfErr result (λ fault. SaysFailures fault (O.failures outlet.old) (O.failures outlet.new)) }
+    requires { O.output.failures outlet.old < 2 ^ 63 }
+    ensures ok { OnOk result (PutAll O.output outlet.old outlet.new (segment_of r rendition.now sealed.entry ∷ [])) }
+    ensures err { OnErr result (PutSome O.output outlet.old outlet.new (segment_of r rendition.now sealed.entry ∷ [])) }
+    ensures fault { IfErr result (λ fault. SaysFailures fault (O.output.failures outlet.old) (O.output.failures outlet.new)) }
 {
     let name = rendition.name.clone()?;
     let (plan, bytes) = sealed.into_parts();
@@ -97,12 +96,12 @@ pub fn put_playlists<O: Outlet>(
     playlists: &Playlists,
     ended: bool,
 ) -> Result<(), PackFault>
-    requires { O.failures outlet.old < 2 ^ 63 }
-    ensures ok { OnOk result (PutAll (outlet_of O.holds O.broken O.failures) outlet.old outlet.new
+    requires { O.output.failures outlet.old < 2 ^ 63 }
+    ensures ok { OnOk result (PutAll O.output outlet.old outlet.new
         (media_of r rendition.now playlists.now ended ∷ frames_of r rendition.now playlists.now ended ∷ [])) }
-    ensures err { OnErr result (PutSome (outlet_of O.holds O.broken O.failures) outlet.old outlet.new
+    ensures err { OnErr result (PutSome O.output outlet.old outlet.new
         (media_of r rendition.now playlists.now ended ∷ frames_of r rendition.now playlists.now ended ∷ [])) }
-    ensures fault { IfErr result (λ fault. SaysFailures fault (O.failures outlet.old) (O.failures outlet.new)) }
+    ensures fault { IfErr result (λ fault. SaysFailures fault (O.output.failures outlet.old) (O.output.failures outlet.new)) }
 {
     put(outlet, &media(r, rendition, playlists, ended)?)?;
     put(outlet, &frames(r, rendition, playlists, ended)?)?;
@@ -116,13 +115,13 @@ pub fn put_master<O: Outlet>(
     renditions: &[Rendition],
     playlists: &[Playlists],
 ) -> Result<(), PackFault>
-    requires failures { O.failures outlet.old < 2 ^ 63 }
+    requires failures { O.output.failures outlet.old < 2 ^ 63 }
     requires going { All (λ shown. shown.ended ≡ false) playlists.now }
     requires each { length playlists.now ≡ length renditions.now }
     requires listable { fault_of (map unmeasured renditions.now) ≡ None }
-    ensures ok { OnOk result (PutAll (outlet_of O.holds O.broken O.failures) outlet.old outlet.new (MasterItem (master_of renditions.now playlists.now) ∷ [])) }
-    ensures err { OnErr result (PutSome (outlet_of O.holds O.broken O.failures) outlet.old outlet.new (MasterItem (master_of renditions.now playlists.now) ∷ [])) }
-    ensures fault { IfErr result (λ fault. SaysFailures fault (O.failures outlet.old) (O.failures outlet.new)) }
+    ensures ok { OnOk result (PutAll O.output outlet.old outlet.new (MasterItem (master_of renditions.now playlists.now) ∷ [])) }
+    ensures err { OnErr result (PutSome O.output outlet.old outlet.new (MasterItem (master_of renditions.now playlists.now) ∷ [])) }
+    ensures fault { IfErr result (λ fault. SaysFailures fault (O.output.failures outlet.old) (O.output.failures outlet.new)) }
 {
     let item = Item::Master {
         text: ladder_master(alloc, renditions, playlists)?,

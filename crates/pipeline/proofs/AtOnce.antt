@@ -6,7 +6,7 @@ use Rattle.ingest.specs.declared.lane.Lane.{Lane}
 use Rattle.ingest.specs.declared.lane.Stop.{Stop}
 use Rattle.ingest.specs.declared.lane.Stop.TheVariants.{Good, Cut, Read as ReadFailed}
 use Rattle.ingest.specs.declared.fault.StreamFault.TheVariants.{NoProgram as HasNoProgram, NoStart as HasNoStart, LongSegment as IsLong, BigSegment as IsBig, Limit as PassesLimit}
-use Rattle.ingest.specs.Inputs.{InputView}
+use Rattle.item_io.specs.Views.{OutletView, SourceView}
 use Rattle.ingest.specs.Streams.{closed_of}
 use Rattle.ladder_items.specs.declared.fault.PackFault.{PackFault}
 use Rattle.ladder_items.specs.declared.fault.PackFault.TheVariants.{Held as HeldBack}
@@ -14,7 +14,7 @@ use Rattle.ladder_items.specs.Ladder.{Ladder, IsAllowed}
 use Rattle.ladder_items.specs.Shown.{Shown}
 use Rattle.ladder_items.specs.Items.{Part, no_part, part_at}
 use Rattle.ladder_items.specs.Weave.{AreLegal, after_all, blocks, none_of}
-use Rattle.ladder_items.specs.Runs.{OutletView, run_of}
+use Rattle.ladder_items.specs.Runs.{run_of}
 use Rattle.ladder_items.specs.Putting.{SaysFailures}
 use Rattle.ladder_items.specs.Lanes.{IsClosed, HasGiven}
 use Rattle.ladder_items.specs.World.{NothingDue, stream_at}
@@ -39,7 +39,7 @@ told-unheld k (Some (Cut (IsLong m))) e r n told is = cc
 told-unheld k (Some (Cut (IsBig m))) e r n told is = cc
 told-unheld k (Some (Cut PassesLimit)) e r n told is = cc
 
-module _ (X Y : Type 0) (input : InputView X) (out : OutletView Y) (most_reads : ℕ) (ladder : Ladder) where
+module _ (X Y : Type 0) (input : SourceView X) (out : OutletView Y) (most_reads : ℕ) (ladder : Ladder) where
   -- what a rendition had given
   given-at : (rounds next : ℕ) (before now : List X) (lanes : List Lane) (shown : List Shown) (x y : Y)
       (d : NothingDue (run_of input out most_reads before now x y) ladder rounds next lanes shown) (k : ℕ) → k < length ladder.renditions

@@ -15,7 +15,7 @@ use Rattle.ladder_items.specs.Shown.{Shown}
 use Rattle.ladder_items.specs.Items.{Part, no_part, part_at, shown_all}
 use Rattle.ladder_items.specs.Weave.{Event, Row, End, rendition_of, AreLegal, closed_part, after, after_all, block, blocks}
 use Rattle.ladder_items.specs.Giving.{IsGoing, rows, no_shown}
-use Rattle.ladder_items.specs.Runs.{OutletView}
+use Rattle.item_io.specs.Views.{OutletView}
 use Rattle.ladder_items.specs.Putting.{PutAll, PutSome}
 use Rattle.ladder_items.specs.World.{AreOf}
 use Rattle.ladder_items.proofs.Puts.{all_none, all-more, put-more, put-front}

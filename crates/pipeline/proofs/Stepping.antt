@@ -10,14 +10,15 @@ use Rattle.cutter.specs.Plans.{SegmentPlan}
 use Rattle.cutter.specs.Ordered.{IsPlan}
 use Rattle.ingest.specs.declared.lane.Lane.{Lane}
 use Rattle.ingest.specs.Streams.{Taken, AreNext, closed_of}
-use Rattle.ingest.specs.Inputs.{InputView, IsRead}
+use Rattle.item_io.specs.Views.{OutletView, SourceView}
+use Rattle.ingest.specs.Inputs.{IsRead}
 use Rattle.ingest.specs.Lanes.{made_of, is_good, IsFirst, IsTurned}
 use Rattle.ladder_items.specs.Ladder.{Ladder, IsAllowed}
 use Rattle.ladder_items.specs.Shown.{Shown}
 use Rattle.ladder_items.specs.Items.{Part, no_part, part_at, shown_all}
 use Rattle.ladder_items.specs.Weave.{after_all, blocks, none_of}
 use Rattle.ladder_items.specs.Giving.{AreNextPlans}
-use Rattle.ladder_items.specs.Runs.{OutletView, run_of}
+use Rattle.ladder_items.specs.Runs.{run_of}
 use Rattle.ladder_items.specs.Putting.{PutAll, PutSome}
 use Rattle.ladder_items.specs.World.{NothingDue, World, stream_at}
 use Rattle.ladder_items.proofs.Elsewhere.{set-here, set-elsewhere, set-there, all-other}
@@ -34,7 +35,7 @@ set-twice [] r x y = refl
 set-twice (z ∷ xs) zero x y = refl
 set-twice (z ∷ xs) (suc r) x y = ap (λ l. z ∷ l) (set-twice xs r x y)
 
-module _ (X Y : Type 0) (input : InputView X) (out : OutletView Y) (most_reads : ℕ) (ladder : Ladder) where
+module _ (X Y : Type 0) (input : SourceView X) (out : OutletView Y) (most_reads : ℕ) (ladder : Ladder) where
   -- rendition r has read, and not given yet
   pub record HasRead (rounds r : ℕ) (before now : List X) (lanes : List Lane) (shown : List Shown) (x y : Y) (c : X) (moved : Lane) (d : NothingDue (run_of input out most_reads before now x y) ladder rounds r lanes shown) (piece : List ℕ) : Type 1 where
     pub world : World (run_of input out most_reads before (set now r c) x y) ladder rounds (r + 1) (set lanes r moved) shown (λ k. [])

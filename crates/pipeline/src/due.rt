@@ -3,7 +3,6 @@ ghost use Rattle.ladder_items.specs.Ladder.{IsAllowed};
 ghost use Rattle.ladder_items.specs.Items.{Part, shown_all};
 ghost use Rattle.ladder_items.specs.Weave.{after_all, blocks};
 ghost use Rattle.ladder_items.specs.Giving.{AreNextPlans, rows};
-ghost use Rattle.ladder_items.specs.Runs.{outlet_of};
 ghost use Rattle.ladder_items.specs.Putting.{PutAll, PutSome, SaysFailures};
 ghost use Rattle.pipeline.specs.Dues.{due};
 
@@ -26,18 +25,18 @@ pub fn give_due<O: Outlet>(
     spare: &mut Spool,
     playlists: &mut Vec<Playlists>,
 ) -> Result<(), PackFault>
-    requires failures { O.failures outlet.old < 2 ^ 63 }
+    requires failures { O.output.failures outlet.old < 2 ^ 63 }
     requires allowed { IsAllowed settings.now }
     requires next { (parts : List Part) × AreNextPlans settings.now r parts playlists.old.items lane.old.intake.filled }
     ensures ok { OnOk result ((parts : List Part) → AreNextPlans settings.now r parts playlists.old.items lane.old.intake.filled →
-        PutAll (outlet_of O.holds O.broken O.failures) outlet.old outlet.new (blocks settings.now parts (due r lane.old))
+        PutAll O.output outlet.old outlet.new (blocks settings.now parts (due r lane.old))
         × (playlists.new.items ≡ shown_all settings.now (after_all parts (due r lane.old)))) }
     ensures err { OnErr result ((parts : List Part) → AreNextPlans settings.now r parts playlists.old.items lane.old.intake.filled →
-        PutSome (outlet_of O.holds O.broken O.failures) outlet.old outlet.new (blocks settings.now parts (due r lane.old))) }
+        PutSome O.output outlet.old outlet.new (blocks settings.now parts (due r lane.old))) }
     ensures stop { OnOk result (lane.new.stop ≡ lane.old.stop) }
     ensures intake { OnOk result (lane.new.intake ≡ record lane.old.intake { turned = lane.old.intake.turned ++ lane.old.intake.filled; filled = [] }) }
-    ensures failures { OnOk result (O.failures outlet.new ≡ O.failures outlet.old) }
-    ensures fault { IfErr result (λ fault. SaysFailures fault (O.failures outlet.old) (O.failures outlet.new)) }
+    ensures failures { OnOk result (O.output.failures outlet.new ≡ O.output.failures outlet.old) }
+    ensures fault { IfErr result (λ fault. SaysFailures fault (O.output.failures outlet.old) (O.output.failures outlet.new)) }
 {
     give_closed(
         alloc,
@@ -65,17 +64,17 @@ fn give_closed<O: Outlet>(
     spare: &mut Spool,
     playlists: &mut Vec<Playlists>,
 ) -> Result<(), PackFault>
-    requires failures { O.failures outlet.old < 2 ^ 63 }
+    requires failures { O.output.failures outlet.old < 2 ^ 63 }
     requires allowed { IsAllowed settings.now }
     requires next { (parts : List Part) × AreNextPlans settings.now r parts playlists.old.items intake.old.filled }
     ensures ok { OnOk result ((parts : List Part) → AreNextPlans settings.now r parts playlists.old.items intake.old.filled →
-        PutAll (outlet_of O.holds O.broken O.failures) outlet.old outlet.new (blocks settings.now parts (rows r intake.old.filled))
+        PutAll O.output outlet.old outlet.new (blocks settings.now parts (rows r intake.old.filled))
         × (playlists.new.items ≡ shown_all settings.now (after_all parts (rows r intake.old.filled)))) }
     ensures err { OnErr result ((parts : List Part) → AreNextPlans settings.now r parts playlists.old.items intake.old.filled →
-        PutSome (outlet_of O.holds O.broken O.failures) outlet.old outlet.new (blocks settings.now parts (rows r intake.old.filled))) }
+        PutSome O.output outlet.old outlet.new (blocks settings.now parts (rows r intake.old.filled))) }
     ensures intake { OnOk result (intake.new ≡ record intake.old { turned = intake.old.turned ++ intake.old.filled; filled = [] }) }
-    ensures failures { OnOk result (O.failures outlet.new ≡ O.failures outlet.old) }
-    ensures fault { IfErr result (λ fault. SaysFailures fault (O.failures outlet.old) (O.failures outlet.new)) }
+    ensures failures { OnOk result (O.output.failures outlet.new ≡ O.output.failures outlet.old) }
+    ensures fault { IfErr result (λ fault. SaysFailures fault (O.output.failures outlet.old) (O.output.failures outlet.new)) }
 {
     if intake.plans() == 0 {
         return Ok(());

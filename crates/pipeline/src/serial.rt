@@ -1,9 +1,8 @@
 ghost use Rattle.std.specs.Prelude.{◌≡◌, ◌≢◌, ◌<◌, ◌≤◌, ◌^◌, ◌⊎◌, ℕ, [], Some, None, length, slice_get, IfOk, IfErr, OnOk, OnErr};
 ghost use Rattle.ladder_items.specs.declared.fault.PackFault.TheVariants.{Settings as SettingsFault, Outlet as OutletFault, NoMemory, Held};
 ghost use Rattle.ingest.specs.declared.lane.Lane.{Lane};
-ghost use Rattle.ingest.specs.Inputs.{input_of};
 ghost use Rattle.ladder_items.specs.Ladder.{IsAllowed};
-ghost use Rattle.ladder_items.specs.Runs.{outlet_of, run_of};
+ghost use Rattle.ladder_items.specs.Runs.{run_of};
 ghost use Rattle.ladder_items.specs.Putting.{PutAll, SaysFailures};
 ghost use Rattle.ladder_items.specs.World.{HaveRoom, NothingDue};
 ghost use Rattle.ladder_items.specs.Packed.{IsPacked, IsAlone, FaultSays};
@@ -34,19 +33,19 @@ pub fn pack_serial<S: Source, O: Outlet>(
     settings: &Settings,
     outlet: &mut O,
 ) -> Result<Report, PackFault>
-    requires room { HaveRoom (input_of S.remaining S.reads S.failures) READS sources.old.items }
-    requires failures { O.failures outlet.old < 2 ^ 63 }
-    ensures ok { IfOk result (IsPacked (run_of (input_of S.remaining S.reads S.failures) (outlet_of O.holds O.broken O.failures) READS sources.old.items sources.new.items outlet.old outlet.new) settings.now) }
-    ensures failures { OnOk result (O.failures outlet.new ≡ O.failures outlet.old) }
+    requires room { HaveRoom S.input READS sources.old.items }
+    requires failures { O.output.failures outlet.old < 2 ^ 63 }
+    ensures ok { IfOk result (IsPacked (run_of S.input O.output READS sources.old.items sources.new.items outlet.old outlet.new) settings.now) }
+    ensures failures { OnOk result (O.output.failures outlet.new ≡ O.output.failures outlet.old) }
     ensures count { length sources.new.items ≡ length sources.old.items }
-    ensures fault { IfErr result (FaultSays (run_of (input_of S.remaining S.reads S.failures) (outlet_of O.holds O.broken O.failures) READS sources.old.items sources.new.items outlet.old outlet.new) settings.now) }
+    ensures fault { IfErr result (FaultSays (run_of S.input O.output READS sources.old.items sources.new.items outlet.old outlet.new) settings.now) }
     ensures at_once { IfErr result (λ fault. (fault ≡ OutletFault) ⊎ (fault ≡ NoMemory) →
-        IsCutAtOnce (run_of (input_of S.remaining S.reads S.failures) (outlet_of O.holds O.broken O.failures) READS sources.old.items sources.new.items outlet.old outlet.new) settings.now) }
+        IsCutAtOnce (run_of S.input O.output READS sources.old.items sources.new.items outlet.old outlet.new) settings.now) }
     ensures never_held { IfErr result (λ fault. (r n : ℕ) → fault ≢ Held r n) }
     ensures alone { IfOk result IsAlone }
     ensures allowed { OnOk result (IsAllowed settings.now × (length sources.old.items ≡ length settings.now.renditions)) }
     ensures breach { IfErr result (λ fault. ((IsAllowed settings.now × (length sources.old.items ≡ length settings.now.renditions)) → ⊥) →
-        ((fault ≡ SettingsFault) ⊎ (fault ≡ NoMemory)) × (sources.new.items ≡ sources.old.items) × PutAll (outlet_of O.holds O.broken O.failures) outlet.old outlet.new []) }
+        ((fault ≡ SettingsFault) ⊎ (fault ≡ NoMemory)) × (sources.new.items ≡ sources.old.items) × PutAll O.output outlet.old outlet.new []) }
 {
     pack_serial_reads(alloc, sources, settings, outlet, READS)
 }
@@ -63,19 +62,19 @@ pub fn pack_serial_reads<S: Source, O: Outlet>(
 ) -> Result<Report, PackFault>
     requires least { 1 ≤ reads }
     requires most { reads ≤ READS }
-    requires room { HaveRoom (input_of S.remaining S.reads S.failures) reads sources.old.items }
-    requires failures { O.failures outlet.old < 2 ^ 63 }
-    ensures ok { IfOk result (IsPacked (run_of (input_of S.remaining S.reads S.failures) (outlet_of O.holds O.broken O.failures) reads sources.old.items sources.new.items outlet.old outlet.new) settings.now) }
-    ensures failures { OnOk result (O.failures outlet.new ≡ O.failures outlet.old) }
+    requires room { HaveRoom S.input reads sources.old.items }
+    requires failures { O.output.failures outlet.old < 2 ^ 63 }
+    ensures ok { IfOk result (IsPacked (run_of S.input O.output reads sources.old.items sources.new.items outlet.old outlet.new) settings.now) }
+    ensures failures { OnOk result (O.output.failures outlet.new ≡ O.output.failures outlet.old) }
     ensures count { length sources.new.items ≡ length sources.old.items }
-    ensures fault { IfErr result (FaultSays (run_of (input_of S.remaining S.reads S.failures) (outlet_of O.holds O.broken O.failures) reads sources.old.items sources.new.items outlet.old outlet.new) settings.now) }
+    ensures fault { IfErr result (FaultSays (run_of S.input O.output reads sources.old.items sources.new.items outlet.old outlet.new) settings.now) }
     ensures at_once { IfErr result (λ fault. (fault ≡ OutletFault) ⊎ (fault ≡ NoMemory) →
-        IsCutAtOnce (run_of (input_of S.remaining S.reads S.failures) (outlet_of O.holds O.broken O.failures) reads sources.old.items sources.new.items outlet.old outlet.new) settings.now) }
+        IsCutAtOnce (run_of S.input O.output reads sources.old.items sources.new.items outlet.old outlet.new) settings.now) }
     ensures never_held { IfErr result (λ fault. (r n : ℕ) → fault ≢ Held r n) }
     ensures alone { IfOk result IsAlone }
     ensures allowed { OnOk result (IsAllowed settings.now × (length sources.old.items ≡ length settings.now.renditions)) }
     ensures breach { IfErr result (λ fault. ((IsAllowed settings.now × (length sources.old.items ≡ length settings.now.renditions)) → ⊥) →
-        ((fault ≡ SettingsFault) ⊎ (fault ≡ NoMemory)) × (sources.new.items ≡ sources.old.items) × PutAll (outlet_of O.holds O.broken O.failures) outlet.old outlet.new []) }
+        ((fault ≡ SettingsFault) ⊎ (fault ≡ NoMemory)) × (sources.new.items ≡ sources.old.items) × PutAll O.output outlet.old outlet.new []) }
 {
     if !is_allowed(alloc, settings, sources.len())? {
         return Err(PackFault::Settings);
@@ -107,16 +106,16 @@ fn turns<S: Source, O: Outlet>(
     lanes: &mut Vec<Lane>,
     playlists: &mut Vec<Playlists>,
 ) -> Result<(), PackFault>
-    requires failures { O.failures outlet.old < 2 ^ 63 }
+    requires failures { O.output.failures outlet.old < 2 ^ 63 }
     requires allowed { IsAllowed settings.now }
     requires most { reads ≤ READS }
-    requires room { HaveRoom (input_of S.remaining S.reads S.failures) reads sources.old.items }
-    requires start { NothingDue (run_of (input_of S.remaining S.reads S.failures) (outlet_of O.holds O.broken O.failures) reads sources.old.items sources.old.items outlet.old outlet.old) settings.now 0 0 lanes.old.items playlists.old.items }
-    ensures ok { OnOk result ((rounds : ℕ) × (rounds ≤ reads) × NothingDue (run_of (input_of S.remaining S.reads S.failures) (outlet_of O.holds O.broken O.failures) reads sources.old.items sources.new.items outlet.old outlet.new) settings.now rounds 0 lanes.new.items playlists.new.items
+    requires room { HaveRoom S.input reads sources.old.items }
+    requires start { NothingDue (run_of S.input O.output reads sources.old.items sources.old.items outlet.old outlet.old) settings.now 0 0 lanes.old.items playlists.old.items }
+    ensures ok { OnOk result ((rounds : ℕ) × (rounds ≤ reads) × NothingDue (run_of S.input O.output reads sources.old.items sources.new.items outlet.old outlet.new) settings.now rounds 0 lanes.new.items playlists.new.items
         × ((k : ℕ) (lane : Lane) → slice_get lanes.new.items k ≡ Some lane → lane.stop ≡ None → rounds ≡ reads)) }
-    ensures err { OnErr result (IsCutAtOnce (run_of (input_of S.remaining S.reads S.failures) (outlet_of O.holds O.broken O.failures) reads sources.old.items sources.new.items outlet.old outlet.new) settings.now) }
-    ensures failures { OnOk result (O.failures outlet.new ≡ O.failures outlet.old) }
-    ensures fault { IfErr result (λ fault. SaysFailures fault (O.failures outlet.old) (O.failures outlet.new)) }
+    ensures err { OnErr result (IsCutAtOnce (run_of S.input O.output reads sources.old.items sources.new.items outlet.old outlet.new) settings.now) }
+    ensures failures { OnOk result (O.output.failures outlet.new ≡ O.output.failures outlet.old) }
+    ensures fault { IfErr result (λ fault. SaysFailures fault (O.output.failures outlet.old) (O.output.failures outlet.new)) }
 {
     let mut buffer = [0; PIECE];
     let mut spare = Spool::new(alloc);

@@ -1,4 +1,5 @@
 ghost use Rattle.std.specs.Prelude.{◌≡◌, None};
+ghost use Rattle.item_io.specs.Views.{source_view};
 
 use crate::line::Line;
 use item_io::{ReadFault, Source};
@@ -39,11 +40,7 @@ impl<R: Wait> Ahead<R> {
 }
 
 impl<R: Wait> Source for Ahead<R> {
-    ghost remaining = { λ s. None };
-
-    ghost reads = { λ s. s.reads };
-
-    ghost failures = { λ s. s.failures };
+    ghost input = { source_view (λ s. None) (λ s. s.reads) (λ s. s.failures) };
 
     fn read(&mut self, buffer: &mut [u8]) -> Result<usize, ReadFault> {
         match self.line.take(&self.rt, buffer) {

@@ -4,16 +4,15 @@ use Rattle.std.specs.Prelude.{OnOk, IfOk, IfErr}
 use Rattle.std.proofs.lemmas.Result.{on_ok_weaker, IfErr-weaker}
 use Rattle.cutter.specs.Plans.{SegmentPlan}
 use Rattle.live_board.specs.Snapshots.{Known}
-use Rattle.ingest.specs.Inputs.{InputView}
+use Rattle.item_io.specs.Views.{OutletView, SourceView}
 use Rattle.ladder_items.specs.declared.fault.PackFault.{PackFault}
 use Rattle.ladder_items.specs.Ladder.{Ladder}
-use Rattle.ladder_items.specs.Runs.{OutletView}
 use Rattle.rounds.specs.declared.books.Books.{Books}
 use Rattle.rounds.specs.declared.course.Course.{Course}
 use Rattle.rounds.specs.Courses.{Start, IsOn, IsStopped}
 use Rattle.rounds.specs.Rounds.{IsDriven, IsRound, IsBroken}
 
-module _ {X Y : Type 0} (input : InputView X) (out : OutletView Y) (ladder : Ladder) (spools : List (List SegmentPlan)) (old : Course X Y) (shows : Known)
+module _ {X Y : Type 0} (input : SourceView X) (out : OutletView Y) (ladder : Ladder) (spools : List (List SegmentPlan)) (old : Course X Y) (shows : Known)
     (new closed : Course X Y) (shows_now shows_closed : Known) (answer told : Result (Unit {0}) PackFault) (same : told ≡ answer) (courses : closed ≡ new) (shown : shows_closed ≡ shows_now) where
   round-made : (books mid books_now : Books) (right : ℕ)
       → mid ≡ books → books_now.rounds ≡ mid.rounds + 1 → books_now.right ≡ mid.right + right → length books_now.workers.items ≡ length mid.workers.items
@@ -41,7 +40,7 @@ module _ {X Y : Type 0} (input : InputView X) (out : OutletView Y) (ladder : Lad
       (subst (λ (k : Known). IfErr answer (IsBroken input out ladder spools old shows new k)) (sym shown) all))
 
 -- What is told of a run that stands here is told of one that stood before.
-module _ {X Y : Type 0} (input : InputView X) (out : OutletView Y) (ladder : Ladder) (old mid new : Course X Y) (shows shows_mid shows_new : Known) (answer : Result (Unit {0}) PackFault)
+module _ {X Y : Type 0} (input : SourceView X) (out : OutletView Y) (ladder : Ladder) (old mid new : Course X Y) (shows shows_mid shows_new : Known) (answer : Result (Unit {0}) PackFault)
     (moves : (start : Start X Y) → IsOn input out ladder start 0 old shows (λ k. []) → IsOn input out ladder start 0 mid shows_mid (λ k. [])) where
   pub moved-ok : OnOk answer ((start : Start X Y) → IsOn input out ladder start 0 mid shows_mid (λ k. []) → IsOn input out ladder start 0 new shows_new (λ k. []))
       → OnOk answer ((start : Start X Y) → IsOn input out ladder start 0 old shows (λ k. []) → IsOn input out ladder start 0 new shows_new (λ k. []))

@@ -8,9 +8,8 @@ use Rattle.std.proofs.lemmas.Bool.{cases_eq}
 use Rattle.cutter.specs.Plans.{SegmentPlan}
 use Rattle.live_board.specs.Snapshots.{Known}
 use Rattle.ingest.specs.declared.lane.Lane.{Lane}
-use Rattle.ingest.specs.Inputs.{InputView}
+use Rattle.item_io.specs.Views.{OutletView, SourceView}
 use Rattle.ladder_items.specs.Ladder.{Ladder}
-use Rattle.ladder_items.specs.Runs.{OutletView}
 use Rattle.ladder_items.proofs.Stages.{turns-none}
 use Rattle.rounds.specs.declared.course.Course.{Course}
 use Rattle.rounds.specs.Courses.{Start, IsOn, ReadsNone, Rests, HasClosed, HasEnough, NoneClosed, IsAllGiven}
@@ -42,7 +41,7 @@ rests-when course (inl some) none = absurd (some.3 (none some.0 some.1 some.2))
 rests-when course (inr rests) none = rests
 
 -- a run has no more turns than reads
-pub on-turns : {X Y : Type 0} (input : InputView X) (out : OutletView Y) (ladder : Ladder) (start : Start X Y) (course : Course X Y) (shows : Known) (waiting : ℕ → List SegmentPlan)
+pub on-turns : {X Y : Type 0} (input : SourceView X) (out : OutletView Y) (ladder : Ladder) (start : Start X Y) (course : Course X Y) (shows : Known) (waiting : ℕ → List SegmentPlan)
     → IsOn input out ladder start 0 course shows waiting → (course.turns ≤ course.reads) × (course.turns ≤ 2 ^ 40)
 on-turns input out ladder start course shows waiting on =
     let few = on.turns 0 in
@@ -50,7 +49,7 @@ on-turns input out ladder start course shows waiting on =
     (omega (arith, few, none), omega (arith, few, none, on.most))
 
 -- the same run, as it is named elsewhere
-pub on-as : {X Y : Type 0} (input : InputView X) (out : OutletView Y) (ladder : Ladder) (start : Start X Y) (course : Course X Y) (shows named : Known) (spools full : List (List SegmentPlan))
+pub on-as : {X Y : Type 0} (input : SourceView X) (out : OutletView Y) (ladder : Ladder) (start : Start X Y) (course : Course X Y) (shows named : Known) (spools full : List (List SegmentPlan))
     → named ≡ shows → full ≡ spools → IsOn input out ladder start 0 course shows (unfed_of spools) → IsOn input out ladder start 0 course named (unfed_of full)
 on-as input out ladder start course shows named spools full same are on =
     subst (λ (k : Known). IsOn input out ladder start 0 course k (unfed_of full)) (sym same)

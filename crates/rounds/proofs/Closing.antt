@@ -8,14 +8,14 @@ use Rattle.std.proofs.lemmas.Option.{same_Some, slice_get_within}
 use Rattle.cutter.specs.Plans.{SegmentPlan}
 use Rattle.live_board.specs.Snapshots.{Known}
 use Rattle.ingest.specs.declared.lane.Lane.{Lane}
-use Rattle.ingest.specs.Inputs.{InputView}
+use Rattle.item_io.specs.Views.{OutletView, SourceView}
 use Rattle.ingest.specs.Lanes.{is_good, made_of}
 use Rattle.ingest.specs.Streams.{Taken}
 use Rattle.ladder_items.specs.Ladder.{Ladder}
 use Rattle.ladder_items.specs.Items.{Part, no_part, part_at}
 use Rattle.ladder_items.specs.Weave.{End, AreLegal, after, after_all, closed_part, blocks}
 use Rattle.ladder_items.specs.Lanes.{BeginsMade}
-use Rattle.ladder_items.specs.Runs.{OutletView, run_of}
+use Rattle.ladder_items.specs.Runs.{run_of}
 use Rattle.ladder_items.specs.World.{World, Stage, stream_at, turns_of}
 use Rattle.ladder_items.proofs.Puts.{all_none}
 use Rattle.ladder_items.proofs.Worlds.{IsMoved, parts-of, parts-length, world-gave}
@@ -65,7 +65,7 @@ ended-at [] k = refl
 ended-at (p ∷ parts) zero = refl
 ended-at (p ∷ parts) (suc k) = ended-at parts k
 
-module _ (X Y : Type 0) (input : InputView X) (out : OutletView Y) (ladder : Ladder) (start : Start X Y) (course : Course X Y) (shows : Known) where
+module _ (X Y : Type 0) (input : SourceView X) (out : OutletView Y) (ladder : Ladder) (start : Start X Y) (course : Course X Y) (shows : Known) where
   -- an end that is due
   module _ (on : IsOn input out ladder start 0 course shows (λ k. [])) (r : ℕ) (below : r < length ladder.renditions) where
     pub end-at : slice_index_or course.ended.items r false ≡ (part_at (parts-of ladder on.world.events) r).ended

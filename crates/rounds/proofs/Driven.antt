@@ -11,10 +11,9 @@ use Rattle.flow_core.specs.Lanes.{LaneValue, first_lane}
 use Rattle.flow_core.specs.Gatherings.{Gathering, no_lane, awaited, lanes_from}
 use Rattle.flow_core.proofs.Gathering.{lanes-count}
 use Rattle.live_board.specs.Snapshots.{Known}
-use Rattle.ingest.specs.Inputs.{InputView}
+use Rattle.item_io.specs.Views.{OutletView, SourceView}
 use Rattle.ladder_items.specs.Ladder.{Ladder, RenditionValue, no_rendition, rendition_at}
 use Rattle.ladder_items.specs.Shown.{Shown}
-use Rattle.ladder_items.specs.Runs.{OutletView}
 use Rattle.ladder_items.proofs.Blocks.{shown-each}
 use Rattle.ladder_items.proofs.Worlds.{parts-of, parts-length}
 use Rattle.rounds.specs.declared.course.Course.{Course}
@@ -73,7 +72,7 @@ gathered-none (l ∷ lanes) (n ∷ counts) each none nexts =
     let all = sum_by-cons (λ n. n) n counts in
     omega (arith, rest, first, pieces, all)
 
-module _ (X Y : Type 0) (input : InputView X) (out : OutletView Y) (ladder : Ladder) (start : Start X Y) where
+module _ (X Y : Type 0) (input : SourceView X) (out : OutletView Y) (ladder : Ladder) (start : Start X Y) where
   -- how many renditions show something
   counts-each : (next : ℕ) (course : Course X Y) (shows : Known) (waiting : ℕ → List SegmentPlan) → IsOn input out ladder start next course shows waiting
       → length (counts_of course.playlists.items) ≡ length ladder.renditions

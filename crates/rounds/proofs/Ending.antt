@@ -5,7 +5,7 @@ use Rattle.std.proofs.lemmas.List.{append-nil, length-replicate}
 use Rattle.live_board.specs.Snapshots.{Known}
 use Rattle.live_board.specs.Counts.{counts_shown}
 use Rattle.ingest.specs.declared.lane.Lane.{Lane}
-use Rattle.ingest.specs.Inputs.{InputView}
+use Rattle.item_io.specs.Views.{OutletView, SourceView}
 use Rattle.ingest.specs.Lanes.{IsFirst}
 use Rattle.ingest.specs.Streams.{closed_of}
 use Rattle.ladder_items.specs.declared.fault.PackFault.{PackFault}
@@ -14,7 +14,7 @@ use Rattle.ladder_items.specs.declared.report.Report.{Report}
 use Rattle.ladder_items.specs.Ladder.{Ladder, IsAllowed}
 use Rattle.ladder_items.specs.Items.{no_part, count, shown_all}
 use Rattle.ladder_items.specs.Weave.{Event, none_of, after_all, blocks}
-use Rattle.ladder_items.specs.Runs.{OutletView, run_of}
+use Rattle.ladder_items.specs.Runs.{run_of}
 use Rattle.ladder_items.specs.World.{World, NothingDue, HaveRoom}
 use Rattle.ladder_items.specs.Packed.{told_of}
 use Rattle.ladder_items.proofs.Puts.{all_none}
@@ -41,7 +41,7 @@ counts-none : (n : ℕ) → map count (replicate n no_part) ≡ replicate n 0
 counts-none zero = refl
 counts-none (suc n) = ap (λ (l : List ℕ). 0 ∷ l) (counts-none n)
 
-module _ (X Y : Type 0) (input : InputView X) (out : OutletView Y) (ladder : Ladder) where
+module _ (X Y : Type 0) (input : SourceView X) (out : OutletView Y) (ladder : Ladder) where
   -- a run begins
   pub on-first : (start : Start X Y) (course : Course X Y) → course.sources.items ≡ start.sources → course.outlet ≡ start.outlet → course.turns ≡ 0
       → length start.sources ≡ length ladder.renditions → length course.lanes.items ≡ length ladder.renditions

@@ -14,10 +14,9 @@ use Rattle.flow_core.specs.Lanes.{LaneValue, following, with_plan}
 use Rattle.flow_core.specs.Gatherings.{Gathering, lane_at, with_lane}
 use Rattle.flow_core.proofs.Flowing.{lane-same, lane-other, field-kept}
 use Rattle.live_board.specs.Snapshots.{Known}
-use Rattle.ingest.specs.Inputs.{InputView}
+use Rattle.item_io.specs.Views.{OutletView, SourceView}
 use Rattle.ladder_items.specs.Ladder.{Ladder}
 use Rattle.ladder_items.specs.Items.{part_at, count}
-use Rattle.ladder_items.specs.Runs.{OutletView}
 use Rattle.ladder_items.proofs.Worlds.{InOrder, parts-of, parts-length}
 use Rattle.rounds.specs.declared.course.Course.{Course}
 use Rattle.rounds.specs.Courses.{Start}
@@ -67,7 +66,7 @@ fed-by false left n k is all fed = get_or_past left k [] (grind (arith, nat_test
 pub all-fed : (left : List (List SegmentPlan)) (n : ℕ) → length left ≤ n → ((k : ℕ) → k < n → unfed_of left k ≡ []) → (k : ℕ) → unfed_of left k ≡ []
 all-fed left n all fed k = fed-by (nat_lt k n) left n k refl all fed
 
-module _ (X Y : Type 0) (input : InputView X) (out : OutletView Y) (ladder : Ladder) (start : Start X Y) (unfed : List (List SegmentPlan)) (course : Course X Y) (shows : Known) (g : Gathering)
+module _ (X Y : Type 0) (input : SourceView X) (out : OutletView Y) (ladder : Ladder) (start : Start X Y) (unfed : List (List SegmentPlan)) (course : Course X Y) (shows : Known) (g : Gathering)
     (i : InRound input out ladder start unfed course shows g) (r : ℕ) (below : r < length ladder.renditions) (plan : SegmentPlan) (left : List SegmentPlan) (is : unfed_of unfed r ≡ plan ∷ left) where
   -- the next plan of a rendition follows those that are expected
   pub plan-follows : InOrder ladder → IsPlan r ladder.cut (following (lane_at g r)) plan

@@ -15,7 +15,7 @@ use Rattle.flow_core.specs.Gatherings.{Gathering, no_lane, lane_at, with_lane, a
 use Rattle.flow_core.proofs.Gathering.{awaited-set}
 use Rattle.flow_core.proofs.Flowing.{lane-same, lane-other, inside}
 use Rattle.live_board.specs.Snapshots.{Known}
-use Rattle.ingest.specs.Inputs.{InputView}
+use Rattle.item_io.specs.Views.{OutletView, SourceView}
 use Rattle.ladder_items.specs.declared.fault.PackFault.{PackFault}
 use Rattle.ladder_items.specs.Ladder.{Ladder, rendition_at}
 use Rattle.ladder_items.specs.Items.{Part, no_part, part_at, count, shown_all}
@@ -23,7 +23,6 @@ use Rattle.ladder_items.specs.Shown.{Shown}
 use Rattle.ladder_items.specs.Weave.{Row, after}
 use Rattle.ladder_items.specs.Giving.{IsNext}
 use Rattle.ladder_items.specs.Putting.{SaysFailures}
-use Rattle.ladder_items.specs.Runs.{OutletView}
 use Rattle.ladder_items.proofs.Blocks.{grown-at, after-each}
 use Rattle.ladder_items.proofs.Elsewhere.{after-other}
 use Rattle.ladder_items.proofs.Worlds.{InOrder, parts-of, parts-length}
@@ -83,7 +82,7 @@ none-ready g n few dry k = dry-by (nat_lt k n) g n k refl few dry
 pub held-sudden : (fault : PackFault) (n : ℕ) → IsHeld fault → SaysSudden fault n n
 held-sudden fault n held = subst (λ (f : PackFault). SaysSudden f n n) (sym held.2) refl
 
-module _ (X Y : Type 0) (input : InputView X) (out : OutletView Y) (ladder : Ladder) where
+module _ (X Y : Type 0) (input : SourceView X) (out : OutletView Y) (ladder : Ladder) where
   -- pieces came
   pub in-keeps : (start : Start X Y) (unfed : List (List SegmentPlan)) (course : Course X Y) (shows : Known) (g h : Gathering) → Keeps g h
       → InRound input out ladder start unfed course shows g → InRound input out ladder start unfed course shows h

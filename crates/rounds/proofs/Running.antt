@@ -8,7 +8,7 @@ use Rattle.cutter.specs.Plans.{SegmentPlan}
 use Rattle.cutter.specs.Ordered.{IsPlan}
 use Rattle.live_board.specs.Snapshots.{SnapshotFacts, Known}
 use Rattle.live_board.specs.Counts.{counts_shown}
-use Rattle.ingest.specs.Inputs.{InputView}
+use Rattle.item_io.specs.Views.{OutletView, SourceView}
 use Rattle.ingest.specs.Lanes.{made_of}
 use Rattle.ingest.specs.declared.lane.Lane.{Lane}
 use Rattle.ladder_items.specs.declared.fault.PackFault.{PackFault}
@@ -18,7 +18,7 @@ use Rattle.ladder_items.specs.Weave.{Event, Row, rendition_of, AreLegal, after, 
 use Rattle.ladder_items.specs.Giving.{IsGoing, IsNext}
 use Rattle.ladder_items.specs.Lanes.{BeginsMade}
 use Rattle.ladder_items.specs.Putting.{PutAll, PutSome, SaysFailures, of_failures}
-use Rattle.ladder_items.specs.Runs.{OutletView, run_of}
+use Rattle.ladder_items.specs.Runs.{run_of}
 use Rattle.ladder_items.specs.World.{World, Stage, AreOf, stream_at, turns_of}
 use Rattle.ladder_items.proofs.Blocks.{grown-at}
 use Rattle.ladder_items.proofs.Elsewhere.{some-at}
@@ -93,7 +93,7 @@ pub says-sudden : (fault : PackFault) (a b c : ℕ) → b ≡ a → SaysFailures
 says-sudden fault a b c same says =
     says-as (of_failures b c) (of_sudden a c) fault (λ no. no) (λ r stop no. no) (λ one. one ∙ ap (λ n. n + 1) same) (λ none. none ∙ same) (λ r n is no. absurd no) says
 
-module _ (X Y : Type 0) (input : InputView X) (out : OutletView Y) (ladder : Ladder) where
+module _ (X Y : Type 0) (input : SourceView X) (out : OutletView Y) (ladder : Ladder) where
   -- the outlet's count of failures
   pub on-failures : (start : Start X Y) (next : ℕ) (course : Course X Y) (shows : Known) (waiting : ℕ → List SegmentPlan) → IsOn input out ladder start next course shows waiting
       → (out.failures course.outlet ≡ out.failures start.outlet) × (out.failures course.outlet < 2 ^ 63)

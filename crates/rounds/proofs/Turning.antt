@@ -7,13 +7,14 @@ use Rattle.ghost_list.specs.Lists.{IsBeginning}
 use Rattle.cutter.specs.Plans.{SegmentPlan}
 use Rattle.live_board.specs.Snapshots.{Known}
 use Rattle.ingest.specs.declared.lane.Lane.{Lane}
-use Rattle.ingest.specs.Inputs.{InputView, IsRead}
+use Rattle.item_io.specs.Views.{OutletView, SourceView}
+use Rattle.ingest.specs.Inputs.{IsRead}
 use Rattle.ingest.specs.Lanes.{IsTurned}
 use Rattle.ingest.specs.Streams.{closed_of}
 use Rattle.ladder_items.specs.declared.fault.PackFault.TheVariants.{NoMemory}
 use Rattle.ladder_items.specs.Ladder.{Ladder}
 use Rattle.ladder_items.specs.Weave.{Event, after_all, none_of}
-use Rattle.ladder_items.specs.Runs.{OutletView, run_of}
+use Rattle.ladder_items.specs.Runs.{run_of}
 use Rattle.ladder_items.specs.World.{World, turns_of}
 use Rattle.ladder_items.proofs.Stages.{turns-most, turns-none}
 use Rattle.ladder_items.proofs.Worlds.{world-read, world-skip, world-round, world-unread}
@@ -21,7 +22,7 @@ use Rattle.rounds.specs.declared.course.Course.{Course}
 use Rattle.rounds.specs.Showing.{counts_of, shown_by, ends_of}
 use Rattle.rounds.specs.Courses.{Start, IsOn, IsStopped}
 
-module _ (X Y : Type 0) (input : InputView X) (out : OutletView Y) (ladder : Ladder) where
+module _ (X Y : Type 0) (input : SourceView X) (out : OutletView Y) (ladder : Ladder) where
   -- nothing was given, so that all that is shown stands
   pub on-with : (start : Start X Y) (next then : ℕ) (course now : Course X Y) (shows : Known) (waiting still : ℕ → List SegmentPlan) (on : IsOn input out ladder start next course shows waiting)
       → (u : World (run_of input out now.reads start.sources now.sources.items start.outlet now.outlet) ladder now.turns then now.lanes.items now.playlists.items still)

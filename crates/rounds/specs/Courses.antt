@@ -4,7 +4,7 @@ use Rattle.cutter.specs.Plans.{SegmentPlan}
 use Rattle.item_io.specs.Items.{ItemValue}
 use Rattle.live_board.specs.Snapshots.{SnapshotFacts, Known}
 use Rattle.live_board.specs.Counts.{counts_shown}
-use Rattle.ingest.specs.Inputs.{InputView}
+use Rattle.item_io.specs.Views.{OutletView, SourceView}
 use Rattle.ingest.specs.declared.lane.Lane.{Lane}
 use Rattle.ingest.specs.Lanes.{is_good}
 use Rattle.ladder_items.specs.declared.fault.PackFault.{PackFault}
@@ -14,7 +14,7 @@ use Rattle.ladder_items.specs.Items.{Part, shown_all}
 use Rattle.ladder_items.specs.Weave.{Event, after, after_all, block, blocks, none_of}
 use Rattle.ladder_items.specs.Faults.{Sayings, Says}
 use Rattle.ladder_items.specs.Putting.{PutAll, PutSome, of_failures}
-use Rattle.ladder_items.specs.Runs.{OutletView, Run, run_of}
+use Rattle.ladder_items.specs.Runs.{Run, run_of}
 use Rattle.ladder_items.specs.World.{World, HaveRoom, turns_of}
 use Rattle.ladder_items.specs.Packed.{IsCutShort}
 use Rattle.rounds.specs.declared.course.Course.{Course}
@@ -49,7 +49,7 @@ pub record Start (X Y : Type 0) : Type 0 where
 
 -- A run on its way, in which the renditions before `next` had one turn more. `waiting` are the plans of each that were turned
 -- out and not given yet.
-pub record IsOn {X Y : Type 0} (input : InputView X) (out : OutletView Y) (ladder : Ladder) (start : Start X Y) (next : ℕ) (course : Course X Y) (shows : Known) (waiting : ℕ → List SegmentPlan) : Type 0 where
+pub record IsOn {X Y : Type 0} (input : SourceView X) (out : OutletView Y) (ladder : Ladder) (start : Start X Y) (next : ℕ) (course : Course X Y) (shows : Known) (waiting : ℕ → List SegmentPlan) : Type 0 where
   pub world : World (run_of input out course.reads start.sources course.sources.items start.outlet course.outlet) ladder course.turns next course.lanes.items course.playlists.items waiting
   pub ends : course.ended.items ≡ ends_of (after_all (none_of ladder) world.events)
   pub list : shows.list ≡ start.shows.list ++ shown_by ladder (none_of ladder) world.events
@@ -89,7 +89,7 @@ abbrev pub IsHeld : PackFault → Type 0
 IsHeld fault = (r n : ℕ) × (fault ≡ Held r n)
 
 -- a run that was stopped at once by a fault
-pub record IsStopped {X Y : Type 0} (input : InputView X) (out : OutletView Y) (ladder : Ladder) (start : Start X Y) (course : Course X Y) (shows : Known) (fault : PackFault) : Type 0 where
+pub record IsStopped {X Y : Type 0} (input : SourceView X) (out : OutletView Y) (ladder : Ladder) (start : Start X Y) (course : Course X Y) (shows : Known) (fault : PackFault) : Type 0 where
   pub cut : IsCutShown (run_of input out course.reads start.sources course.sources.items start.outlet course.outlet) ladder start.shows.list shows.list
   pub says : SaysSudden fault (out.failures start.outlet) (out.failures course.outlet)
   pub limit : course.reads ≡ start.reads

@@ -6,10 +6,9 @@ use Rattle.flow_core.specs.Slots.{leading, one_more}
 use Rattle.flow_core.specs.Gatherings.{Gathering, lane_at}
 use Rattle.flow_core.specs.Lanes.{LaneValue}
 use Rattle.live_board.specs.Snapshots.{Known}
-use Rattle.ingest.specs.Inputs.{InputView}
+use Rattle.item_io.specs.Views.{OutletView, SourceView}
 use Rattle.ladder_items.specs.declared.fault.PackFault.{PackFault}
 use Rattle.ladder_items.specs.Ladder.{Ladder, rendition_at}
-use Rattle.ladder_items.specs.Runs.{OutletView}
 use Rattle.rounds.specs.declared.course.Course.{Course}
 use Rattle.rounds.specs.declared.books.Books.{Books}
 use Rattle.rounds.specs.Courses.{Start, IsOn, IsStopped, HasEnough}
@@ -50,7 +49,7 @@ unfed_of unfed k = slice_index_or unfed k []
 
 -- A run in a round: what waits is what the collector expects, and behind it what isn't fed yet. Each rendition of the
 -- collector stands behind the segments that were given of it.
-pub record InRound {X Y : Type 0} (input : InputView X) (out : OutletView Y) (ladder : Ladder) (start : Start X Y) (unfed : List (List SegmentPlan)) (course : Course X Y) (shows : Known) (g : Gathering) : Type 0 where
+pub record InRound {X Y : Type 0} (input : SourceView X) (out : OutletView Y) (ladder : Ladder) (start : Start X Y) (unfed : List (List SegmentPlan)) (course : Course X Y) (shows : Known) (g : Gathering) : Type 0 where
   pub waiting : ℕ → List SegmentPlan
   pub on : IsOn input out ladder start 0 course shows waiting
   pub waits : (k : ℕ) → waiting k ≡ expected (lane_at g k) ++ unfed_of unfed k
@@ -60,22 +59,22 @@ pub record InRound {X Y : Type 0} (input : InputView X) (out : OutletView Y) (la
   pub keys : (k : ℕ) → k < length g.lanes → (lane_at g k).keys ≡ (rendition_at ladder k).keys
 
 -- some run stands here
-abbrev pub IsSomewhere : {X Y : Type 0} → InputView X → OutletView Y → Ladder → Course X Y → Known → Gathering → Type 0
+abbrev pub IsSomewhere : {X Y : Type 0} → SourceView X → OutletView Y → Ladder → Course X Y → Known → Gathering → Type 0
 IsSomewhere {X} {Y} input out ladder course shows g = (start : Start X Y) × (unfed : List (List SegmentPlan)) × InRound input out ladder start unfed course shows g
 
 -- each run that stands there stands here now
-abbrev pub Moves : {X Y : Type 0} → InputView X → OutletView Y → Ladder → Course X Y → Known → Gathering → Course X Y → Known → Gathering → Type 0
+abbrev pub Moves : {X Y : Type 0} → SourceView X → OutletView Y → Ladder → Course X Y → Known → Gathering → Course X Y → Known → Gathering → Type 0
 Moves {X} {Y} input out ladder old shows_old g_old new shows_new g_new =
     (start : Start X Y) (unfed : List (List SegmentPlan)) → InRound input out ladder start unfed old shows_old g_old → InRound input out ladder start unfed new shows_new g_new
 
 -- each run that stands there was stopped by a fault
-abbrev pub Breaks : {X Y : Type 0} → InputView X → OutletView Y → Ladder → Course X Y → Known → Gathering → Course X Y → Known → PackFault → Type 0
+abbrev pub Breaks : {X Y : Type 0} → SourceView X → OutletView Y → Ladder → Course X Y → Known → Gathering → Course X Y → Known → PackFault → Type 0
 Breaks {X} {Y} input out ladder old shows_old g_old new shows_new fault =
     (start : Start X Y) (unfed : List (List SegmentPlan)) → InRound input out ladder start unfed old shows_old g_old → IsStopped input out ladder start new shows_new fault
 
 -- What the calling thread made of each run that stood there with these full spools: all of them was given. It took no more right
 -- pieces than segments were given.
-pub record IsDriven {X Y : Type 0} (input : InputView X) (out : OutletView Y) (ladder : Ladder) (spools : List (List SegmentPlan)) (old : Course X Y) (shows : Known) (right : ℕ) (new : Course X Y) (shows_now : Known) (right_now : ℕ) : Type 0 where
+pub record IsDriven {X Y : Type 0} (input : SourceView X) (out : OutletView Y) (ladder : Ladder) (spools : List (List SegmentPlan)) (old : Course X Y) (shows : Known) (right : ℕ) (new : Course X Y) (shows_now : Known) (right_now : ℕ) : Type 0 where
   pub on : (start : Start X Y) → IsOn input out ladder start 0 old shows (unfed_of spools) → IsOn input out ladder start 0 new shows_now (λ k. [])
   pub enough : HasEnough new
   pub turns : old.turns ≤ new.turns
@@ -83,12 +82,12 @@ pub record IsDriven {X Y : Type 0} (input : InputView X) (out : OutletView Y) (l
   pub fair : right_now + sum (counts_of old.playlists.items) ≤ right + sum (counts_of new.playlists.items)
 
 -- a round whose numbers stand in the books
-pub record IsRound {X Y : Type 0} (input : InputView X) (out : OutletView Y) (ladder : Ladder) (spools : List (List SegmentPlan)) (old : Course X Y) (shows : Known) (books : Books) (new : Course X Y) (shows_now : Known) (books_now : Books) : Type 0 where
+pub record IsRound {X Y : Type 0} (input : SourceView X) (out : OutletView Y) (ladder : Ladder) (spools : List (List SegmentPlan)) (old : Course X Y) (shows : Known) (books : Books) (new : Course X Y) (shows_now : Known) (books_now : Books) : Type 0 where
   pub driven : IsDriven input out ladder spools old shows books.right new shows_now books_now.right
   pub rounds : books_now.rounds ≡ books.rounds + 1
   pub each : length books_now.workers.items ≡ length books.workers.items
 
 -- a round was stopped by a fault
-abbrev pub IsBroken : {X Y : Type 0} → InputView X → OutletView Y → Ladder → List (List SegmentPlan) → Course X Y → Known → Course X Y → Known → PackFault → Type 0
+abbrev pub IsBroken : {X Y : Type 0} → SourceView X → OutletView Y → Ladder → List (List SegmentPlan) → Course X Y → Known → Course X Y → Known → PackFault → Type 0
 IsBroken {X} {Y} input out ladder spools old shows new shows_now fault =
     (start : Start X Y) → IsOn input out ladder start 0 old shows (unfed_of spools) → IsStopped input out ladder start new shows_now fault

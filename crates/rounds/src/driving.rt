@@ -1,8 +1,6 @@
 ghost use Rattle.std.specs.Prelude.{◌≡◌, ◌+◌, ◌<◌, ◌≤◌, [], ℕ, IfErr, IfOk, OnOk, length, map};
 ghost use Rattle.flow_core.specs.Gatherings.{lanes_from};
-ghost use Rattle.ingest.specs.Inputs.{input_of};
 ghost use Rattle.ladder_items.specs.Ladder.{RenditionValue};
-ghost use Rattle.ladder_items.specs.Runs.{outlet_of};
 ghost use Rattle.rounds.specs.Courses.{HasEnough, IsOn, IsStopped, Start};
 ghost use Rattle.rounds.specs.Rounds.{Breaks, IsDriven, IsSomewhere, Moves, gathered, unfed_of};
 ghost use Rattle.rounds.specs.Showing.{counts_of};
@@ -53,9 +51,9 @@ fn read_on<'s, S: Source, O: Outlet, L: Ledger, M: Ledger, R: Wait>(
 ) -> Result<(), PackFault>
     requires some { 0 < length buffer.old }
     requires short { length buffer.old ≤ PIECE }
-    requires somewhere { IsSomewhere (input_of S.remaining S.reads S.failures) (outlet_of O.holds O.broken O.failures) settings.now course.old held.old.publisher collector.old }
-    ensures ok { OnOk result (Moves (input_of S.remaining S.reads S.failures) (outlet_of O.holds O.broken O.failures) settings.now course.old held.old.publisher collector.old course.new held.new.publisher collector.new) }
-    ensures err { IfErr result (Breaks (input_of S.remaining S.reads S.failures) (outlet_of O.holds O.broken O.failures) settings.now course.old held.old.publisher collector.old course.new held.new.publisher) }
+    requires somewhere { IsSomewhere S.input O.output settings.now course.old held.old.publisher collector.old }
+    ensures ok { OnOk result (Moves S.input O.output settings.now course.old held.old.publisher collector.old course.new held.new.publisher collector.new) }
+    ensures err { IfErr result (Breaks S.input O.output settings.now course.old held.old.publisher collector.old course.new held.new.publisher) }
     ensures enough { OnOk result (HasEnough course.new) }
     ensures turns { OnOk result (course.old.turns ≤ course.new.turns) }
     ensures stays { OnOk result (course.new.turns ≡ course.old.turns → course.new.lanes ≡ course.old.lanes) }
@@ -85,9 +83,9 @@ pub fn drive<'s, S: Source, O: Outlet, L: Ledger, M: Ledger, R: Wait>(
     requires some { 0 < length buffer.old }
     requires short { length buffer.old ≤ PIECE }
     requires each { length spools.now ≡ length settings.now.renditions }
-    requires on { (start : Start S O) × IsOn (input_of S.remaining S.reads S.failures) (outlet_of O.holds O.broken O.failures) settings.now start 0 course.old held.old.publisher (unfed_of spools.now) }
-    ensures ok { OnOk result (IsDriven (input_of S.remaining S.reads S.failures) (outlet_of O.holds O.broken O.failures) settings.now spools.now course.old held.old.publisher taker.old.right course.new held.new.publisher taker.new.right) }
-    ensures err { IfErr result (λ fault. (start : Start S O) → IsOn (input_of S.remaining S.reads S.failures) (outlet_of O.holds O.broken O.failures) settings.now start 0 course.old held.old.publisher (unfed_of spools.now) → IsStopped (input_of S.remaining S.reads S.failures) (outlet_of O.holds O.broken O.failures) settings.now start course.new held.new.publisher fault) }
+    requires on { (start : Start S O) × IsOn S.input O.output settings.now start 0 course.old held.old.publisher (unfed_of spools.now) }
+    ensures ok { OnOk result (IsDriven S.input O.output settings.now spools.now course.old held.old.publisher taker.old.right course.new held.new.publisher taker.new.right) }
+    ensures err { IfErr result (λ fault. (start : Start S O) → IsOn S.input O.output settings.now start 0 course.old held.old.publisher (unfed_of spools.now) → IsStopped S.input O.output settings.now start course.new held.new.publisher fault) }
 {
     let mut collector = collector_behind(alloc, settings, &course.playlists)?;
     feed_all(

@@ -1,6 +1,4 @@
 ghost use Rattle.std.specs.Prelude.{◌≡◌, ◌+◌, ◌<◌, ◌^◌, [], IfErr, OnOk, length, sum};
-ghost use Rattle.ingest.specs.Inputs.{input_of};
-ghost use Rattle.ladder_items.specs.Runs.{outlet_of};
 ghost use Rattle.rounds.specs.Courses.{IsOn, IsStopped, Start};
 ghost use Rattle.rounds.specs.Rounds.{IsDriven, unfed_of};
 
@@ -37,9 +35,9 @@ pub fn driven<'p, 'r, S: Source, O: Outlet, L: Ledger, M: Ledger, R: Wait>(
 ) -> Drove<'r, S, O, M, R>
     requires each { length spools.now ≡ length settings.now.renditions }
     requires unused { pass.count ≡ 0 }
-    requires on { (start : Start S O) × IsOn (input_of S.remaining S.reads S.failures) (outlet_of O.holds O.broken O.failures) settings.now start 0 going.course going.held.publisher (unfed_of spools.now) }
-    ensures ok { OnOk result.answer (IsDriven (input_of S.remaining S.reads S.failures) (outlet_of O.holds O.broken O.failures) settings.now spools.now going.entry.course going.entry.held.publisher 0 result.going.course result.going.held.publisher result.taker.right) }
-    ensures err { IfErr result.answer (λ fault. (start : Start S O) → IsOn (input_of S.remaining S.reads S.failures) (outlet_of O.holds O.broken O.failures) settings.now start 0 going.entry.course going.entry.held.publisher (unfed_of spools.now) → IsStopped (input_of S.remaining S.reads S.failures) (outlet_of O.holds O.broken O.failures) settings.now start result.going.course result.going.held.publisher fault) }
+    requires on { (start : Start S O) × IsOn S.input O.output settings.now start 0 going.course going.held.publisher (unfed_of spools.now) }
+    ensures ok { OnOk result.answer (IsDriven S.input O.output settings.now spools.now going.entry.course going.entry.held.publisher 0 result.going.course result.going.held.publisher result.taker.right) }
+    ensures err { IfErr result.answer (λ fault. (start : Start S O) → IsOn S.input O.output settings.now start 0 going.entry.course going.entry.held.publisher (unfed_of spools.now) → IsStopped S.input O.output settings.now start result.going.course result.going.held.publisher fault) }
     ensures books { result.going.books ≡ going.entry.books }
 {
     let mut buffer = [0; PIECE];

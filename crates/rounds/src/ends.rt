@@ -1,8 +1,6 @@
 ghost use Rattle.std.specs.Prelude.{◌≡◌, ◌<◌, [], ℕ, IfErr, OnOk, Some, false, length, slice_get, slice_index_or};
-ghost use Rattle.ingest.specs.Inputs.{input_of};
 ghost use Rattle.ingest.specs.Lanes.{is_good};
 ghost use Rattle.ingest.specs.declared.lane.Lane.{Lane};
-ghost use Rattle.ladder_items.specs.Runs.{outlet_of};
 ghost use Rattle.rounds.specs.Courses.{IsOn, IsStopped, ReadsNone, Start};
 
 use crate::course::Course;
@@ -23,9 +21,9 @@ fn give_end_of<S: Source, O: Outlet, R: Wait>(
     held: &mut HeldPublisher<'_, R>,
 ) -> Result<(), PackFault>
     requires within { r < length settings.now.renditions }
-    requires on { (start : Start S O) × IsOn (input_of S.remaining S.reads S.failures) (outlet_of O.holds O.broken O.failures) settings.now start 0 course.old held.old.publisher (λ k. []) }
-    ensures ok { OnOk result ((start : Start S O) → IsOn (input_of S.remaining S.reads S.failures) (outlet_of O.holds O.broken O.failures) settings.now start 0 course.old held.old.publisher (λ k. []) → IsOn (input_of S.remaining S.reads S.failures) (outlet_of O.holds O.broken O.failures) settings.now start 0 course.new held.new.publisher (λ k. [])) }
-    ensures err { IfErr result (λ fault. (start : Start S O) → IsOn (input_of S.remaining S.reads S.failures) (outlet_of O.holds O.broken O.failures) settings.now start 0 course.old held.old.publisher (λ k. []) → IsStopped (input_of S.remaining S.reads S.failures) (outlet_of O.holds O.broken O.failures) settings.now start course.new held.new.publisher fault) }
+    requires on { (start : Start S O) × IsOn S.input O.output settings.now start 0 course.old held.old.publisher (λ k. []) }
+    ensures ok { OnOk result ((start : Start S O) → IsOn S.input O.output settings.now start 0 course.old held.old.publisher (λ k. []) → IsOn S.input O.output settings.now start 0 course.new held.new.publisher (λ k. [])) }
+    ensures err { IfErr result (λ fault. (start : Start S O) → IsOn S.input O.output settings.now start 0 course.old held.old.publisher (λ k. []) → IsStopped S.input O.output settings.now start course.new held.new.publisher fault) }
     ensures none_read { ReadsNone course.old course.new }
     ensures playlists { course.new.playlists ≡ course.old.playlists }
     ensures ended { OnOk result ((lane : Lane) → slice_get course.old.lanes.items r ≡ Some lane → lane.intake.filled ≡ [] → slice_index_or course.new.ended.items r false ≡ is_good lane.stop) }
@@ -50,9 +48,9 @@ pub fn give_ends<S: Source, O: Outlet, R: Wait>(
     course: &mut Course<S, O>,
     held: &mut HeldPublisher<'_, R>,
 ) -> Result<(), PackFault>
-    requires on { (start : Start S O) × IsOn (input_of S.remaining S.reads S.failures) (outlet_of O.holds O.broken O.failures) settings.now start 0 course.old held.old.publisher (λ k. []) }
-    ensures ok { OnOk result ((start : Start S O) → IsOn (input_of S.remaining S.reads S.failures) (outlet_of O.holds O.broken O.failures) settings.now start 0 course.old held.old.publisher (λ k. []) → IsOn (input_of S.remaining S.reads S.failures) (outlet_of O.holds O.broken O.failures) settings.now start 0 course.new held.new.publisher (λ k. [])) }
-    ensures err { IfErr result (λ fault. (start : Start S O) → IsOn (input_of S.remaining S.reads S.failures) (outlet_of O.holds O.broken O.failures) settings.now start 0 course.old held.old.publisher (λ k. []) → IsStopped (input_of S.remaining S.reads S.failures) (outlet_of O.holds O.broken O.failures) settings.now start course.new held.new.publisher fault) }
+    requires on { (start : Start S O) × IsOn S.input O.output settings.now start 0 course.old held.old.publisher (λ k. []) }
+    ensures ok { OnOk result ((start : Start S O) → IsOn S.input O.output settings.now start 0 course.old held.old.publisher (λ k. []) → IsOn S.input O.output settings.now start 0 course.new held.new.publisher (λ k. [])) }
+    ensures err { IfErr result (λ fault. (start : Start S O) → IsOn S.input O.output settings.now start 0 course.old held.old.publisher (λ k. []) → IsStopped S.input O.output settings.now start course.new held.new.publisher fault) }
     ensures none_read { ReadsNone course.old course.new }
     ensures playlists { course.new.playlists ≡ course.old.playlists }
     ensures ended { OnOk result ((k : ℕ) (lane : Lane) → k < length settings.now.renditions → slice_get course.new.lanes.items k ≡ Some lane → lane.intake.filled ≡ [] → slice_index_or course.new.ended.items k false ≡ is_good lane.stop) }

@@ -3,8 +3,6 @@ ghost use Rattle.cutter.specs.Lent.{lent};
 ghost use Rattle.cutter.specs.Plans.{SegmentPlan};
 ghost use Rattle.flow_core.specs.Gatherings.{awaited, lane_at, with_lane};
 ghost use Rattle.flow_core.specs.Lanes.{following, with_plan};
-ghost use Rattle.ingest.specs.Inputs.{input_of};
-ghost use Rattle.ladder_items.specs.Runs.{outlet_of};
 ghost use Rattle.ladder_items.specs.declared.fault.PackFault.TheVariants.{NoMemory};
 ghost use Rattle.rounds.specs.Courses.{IsStopped, ReadsNone, Start};
 ghost use Rattle.rounds.specs.Rounds.{Breaks, HasKeys, InRound, Keeps, gathered, unfed_of};
@@ -73,10 +71,10 @@ fn feed_plan<'s, S: Source, O: Outlet, L: Ledger, M: Ledger, R: Wait>(
     collector: &mut Collector<'s>,
 ) -> Result<(), PackFault>
     requires within { r < length settings.now.renditions }
-    requires somewhere { (start : Start S O) × (unfed : List (List SegmentPlan)) × (left : List SegmentPlan) × InRound (input_of S.remaining S.reads S.failures) (outlet_of O.holds O.broken O.failures) settings.now start unfed course.old held.old.publisher collector.old × (unfed_of unfed r ≡ lent plan ∷ left) }
-    ensures ok { OnOk result ((start : Start S O) (unfed : List (List SegmentPlan)) (left : List SegmentPlan) → unfed_of unfed r ≡ lent plan.entry ∷ left → InRound (input_of S.remaining S.reads S.failures) (outlet_of O.holds O.broken O.failures) settings.now start unfed course.old held.old.publisher collector.old →
-        InRound (input_of S.remaining S.reads S.failures) (outlet_of O.holds O.broken O.failures) settings.now start (slice_set unfed r left) course.new held.new.publisher collector.new) }
-    ensures err { IfErr result (Breaks (input_of S.remaining S.reads S.failures) (outlet_of O.holds O.broken O.failures) settings.now course.old held.old.publisher collector.old course.new held.new.publisher) }
+    requires somewhere { (start : Start S O) × (unfed : List (List SegmentPlan)) × (left : List SegmentPlan) × InRound S.input O.output settings.now start unfed course.old held.old.publisher collector.old × (unfed_of unfed r ≡ lent plan ∷ left) }
+    ensures ok { OnOk result ((start : Start S O) (unfed : List (List SegmentPlan)) (left : List SegmentPlan) → unfed_of unfed r ≡ lent plan.entry ∷ left → InRound S.input O.output settings.now start unfed course.old held.old.publisher collector.old →
+        InRound S.input O.output settings.now start (slice_set unfed r left) course.new held.new.publisher collector.new) }
+    ensures err { IfErr result (Breaks S.input O.output settings.now course.old held.old.publisher collector.old course.new held.new.publisher) }
     ensures none_read { ReadsNone course.old course.new }
     ensures fair { OnOk result (taker.new.right + gathered collector.old.lanes ≤ taker.old.right + gathered collector.new.lanes) }
 {
@@ -100,11 +98,11 @@ fn feed_spool<'s, S: Source, O: Outlet, L: Ledger, M: Ledger, R: Wait>(
     collector: &mut Collector<'s>,
 ) -> Result<(), PackFault>
     requires within { r < length settings.now.renditions }
-    requires somewhere { (start : Start S O) × (unfed : List (List SegmentPlan)) × InRound (input_of S.remaining S.reads S.failures) (outlet_of O.holds O.broken O.failures) settings.now start unfed course.old held.old.publisher collector.old × (unfed_of unfed r ≡ spool.now) }
-    ensures ok { OnOk result ((start : Start S O) (unfed : List (List SegmentPlan)) → unfed_of unfed r ≡ spool.now → InRound (input_of S.remaining S.reads S.failures) (outlet_of O.holds O.broken O.failures) settings.now start unfed course.old held.old.publisher collector.old →
-        InRound (input_of S.remaining S.reads S.failures) (outlet_of O.holds O.broken O.failures) settings.now start (slice_set unfed r []) course.new held.new.publisher collector.new) }
-    ensures err { IfErr result (λ fault. (start : Start S O) (unfed : List (List SegmentPlan)) → unfed_of unfed r ≡ spool.now → InRound (input_of S.remaining S.reads S.failures) (outlet_of O.holds O.broken O.failures) settings.now start unfed course.old held.old.publisher collector.old →
-        IsStopped (input_of S.remaining S.reads S.failures) (outlet_of O.holds O.broken O.failures) settings.now start course.new held.new.publisher fault) }
+    requires somewhere { (start : Start S O) × (unfed : List (List SegmentPlan)) × InRound S.input O.output settings.now start unfed course.old held.old.publisher collector.old × (unfed_of unfed r ≡ spool.now) }
+    ensures ok { OnOk result ((start : Start S O) (unfed : List (List SegmentPlan)) → unfed_of unfed r ≡ spool.now → InRound S.input O.output settings.now start unfed course.old held.old.publisher collector.old →
+        InRound S.input O.output settings.now start (slice_set unfed r []) course.new held.new.publisher collector.new) }
+    ensures err { IfErr result (λ fault. (start : Start S O) (unfed : List (List SegmentPlan)) → unfed_of unfed r ≡ spool.now → InRound S.input O.output settings.now start unfed course.old held.old.publisher collector.old →
+        IsStopped S.input O.output settings.now start course.new held.new.publisher fault) }
     ensures none_read { ReadsNone course.old course.new }
     ensures fair { OnOk result (taker.new.right + gathered collector.old.lanes ≤ taker.old.right + gathered collector.new.lanes) }
 {
@@ -131,11 +129,11 @@ pub fn feed_all<'s, S: Source, O: Outlet, L: Ledger, M: Ledger, R: Wait>(
     held: &mut HeldPublisher<'_, R>,
     collector: &mut Collector<'s>,
 ) -> Result<(), PackFault>
-    requires somewhere { (start : Start S O) × InRound (input_of S.remaining S.reads S.failures) (outlet_of O.holds O.broken O.failures) settings.now start spools.now course.old held.old.publisher collector.old }
-    ensures ok { OnOk result ((start : Start S O) → InRound (input_of S.remaining S.reads S.failures) (outlet_of O.holds O.broken O.failures) settings.now start spools.now course.old held.old.publisher collector.old →
-        (left : List (List SegmentPlan)) × InRound (input_of S.remaining S.reads S.failures) (outlet_of O.holds O.broken O.failures) settings.now start left course.new held.new.publisher collector.new × ((k : ℕ) → unfed_of left k ≡ [])) }
-    ensures err { IfErr result (λ fault. (start : Start S O) → InRound (input_of S.remaining S.reads S.failures) (outlet_of O.holds O.broken O.failures) settings.now start spools.now course.old held.old.publisher collector.old →
-        IsStopped (input_of S.remaining S.reads S.failures) (outlet_of O.holds O.broken O.failures) settings.now start course.new held.new.publisher fault) }
+    requires somewhere { (start : Start S O) × InRound S.input O.output settings.now start spools.now course.old held.old.publisher collector.old }
+    ensures ok { OnOk result ((start : Start S O) → InRound S.input O.output settings.now start spools.now course.old held.old.publisher collector.old →
+        (left : List (List SegmentPlan)) × InRound S.input O.output settings.now start left course.new held.new.publisher collector.new × ((k : ℕ) → unfed_of left k ≡ [])) }
+    ensures err { IfErr result (λ fault. (start : Start S O) → InRound S.input O.output settings.now start spools.now course.old held.old.publisher collector.old →
+        IsStopped S.input O.output settings.now start course.new held.new.publisher fault) }
     ensures none_read { ReadsNone course.old course.new }
     ensures fair { OnOk result (taker.new.right + gathered collector.old.lanes ≤ taker.old.right + gathered collector.new.lanes) }
 {

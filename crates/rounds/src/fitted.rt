@@ -1,7 +1,6 @@
 ghost use Rattle.std.specs.Prelude.{◌≡◌, ◌<◌, ◌≤◌, ◌^◌, [], ℕ, IfErr, IfOk, OnErr, OnOk, length, sum};
-ghost use Rattle.ingest.specs.Inputs.{input_of};
 ghost use Rattle.ladder_items.specs.Ladder.{Ladder};
-ghost use Rattle.ladder_items.specs.Runs.{outlet_of, run_of};
+ghost use Rattle.ladder_items.specs.Runs.{run_of};
 ghost use Rattle.ladder_items.specs.World.{HaveRoom};
 ghost use Rattle.live_board.specs.Counts.{counts_shown};
 ghost use Rattle.rounds.specs.Begun.{IsBegun};
@@ -38,10 +37,10 @@ fn set_out<'r, S: Source, O: Outlet, R: Wait>(
     reads: u64,
 ) -> (Going<'r, S, O, R>, Vec<Spool>, Vec<Keys>)
     requires most { reads ≤ READS }
-    requires room { HaveRoom (input_of S.remaining S.reads S.failures) reads sources.items }
-    requires failures { O.failures outlet < 2 ^ 63 }
+    requires room { HaveRoom S.input reads sources.items }
+    requires failures { O.output.failures outlet < 2 ^ 63 }
     ensures on { (ladder : Ladder) (workers : ℕ) → Fits ladder (length sources.items) workers (counts_shown publisher.list) → IsBegun ladder workers first →
-        IsOn (input_of S.remaining S.reads S.failures) (outlet_of O.holds O.broken O.failures) ladder (record { sources = sources.items; outlet = outlet; shows = publisher; reads = reads }) 0 result.0.course result.0.held.publisher (λ k. []) }
+        IsOn S.input O.output ladder (record { sources = sources.items; outlet = outlet; shows = publisher; reads = reads }) 0 result.0.course result.0.held.publisher (λ k. []) }
     ensures books { result.0.books ≡ first.books }
     ensures spare { result.1 ≡ first.spare }
     ensures keys { result.2 ≡ first.keys }
@@ -87,12 +86,12 @@ pub fn pack_fitted<S: Source + Drop, O: Outlet + Drop, G: Gate + Sync, R: Thread
     pace: Pace,
 ) -> Ran<S, O>
     requires most { reads ≤ READS }
-    requires room { HaveRoom (input_of S.remaining S.reads S.failures) reads sources.items }
-    requires failures { O.failures outlet < 2 ^ 63 }
+    requires room { HaveRoom S.input reads sources.items }
+    requires failures { O.output.failures outlet < 2 ^ 63 }
     requires fits { Fits settings.now (length sources.items) workers (counts_shown publisher.list) }
     requires begun { IsBegun settings.now workers first }
-    ensures ok { IfOk result.answer (IsPackedShown (run_of (input_of S.remaining S.reads S.failures) (outlet_of O.holds O.broken O.failures) reads sources.items result.sources.items outlet result.outlet) settings.now workers publisher.list result.publisher.list) }
-    ensures fault { IfErr result.answer (FaultSaysShown (run_of (input_of S.remaining S.reads S.failures) (outlet_of O.holds O.broken O.failures) reads sources.items result.sources.items outlet result.outlet) settings.now workers publisher.list result.publisher.list) }
+    ensures ok { IfOk result.answer (IsPackedShown (run_of S.input O.output reads sources.items result.sources.items outlet result.outlet) settings.now workers publisher.list result.publisher.list) }
+    ensures fault { IfErr result.answer (FaultSaysShown (run_of S.input O.output reads sources.items result.sources.items outlet result.outlet) settings.now workers publisher.list result.publisher.list) }
     ensures board { result.publisher.board ≡ publisher.board }
 {
     let (going, spare, keys) = set_out(rt, first, sources, publisher, outlet, reads);
@@ -124,11 +123,11 @@ fn run<'r, S: Source + Drop, O: Outlet + Drop, G: Gate + Sync, R: Threads + Wait
     going: Going<'r, S, O, R>,
 ) -> (Going<'r, S, O, R>, Result<(), PackFault>)
     requires each { length spare.items ≡ length settings.now.renditions }
-    requires on { (start : Start S O) × IsOn (input_of S.remaining S.reads S.failures) (outlet_of O.holds O.broken O.failures) settings.now start 0 going.course going.held.publisher (λ k. []) }
+    requires on { (start : Start S O) × IsOn S.input O.output settings.now start 0 going.course going.held.publisher (λ k. []) }
     requires workers { length going.books.workers.items ≡ workers }
     requires first { (going.books.rounds ≡ 0) × (going.books.right ≡ 0) }
-    ensures ok { OnOk result.1 ((start : Start S O) → IsOn (input_of S.remaining S.reads S.failures) (outlet_of O.holds O.broken O.failures) settings.now start 0 going.entry.course going.entry.held.publisher (λ k. []) → IsOn (input_of S.remaining S.reads S.failures) (outlet_of O.holds O.broken O.failures) settings.now start 0 result.0.course result.0.held.publisher (λ k. [])) }
-    ensures err { IfErr result.1 (λ fault. (start : Start S O) → IsOn (input_of S.remaining S.reads S.failures) (outlet_of O.holds O.broken O.failures) settings.now start 0 going.entry.course going.entry.held.publisher (λ k. []) → IsStopped (input_of S.remaining S.reads S.failures) (outlet_of O.holds O.broken O.failures) settings.now start result.0.course result.0.held.publisher fault) }
+    ensures ok { OnOk result.1 ((start : Start S O) → IsOn S.input O.output settings.now start 0 going.entry.course going.entry.held.publisher (λ k. []) → IsOn S.input O.output settings.now start 0 result.0.course result.0.held.publisher (λ k. [])) }
+    ensures err { IfErr result.1 (λ fault. (start : Start S O) → IsOn S.input O.output settings.now start 0 going.entry.course going.entry.held.publisher (λ k. []) → IsStopped S.input O.output settings.now start result.0.course result.0.held.publisher fault) }
     ensures all { OnOk result.1 (IsAllGiven result.0.course) }
     ensures right { OnOk result.1 (result.0.books.right ≤ sum (counts_of result.0.course.playlists.items)) }
     ensures workers { OnOk result.1 (length result.0.books.workers.items ≡ workers) }

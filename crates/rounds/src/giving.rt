@@ -3,7 +3,6 @@ ghost use Rattle.ladder_items.specs.Giving.{IsGoing, IsNext};
 ghost use Rattle.ladder_items.specs.Items.{Part};
 ghost use Rattle.ladder_items.specs.Ladder.{IsAllowed, rendition_at};
 ghost use Rattle.ladder_items.specs.Putting.{SaysFailures};
-ghost use Rattle.ladder_items.specs.Runs.{outlet_of};
 ghost use Rattle.ladder_items.specs.Weave.{End, Row};
 ghost use Rattle.ladder_items.specs.declared.fault.PackFault.TheVariants.{NoMemory};
 ghost use Rattle.live_board.specs.Counts.{NoneFalls, counts_shown};
@@ -30,19 +29,19 @@ pub fn give_piece<S: Source, O: Outlet, R: Wait>(
     course: &mut Course<S, O>,
     held: &mut HeldPublisher<'_, R>,
 ) -> Result<(), PackFault>
-    requires failures { O.failures course.old.outlet < 2 ^ 63 }
+    requires failures { O.output.failures course.old.outlet < 2 ^ 63 }
     requires allowed { IsAllowed settings.now }
     requires next { (parts : List Part) × IsNext settings.now r parts course.old.playlists.items piece.plan × (course.old.ended.items ≡ ends_of parts) }
     requires sealed { piece ≡ sealed_segment (rendition_at settings.now r).keys piece.plan }
     requires shows { counts_shown held.old.publisher.list ≡ counts_of course.old.playlists.items }
     ensures ok { OnOk result ((parts : List Part) → IsNext settings.now r parts course.old.playlists.items piece.entry.plan → course.old.ended.items ≡ ends_of parts →
-        Gave (outlet_of O.holds O.broken O.failures) settings.now parts (Row r piece.entry.plan) course.old course.new held.old.publisher.list held.new.publisher.list) }
+        Gave O.output settings.now parts (Row r piece.entry.plan) course.old course.new held.old.publisher.list held.new.publisher.list) }
     ensures err { OnErr result ((parts : List Part) → IsNext settings.now r parts course.old.playlists.items piece.entry.plan →
-        GaveSome (outlet_of O.holds O.broken O.failures) settings.now parts (Row r piece.entry.plan) course.old course.new held.old.publisher.list held.new.publisher.list) }
+        GaveSome O.output settings.now parts (Row r piece.entry.plan) course.old course.new held.old.publisher.list held.new.publisher.list) }
     ensures board { held.new.publisher.board ≡ held.old.publisher.board }
     ensures none_read { ReadsNone course.old course.new }
-    ensures failures { OnOk result (O.failures course.new.outlet ≡ O.failures course.old.outlet) }
-    ensures fault { IfErr result (λ fault. SaysFailures fault (O.failures course.old.outlet) (O.failures course.new.outlet)) }
+    ensures failures { OnOk result (O.output.failures course.new.outlet ≡ O.output.failures course.old.outlet) }
+    ensures fault { IfErr result (λ fault. SaysFailures fault (O.output.failures course.old.outlet) (O.output.failures course.new.outlet)) }
 {
     give_sealed(
         alloc,
@@ -65,19 +64,19 @@ pub fn give_its_end<S: Source, O: Outlet, R: Wait>(
     course: &mut Course<S, O>,
     held: &mut HeldPublisher<'_, R>,
 ) -> Result<(), PackFault>
-    requires failures { O.failures course.old.outlet < 2 ^ 63 }
+    requires failures { O.output.failures course.old.outlet < 2 ^ 63 }
     requires allowed { IsAllowed settings.now }
     requires next { (parts : List Part) × IsGoing settings.now r parts course.old.playlists.items × (course.old.ended.items ≡ ends_of parts) }
     requires shows { counts_shown held.old.publisher.list ≡ counts_of course.old.playlists.items }
     ensures ok { OnOk result ((parts : List Part) → IsGoing settings.now r parts course.old.playlists.items → course.old.ended.items ≡ ends_of parts →
-        Gave (outlet_of O.holds O.broken O.failures) settings.now parts (End r) course.old course.new held.old.publisher.list held.new.publisher.list) }
+        Gave O.output settings.now parts (End r) course.old course.new held.old.publisher.list held.new.publisher.list) }
     ensures err { OnErr result ((parts : List Part) → IsGoing settings.now r parts course.old.playlists.items →
-        GaveSome (outlet_of O.holds O.broken O.failures) settings.now parts (End r) course.old course.new held.old.publisher.list held.new.publisher.list) }
+        GaveSome O.output settings.now parts (End r) course.old course.new held.old.publisher.list held.new.publisher.list) }
     ensures board { held.new.publisher.board ≡ held.old.publisher.board }
     ensures none_read { ReadsNone course.old course.new }
     ensures playlists { course.new.playlists ≡ course.old.playlists }
-    ensures failures { OnOk result (O.failures course.new.outlet ≡ O.failures course.old.outlet) }
-    ensures fault { IfErr result (λ fault. SaysFailures fault (O.failures course.old.outlet) (O.failures course.new.outlet)) }
+    ensures failures { OnOk result (O.output.failures course.new.outlet ≡ O.output.failures course.old.outlet) }
+    ensures fault { IfErr result (λ fault. SaysFailures fault (O.output.failures course.old.outlet) (O.output.failures course.new.outlet)) }
 {
     give_end(&mut course.outlet, settings, r, &course.playlists)?;
     course.ended[r] = true;

@@ -1,6 +1,5 @@
 ghost use Rattle.std.specs.Prelude.{◌≡◌, ◌⊎◌, ◌<◌, ◌≤◌, ◌^◌, Err, IfErr, IfOk, OnOk, length};
-ghost use Rattle.ingest.specs.Inputs.{input_of};
-ghost use Rattle.ladder_items.specs.Runs.{outlet_of, run_of};
+ghost use Rattle.ladder_items.specs.Runs.{run_of};
 ghost use Rattle.ladder_items.specs.World.{HaveRoom};
 ghost use Rattle.ladder_items.specs.declared.fault.PackFault.TheVariants.{NoMemory, Settings as SettingsFault};
 ghost use Rattle.live_board.specs.Counts.{counts_shown};
@@ -41,13 +40,13 @@ pub fn pack_parallel<S: Source + Drop, O: Outlet + Drop, G: Gate + Sync, R: Thre
     publisher: Publisher,
     outlet: O,
 ) -> Ran<S, O>
-    requires room { HaveRoom (input_of S.remaining S.reads S.failures) READS sources.items }
-    requires failures { O.failures outlet < 2 ^ 63 }
-    ensures ok { IfOk result.answer (IsPackedShown (run_of (input_of S.remaining S.reads S.failures) (outlet_of O.holds O.broken O.failures) READS sources.items result.sources.items outlet result.outlet) settings.now workers publisher.list result.publisher.list) }
-    ensures fault { IfErr result.answer (FaultSaysShown (run_of (input_of S.remaining S.reads S.failures) (outlet_of O.holds O.broken O.failures) READS sources.items result.sources.items outlet result.outlet) settings.now workers publisher.list result.publisher.list) }
+    requires room { HaveRoom S.input READS sources.items }
+    requires failures { O.output.failures outlet < 2 ^ 63 }
+    ensures ok { IfOk result.answer (IsPackedShown (run_of S.input O.output READS sources.items result.sources.items outlet result.outlet) settings.now workers publisher.list result.publisher.list) }
+    ensures fault { IfErr result.answer (FaultSaysShown (run_of S.input O.output READS sources.items result.sources.items outlet result.outlet) settings.now workers publisher.list result.publisher.list) }
     ensures board { result.publisher.board ≡ publisher.board }
     ensures fits { OnOk result.answer (Fits settings.now (length sources.items) workers (counts_shown publisher.list)) }
-    ensures breach { IfErr result.answer (IsTurnedAway (run_of (input_of S.remaining S.reads S.failures) (outlet_of O.holds O.broken O.failures) READS sources.items result.sources.items outlet result.outlet) settings.now workers publisher.list result.publisher.list) }
+    ensures breach { IfErr result.answer (IsTurnedAway (run_of S.input O.output READS sources.items result.sources.items outlet result.outlet) settings.now workers publisher.list result.publisher.list) }
 {
     pack_parallel_reads(
         rt, alloc, sources, settings, workers, gate, publisher, outlet, READS,
@@ -75,13 +74,13 @@ pub fn pack_parallel_reads<
 ) -> Ran<S, O>
     requires least { 1 ≤ reads }
     requires most { reads ≤ READS }
-    requires room { HaveRoom (input_of S.remaining S.reads S.failures) reads sources.items }
-    requires failures { O.failures outlet < 2 ^ 63 }
-    ensures ok { IfOk result.answer (IsPackedShown (run_of (input_of S.remaining S.reads S.failures) (outlet_of O.holds O.broken O.failures) reads sources.items result.sources.items outlet result.outlet) settings.now workers publisher.list result.publisher.list) }
-    ensures fault { IfErr result.answer (FaultSaysShown (run_of (input_of S.remaining S.reads S.failures) (outlet_of O.holds O.broken O.failures) reads sources.items result.sources.items outlet result.outlet) settings.now workers publisher.list result.publisher.list) }
+    requires room { HaveRoom S.input reads sources.items }
+    requires failures { O.output.failures outlet < 2 ^ 63 }
+    ensures ok { IfOk result.answer (IsPackedShown (run_of S.input O.output reads sources.items result.sources.items outlet result.outlet) settings.now workers publisher.list result.publisher.list) }
+    ensures fault { IfErr result.answer (FaultSaysShown (run_of S.input O.output reads sources.items result.sources.items outlet result.outlet) settings.now workers publisher.list result.publisher.list) }
     ensures board { result.publisher.board ≡ publisher.board }
     ensures fits { OnOk result.answer (Fits settings.now (length sources.items) workers (counts_shown publisher.list)) }
-    ensures breach { IfErr result.answer (IsTurnedAway (run_of (input_of S.remaining S.reads S.failures) (outlet_of O.holds O.broken O.failures) reads sources.items result.sources.items outlet result.outlet) settings.now workers publisher.list result.publisher.list) }
+    ensures breach { IfErr result.answer (IsTurnedAway (run_of S.input O.output reads sources.items result.sources.items outlet result.outlet) settings.now workers publisher.list result.publisher.list) }
 {
     pack_in_batches(
         rt, alloc, sources, settings, workers, gate, publisher, outlet, reads, None,
@@ -114,13 +113,13 @@ pub fn pack_in_batches<
 ) -> Ran<S, O>
     requires least { 1 ≤ reads }
     requires most { reads ≤ READS }
-    requires room { HaveRoom (input_of S.remaining S.reads S.failures) reads sources.items }
-    requires failures { O.failures outlet < 2 ^ 63 }
-    ensures ok { IfOk result.answer (IsPackedShown (run_of (input_of S.remaining S.reads S.failures) (outlet_of O.holds O.broken O.failures) reads sources.items result.sources.items outlet result.outlet) settings.now workers publisher.list result.publisher.list) }
-    ensures fault { IfErr result.answer (FaultSaysShown (run_of (input_of S.remaining S.reads S.failures) (outlet_of O.holds O.broken O.failures) reads sources.items result.sources.items outlet result.outlet) settings.now workers publisher.list result.publisher.list) }
+    requires room { HaveRoom S.input reads sources.items }
+    requires failures { O.output.failures outlet < 2 ^ 63 }
+    ensures ok { IfOk result.answer (IsPackedShown (run_of S.input O.output reads sources.items result.sources.items outlet result.outlet) settings.now workers publisher.list result.publisher.list) }
+    ensures fault { IfErr result.answer (FaultSaysShown (run_of S.input O.output reads sources.items result.sources.items outlet result.outlet) settings.now workers publisher.list result.publisher.list) }
     ensures board { result.publisher.board ≡ publisher.board }
     ensures fits { OnOk result.answer (Fits settings.now (length sources.items) workers (counts_shown publisher.list)) }
-    ensures breach { IfErr result.answer (IsTurnedAway (run_of (input_of S.remaining S.reads S.failures) (outlet_of O.holds O.broken O.failures) reads sources.items result.sources.items outlet result.outlet) settings.now workers publisher.list result.publisher.list) }
+    ensures breach { IfErr result.answer (IsTurnedAway (run_of S.input O.output reads sources.items result.sources.items outlet result.outlet) settings.now workers publisher.list result.publisher.list) }
 {
     match begin(alloc, settings, sources.len(), workers, &publisher) {
         Ok(first) => {
@@ -163,8 +162,8 @@ fn unbegun<S: Source, O: Outlet>(
 ) -> Ran<S, O>
     requires fault { (fault ≡ SettingsFault) × (Fits settings.now (length sources.items) workers (counts_shown publisher.list) → ⊥) ⊎ ((fault ≡ NoMemory) × FitsThreads settings.now workers (counts_shown publisher.list)) }
     ensures answer { result.answer ≡ Err fault }
-    ensures fault { FaultSaysShown (run_of (input_of S.remaining S.reads S.failures) (outlet_of O.holds O.broken O.failures) reads sources.items result.sources.items outlet result.outlet) settings.now workers publisher.list result.publisher.list fault }
-    ensures breach { IsTurnedAway (run_of (input_of S.remaining S.reads S.failures) (outlet_of O.holds O.broken O.failures) reads sources.items result.sources.items outlet result.outlet) settings.now workers publisher.list result.publisher.list fault }
+    ensures fault { FaultSaysShown (run_of S.input O.output reads sources.items result.sources.items outlet result.outlet) settings.now workers publisher.list result.publisher.list fault }
+    ensures breach { IsTurnedAway (run_of S.input O.output reads sources.items result.sources.items outlet result.outlet) settings.now workers publisher.list result.publisher.list fault }
     ensures board { result.publisher.board ≡ publisher.board }
 {
     Ran {

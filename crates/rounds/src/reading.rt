@@ -1,9 +1,7 @@
 ghost use Rattle.std.specs.Prelude.{◌≡◌, ◌+◌, ◌<◌, ◌≤◌, [], ℕ, List, OnErr, OnOk, Some, true, false, length, slice_get};
 ghost use Rattle.cutter.specs.Plans.{SegmentPlan};
-ghost use Rattle.ingest.specs.Inputs.{input_of};
 ghost use Rattle.ingest.specs.declared.lane.Lane.{Lane};
 ghost use Rattle.ladder_items.specs.Ladder.{Ladder};
-ghost use Rattle.ladder_items.specs.Runs.{outlet_of};
 ghost use Rattle.ladder_items.specs.declared.fault.PackFault.TheVariants.{NoMemory};
 ghost use Rattle.live_board.specs.Snapshots.{Known};
 ghost use Rattle.rounds.specs.Courses.{HasClosed, HasEnough, IsOn, IsStopped, Start};
@@ -26,9 +24,9 @@ fn read_one<S: Source, O: Outlet>(
     requires short { length buffer.old ≤ PIECE }
     requires below { course.old.turns < course.old.reads }
     requires within { r < length course.old.lanes.items }
-    requires on { (ladder : Ladder) × (start : Start S O) × (shows : Known) × (waiting : ℕ → List SegmentPlan) × IsOn (input_of S.remaining S.reads S.failures) (outlet_of O.holds O.broken O.failures) ladder start r course.old shows waiting }
-    ensures ok { OnOk result ((ladder : Ladder) (start : Start S O) (shows : Known) (waiting : ℕ → List SegmentPlan) → IsOn (input_of S.remaining S.reads S.failures) (outlet_of O.holds O.broken O.failures) ladder start r course.old shows waiting → IsOn (input_of S.remaining S.reads S.failures) (outlet_of O.holds O.broken O.failures) ladder start (r + 1) course.new shows waiting) }
-    ensures err { OnErr result ((ladder : Ladder) (start : Start S O) (shows : Known) (waiting : ℕ → List SegmentPlan) → IsOn (input_of S.remaining S.reads S.failures) (outlet_of O.holds O.broken O.failures) ladder start r course.old shows waiting → IsStopped (input_of S.remaining S.reads S.failures) (outlet_of O.holds O.broken O.failures) ladder start course.new shows NoMemory) }
+    requires on { (ladder : Ladder) × (start : Start S O) × (shows : Known) × (waiting : ℕ → List SegmentPlan) × IsOn S.input O.output ladder start r course.old shows waiting }
+    ensures ok { OnOk result ((ladder : Ladder) (start : Start S O) (shows : Known) (waiting : ℕ → List SegmentPlan) → IsOn S.input O.output ladder start r course.old shows waiting → IsOn S.input O.output ladder start (r + 1) course.new shows waiting) }
+    ensures err { OnErr result ((ladder : Ladder) (start : Start S O) (shows : Known) (waiting : ℕ → List SegmentPlan) → IsOn S.input O.output ladder start r course.old shows waiting → IsStopped S.input O.output ladder start course.new shows NoMemory) }
     ensures same { course.new ≡ record course.old { sources = course.new.sources; lanes = course.new.lanes } }
     ensures count { length course.new.lanes.items ≡ length course.old.lanes.items }
 {
@@ -47,9 +45,9 @@ pub fn read_turn<S: Source, O: Outlet>(
     requires some { 0 < length buffer.old }
     requires short { length buffer.old ≤ PIECE }
     requires below { course.old.turns < course.old.reads }
-    requires on { (ladder : Ladder) × (start : Start S O) × (shows : Known) × (waiting : ℕ → List SegmentPlan) × IsOn (input_of S.remaining S.reads S.failures) (outlet_of O.holds O.broken O.failures) ladder start 0 course.old shows waiting }
-    ensures ok { OnOk result ((ladder : Ladder) (start : Start S O) (shows : Known) (waiting : ℕ → List SegmentPlan) → IsOn (input_of S.remaining S.reads S.failures) (outlet_of O.holds O.broken O.failures) ladder start 0 course.old shows waiting → IsOn (input_of S.remaining S.reads S.failures) (outlet_of O.holds O.broken O.failures) ladder start 0 course.new shows waiting) }
-    ensures err { OnErr result ((ladder : Ladder) (start : Start S O) (shows : Known) (waiting : ℕ → List SegmentPlan) → IsOn (input_of S.remaining S.reads S.failures) (outlet_of O.holds O.broken O.failures) ladder start 0 course.old shows waiting → IsStopped (input_of S.remaining S.reads S.failures) (outlet_of O.holds O.broken O.failures) ladder start course.new shows NoMemory) }
+    requires on { (ladder : Ladder) × (start : Start S O) × (shows : Known) × (waiting : ℕ → List SegmentPlan) × IsOn S.input O.output ladder start 0 course.old shows waiting }
+    ensures ok { OnOk result ((ladder : Ladder) (start : Start S O) (shows : Known) (waiting : ℕ → List SegmentPlan) → IsOn S.input O.output ladder start 0 course.old shows waiting → IsOn S.input O.output ladder start 0 course.new shows waiting) }
+    ensures err { OnErr result ((ladder : Ladder) (start : Start S O) (shows : Known) (waiting : ℕ → List SegmentPlan) → IsOn S.input O.output ladder start 0 course.old shows waiting → IsStopped S.input O.output ladder start course.new shows NoMemory) }
     ensures same { OnOk result (course.new ≡ record course.old { sources = course.new.sources; lanes = course.new.lanes; turns = course.old.turns + 1 }) }
 {
     for r in 0..course.lanes.len() {
@@ -67,9 +65,9 @@ pub fn read_first<S: Source, O: Outlet>(
 ) -> Result<(), AllocError>
     requires some { 0 < length buffer.old }
     requires short { length buffer.old ≤ PIECE }
-    requires on { (ladder : Ladder) × (start : Start S O) × (shows : Known) × (waiting : ℕ → List SegmentPlan) × IsOn (input_of S.remaining S.reads S.failures) (outlet_of O.holds O.broken O.failures) ladder start 0 course.old shows waiting }
-    ensures ok { OnOk result ((ladder : Ladder) (start : Start S O) (shows : Known) (waiting : ℕ → List SegmentPlan) → IsOn (input_of S.remaining S.reads S.failures) (outlet_of O.holds O.broken O.failures) ladder start 0 course.old shows waiting → IsOn (input_of S.remaining S.reads S.failures) (outlet_of O.holds O.broken O.failures) ladder start 0 course.new shows waiting) }
-    ensures err { OnErr result ((ladder : Ladder) (start : Start S O) (shows : Known) (waiting : ℕ → List SegmentPlan) → IsOn (input_of S.remaining S.reads S.failures) (outlet_of O.holds O.broken O.failures) ladder start 0 course.old shows waiting → IsStopped (input_of S.remaining S.reads S.failures) (outlet_of O.holds O.broken O.failures) ladder start course.new shows NoMemory) }
+    requires on { (ladder : Ladder) × (start : Start S O) × (shows : Known) × (waiting : ℕ → List SegmentPlan) × IsOn S.input O.output ladder start 0 course.old shows waiting }
+    ensures ok { OnOk result ((ladder : Ladder) (start : Start S O) (shows : Known) (waiting : ℕ → List SegmentPlan) → IsOn S.input O.output ladder start 0 course.old shows waiting → IsOn S.input O.output ladder start 0 course.new shows waiting) }
+    ensures err { OnErr result ((ladder : Ladder) (start : Start S O) (shows : Known) (waiting : ℕ → List SegmentPlan) → IsOn S.input O.output ladder start 0 course.old shows waiting → IsStopped S.input O.output ladder start course.new shows NoMemory) }
     ensures enough { OnOk result (HasEnough course.new) }
 {
     while !has_enough(course, batch) {

@@ -1,8 +1,6 @@
 ghost use Rattle.std.specs.Prelude.{◌≡◌, ◌≢◌, ◌<◌, ℕ, IfErr, IfOk, OnOk, false, true};
 ghost use Rattle.flow_core.specs.Gatherings.{awaited, lane_at};
 ghost use Rattle.flow_core.specs.Slots.{leading};
-ghost use Rattle.ingest.specs.Inputs.{input_of};
-ghost use Rattle.ladder_items.specs.Runs.{outlet_of};
 ghost use Rattle.rounds.specs.Courses.{ReadsNone};
 ghost use Rattle.rounds.specs.Rounds.{Breaks, IsSomewhere, Moves, NoneReady, gathered};
 
@@ -25,9 +23,9 @@ fn give_next<S: Source, O: Outlet, R: Wait>(
     held: &mut HeldPublisher<'_, R>,
     collector: &mut Collector<'_>,
 ) -> Result<bool, PackFault>
-    requires somewhere { IsSomewhere (input_of S.remaining S.reads S.failures) (outlet_of O.holds O.broken O.failures) settings.now course.old held.old.publisher collector.old }
-    ensures ok { OnOk result (Moves (input_of S.remaining S.reads S.failures) (outlet_of O.holds O.broken O.failures) settings.now course.old held.old.publisher collector.old course.new held.new.publisher collector.new) }
-    ensures err { IfErr result (Breaks (input_of S.remaining S.reads S.failures) (outlet_of O.holds O.broken O.failures) settings.now course.old held.old.publisher collector.old course.new held.new.publisher) }
+    requires somewhere { IsSomewhere S.input O.output settings.now course.old held.old.publisher collector.old }
+    ensures ok { OnOk result (Moves S.input O.output settings.now course.old held.old.publisher collector.old course.new held.new.publisher collector.new) }
+    ensures err { IfErr result (Breaks S.input O.output settings.now course.old held.old.publisher collector.old course.new held.new.publisher) }
     ensures none_read { ReadsNone course.old course.new }
     ensures gathered { OnOk result (gathered collector.new.lanes ≡ gathered collector.old.lanes) }
     ensures fewer { IfOk result (λ any. any ≡ true → awaited collector.new.lanes < awaited collector.old.lanes) }
@@ -51,9 +49,9 @@ fn give_ready<S: Source, O: Outlet, R: Wait>(
     held: &mut HeldPublisher<'_, R>,
     collector: &mut Collector<'_>,
 ) -> Result<(), PackFault>
-    requires somewhere { IsSomewhere (input_of S.remaining S.reads S.failures) (outlet_of O.holds O.broken O.failures) settings.now course.old held.old.publisher collector.old }
-    ensures ok { OnOk result (Moves (input_of S.remaining S.reads S.failures) (outlet_of O.holds O.broken O.failures) settings.now course.old held.old.publisher collector.old course.new held.new.publisher collector.new) }
-    ensures err { IfErr result (Breaks (input_of S.remaining S.reads S.failures) (outlet_of O.holds O.broken O.failures) settings.now course.old held.old.publisher collector.old course.new held.new.publisher) }
+    requires somewhere { IsSomewhere S.input O.output settings.now course.old held.old.publisher collector.old }
+    ensures ok { OnOk result (Moves S.input O.output settings.now course.old held.old.publisher collector.old course.new held.new.publisher collector.new) }
+    ensures err { IfErr result (Breaks S.input O.output settings.now course.old held.old.publisher collector.old course.new held.new.publisher) }
     ensures none_read { ReadsNone course.old course.new }
     ensures gathered { OnOk result (gathered collector.new.lanes ≡ gathered collector.old.lanes) }
     ensures dry { OnOk result (leading (lane_at collector.new r).slots ≡ 0) }
@@ -72,9 +70,9 @@ pub fn give_all_ready<S: Source, O: Outlet, R: Wait>(
     held: &mut HeldPublisher<'_, R>,
     collector: &mut Collector<'_>,
 ) -> Result<(), PackFault>
-    requires somewhere { IsSomewhere (input_of S.remaining S.reads S.failures) (outlet_of O.holds O.broken O.failures) settings.now course.old held.old.publisher collector.old }
-    ensures ok { OnOk result (Moves (input_of S.remaining S.reads S.failures) (outlet_of O.holds O.broken O.failures) settings.now course.old held.old.publisher collector.old course.new held.new.publisher collector.new) }
-    ensures err { IfErr result (Breaks (input_of S.remaining S.reads S.failures) (outlet_of O.holds O.broken O.failures) settings.now course.old held.old.publisher collector.old course.new held.new.publisher) }
+    requires somewhere { IsSomewhere S.input O.output settings.now course.old held.old.publisher collector.old }
+    ensures ok { OnOk result (Moves S.input O.output settings.now course.old held.old.publisher collector.old course.new held.new.publisher collector.new) }
+    ensures err { IfErr result (Breaks S.input O.output settings.now course.old held.old.publisher collector.old course.new held.new.publisher) }
     ensures none_read { ReadsNone course.old course.new }
     ensures gathered { OnOk result (gathered collector.new.lanes ≡ gathered collector.old.lanes) }
     ensures dry { OnOk result (NoneReady collector.new) }

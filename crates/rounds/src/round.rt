@@ -1,6 +1,4 @@
 ghost use Rattle.std.specs.Prelude.{◌≡◌, ◌<◌, ◌^◌, IfErr, OnOk, length};
-ghost use Rattle.ingest.specs.Inputs.{input_of};
-ghost use Rattle.ladder_items.specs.Runs.{outlet_of};
 ghost use Rattle.rounds.specs.Courses.{IsOn, Start};
 ghost use Rattle.rounds.specs.Rounds.{IsBroken, IsRound, unfed_of};
 
@@ -33,11 +31,11 @@ pub fn run_round<'r, S: Source + Drop, O: Outlet + Drop, G: Gate + Sync, R: Thre
     going: Going<'r, S, O, R>,
 ) -> (Going<'r, S, O, R>, Result<(), PackFault>)
     requires each { length spools.now ≡ length settings.now.renditions }
-    requires on { (start : Start S O) × IsOn (input_of S.remaining S.reads S.failures) (outlet_of O.holds O.broken O.failures) settings.now start 0 going.course going.held.publisher (unfed_of spools.now) }
+    requires on { (start : Start S O) × IsOn S.input O.output settings.now start 0 going.course going.held.publisher (unfed_of spools.now) }
     requires workers { length going.books.workers.items ≡ workers }
     requires rounds { going.books.rounds < 2 ^ 41 }
-    ensures ok { OnOk result.1 (IsRound (input_of S.remaining S.reads S.failures) (outlet_of O.holds O.broken O.failures) settings.now spools.now going.entry.course going.entry.held.publisher going.entry.books result.0.course result.0.held.publisher result.0.books) }
-    ensures err { IfErr result.1 (IsBroken (input_of S.remaining S.reads S.failures) (outlet_of O.holds O.broken O.failures) settings.now spools.now going.entry.course going.entry.held.publisher result.0.course result.0.held.publisher) }
+    ensures ok { OnOk result.1 (IsRound S.input O.output settings.now spools.now going.entry.course going.entry.held.publisher going.entry.books result.0.course result.0.held.publisher result.0.books) }
+    ensures err { IfErr result.1 (IsBroken S.input O.output settings.now spools.now going.entry.course going.entry.held.publisher result.0.course result.0.held.publisher) }
 {
     round_with::<S, O, G, Brand, Brand, R>(
         rt,
@@ -77,13 +75,13 @@ fn round_with<
     going: Going<'r, S, O, R>,
 ) -> (Going<'r, S, O, R>, Result<(), PackFault>)
     requires each { length spools.now ≡ length settings.now.renditions }
-    requires on { (start : Start S O) × IsOn (input_of S.remaining S.reads S.failures) (outlet_of O.holds O.broken O.failures) settings.now start 0 going.course going.held.publisher (unfed_of spools.now) }
+    requires on { (start : Start S O) × IsOn S.input O.output settings.now start 0 going.course going.held.publisher (unfed_of spools.now) }
     requires workers { length going.books.workers.items ≡ workers }
     requires rounds { going.books.rounds < 2 ^ 41 }
     requires claims { (claims.name ≡ L.name) × (claims.parts ≡ L.parts) × (L.parts ≡ workers) }
     requires takes { (takes.name ≡ M.name) × (takes.parts ≡ M.parts) × (M.parts ≡ 1) }
-    ensures ok { OnOk result.1 (IsRound (input_of S.remaining S.reads S.failures) (outlet_of O.holds O.broken O.failures) settings.now spools.now going.entry.course going.entry.held.publisher going.entry.books result.0.course result.0.held.publisher result.0.books) }
-    ensures err { IfErr result.1 (IsBroken (input_of S.remaining S.reads S.failures) (outlet_of O.holds O.broken O.failures) settings.now spools.now going.entry.course going.entry.held.publisher result.0.course result.0.held.publisher) }
+    ensures ok { OnOk result.1 (IsRound S.input O.output settings.now spools.now going.entry.course going.entry.held.publisher going.entry.books result.0.course result.0.held.publisher result.0.books) }
+    ensures err { IfErr result.1 (IsBroken S.input O.output settings.now spools.now going.entry.course going.entry.held.publisher result.0.course result.0.held.publisher) }
 {
     let Ok(counts) = no_counts(alloc, workers) else {
         return (going, Err(PackFault::NoMemory));

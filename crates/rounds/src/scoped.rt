@@ -1,6 +1,4 @@
 ghost use Rattle.std.specs.Prelude.{◌≡◌, ◌+◌, ◌<◌, ◌^◌, IfErr, OnOk, length, sum, vec_len};
-ghost use Rattle.ingest.specs.Inputs.{input_of};
-ghost use Rattle.ladder_items.specs.Runs.{outlet_of};
 ghost use Rattle.rounds.specs.Courses.{IsOn, Start};
 ghost use Rattle.rounds.specs.Rounds.{IsBroken, IsRound, unfed_of};
 
@@ -45,25 +43,25 @@ pub fn in_scope<
 ) -> (Going<'r, S, O, R>, Result<(), PackFault>)
     requires each { length spools.now ≡ length settings.now.renditions }
     requires unused { pass.count ≡ 0 }
-    requires on { (start : Start S O) × IsOn (input_of S.remaining S.reads S.failures) (outlet_of O.holds O.broken O.failures) settings.now start 0 going.course going.held.publisher (unfed_of spools.now) }
+    requires on { (start : Start S O) × IsOn S.input O.output settings.now start 0 going.course going.held.publisher (unfed_of spools.now) }
     requires parts { rest.parts + vec_len passes ≡ L.parts }
     requires none { (rest.amount ≡ 0) × (M.parts ≡ 1) }
     requires claims { (sum claims.items ≡ 0) × (length claims.items ≡ vec_len passes) × (length claims.items ≡ length going.books.workers.items) }
     requires rounds { going.books.rounds < 2 ^ 41 }
-    ensures ok { OnOk result.1 (IsRound (input_of S.remaining S.reads S.failures) (outlet_of O.holds O.broken O.failures) settings.now spools.now going.entry.course going.entry.held.publisher going.entry.books result.0.course result.0.held.publisher result.0.books) }
-    ensures err { IfErr result.1 (IsBroken (input_of S.remaining S.reads S.failures) (outlet_of O.holds O.broken O.failures) settings.now spools.now going.entry.course going.entry.held.publisher result.0.course result.0.held.publisher) }
+    ensures ok { OnOk result.1 (IsRound S.input O.output settings.now spools.now going.entry.course going.entry.held.publisher going.entry.books result.0.course result.0.held.publisher result.0.books) }
+    ensures err { IfErr result.1 (IsBroken S.input O.output settings.now spools.now going.entry.course going.entry.held.publisher result.0.course result.0.held.publisher) }
 {
     thread::scope(
         thread::scope_env(),
         rt,
         |scope| -> (Going<'_, S, O, R>, Result<(), PackFault>)
             requires { (length spools.now ≡ length settings.now.renditions) × (pass.count ≡ 0)
-                × ((start : Start S O) × IsOn (input_of S.remaining S.reads S.failures) (outlet_of O.holds O.broken O.failures) settings.now start 0 going.course going.held.publisher (unfed_of spools.now))
+                × ((start : Start S O) × IsOn S.input O.output settings.now start 0 going.course going.held.publisher (unfed_of spools.now))
                 × (rest.parts + vec_len passes ≡ L.parts) × (rest.amount ≡ 0) × (M.parts ≡ 1)
                 × (sum claims.items ≡ 0) × (length claims.items ≡ vec_len passes) × (length claims.items ≡ length going.books.workers.items)
                 × (going.books.rounds < 2 ^ 41) }
-            ensures ok { OnOk result.1 (IsRound (input_of S.remaining S.reads S.failures) (outlet_of O.holds O.broken O.failures) settings.entry.now spools.entry.now going.entry.course going.entry.held.publisher going.entry.books result.0.course result.0.held.publisher result.0.books) }
-            ensures err { IfErr result.1 (IsBroken (input_of S.remaining S.reads S.failures) (outlet_of O.holds O.broken O.failures) settings.entry.now spools.entry.now going.entry.course going.entry.held.publisher result.0.course result.0.held.publisher) }
+            ensures ok { OnOk result.1 (IsRound S.input O.output settings.entry.now spools.entry.now going.entry.course going.entry.held.publisher going.entry.books result.0.course result.0.held.publisher result.0.books) }
+            ensures err { IfErr result.1 (IsBroken S.input O.output settings.entry.now spools.entry.now going.entry.course going.entry.held.publisher result.0.course result.0.held.publisher) }
         {
             let workers = passes.len();
             let mut running: Vec<JoinHandle<Tally<L>>> = Vec::new(alloc);

@@ -1,7 +1,5 @@
 ghost use Rattle.std.specs.Prelude.{◌≡◌, ◌+◌, ◌<◌, ◌≤◌, ℕ, IfErr, IfNone, IfSome, OnOk};
 ghost use Rattle.flow_core.specs.Gatherings.{awaited};
-ghost use Rattle.ingest.specs.Inputs.{input_of};
-ghost use Rattle.ladder_items.specs.Runs.{outlet_of};
 ghost use Rattle.rounds.specs.Courses.{IsHeld, ReadsNone, SaysSudden};
 ghost use Rattle.rounds.specs.Rounds.{Breaks, HasKeys, IsSomewhere, Keeps, Moves, NoneReady, gathered};
 
@@ -99,9 +97,9 @@ pub fn take_and_give<'s, S: Source, O: Outlet, L: Ledger, M: Ledger, R: Wait>(
     held: &mut HeldPublisher<'_, R>,
     collector: &mut Collector<'s>,
 ) -> Result<(), PackFault>
-    requires somewhere { IsSomewhere (input_of S.remaining S.reads S.failures) (outlet_of O.holds O.broken O.failures) settings.now course.old held.old.publisher collector.old }
-    ensures ok { OnOk result (Moves (input_of S.remaining S.reads S.failures) (outlet_of O.holds O.broken O.failures) settings.now course.old held.old.publisher collector.old course.new held.new.publisher collector.new) }
-    ensures err { IfErr result (Breaks (input_of S.remaining S.reads S.failures) (outlet_of O.holds O.broken O.failures) settings.now course.old held.old.publisher collector.old course.new held.new.publisher) }
+    requires somewhere { IsSomewhere S.input O.output settings.now course.old held.old.publisher collector.old }
+    ensures ok { OnOk result (Moves S.input O.output settings.now course.old held.old.publisher collector.old course.new held.new.publisher collector.new) }
+    ensures err { IfErr result (Breaks S.input O.output settings.now course.old held.old.publisher collector.old course.new held.new.publisher) }
     ensures none_read { ReadsNone course.old course.new }
     ensures fair { OnOk result (taker.new.right + gathered collector.old.lanes ≤ taker.old.right + gathered collector.new.lanes) }
     ensures dry { OnOk result (NoneReady collector.new) }
@@ -142,9 +140,9 @@ fn wait_and_give<'s, S: Source, O: Outlet, L: Ledger, M: Ledger, R: Wait>(
     held: &mut HeldPublisher<'_, R>,
     collector: &mut Collector<'s>,
 ) -> Result<(), PackFault>
-    requires somewhere { IsSomewhere (input_of S.remaining S.reads S.failures) (outlet_of O.holds O.broken O.failures) settings.now course.old held.old.publisher collector.old }
-    ensures ok { OnOk result (Moves (input_of S.remaining S.reads S.failures) (outlet_of O.holds O.broken O.failures) settings.now course.old held.old.publisher collector.old course.new held.new.publisher collector.new) }
-    ensures err { IfErr result (Breaks (input_of S.remaining S.reads S.failures) (outlet_of O.holds O.broken O.failures) settings.now course.old held.old.publisher collector.old course.new held.new.publisher) }
+    requires somewhere { IsSomewhere S.input O.output settings.now course.old held.old.publisher collector.old }
+    ensures ok { OnOk result (Moves S.input O.output settings.now course.old held.old.publisher collector.old course.new held.new.publisher collector.new) }
+    ensures err { IfErr result (Breaks S.input O.output settings.now course.old held.old.publisher collector.old course.new held.new.publisher) }
     ensures none_read { ReadsNone course.old course.new }
     ensures fair { OnOk result (taker.new.right + gathered collector.old.lanes ≤ taker.old.right + gathered collector.new.lanes) }
 {
@@ -164,9 +162,9 @@ pub fn make_room<'s, S: Source, O: Outlet, L: Ledger, M: Ledger, R: Wait>(
     held: &mut HeldPublisher<'_, R>,
     collector: &mut Collector<'s>,
 ) -> Result<(), PackFault>
-    requires somewhere { IsSomewhere (input_of S.remaining S.reads S.failures) (outlet_of O.holds O.broken O.failures) settings.now course.old held.old.publisher collector.old }
-    ensures ok { OnOk result (Moves (input_of S.remaining S.reads S.failures) (outlet_of O.holds O.broken O.failures) settings.now course.old held.old.publisher collector.old course.new held.new.publisher collector.new) }
-    ensures err { IfErr result (Breaks (input_of S.remaining S.reads S.failures) (outlet_of O.holds O.broken O.failures) settings.now course.old held.old.publisher collector.old course.new held.new.publisher) }
+    requires somewhere { IsSomewhere S.input O.output settings.now course.old held.old.publisher collector.old }
+    ensures ok { OnOk result (Moves S.input O.output settings.now course.old held.old.publisher collector.old course.new held.new.publisher collector.new) }
+    ensures err { IfErr result (Breaks S.input O.output settings.now course.old held.old.publisher collector.old course.new held.new.publisher) }
     ensures none_read { ReadsNone course.old course.new }
     ensures fair { OnOk result (taker.new.right + gathered collector.old.lanes ≤ taker.old.right + gathered collector.new.lanes) }
     ensures room { OnOk result (awaited collector.new.lanes < collector.new.most) }
@@ -191,9 +189,9 @@ pub fn give_expected<'s, S: Source, O: Outlet, L: Ledger, M: Ledger, R: Wait>(
     held: &mut HeldPublisher<'_, R>,
     collector: &mut Collector<'s>,
 ) -> Result<(), PackFault>
-    requires somewhere { IsSomewhere (input_of S.remaining S.reads S.failures) (outlet_of O.holds O.broken O.failures) settings.now course.old held.old.publisher collector.old }
-    ensures ok { OnOk result (Moves (input_of S.remaining S.reads S.failures) (outlet_of O.holds O.broken O.failures) settings.now course.old held.old.publisher collector.old course.new held.new.publisher collector.new) }
-    ensures err { IfErr result (Breaks (input_of S.remaining S.reads S.failures) (outlet_of O.holds O.broken O.failures) settings.now course.old held.old.publisher collector.old course.new held.new.publisher) }
+    requires somewhere { IsSomewhere S.input O.output settings.now course.old held.old.publisher collector.old }
+    ensures ok { OnOk result (Moves S.input O.output settings.now course.old held.old.publisher collector.old course.new held.new.publisher collector.new) }
+    ensures err { IfErr result (Breaks S.input O.output settings.now course.old held.old.publisher collector.old course.new held.new.publisher) }
     ensures none_read { ReadsNone course.old course.new }
     ensures fair { OnOk result (taker.new.right + gathered collector.old.lanes ≤ taker.old.right + gathered collector.new.lanes) }
     ensures all { OnOk result (awaited collector.new.lanes ≡ 0) }

@@ -1,9 +1,7 @@
 ghost use Rattle.std.specs.Prelude.{◌≡◌, ◌+◌, ◌<◌, ◌≤◌, [], ℕ, IfErr, IfOk, OnErr, OnOk, Some, false, length, slice_get, slice_index_or, sum};
-ghost use Rattle.ingest.specs.Inputs.{input_of};
 ghost use Rattle.ingest.specs.Lanes.{is_good};
 ghost use Rattle.ingest.specs.declared.lane.Lane.{Lane};
 ghost use Rattle.ladder_items.specs.Ladder.{Ladder};
-ghost use Rattle.ladder_items.specs.Runs.{outlet_of};
 ghost use Rattle.ladder_items.specs.declared.fault.PackFault.TheVariants.{NoMemory};
 ghost use Rattle.live_board.specs.Snapshots.{Known};
 ghost use Rattle.rounds.specs.Courses.{HasEnough, IsAllGiven, IsOn, IsStopped, NoneClosed, ReadsNone, Start};
@@ -32,9 +30,9 @@ fn give_due_ends<'r, S: Source, O: Outlet, R: Wait>(
     settings: &Settings,
     going: Going<'r, S, O, R>,
 ) -> (Going<'r, S, O, R>, Result<(), PackFault>)
-    requires on { (start : Start S O) × IsOn (input_of S.remaining S.reads S.failures) (outlet_of O.holds O.broken O.failures) settings.now start 0 going.course going.held.publisher (λ k. []) }
-    ensures ok { OnOk result.1 ((start : Start S O) → IsOn (input_of S.remaining S.reads S.failures) (outlet_of O.holds O.broken O.failures) settings.now start 0 going.entry.course going.entry.held.publisher (λ k. []) → IsOn (input_of S.remaining S.reads S.failures) (outlet_of O.holds O.broken O.failures) settings.now start 0 result.0.course result.0.held.publisher (λ k. [])) }
-    ensures err { IfErr result.1 (λ fault. (start : Start S O) → IsOn (input_of S.remaining S.reads S.failures) (outlet_of O.holds O.broken O.failures) settings.now start 0 going.entry.course going.entry.held.publisher (λ k. []) → IsStopped (input_of S.remaining S.reads S.failures) (outlet_of O.holds O.broken O.failures) settings.now start result.0.course result.0.held.publisher fault) }
+    requires on { (start : Start S O) × IsOn S.input O.output settings.now start 0 going.course going.held.publisher (λ k. []) }
+    ensures ok { OnOk result.1 ((start : Start S O) → IsOn S.input O.output settings.now start 0 going.entry.course going.entry.held.publisher (λ k. []) → IsOn S.input O.output settings.now start 0 result.0.course result.0.held.publisher (λ k. [])) }
+    ensures err { IfErr result.1 (λ fault. (start : Start S O) → IsOn S.input O.output settings.now start 0 going.entry.course going.entry.held.publisher (λ k. []) → IsStopped S.input O.output settings.now start result.0.course result.0.held.publisher fault) }
     ensures none_read { ReadsNone going.entry.course result.0.course }
     ensures playlists { result.0.course.playlists ≡ going.entry.course.playlists }
     ensures ended { OnOk result.1 ((k : ℕ) (lane : Lane) → k < length settings.now.renditions → slice_get result.0.course.lanes.items k ≡ Some lane → lane.intake.filled ≡ [] → slice_index_or result.0.course.ended.items k false ≡ is_good lane.stop) }
@@ -63,8 +61,8 @@ fn turn_out<'r, S: Source, O: Outlet, R: Wait>(
     spare: Vec<Spool>,
 ) -> (Going<'r, S, O, R>, Result<Vec<Spool>, AllocError>)
     requires each { length spare.items ≡ length going.course.lanes.items }
-    ensures ok { IfOk result.1 (λ full. (ladder : Ladder) (start : Start S O) (shows : Known) → IsOn (input_of S.remaining S.reads S.failures) (outlet_of O.holds O.broken O.failures) ladder start 0 going.entry.course shows (λ k. []) → IsOn (input_of S.remaining S.reads S.failures) (outlet_of O.holds O.broken O.failures) ladder start 0 result.0.course shows (unfed_of full.items)) }
-    ensures err { OnErr result.1 ((ladder : Ladder) (start : Start S O) (shows : Known) → IsOn (input_of S.remaining S.reads S.failures) (outlet_of O.holds O.broken O.failures) ladder start 0 going.entry.course shows (λ k. []) → IsStopped (input_of S.remaining S.reads S.failures) (outlet_of O.holds O.broken O.failures) ladder start result.0.course shows NoMemory) }
+    ensures ok { IfOk result.1 (λ full. (ladder : Ladder) (start : Start S O) (shows : Known) → IsOn S.input O.output ladder start 0 going.entry.course shows (λ k. []) → IsOn S.input O.output ladder start 0 result.0.course shows (unfed_of full.items)) }
+    ensures err { OnErr result.1 ((ladder : Ladder) (start : Start S O) (shows : Known) → IsOn S.input O.output ladder start 0 going.entry.course shows (λ k. []) → IsStopped S.input O.output ladder start result.0.course shows NoMemory) }
     ensures same { result.0.course ≡ record going.entry.course { lanes = result.0.course.lanes } }
     ensures each { IfOk result.1 (λ full. length full.items ≡ length going.entry.course.lanes.items) }
     ensures empty { OnOk result.1 (NoneClosed result.0.course.lanes.items) }
@@ -102,12 +100,12 @@ pub fn run_rounds<'r, S: Source + Drop, O: Outlet + Drop, G: Gate + Sync, R: Thr
     going: Going<'r, S, O, R>,
 ) -> (Going<'r, S, O, R>, Result<(), PackFault>)
     requires each { length spare.items ≡ length settings.now.renditions }
-    requires on { (start : Start S O) × IsOn (input_of S.remaining S.reads S.failures) (outlet_of O.holds O.broken O.failures) settings.now start 0 going.course going.held.publisher (λ k. []) }
+    requires on { (start : Start S O) × IsOn S.input O.output settings.now start 0 going.course going.held.publisher (λ k. []) }
     requires enough { HasEnough going.course }
     requires workers { length going.books.workers.items ≡ workers }
     requires first { going.books.rounds ≡ 0 }
-    ensures ok { OnOk result.1 ((start : Start S O) → IsOn (input_of S.remaining S.reads S.failures) (outlet_of O.holds O.broken O.failures) settings.now start 0 going.entry.course going.entry.held.publisher (λ k. []) → IsOn (input_of S.remaining S.reads S.failures) (outlet_of O.holds O.broken O.failures) settings.now start 0 result.0.course result.0.held.publisher (λ k. [])) }
-    ensures err { IfErr result.1 (λ fault. (start : Start S O) → IsOn (input_of S.remaining S.reads S.failures) (outlet_of O.holds O.broken O.failures) settings.now start 0 going.entry.course going.entry.held.publisher (λ k. []) → IsStopped (input_of S.remaining S.reads S.failures) (outlet_of O.holds O.broken O.failures) settings.now start result.0.course result.0.held.publisher fault) }
+    ensures ok { OnOk result.1 ((start : Start S O) → IsOn S.input O.output settings.now start 0 going.entry.course going.entry.held.publisher (λ k. []) → IsOn S.input O.output settings.now start 0 result.0.course result.0.held.publisher (λ k. [])) }
+    ensures err { IfErr result.1 (λ fault. (start : Start S O) → IsOn S.input O.output settings.now start 0 going.entry.course going.entry.held.publisher (λ k. []) → IsStopped S.input O.output settings.now start result.0.course result.0.held.publisher fault) }
     ensures all { OnOk result.1 (IsAllGiven result.0.course) }
     ensures right { OnOk result.1 (result.0.books.right + sum (counts_of going.entry.course.playlists.items) ≤ going.entry.books.right + sum (counts_of result.0.course.playlists.items)) }
     ensures workers { OnOk result.1 (length result.0.books.workers.items ≡ workers) }

@@ -64,7 +64,7 @@ pub(crate) fn items(alloc: Global) -> Result<Vec<Item>, AllocError> {
 
 /// Puts all items, and answers how many puts failed.
 pub(crate) fn put_all<O: Outlet>(outlet: &mut O, items: &[Item]) -> u64
-    requires { O.failures outlet.old ≡ 0 }
+    requires { O.output.failures outlet.old ≡ 0 }
 {
     let mut failures = 0;
     for item in items {
@@ -77,7 +77,7 @@ pub(crate) fn put_all<O: Outlet>(outlet: &mut O, items: &[Item]) -> u64
 
 /// Puts one item of each kind, and answers how many puts failed.
 pub(crate) fn put_items<O: Outlet>(alloc: Global, outlet: &mut O) -> Result<u64, AllocError>
-    requires { O.failures outlet.old ≡ 0 }
+    requires { O.output.failures outlet.old ≡ 0 }
 {
     let items = items(alloc)?;
     Ok(put_all(outlet, &items))

@@ -8,8 +8,8 @@ use std::io::{ErrorKind, Read};
 
 /// All that a source gives in reads of 300 bytes at most, and how many of them failed.
 fn drain<S: Source>(alloc: Global, source: &mut S) -> Result<(Vec<u8>, u64), AllocError>
-    requires reads { S.reads source.old ≡ 0 }
-    requires failures { S.failures source.old ≡ 0 }
+    requires reads { S.input.reads source.old ≡ 0 }
+    requires failures { S.input.failures source.old ≡ 0 }
 {
     let mut bytes = Vec::new(alloc);
     let mut buffer = [0; 300];

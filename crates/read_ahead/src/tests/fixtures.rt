@@ -74,8 +74,8 @@ pub(super) fn drain<S: Source>(
     source: &mut S,
     size: usize,
 ) -> Result<Given, AllocError>
-    requires reads { S.reads source.old ≡ 0 }
-    requires failures { S.failures source.old ≡ 0 }
+    requires reads { S.input.reads source.old ≡ 0 }
+    requires failures { S.input.failures source.old ≡ 0 }
 {
     let mut buffer = vec![in alloc; 0; size]?;
     let mut given = Given {

@@ -1,7 +1,6 @@
 use Rattle.std.proofs.Common.{◌^◌}
 use Rattle.std.proofs.lemmas.Result.{IfErr-at_err, IfOk-at_ok}
-use Rattle.ingest.specs.Inputs.{input_of}
-use Rattle.ladder_items.specs.Runs.{outlet_of, run_of}
+use Rattle.ladder_items.specs.Runs.{run_of}
 use Rattle.commands.proofs.LadderEnds.{summary-fits, summary-unwritten}
 use Rattle.commands.proofs.ladder_packing.pack.Goals as goal
 
@@ -14,5 +13,5 @@ returns-in-Ok-clause-fault g c =
 
 pub returns-in-Ok-clause-breach : goal.returns-in-Ok-clause-breach
 returns-in-Ok-clause-breach g c =
-    let run = run_of (input_of g.S.Source.remaining g.S.Source.reads g.S.Source.failures) (outlet_of g.O.Outlet.holds g.O.Outlet.broken g.O.Outlet.failures) (2 ^ 40) c.args.sources.items c.pack_in_batches-sources.result.sources.items c.args.outlet c.pack_in_batches-sources.result.outlet in
+    let run = run_of g.S.Source.input g.O.Outlet.output (2 ^ 40) c.args.sources.items c.pack_in_batches-sources.result.sources.items c.args.outlet c.pack_in_batches-sources.result.outlet in
     summary-fits run c.args.settings.now c.args.pool.workers c.args.publisher.list c.pack_in_batches-sources.result.publisher.list _ _ c.in-Ok.report (IfOk-at_ok _ c.in-Ok.is c.pack_in_batches-sources.ensures.fits) c.write_summary.result c.write_summary.ensures.fault

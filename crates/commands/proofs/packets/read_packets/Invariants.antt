@@ -5,9 +5,9 @@ use Rattle.commands.proofs.packets.read_packets.Given as goal
 
 abbrev pub invariant-loop : goal.invariant-loop
 invariant-loop g l = record {
-  read : Consumes (g.S.Source.remaining l.initial.input) (g.S.Source.remaining l.input) l.reader;
+  read : Consumes (g.S.Source.input.left l.initial.input) (g.S.Source.input.left l.input) l.reader;
   given : l.packets.items ≡ decided l.reader;
   few : length l.reader ≤ 18800 * l.counter;
-  reads : g.S.Source.reads l.input ≡ g.S.Source.reads l.initial.input + l.counter;
-  unfailed : g.S.Source.failures l.input ≡ g.S.Source.failures l.initial.input;
+  reads : g.S.Source.input.reads l.input ≡ g.S.Source.input.reads l.initial.input + l.counter;
+  unfailed : g.S.Source.input.failures l.input ≡ g.S.Source.input.failures l.initial.input;
 }

@@ -1,27 +1,27 @@
-use Rattle.ingest.specs.Inputs.{input_of}
+use Rattle.item_io.specs.Views.{source_view}
 use Rattle.commands.proofs.LineRuns.{lines_out, packed, says, packed-counts, counts}
 use Rattle.commands.proofs.packing.pack.Goals as goal
 
 pub returns-clause-ok : goal.returns-clause-ok
 returns-clause-ok g c = λ a b old new.
     let p = rw (old, new) at c.in-Ok.ensures.ok in
-    packed (input_of (λ s. g.R.Read.remaining s.reader) (λ s. s.reads) (λ s. s.failures)) g.W.Write.contents _ a b _ _ c.requires.fresh
+    packed (source_view (λ s. g.R.Read.remaining s.reader) (λ s. s.reads) (λ s. s.failures)) g.W.Write.contents _ a b _ _ c.requires.fresh
     c.lines_of_given_items_are_written.ensures.whole c.lines_of_given_items_are_written.ensures.broken_off _ p
 
 pub returns-in-Err-clause-fault : goal.returns-in-Err-clause-fault
 returns-in-Err-clause-fault g c = λ a b old new.
     let told = rw (old, new) at c.in-Err.ensures.fault in
-    says (input_of (λ s. g.R.Read.remaining s.reader) (λ s. s.reads) (λ s. s.failures)) g.W.Write.contents _ a b _ _ c.requires.fresh
+    says (source_view (λ s. g.R.Read.remaining s.reader) (λ s. s.reads) (λ s. s.failures)) g.W.Write.contents _ a b _ _ c.requires.fresh
     c.lines_of_given_items_are_written.ensures.whole c.lines_of_given_items_are_written.ensures.broken_off _ c.in-Err.ensures.never_held told
 
 pub returns-clause-ok_counts : goal.returns-clause-ok_counts
 returns-clause-ok_counts g c = λ b new.
     let p = rw (c.requires.alone.1, new) at c.in-Ok.ensures.ok in
-    packed-counts (input_of (λ s. g.R.Read.remaining s.reader) (λ s. s.reads) (λ s. s.failures)) (lines_out g.W.Write.contents) _ _ b _ _
+    packed-counts (source_view (λ s. g.R.Read.remaining s.reader) (λ s. s.reads) (λ s. s.failures)) (lines_out g.W.Write.contents) _ _ b _ _
     c.requires.alone.2 c.requires.alone.3 c.requires.fresh _ p
 
 pub returns-in-Err-clause-fault_counts : goal.returns-in-Err-clause-fault_counts
 returns-in-Err-clause-fault_counts g c = λ b new.
     let told = rw (c.requires.alone.1, new) at c.in-Err.ensures.fault in
-    counts (input_of (λ s. g.R.Read.remaining s.reader) (λ s. s.reads) (λ s. s.failures)) (lines_out g.W.Write.contents) _ _ b _ _
+    counts (source_view (λ s. g.R.Read.remaining s.reader) (λ s. s.reads) (λ s. s.failures)) (lines_out g.W.Write.contents) _ _ b _ _
     c.requires.alone.2 c.requires.alone.3 c.requires.fresh _ c.in-Err.ensures.never_held told

@@ -4,7 +4,7 @@ use Rattle.commands.proofs.reading.read_all.Given as goal
 
 abbrev pub invariant-loop : goal.invariant-loop
 invariant-loop g l = record {
-  read : Consumes (g.S.Source.remaining l.initial.input) (g.S.Source.remaining l.input) l.bytes.items;
-  reads : g.S.Source.reads l.input ≡ g.S.Source.reads l.initial.input + l.counter;
-  unfailed : g.S.Source.failures l.input ≡ g.S.Source.failures l.initial.input;
+  read : Consumes (g.S.Source.input.left l.initial.input) (g.S.Source.input.left l.input) l.bytes.items;
+  reads : g.S.Source.input.reads l.input ≡ g.S.Source.input.reads l.initial.input + l.counter;
+  unfailed : g.S.Source.input.failures l.input ≡ g.S.Source.input.failures l.initial.input;
 }

@@ -1,15 +1,13 @@
 use Rattle.std.proofs.Common.{◌≡◌, ◌<◌, ℕ, [], Some, false}
 use Rattle.std.specs.List.{slice_get, slice_index_or}
-use Rattle.ingest.specs.Inputs.{input_of}
 use Rattle.ingest.specs.Lanes.{is_good}
 use Rattle.ingest.specs.declared.lane.Lane.{Lane}
-use Rattle.ladder_items.specs.Runs.{outlet_of}
 use Rattle.rounds.specs.Courses.{Start, IsOn, ReadsNone}
 use Rattle.rounds.proofs.ends.give_ends.Given as goal
 
 abbrev pub invariant-loop-r : goal.invariant-loop-r
 invariant-loop-r g l = record {
-  ok : (start : Start _ _) → IsOn (input_of g.S.Source.remaining g.S.Source.reads g.S.Source.failures) (outlet_of g.O.Outlet.holds g.O.Outlet.broken g.O.Outlet.failures) l.settings start 0 l.fn.course l.fn.held.publisher (λ k. []) → IsOn (input_of g.S.Source.remaining g.S.Source.reads g.S.Source.failures) (outlet_of g.O.Outlet.holds g.O.Outlet.broken g.O.Outlet.failures) l.settings start 0 l.course l.held.publisher (λ k. []);
+  ok : (start : Start _ _) → IsOn g.S.Source.input g.O.Outlet.output l.settings start 0 l.fn.course l.fn.held.publisher (λ k. []) → IsOn g.S.Source.input g.O.Outlet.output l.settings start 0 l.course l.held.publisher (λ k. []);
   none_read : ReadsNone l.fn.course l.course;
   playlists : l.course.playlists ≡ l.fn.course.playlists;
   ended : (k : ℕ) (lane : Lane) → k < l.r → slice_get l.fn.course.lanes.items k ≡ Some lane → lane.intake.filled ≡ [] → slice_index_or l.course.ended.items k false ≡ is_good lane.stop;

@@ -5,8 +5,6 @@ use Rattle.std.proofs.lemmas.Result.{err_from_is_err_and}
 use Rattle.cutter.specs.Lent.{lent}
 use Rattle.rounds.specs.Rounds.{InRound}
 use Rattle.rounds.proofs.Running.{reads-then}
-use Rattle.ingest.specs.Inputs.{input_of}
-use Rattle.ladder_items.specs.Runs.{outlet_of}
 use Rattle.rounds.proofs.Expecting.{next-unfed}
 use Rattle.rounds.proofs.feeding.feed_spool.Goals as goal
 
@@ -36,7 +34,7 @@ loop-i-preserved g c =
     record {
       ok = λ start unfed is old.
           let next = next-unfed unfed r i spool (lent c.in-Some.plan) (omega (arith, c.requires.within, old.all)) c.in-Some.ensures.some in
-          subst (λ u. InRound (input_of g.S.Source.remaining g.S.Source.reads g.S.Source.failures) (outlet_of g.O.Outlet.holds g.O.Outlet.broken g.O.Outlet.failures) c.args.settings.now start u c.feed_plan.new.course c.feed_plan.new.held.publisher c.feed_plan.new.collector) (set-set unfed r (drop i spool) (drop (i + 1) spool))
+          subst (λ u. InRound g.S.Source.input g.O.Outlet.output c.args.settings.now start u c.feed_plan.new.course c.feed_plan.new.held.publisher c.feed_plan.new.collector) (set-set unfed r (drop i spool) (drop (i + 1) spool))
           (c.in_ok-feed_plan.ensures.ok start (slice_set unfed r (drop i spool)) (drop (i + 1) spool) next (c.loop-i.invariant.ok start unfed is old));
       none_read = reads-then _ _ _ c.loop-i.invariant.none_read c.in_ok-feed_plan.ensures.none_read;
       fair = omega (arith, c.loop-i.invariant.fair, c.in_ok-feed_plan.ensures.fair);

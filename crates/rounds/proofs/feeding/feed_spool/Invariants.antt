@@ -1,8 +1,6 @@
 use Rattle.std.proofs.Common.{◌≡◌, ◌+◌, ◌≤◌, List, drop}
 use Rattle.std.specs.List.{slice_set}
 use Rattle.cutter.specs.Plans.{SegmentPlan}
-use Rattle.ingest.specs.Inputs.{input_of}
-use Rattle.ladder_items.specs.Runs.{outlet_of}
 use Rattle.rounds.specs.Courses.{Start, ReadsNone}
 use Rattle.rounds.specs.Rounds.{InRound, unfed_of, gathered}
 use Rattle.rounds.proofs.feeding.feed_spool.Given as goal
@@ -10,8 +8,8 @@ use Rattle.rounds.proofs.feeding.feed_spool.Given as goal
 abbrev pub invariant-loop-i : goal.invariant-loop-i
 invariant-loop-i g l = record {
   ok : (start : Start _ _) (unfed : List (List SegmentPlan)) → unfed_of unfed l.r ≡ l.spool
-      → InRound (input_of g.S.Source.remaining g.S.Source.reads g.S.Source.failures) (outlet_of g.O.Outlet.holds g.O.Outlet.broken g.O.Outlet.failures) l.settings start unfed l.fn.course l.fn.held.publisher l.fn.collector
-      → InRound (input_of g.S.Source.remaining g.S.Source.reads g.S.Source.failures) (outlet_of g.O.Outlet.holds g.O.Outlet.broken g.O.Outlet.failures) l.settings start (slice_set unfed l.r (drop l.i l.spool)) l.course l.held.publisher l.collector;
+      → InRound g.S.Source.input g.O.Outlet.output l.settings start unfed l.fn.course l.fn.held.publisher l.fn.collector
+      → InRound g.S.Source.input g.O.Outlet.output l.settings start (slice_set unfed l.r (drop l.i l.spool)) l.course l.held.publisher l.collector;
   none_read : ReadsNone l.fn.course l.course;
   fair : l.taker.right + gathered l.fn.collector.lanes ≤ l.fn.taker.right + gathered l.collector.lanes;
 }

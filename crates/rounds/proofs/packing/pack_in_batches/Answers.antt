@@ -1,7 +1,6 @@
 use Rattle.std.proofs.Common.{sym, subst, Result}
 use Rattle.std.specs.Prelude.{IfErr}
-use Rattle.ingest.specs.Inputs.{input_of}
-use Rattle.ladder_items.specs.Runs.{outlet_of, run_of}
+use Rattle.ladder_items.specs.Runs.{run_of}
 use Rattle.ladder_items.specs.declared.fault.PackFault.{PackFault}
 use Rattle.ladder_items.specs.declared.report.Report.{Report}
 use Rattle.rounds.specs.Shown.{IsTurnedAway}
@@ -9,5 +8,5 @@ use Rattle.rounds.proofs.packing.pack_in_batches.Goals as goal
 
 pub returns-in-Err-clause-breach : goal.returns-in-Err-clause-breach
 returns-in-Err-clause-breach g c =
-    let run = run_of (input_of g.S.Source.remaining g.S.Source.reads g.S.Source.failures) (outlet_of g.O.Outlet.holds g.O.Outlet.broken g.O.Outlet.failures) c.args.reads c.args.sources.items c.unbegun.result.sources.items c.args.outlet c.unbegun.result.outlet in
+    let run = run_of g.S.Source.input g.O.Outlet.output c.args.reads c.args.sources.items c.unbegun.result.sources.items c.args.outlet c.unbegun.result.outlet in
     subst (λ (r : Result Report PackFault). IfErr r (IsTurnedAway run c.args.settings.now c.args.workers c.args.publisher.list c.unbegun.result.publisher.list)) (sym c.unbegun.ensures.answer) c.unbegun.ensures.breach

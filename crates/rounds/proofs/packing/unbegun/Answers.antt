@@ -1,6 +1,4 @@
-use Rattle.ingest.specs.Inputs.{input_of}
 use Rattle.ingest.proofs.Ordered.{closed_of-none}
-use Rattle.ladder_items.specs.Runs.{outlet_of}
 use Rattle.rounds.proofs.Ending.{unbegun-said, turned-away}
 use Rattle.rounds.proofs.packing.unbegun.Goals as goal
 
@@ -11,5 +9,5 @@ returns-clause-fault g c =
 
 pub returns-clause-breach : goal.returns-clause-breach
 returns-clause-breach g c =
-    turned-away _ _ (input_of g.S.Source.remaining g.S.Source.reads g.S.Source.failures) (outlet_of g.O.Outlet.holds g.O.Outlet.broken g.O.Outlet.failures) c.args.settings.now (record { sources = c.args.sources.items; outlet = c.args.outlet; shows = c.args.publisher; reads = c.args.reads }) c.args.workers c.args.reads
+    turned-away _ _ g.S.Source.input g.O.Outlet.output c.args.settings.now (record { sources = c.args.sources.items; outlet = c.args.outlet; shows = c.args.publisher; reads = c.args.reads }) c.args.workers c.args.reads
     c.args.fault c.requires.fault

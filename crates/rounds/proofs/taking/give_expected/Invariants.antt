@@ -1,13 +1,11 @@
 use Rattle.std.proofs.Common.{◌+◌, ◌≤◌}
-use Rattle.ingest.specs.Inputs.{input_of}
-use Rattle.ladder_items.specs.Runs.{outlet_of}
 use Rattle.rounds.specs.Courses.{ReadsNone}
 use Rattle.rounds.specs.Rounds.{Moves, gathered}
 use Rattle.rounds.proofs.taking.give_expected.Given as goal
 
 abbrev pub invariant-loop : goal.invariant-loop
 invariant-loop g l = record {
-  ok : Moves (input_of g.S.Source.remaining g.S.Source.reads g.S.Source.failures) (outlet_of g.O.Outlet.holds g.O.Outlet.broken g.O.Outlet.failures) l.settings l.fn.course l.fn.held.publisher l.fn.collector l.course l.held.publisher l.collector;
+  ok : Moves g.S.Source.input g.O.Outlet.output l.settings l.fn.course l.fn.held.publisher l.fn.collector l.course l.held.publisher l.collector;
   none_read : ReadsNone l.fn.course l.course;
   fair : l.taker.right + gathered l.fn.collector.lanes ≤ l.fn.taker.right + gathered l.collector.lanes;
 }

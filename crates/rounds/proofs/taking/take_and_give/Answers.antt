@@ -5,7 +5,7 @@ use Rattle.rounds.proofs.taking.take_and_give.Goals as goal
 pub returns-in_err-take_all-clause-err : goal.returns-in_err-take_all-clause-err
 returns-in_err-take_all-clause-err g c =
     let told = err_from_is_err_and c.from_residual.result c.from_residual.ensures.1 in
-    rw (told.1, told.2) (λ start unfed now. in-stopped _ _ _ _ _ start unfed _ _ _ _ (held-sudden _ (g.O.Outlet.failures c.args.course.now.outlet) c.in_err-take_all.ensures.fault) now)
+    rw (told.1, told.2) (λ start unfed now. in-stopped _ _ _ _ _ start unfed _ _ _ _ (held-sudden _ (g.O.Outlet.output.failures c.args.course.now.outlet) c.in_err-take_all.ensures.fault) now)
 
 pub give_all_ready-requires : goal.give_all_ready-requires
 give_all_ready-requires g c = let some = c.requires.somewhere in record { somewhere = (some.0, some.1, in-keeps _ _ _ _ _ some.0 some.1 _ _ _ _ c.in_ok-take_all.ensures.keeps some.2) }

@@ -8,7 +8,7 @@ wait_or_seal-requires g c = let some = c.requires.somewhere in record { keys = r
 pub returns-in_err-wait_or_seal-clause-err : goal.returns-in_err-wait_or_seal-clause-err
 returns-in_err-wait_or_seal-clause-err g c =
     let told = err_from_is_err_and c.from_residual.result c.from_residual.ensures.1 in
-    rw (told.1, told.2) (λ start unfed now. in-stopped _ _ _ _ _ start unfed _ _ _ _ (c.in_err-wait_or_seal.ensures.fault (g.O.Outlet.failures c.args.course.now.outlet)) now)
+    rw (told.1, told.2) (λ start unfed now. in-stopped _ _ _ _ _ start unfed _ _ _ _ (c.in_err-wait_or_seal.ensures.fault (g.O.Outlet.output.failures c.args.course.now.outlet)) now)
 
 pub take_and_give-requires : goal.take_and_give-requires
 take_and_give-requires g c = let some = c.requires.somewhere in record { somewhere = (some.0, some.1, in-keeps _ _ _ _ _ some.0 some.1 _ _ _ _ c.in_ok-wait_or_seal.ensures.keeps some.2) }

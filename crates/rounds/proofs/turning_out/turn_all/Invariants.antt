@@ -3,16 +3,14 @@ use Rattle.std.specs.List.{slice_get}
 use Rattle.ingest.specs.declared.lane.Lane.{Lane}
 use Rattle.std.specs.Vec.Iter.{into_iter_items}
 use Rattle.live_board.specs.Snapshots.{Known}
-use Rattle.ingest.specs.Inputs.{input_of}
 use Rattle.ladder_items.specs.Ladder.{Ladder}
-use Rattle.ladder_items.specs.Runs.{outlet_of}
 use Rattle.rounds.specs.Courses.{Start, IsOn}
 use Rattle.rounds.specs.Rounds.{unfed_of}
 use Rattle.rounds.proofs.turning_out.turn_all.Given as goal
 
 abbrev pub invariant-loop-spool : goal.invariant-loop-spool
 invariant-loop-spool g l = record {
-  on : (ladder : Ladder) (start : Start _ _) (shows : Known) → IsOn (input_of g.S.Source.remaining g.S.Source.reads g.S.Source.failures) (outlet_of g.O.Outlet.holds g.O.Outlet.broken g.O.Outlet.failures) ladder start 0 l.fn.course shows (λ k. []) → IsOn (input_of g.S.Source.remaining g.S.Source.reads g.S.Source.failures) (outlet_of g.O.Outlet.holds g.O.Outlet.broken g.O.Outlet.failures) ladder start 0 l.course shows (unfed_of l.full.items);
+  on : (ladder : Ladder) (start : Start _ _) (shows : Known) → IsOn g.S.Source.input g.O.Outlet.output ladder start 0 l.fn.course shows (λ k. []) → IsOn g.S.Source.input g.O.Outlet.output ladder start 0 l.course shows (unfed_of l.full.items);
   same : l.course ≡ record l.fn.course { lanes = l.course.lanes };
   count : length l.course.lanes.items ≡ length l.fn.course.lanes.items;
   rest : l.yielded ++ into_iter_items l.spool-iterator ≡ l.fn.spare.items;

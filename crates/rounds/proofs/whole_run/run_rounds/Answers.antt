@@ -2,8 +2,6 @@ use Rattle.std.proofs.Common.{◌∙◌, refl, ap, sym, subst, arith, length}
 use Rattle.std.specs.Prelude.{sum}
 use Rattle.std.proofs.lemmas.Result.{IfErr-at_err, IfOk-at_ok}
 use Rattle.live_board.specs.Snapshots.{Known}
-use Rattle.ingest.specs.Inputs.{input_of}
-use Rattle.ladder_items.specs.Runs.{outlet_of}
 use Rattle.ladder_items.specs.declared.fault.PackFault.TheVariants.{NoMemory}
 use Rattle.rounds.specs.declared.books.Books.{Books}
 use Rattle.rounds.specs.declared.course.Course.{Course}
@@ -29,7 +27,7 @@ pub returns-in_default-turned-clause-err : goal.returns-in_default-turned-clause
 returns-in_default-turned-clause-err g c start on =
     let e = c.give_due_ends-now.ensures in
     let on1 = IfOk-at_ok _ c.in_default.is e.ok start (c.loop.invariant.on start on) in
-    subst (λ (k : Known). IsStopped (input_of g.S.Source.remaining g.S.Source.reads g.S.Source.failures) (outlet_of g.O.Outlet.holds g.O.Outlet.broken g.O.Outlet.failures) c.args.settings.now start c.turn_out-now.result.0.course k NoMemory) (sym c.turn_out-now.ensures.held)
+    subst (λ (k : Known). IsStopped g.S.Source.input g.O.Outlet.output c.args.settings.now start c.turn_out-now.result.0.course k NoMemory) (sym c.turn_out-now.ensures.held)
     (IfErr-at_err _ c.in_default-turned.is c.turn_out-now.ensures.err c.args.settings.now start _ on1)
 
 pub run_round-now-requires-clause-each : goal.run_round-now-requires-clause-each

@@ -1,7 +1,5 @@
 use Rattle.std.proofs.Common.{◌≡◌, ◌+◌, ◌≤◌, [], length}
 use Rattle.std.specs.Prelude.{sum}
-use Rattle.ingest.specs.Inputs.{input_of}
-use Rattle.ladder_items.specs.Runs.{outlet_of}
 use Rattle.rounds.specs.Showing.{counts_of}
 use Rattle.rounds.specs.Courses.{Start, IsOn, HasEnough}
 use Rattle.rounds.proofs.Between.{IsCounted}
@@ -9,7 +7,7 @@ use Rattle.rounds.proofs.whole_run.run_rounds.Given as goal
 
 abbrev pub invariant-loop : goal.invariant-loop
 invariant-loop g l = record {
-  on : (start : Start _ _) → IsOn (input_of g.S.Source.remaining g.S.Source.reads g.S.Source.failures) (outlet_of g.O.Outlet.holds g.O.Outlet.broken g.O.Outlet.failures) l.settings start 0 l.fn.going.course l.fn.going.held.publisher (λ k. []) → IsOn (input_of g.S.Source.remaining g.S.Source.reads g.S.Source.failures) (outlet_of g.O.Outlet.holds g.O.Outlet.broken g.O.Outlet.failures) l.settings start 0 l.going.course l.going.held.publisher (λ k. []);
+  on : (start : Start _ _) → IsOn g.S.Source.input g.O.Outlet.output l.settings start 0 l.fn.going.course l.fn.going.held.publisher (λ k. []) → IsOn g.S.Source.input g.O.Outlet.output l.settings start 0 l.going.course l.going.held.publisher (λ k. []);
   each : length l.spare.items ≡ length l.settings.renditions;
   enough : HasEnough l.going.course;
   workers : length l.going.books.workers.items ≡ l.workers;
