@@ -1,8 +1,8 @@
-//! Packs a ladder of transport streams into encrypted segments and their playlists.
+//! The packager: the transport streams of a ladder go in, encrypted segments and their playlists come out, on one thread or on
+//! many. Each item stands where it is proved: what a ladder gives in `ladder_items`, the run on one thread in `serial_run`,
+//! the run on many threads in `rounds`.
 #![tactic(auto)]
 
-mod due;
-mod serial;
-
 pub use ladder_items::{Kind, PackFault, Rendition, Report, Settings};
-pub use serial::{pack_serial, pack_serial_reads};
+pub use rounds::{Ran, opening_board, pack_in_batches, pack_parallel, pack_parallel_reads};
+pub use serial_run::{pack_serial, pack_serial_reads};

@@ -5,7 +5,7 @@ ghost use Rattle.ladder_items.specs.Ladder.{no_rendition};
 ghost use Rattle.hls_check.specs.MediaTexts.{IsSalt};
 ghost use Rattle.round_trip.specs.Returning.{IsMade, AreMade};
 
-use pipeline::{Rendition, Settings};
+use ladder_items::{Rendition, Settings};
 
 /// Text is UTF-8.
 fn is_text(text: &str)

@@ -1,8 +1,7 @@
 use crate::fixtures::{FullWriter, settings, stream_bytes};
 use commands::{LadderPackingFault, PackedLadder, Pool, pack};
 use item_io::{FailingOutlet, FailingReader};
-use ladder_items::{PackFault, Report};
-use rounds::opening_board;
+use pipeline::{PackFault, Report, opening_board};
 use std::alloc::Global;
 use std::io::Write;
 use std::sync::Wait;

@@ -2,8 +2,7 @@
 use crate::run::{Ran, Ways, sources_of};
 use item_io::FailingOutlet;
 use live_board::Viewer;
-use pipeline::Settings;
-use rounds::{opening_board, pack_parallel_reads};
+use pipeline::{Settings, opening_board, pack_parallel_reads};
 use std::alloc::{AllocError, Global};
 use std::sync::Wait;
 use std::test::Fail;

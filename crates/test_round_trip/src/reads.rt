@@ -3,8 +3,7 @@ ghost use Rattle.std.specs.Prelude.{◌≡◌, All, IfOk};
 
 use crate::run::{CUT, PLAY, Play, WELL, Ways, are_sizes, played_each_way, settings};
 use item_io::{FailingOutlet, ReaderSource};
-use pipeline::{PackFault, pack_serial_reads};
-use rounds::{opening_board, pack_parallel_reads};
+use pipeline::{PackFault, opening_board, pack_parallel_reads, pack_serial_reads};
 use std::alloc::{AllocError, Global};
 use std::io;
 use std::io::Read;

@@ -1,8 +1,8 @@
 use command_line::{Fault, LadderJob};
 use commands::{PackedLadder, pack};
 use item_io::FolderOutlet;
+use pipeline::opening_board;
 use read_ahead::open_all;
-use rounds::opening_board;
 use std::alloc::Global;
 use std::fs::Files;
 use std::io::Write;

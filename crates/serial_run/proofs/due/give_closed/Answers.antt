@@ -1,6 +1,6 @@
 use Rattle.std.proofs.Common.{◌∙◌, sym}
-use Rattle.pipeline.proofs.Dues.{none-closed}
-use Rattle.pipeline.proofs.due.give_closed.Goals as goal
+use Rattle.serial_run.proofs.Dues.{none-closed}
+use Rattle.serial_run.proofs.due.give_closed.Goals as goal
 
 pub returns-then-plans-eq0-clause-ok : goal.returns-then-plans-eq0-clause-ok
 returns-then-plans-eq0-clause-ok g c parts next =

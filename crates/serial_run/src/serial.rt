@@ -6,7 +6,7 @@ ghost use Rattle.ladder_items.specs.Runs.{run_of};
 ghost use Rattle.ladder_items.specs.Putting.{PutAll, SaysFailures};
 ghost use Rattle.ladder_items.specs.World.{HaveRoom, NothingDue};
 ghost use Rattle.ladder_items.specs.Packed.{IsPacked, IsAlone, FaultSays};
-ghost use Rattle.pipeline.specs.OneThread.{IsCutAtOnce};
+ghost use Rattle.serial_run.specs.OneThread.{IsCutAtOnce};
 
 use crate::due::give_due;
 use cutter::Spool;

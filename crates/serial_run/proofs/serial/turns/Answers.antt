@@ -4,8 +4,8 @@ use Rattle.std.proofs.lemmas.Result.{err_from_is_err_and}
 use Rattle.ingest.proofs.Ordered.{closed_of-grow, made_of-at}
 use Rattle.ladder_items.proofs.Elsewhere.{none-there, some-there}
 use Rattle.ladder_items.proofs.Worlds.{put-back, parts-of, reads-fit, stage-at}
-use Rattle.pipeline.proofs.Stepping.{has-read, due-step, due-cut, read-cut, due-skip, due-round}
-use Rattle.pipeline.proofs.serial.turns.Goals as goal
+use Rattle.serial_run.proofs.Stepping.{has-read, due-step, due-cut, read-cut, due-skip, due-round}
+use Rattle.serial_run.proofs.serial.turns.Goals as goal
 
 pub returns-then-have_stopped-clause-ok : goal.returns-then-have_stopped-clause-ok
 returns-then-have_stopped-clause-ok g c =

@@ -22,7 +22,7 @@ use Rattle.ladder_items.proofs.Puts.{all_none, all-more, put-more, put-front}
 use Rattle.ladder_items.proofs.Blocks.{grown-at, after-each}
 use Rattle.ladder_items.proofs.Nexts.{shown-at, shown-set}
 use Rattle.ladder_items.proofs.Rows.{rows-each, rows-part, after_all-append, blocks-append, legal-append}
-use Rattle.pipeline.specs.Dues.{ends, due}
+use Rattle.serial_run.specs.Dues.{ends, due}
 
 -- plans that stand behind others in order come next
 pub next-behind : (r : ℕ) (s : CutSettings) (n : ℕ) (before plans : List SegmentPlan)

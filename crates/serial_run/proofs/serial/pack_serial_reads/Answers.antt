@@ -4,10 +4,10 @@ use Rattle.ingest.proofs.Ordered.{closed_of-none}
 use Rattle.ladder_items.specs.Ladder.{IsAllowed}
 use Rattle.ladder_items.proofs.Blocks.{shown-going, shown-each}
 use Rattle.ladder_items.proofs.Worlds.{nothing-given, parts-of, parts-length}
-use Rattle.pipeline.proofs.Stepping.{due-first}
+use Rattle.serial_run.proofs.Stepping.{due-first}
 use Rattle.ladder_items.proofs.Endings.{world-halted, world-packed, halted-says, at-once}
-use Rattle.pipeline.proofs.AtOnce.{sudden-unheld, told-unheld, none-at-once, stop-at-once}
-use Rattle.pipeline.proofs.serial.pack_serial_reads.Goals as goal
+use Rattle.serial_run.proofs.AtOnce.{sudden-unheld, told-unheld, none-at-once, stop-at-once}
+use Rattle.serial_run.proofs.serial.pack_serial_reads.Goals as goal
 
 pub returns-in_err-is_allowed-clause-fault : goal.returns-in_err-is_allowed-clause-fault
 returns-in_err-is_allowed-clause-fault g c =

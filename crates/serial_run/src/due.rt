@@ -4,7 +4,7 @@ ghost use Rattle.ladder_items.specs.Items.{Part, shown_all};
 ghost use Rattle.ladder_items.specs.Weave.{after_all, blocks};
 ghost use Rattle.ladder_items.specs.Giving.{AreNextPlans, rows};
 ghost use Rattle.ladder_items.specs.Putting.{PutAll, PutSome, SaysFailures};
-ghost use Rattle.pipeline.specs.Dues.{due};
+ghost use Rattle.serial_run.specs.Dues.{due};
 
 use cutter::Spool;
 use ingest::{Intake, Lane};

@@ -22,7 +22,7 @@ use Rattle.ladder_items.specs.Packed.{told_of}
 use Rattle.ladder_items.proofs.Elsewhere.{some-at}
 use Rattle.ladder_items.proofs.Stages.{stage-given, turns-none}
 use Rattle.ladder_items.proofs.Worlds.{CutBehind, parts-of, at-default, world-stop, nothing-given}
-use Rattle.pipeline.specs.OneThread.{IsCutAtOnce}
+use Rattle.serial_run.specs.OneThread.{IsCutAtOnce}
 
 -- a fault that stops a run at once is told of no segment
 pub sudden-unheld : (e : PackFault) (f g r n : ℕ) → SaysFailures e f g → e ≡ HeldBack r n → ⊥

@@ -25,10 +25,10 @@ use Rattle.ladder_items.proofs.Elsewhere.{set-here, set-elsewhere, set-there, al
 use Rattle.ladder_items.proofs.Rows.{after_all-append}
 use Rattle.ladder_items.proofs.Stages.{turns-most}
 use Rattle.ladder_items.proofs.Worlds.{InOrder, parts-of, parts-length, stage-at, world-read, world-gave, world-unread, world-ungiven, world-skip, world-round, world-first, at-default}
-use Rattle.pipeline.specs.Dues.{due}
-use Rattle.pipeline.specs.OneThread.{IsCutAtOnce}
-use Rattle.pipeline.proofs.Dues.{next-behind, due-are-of, due-part}
-use Rattle.pipeline.proofs.AtOnce.{cut-at-once}
+use Rattle.serial_run.specs.Dues.{due}
+use Rattle.serial_run.specs.OneThread.{IsCutAtOnce}
+use Rattle.serial_run.proofs.Dues.{next-behind, due-are-of, due-part}
+use Rattle.serial_run.proofs.AtOnce.{cut-at-once}
 
 pub set-twice : {A : Type 0} (xs : List A) (r : ℕ) (x y : A) → set (set xs r x) r y ≡ set xs r y
 set-twice [] r x y = refl

@@ -3,8 +3,8 @@ use Rattle.std.proofs.lemmas.Result.{err_from_is_err_and}
 use Rattle.ladder_items.specs.Weave.{after_all}
 use Rattle.ladder_items.specs.Giving.{rows}
 use Rattle.ladder_items.proofs.Blocks.{shown-each}
-use Rattle.pipeline.proofs.Dues.{going-on, gave-rows, gave-end, cut-rows, cut-end}
-use Rattle.pipeline.proofs.due.give_due.Goals as goal
+use Rattle.serial_run.proofs.Dues.{going-on, gave-rows, gave-end, cut-rows, cut-end}
+use Rattle.serial_run.proofs.due.give_due.Goals as goal
 
 pub returns-in_err-give_closed-clause-err : goal.returns-in_err-give_closed-clause-err
 returns-in_err-give_closed-clause-err g c =

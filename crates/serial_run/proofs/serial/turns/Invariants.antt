@@ -1,7 +1,7 @@
 use Rattle.std.proofs.Common.{◌≡◌}
 use Rattle.ladder_items.specs.Runs.{run_of}
 use Rattle.ladder_items.specs.World.{NothingDue}
-use Rattle.pipeline.proofs.serial.turns.Given as goal
+use Rattle.serial_run.proofs.serial.turns.Given as goal
 
 abbrev pub invariant-loop : goal.invariant-loop
 invariant-loop g l = record {
