@@ -6,7 +6,7 @@ use Rattle.media_playlist.specs.declared.row.FrameRow.{FrameRow}
 use Rattle.media_playlist.specs.Rows.{SegmentRow, is_long}
 use Rattle.media_playlist.specs.Listed.{Pushed}
 use Rattle.media_playlist.specs.Lines.{media_lines, iframe_lines}
-use Rattle.bandwidth.specs.declared.run.Row.{Row}
+use Rattle.bandwidth.specs.declared.run.Span.{Span}
 use Rattle.limits.specs.declared.TheConstants.{MOST_PACKETS}
 
 -- a rendition's name, the target duration in seconds, the least number of rows to list, whether all rows of an event are
@@ -32,19 +32,19 @@ abbrev pub frames_text : Shown → Bool → List ℕ
 frames_text shown ended = text_of (iframe_lines (in_window shown) ended)
 
 -- a segment as a row of bytes and microseconds
-abbrev pub segment_rate : SegmentRow → Row
+abbrev pub segment_rate : SegmentRow → Span
 segment_rate row = record { size = row.size; micros = row.micros }
 
 -- an I-frame as a row of bytes and microseconds
-abbrev pub frame_rate : FrameRow → Row
+abbrev pub frame_rate : FrameRow → Span
 frame_rate frame = record { size = frame.len; micros = frame.micros }
 
 -- the segments of some rows, measured
-abbrev pub segment_rates : List SegmentRow → List Row
+abbrev pub segment_rates : List SegmentRow → List Span
 segment_rates rows = map segment_rate rows
 
 -- their I-frames, measured
-abbrev pub frame_rates : List SegmentRow → List Row
+abbrev pub frame_rates : List SegmentRow → List Span
 frame_rates rows = flat_map (λ row. map frame_rate row.frames) rows
 
 -- an I-frame that a meter takes

@@ -2,18 +2,18 @@ ghost use Rattle.std.specs.Prelude.{◌≡◌, ◌+◌, ◌<◌, ◌≤◌, ◌^
 ghost use Rattle.std.specs.VecDeque.{deque_len, deque_capacity};
 ghost use Rattle.bandwidth.specs.Runs.{is_in_range};
 ghost use Rattle.bandwidth.specs.Steps.{AreSmall, IsOf, BestOf};
-ghost use Rattle.bandwidth.specs.Gaps.{IsPlace, IsUpTo, IsWindow, IsBehind, IsSameWindow, IsOneStartMore};
+ghost use Rattle.bandwidth.specs.Gaps.{IsPlace, IsUpTo, AreCandidates, IsBehind, AreSameCandidates, IsOneStartMore};
 ghost use Rattle.limits.specs.declared.TheConstants.{MOST_TARGET};
 
 use crate::corners::{add_all, walk_corners};
 use crate::place::{Place, Start};
-use crate::run::{Row, Run};
+use crate::run::{Span, Run};
 use crate::starts::{drop_early, link_all, walk};
 use ghost_list::GhostList;
 use std::alloc::{AllocError, Global};
 use std::collections::VecDeque;
 
-/// The places that runs in range to the last row may begin at, in two parts. Each place of the front part is linked to
+/// The places that runs in range to the last span may begin at, in two parts. Each place of the front part is linked to
 /// its next corner, the place up to which the rate from it is the least; of the back part only the corners are kept.
 /// Where the rate from a place to a later one is at most the best, a run from the first that beats the best is beaten by
 /// the one from the second: the first is spent, and is never looked at again, since the best only grows.
@@ -21,10 +21,10 @@ use std::collections::VecDeque;
 /// So each place is taken and dropped once, is a corner once, is linked once, when the front part is used up, and is
 /// passed at most once in each part: a constant number of steps a push on average, which is argued here and not proved.
 #[derive(Drop)]
-pub struct Window {
-    /// The least place for which the rows from there on last at most one and a half of the target.
+pub struct Candidates {
+    /// The least place for which the spans from there on last at most one and a half of the target.
     pub first: u64,
-    /// The places from there to the last row's.
+    /// The places from there to the last span's.
     pub starts: VecDeque<Start>,
     /// The first place that is no more spent, of those that are linked.
     pub head: u64,
@@ -32,17 +32,17 @@ pub struct Window {
     pub middle: u64,
     /// The corners of the places from there to the limit, without those that are spent.
     pub corners: VecDeque<Place>,
-    /// The least place for which the rows from there on last less than half of the target.
+    /// The least place for which the spans from there on last less than half of the target.
     pub until: u64,
 }
 
-impl Window {
-    /// The window of no rows.
-    pub fn new(alloc: Global, target: u64) -> Window
+impl Candidates {
+    /// The candidates of no spans.
+    pub fn new(alloc: Global, target: u64) -> Candidates
         requires { target ≤ MOST_TARGET }
-        ensures { IsWindow target [] None result }
+        ensures { AreCandidates target [] None result }
     {
-        Window {
+        Candidates {
             first: 0,
             starts: VecDeque::new(alloc),
             head: 0,
@@ -52,28 +52,28 @@ impl Window {
         }
     }
 
-    /// Takes the place before a new last row. For want of memory it is as it was.
+    /// Takes the place before a new last span. For want of memory it is as it was.
     pub fn push(&mut self, place: Place) -> Result<(), AllocError>
         requires until { self.old.until ≤ place.at }
         requires few { place.at < 2 ^ 52 }
         ensures ok { OnOk result (IsOneStartMore self.old place self.new) }
-        ensures err { OnErr result (IsSameWindow self.old self.new) }
+        ensures err { OnErr result (AreSameCandidates self.old self.new) }
     {
         self.corners.reserve((place.at + 1 - self.until) as usize)?;
         self.starts.push_back(Start { place, next: 0 })?;
         Ok(())
     }
 
-    /// Moves on to the last row: takes the places from which the rows last half of the target now, and drops those from
+    /// Moves on to the last span: takes the places from which the spans last half of the target now, and drops those from
     /// which they last longer than one and a half of it. Once none of those is left that are linked, it links all others
     /// that there are.
-    pub fn move_on(&mut self, target: u64, total: Place, _best: Option<Run>, _rows: &GhostList<Row>)
-        requires few { length _rows.now.items ≤ 2 ^ 52 }
-        requires total { IsPlace _rows.now.items total }
-        requires end { total.at ≡ length _rows.now.items }
-        requires behind { IsBehind target _rows.now.items _best self.old }
-        requires room { deque_len self.old.corners + length _rows.now.items ≤ deque_capacity self.old.corners + self.old.until }
-        ensures { IsWindow target _rows.now.items _best self.new }
+    pub fn move_on(&mut self, target: u64, total: Place, _best: Option<Run>, _spans: &GhostList<Span>)
+        requires few { length _spans.now.items ≤ 2 ^ 52 }
+        requires total { IsPlace _spans.now.items total }
+        requires end { total.at ≡ length _spans.now.items }
+        requires behind { IsBehind target _spans.now.items _best self.old }
+        requires room { deque_len self.old.corners + length _spans.now.items ≤ deque_capacity self.old.corners + self.old.until }
+        ensures { AreCandidates target _spans.now.items _best self.new }
     {
         self.until = add_all(
             target,
@@ -83,11 +83,11 @@ impl Window {
             self.middle,
             self.until,
             &mut self.corners,
-            _rows,
+            _spans,
         );
-        self.first = drop_early(target, self.first, &mut self.starts, total, _rows);
+        self.first = drop_early(target, self.first, &mut self.starts, total, _spans);
         if self.first > self.middle {
-            link_all(self.first, self.until, &mut self.starts, _rows);
+            link_all(self.first, self.until, &mut self.starts, _spans);
             self.corners.clear();
             self.middle = self.until;
             self.head = self.first;
@@ -96,25 +96,25 @@ impl Window {
         }
     }
 
-    /// The best run in range, where the best of those is given that end before the last row.
+    /// The best run in range, where the best of those is given that end before the last span.
     pub fn look(
         &mut self,
         target: u64,
         total: Place,
         best: Option<Run>,
-        _rows: &GhostList<Row>,
+        _spans: &GhostList<Span>,
     ) -> Option<Run>
-        requires total { IsPlace _rows.now.items total }
-        requires end { total.at ≡ length _rows.now.items }
-        requires window { IsWindow target _rows.now.items best self.old }
-        requires best { BestOf (IsUpTo target _rows.now.items self.old.first) best }
+        requires total { IsPlace _spans.now.items total }
+        requires end { total.at ≡ length _spans.now.items }
+        requires candidates { AreCandidates target _spans.now.items best self.old }
+        requires best { BestOf (IsUpTo target _spans.now.items self.old.first) best }
         requires small { AreSmall best }
-        ensures window { IsWindow target _rows.now.items result self.new }
-        ensures best { BestOf (IsOf (is_in_range target) _rows.now.items) result }
+        ensures candidates { AreCandidates target _spans.now.items result self.new }
+        ensures best { BestOf (IsOf (is_in_range target) _spans.now.items) result }
         ensures small { AreSmall result }
     {
-        let best = self.look_at_starts(target, total, best, _rows);
-        self.look_at_corners(target, total, best, _rows)
+        let best = self.look_at_starts(target, total, best, _spans);
+        self.look_at_corners(target, total, best, _spans)
     }
 
     /// The best of those that begin at the linked places too.
@@ -123,15 +123,15 @@ impl Window {
         _target: u64,
         total: Place,
         best: Option<Run>,
-        _rows: &GhostList<Row>,
+        _spans: &GhostList<Span>,
     ) -> Option<Run>
-        requires total { IsPlace _rows.now.items total }
-        requires end { total.at ≡ length _rows.now.items }
-        requires window { IsWindow _target _rows.now.items best self.old }
-        requires best { BestOf (IsUpTo _target _rows.now.items self.old.first) best }
+        requires total { IsPlace _spans.now.items total }
+        requires end { total.at ≡ length _spans.now.items }
+        requires candidates { AreCandidates _target _spans.now.items best self.old }
+        requires best { BestOf (IsUpTo _target _spans.now.items self.old.first) best }
         requires small { AreSmall best }
-        ensures window { IsWindow _target _rows.now.items result self.new }
-        ensures best { BestOf (IsUpTo _target _rows.now.items self.new.middle) result }
+        ensures candidates { AreCandidates _target _spans.now.items result self.new }
+        ensures best { BestOf (IsUpTo _target _spans.now.items self.new.middle) result }
         ensures small { AreSmall result }
     {
         if self.head == self.middle {
@@ -145,7 +145,7 @@ impl Window {
             total,
             self.head,
             best,
-            _rows,
+            _spans,
         );
         self.head = head;
         best
@@ -157,15 +157,15 @@ impl Window {
         _target: u64,
         total: Place,
         best: Option<Run>,
-        _rows: &GhostList<Row>,
+        _spans: &GhostList<Span>,
     ) -> Option<Run>
-        requires total { IsPlace _rows.now.items total }
-        requires end { total.at ≡ length _rows.now.items }
-        requires window { IsWindow _target _rows.now.items best self.old }
-        requires best { BestOf (IsUpTo _target _rows.now.items self.old.middle) best }
+        requires total { IsPlace _spans.now.items total }
+        requires end { total.at ≡ length _spans.now.items }
+        requires candidates { AreCandidates _target _spans.now.items best self.old }
+        requires best { BestOf (IsUpTo _target _spans.now.items self.old.middle) best }
         requires small { AreSmall best }
-        ensures window { IsWindow _target _rows.now.items result self.new }
-        ensures best { BestOf (IsUpTo _target _rows.now.items self.new.until) result }
+        ensures candidates { AreCandidates _target _spans.now.items result self.new }
+        ensures best { BestOf (IsUpTo _target _spans.now.items self.new.until) result }
         ensures small { AreSmall result }
     {
         if self.middle == self.until {
@@ -179,7 +179,7 @@ impl Window {
             &mut self.corners,
             total,
             best,
-            _rows,
+            _spans,
         )
     }
 }
