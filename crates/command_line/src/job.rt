@@ -152,7 +152,7 @@ fn with_check<'a>(alloc: Global, program: Command<'a>) -> Result<Command<'a>, Al
 }
 
 /// The program, with its commands in the order in which help shows them.
-fn program<'a>(alloc: Global) -> Result<Command<'a>, AllocError> {
+pub(crate) fn program<'a>(alloc: Global) -> Result<Command<'a>, AllocError> {
     let program = Command::new(alloc, "tshls")
         .about("MPEG-2 transport streams to encrypted HLS")
         .version(help::VERSION)

@@ -1,12 +1,16 @@
 //! The command line: the words that it takes, by `clap`, the job that they ask for, and how the program's faults are told.
 #![tactic(auto)]
 
+mod explanation;
 mod fault;
 mod fault_text;
 mod help;
 mod job;
 mod options;
 mod pack_options;
+mod reasons;
+mod settings_reason;
 
+pub use explanation::explain;
 pub use fault::Fault;
 pub use job::{Job, LadderJob, StreamJob, line};

@@ -8,6 +8,7 @@ pub mod LadderOptions
 pub mod LadderPacking
 pub mod Packing
 pub mod Pools
+pub mod Ranges
 pub mod Settings
 pub mod Sizes
 pub mod Statuses

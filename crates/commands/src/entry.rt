@@ -36,7 +36,7 @@ fn at_colon(text: &str) -> Option<Parted<'_>>
 }
 
 /// The text cut at its first four colons; None where it has fewer.
-pub(crate) fn entry(text: &str) -> Option<EntryWords<'_>>
+pub fn cut_entry(text: &str) -> Option<EntryWords<'_>>
     ensures some { IfSome result (λ words. entry_value words ≡ entry_of text.now) }
     ensures has { IfSome result (λ _. HasFourColons text.now) }
     ensures none { result ≡ None → ¬ HasFourColons text.now }
@@ -58,7 +58,7 @@ pub(crate) fn entry(text: &str) -> Option<EntryWords<'_>>
 pub(crate) fn is_good(text: &str) -> bool
     ensures { Decides result (IsGood text.now) }
 {
-    let Some(words) = entry(text) else {
+    let Some(words) = cut_entry(text) else {
         return false;
     };
     size(words.size).is_some() && are_keys(words.keys)
@@ -84,7 +84,7 @@ pub fn entries<'a>(alloc: Global, texts: &[&'a str]) -> Result<Vec<EntryWords<'a
 {
     let mut entries = Vec::new(alloc);
     for text in texts {
-        let Some(words) = entry(text) else {
+        let Some(words) = cut_entry(text) else {
             unreachable!()
         };
         entries.push(words)?;

@@ -6,7 +6,7 @@ ghost use Rattle.commands.specs.LadderOptions.{asked_of, key_count, IsWhole, ent
 ghost use Rattle.commands.specs.Pools.{IsPool};
 ghost use Rattle.commands.specs.Settings.{FitsCut, IsRenditionOf, cut_of};
 
-use crate::entry::{EntryWords, entry};
+use crate::entry::{EntryWords, cut_entry};
 use crate::key_list::key_count;
 use crate::ladder_fault::LadderFault;
 use crate::ladder_options::LadderWords;
@@ -25,7 +25,7 @@ fn has_many_keys(text: &str) -> bool
     ensures many { result ≡ true → MOST_KEYS < key_count text.now }
     ensures few { result ≡ false → key_count text.now ≤ MOST_KEYS }
 {
-    let Some(words) = entry(text) else {
+    let Some(words) = cut_entry(text) else {
         unreachable!()
     };
     key_count(words.keys) as u64 > MOST_KEYS

@@ -16,6 +16,7 @@ mod ladder_settings;
 mod numbers;
 mod opening;
 mod output;
+mod outside;
 mod packets;
 mod packing;
 mod pool;
@@ -29,7 +30,7 @@ mod summary_text;
 pub use check_options::{CheckOptions, CheckWords, read_check_options};
 pub use checking::{CheckingFault, check};
 pub use cipher::{CipherFault, CipherOptions, CipherWords, read_cipher_options};
-pub use entry::{EntryWords, entries, first_bad};
+pub use entry::{EntryWords, cut_entry, entries, first_bad};
 pub use files::{FileFault, FileReader};
 pub use key_list::KeyListFault;
 pub use ladder_fault::LadderFault;
@@ -40,6 +41,7 @@ pub use numbers::{
     DEFAULT_WINDOW, NumberWords, Numbers,
 };
 pub use opening::{OpeningFault, open};
+pub use outside::{Ranged, first_outside};
 pub use packing::{Packed, one};
 pub use pool::{DEFAULT_QUEUE, DEFAULT_WORKERS, Pool, PoolWords};
 pub use ranges::limits_are_these;

@@ -4,6 +4,8 @@
 #[cfg(test)]
 mod cipher;
 #[cfg(test)]
+mod explanation;
+#[cfg(test)]
 mod faults;
 #[cfg(test)]
 mod help;

@@ -4,9 +4,10 @@
 mod ladder;
 
 use crate::ladder::pack_into_folder;
-use command_line::{Fault, Job, StreamJob, line};
+use command_line::{Fault, Job, StreamJob, explain, line};
 use commands::{Packed, check, one, open, seal};
 use item_io::ReaderSource;
+use std::io::IsTerminal;
 use std::process::ExitCode;
 use std::{env, io};
 
@@ -56,12 +57,17 @@ fn run(rt: &HostRuntime, job: StreamJob) -> Result<(), Fault> {
     Ok(())
 }
 
-/// Tells how the program ends.
-fn ended(rt: &HostRuntime, answer: Result<(), Fault>) -> ExitCode {
+/// Tells how the program ends. At a terminal a fault is explained by a second line.
+fn ended(rt: &HostRuntime, words: &[String], answer: Result<(), Fault>) -> ExitCode {
     match answer {
         Ok(()) => ExitCode::SUCCESS,
         Err(fault) => {
             let _ = rt.eprint(&fault);
+            if rt.stderr().is_terminal()
+                && let Ok(Some(text)) = explain(rt.alloc(), words, &fault)
+            {
+                let _ = rt.eprint(&text);
+            }
             ExitCode::from(fault.status())
         }
     }
@@ -70,12 +76,12 @@ fn ended(rt: &HostRuntime, answer: Result<(), Fault>) -> ExitCode {
 fn main(rt: HostRuntime) -> ExitCode {
     let words = match words(&rt) {
         Ok(words) => words,
-        Err(fault) => return ended(&rt, Err(fault)),
+        Err(fault) => return ended(&rt, &[], Err(fault)),
     };
     let answer = match line(rt.alloc(), words.as_slice()) {
         Ok(Job::Stream(job)) => run(&rt, job),
         Ok(Job::Ladder(job)) => pack_into_folder(rt, rt.alloc(), &job, &mut rt.stdout()),
         Err(fault) => Err(fault),
     };
-    ended(&rt, answer)
+    ended(&rt, words.as_slice(), answer)
 }

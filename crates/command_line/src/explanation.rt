@@ -1,0 +1,209 @@
+//! What a fault means, in words, for whoever reads it at a terminal: which option, entry or path is meant, and why.
+use crate::fault::Fault;
+use crate::job::program;
+use crate::options::{number_words, packing_words};
+use crate::pack_options::pool_words;
+use crate::reasons::{
+    checking_reason, cipher_reason, key_list_reason, ladder_reason, opening_reason, sealing_reason,
+    settings_reason, unopened_reason,
+};
+use crate::settings_reason::{
+    ListedWords, write_outside, write_unlistable, write_unlistable_entries,
+};
+use commands::{LadderFault, LadderPackingFault, NumberWords, PoolWords, SettingsFault, cut_entry};
+use pipeline::PackFault;
+use std::alloc::{AllocError, Global};
+use std::convert::AsStr;
+use std::fmt;
+
+/// What was asked for, as far as faults speak of it.
+#[derive(Clone, Copy, Drop)]
+struct Asked<'b, 'a> {
+    numbers: NumberWords,
+    pool: PoolWords,
+    /// The rendition of `one`.
+    listed: ListedWords<'a>,
+    /// The texts of the ladder's entries; none of `one`.
+    entries: &'b [&'a str],
+}
+
+/// The words of a fault.
+#[derive(Clone, Copy, Drop)]
+struct Explanation<'b, 'a> {
+    fault: &'b Fault,
+    asked: Asked<'b, 'a>,
+}
+
+/// The words of a fault, as a line that is indented by two spaces. None where the fault's own text has them already. No key
+/// is ever in them.
+pub fn explain<S: AsStr>(
+    alloc: Global,
+    words: &[S],
+    fault: &Fault,
+) -> Result<Option<String>, AllocError> {
+    if matches!(fault, Fault::Usage(_)) {
+        return Ok(None);
+    }
+    let mut command = program(alloc)?;
+    let Ok(matches) = command.try_get_matches_from_mut(words) else {
+        return Ok(None);
+    };
+    let Some((_, options)) = matches.subcommand() else {
+        return Ok(None);
+    };
+    let given = packing_words(options);
+    let asked = Asked {
+        numbers: number_words(options),
+        pool: pool_words(options),
+        listed: ListedWords {
+            name: given.name.unwrap_or(commands::DEFAULT_NAME),
+            codecs: given.codecs,
+            size: given.size,
+        },
+        entries: options.get_strs("entries").unwrap_or(&[]),
+    };
+    let explanation = Explanation { fault, asked };
+    Ok(Some(format!(in alloc; "  {explanation}\n")?))
+}
+
+impl fmt::Display for Explanation<'_, '_> {
+    fn fmt<W: fmt::Write>(&self, f: &mut fmt::Formatter<W>) -> fmt::Result {
+        match self.fault {
+            Fault::Usage(_) | Fault::NoMemory => f.write_str("out of memory"),
+            Fault::NotUtf8 => f.write_str("a word of the command line is not UTF-8"),
+            Fault::Cipher(fault) => f.write_str(cipher_reason(*fault)),
+            Fault::KeyList(fault) => f.write_str(key_list_reason(*fault)),
+            Fault::Settings(SettingsFault::Settings) => write_settings(f, self.asked),
+            Fault::Settings(fault) => f.write_str(settings_reason(*fault)),
+            Fault::Ladder(LadderFault::BadEntry(n)) => write_bad_entry(f, self.asked, *n),
+            Fault::Ladder(LadderFault::Settings) => write_settings(f, self.asked),
+            Fault::Ladder(fault) => f.write_str(ladder_reason(*fault)),
+            Fault::Sealing(fault) => f.write_str(sealing_reason(*fault)),
+            Fault::Opening(fault) => f.write_str(opening_reason(*fault)),
+            Fault::Unopened(fault) => f.write_str(unopened_reason(*fault)),
+            Fault::Packing(fault) => write_packing(f, self.asked, *fault),
+            Fault::LadderPacking(LadderPackingFault::Packing(fault)) => {
+                write_packing(f, self.asked, *fault)
+            }
+            Fault::LadderPacking(LadderPackingFault::Unwritten) => {
+                f.write_str("all was packed, but standard output can't be written")
+            }
+            Fault::LadderPacking(LadderPackingFault::NoMemory) => f.write_str("out of memory"),
+            Fault::Checking(fault) => f.write_str(checking_reason(*fault)),
+        }
+    }
+}
+
+/// Writes which setting isn't allowed.
+fn write_settings<W: fmt::Write>(f: &mut fmt::Formatter<W>, asked: Asked<'_, '_>) -> fmt::Result {
+    if write_outside(f, asked.numbers, asked.pool)? {
+        return Ok(());
+    }
+    if asked.entries.is_empty() {
+        return write_unlistable(f, asked.listed);
+    }
+    write_unlistable_entries(f, asked.entries)
+}
+
+/// Writes what is wrong with the entry of this number, counted from 1.
+fn write_bad_entry<W: fmt::Write>(
+    f: &mut fmt::Formatter<W>,
+    asked: Asked<'_, '_>,
+    number: usize,
+) -> fmt::Result {
+    let words = match asked.entries.get(number.wrapping_sub(1)) {
+        Some(text) => cut_entry(text),
+        None => None,
+    };
+    match words {
+        Some(words) => write!(
+            f,
+            "entry {number}, {}: its size is not WIDTHxHEIGHT, or a key is not 32 hex digits",
+            words.name
+        ),
+        None => write!(
+            f,
+            "entry {number} has fewer than four colons: NAME:CODECS:WxH:KEY[+KEY..]:PATH"
+        ),
+    }
+}
+
+/// Writes which rendition of a ladder is meant, by its entry and its path; nothing of `one`.
+fn write_rendition<W: fmt::Write>(
+    f: &mut fmt::Formatter<W>,
+    asked: Asked<'_, '_>,
+    r: usize,
+) -> fmt::Result {
+    if let Some(text) = asked.entries.get(r)
+        && let Some(words) = cut_entry(text)
+    {
+        return write!(f, "{}, from {}: ", words.name, words.path);
+    }
+    Ok(())
+}
+
+/// Writes why a run ended.
+fn write_packing<W: fmt::Write>(
+    f: &mut fmt::Formatter<W>,
+    asked: Asked<'_, '_>,
+    fault: PackFault,
+) -> fmt::Result {
+    match fault {
+        PackFault::Settings => write_settings(f, asked),
+        PackFault::Read(r) => write_stream(f, asked, r, "a read failed"),
+        PackFault::ReadLimit(r) => {
+            write_stream(
+                f,
+                asked,
+                r,
+                "2^40 reads did not reach the end of the stream",
+            )
+        }
+        PackFault::NoProgram(r) => write_stream(f, asked, r, NO_PROGRAM),
+        PackFault::NoStart(r) => write_stream(f, asked, r, NO_START),
+        PackFault::Limit(r) => {
+            write_stream(
+                f,
+                asked,
+                r,
+                "the last segment number, or the range of time, is passed",
+            )
+        }
+        PackFault::LongSegment(r, n) => {
+            write_rendition(f, asked, r)?;
+            write!(f, "segment {n} {LONG_SEGMENT}")
+        }
+        PackFault::BigSegment(r, n) => {
+            write_rendition(f, asked, r)?;
+            write!(f, "segment {n} has more packets than --most")
+        }
+        PackFault::Held(r, n) => {
+            write_rendition(f, asked, r)?;
+            write!(f, "segment {n} was held back")
+        }
+        PackFault::Outlet => f.write_str(OUTLET),
+        PackFault::NoMemory => f.write_str("out of memory"),
+    }
+}
+
+const NO_PROGRAM: &str =
+    "no program: empty, not a transport stream, or its PAT or PMT is missing or damaged";
+
+const NO_START: &str =
+    "no key frame to begin at: one with random_access_indicator set, a PTS, and not scrambled";
+
+const LONG_SEGMENT: &str =
+    "would last longer than --target: if the GOP doesn't divide it, set --segment to the target minus one GOP";
+
+const OUTLET: &str = "the output can't be written: missing, not writable, closed, or full";
+
+/// Writes a reason that speaks of one rendition's stream.
+fn write_stream<W: fmt::Write>(
+    f: &mut fmt::Formatter<W>,
+    asked: Asked<'_, '_>,
+    r: usize,
+    why: &str,
+) -> fmt::Result {
+    write_rendition(f, asked, r)?;
+    f.write_str(why)
+}

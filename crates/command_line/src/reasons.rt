@@ -1,0 +1,116 @@
+//! The words of faults that name no option, entry or path of their own.
+use commands::{
+    CheckingFault, CipherFault, KeyListFault, LadderFault, OpeningFault, SealingFault,
+    SettingsFault,
+};
+use hls_check::{CheckFault, ListFault, UnpackFault};
+use read_ahead::OpenFault;
+
+const NO_MEMORY: &str = "out of memory";
+
+const UNREAD: &str = "standard input can't be read";
+
+const UNWRITTEN: &str = "standard output can't be written: it is closed, or its disk is full";
+
+const READ_LIMIT: &str = "2^40 reads did not reach the end of the input";
+
+const BAD_SALT: &str = "--salt is not 32 hex digits";
+
+const TOO_MANY: &str = "more than 4096 keys for one rendition";
+
+const ZERO_PERIOD: &str = "--period is 0: a key seals at least one segment";
+
+const BAD_KEYS: &str = "a key of --keys is not 32 hex digits";
+
+pub(crate) fn cipher_reason(fault: CipherFault) -> &'static str {
+    match fault {
+        CipherFault::BadKey => "--key is not 32 hex digits",
+        CipherFault::BadVector => {
+            "exactly one of --seq and --iv is wanted, and --iv as 32 hex digits"
+        }
+    }
+}
+
+pub(crate) fn key_list_reason(fault: KeyListFault) -> &'static str {
+    match fault {
+        KeyListFault::BadKey => BAD_KEYS,
+        KeyListFault::NoMemory => NO_MEMORY,
+    }
+}
+
+pub(crate) fn settings_reason(fault: SettingsFault) -> &'static str {
+    match fault {
+        SettingsFault::BadKey => BAD_KEYS,
+        SettingsFault::BadSize => "--size is not WIDTHxHEIGHT in pixels, as 1280x720",
+        SettingsFault::BadVector => BAD_SALT,
+        SettingsFault::TooMany => TOO_MANY,
+        SettingsFault::ZeroPeriod => ZERO_PERIOD,
+        SettingsFault::Settings => "an option is outside its range",
+        SettingsFault::NoMemory => NO_MEMORY,
+    }
+}
+
+pub(crate) fn ladder_reason(fault: LadderFault) -> &'static str {
+    match fault {
+        LadderFault::BadEntry(_) => "an entry is not NAME:CODECS:WxH:KEY[+KEY..]:PATH",
+        LadderFault::BadVector => BAD_SALT,
+        LadderFault::TooMany => TOO_MANY,
+        LadderFault::ZeroPeriod => ZERO_PERIOD,
+        LadderFault::Settings => "an option is outside its range",
+        LadderFault::NoMemory => NO_MEMORY,
+    }
+}
+
+pub(crate) fn sealing_reason(fault: SealingFault) -> &'static str {
+    match fault {
+        SealingFault::Unread => UNREAD,
+        SealingFault::ReadLimit => READ_LIMIT,
+        SealingFault::Unwritten => UNWRITTEN,
+        SealingFault::NoMemory => NO_MEMORY,
+    }
+}
+
+pub(crate) fn opening_reason(fault: OpeningFault) -> &'static str {
+    match fault {
+        OpeningFault::Unread => UNREAD,
+        OpeningFault::ReadLimit => READ_LIMIT,
+        OpeningFault::BadHex => "the input is not one line of an even number of hex digits",
+        OpeningFault::NotBlocks => "the digits are not whole blocks of 16 bytes, or there are none",
+        OpeningFault::BadPadding => "sealed under another key or vector, or damaged",
+        OpeningFault::Unwritten => UNWRITTEN,
+        OpeningFault::NoMemory => NO_MEMORY,
+    }
+}
+
+pub(crate) fn unopened_reason(fault: OpenFault) -> &'static str {
+    match fault {
+        OpenFault::Unread => "the path of an entry can't be opened; nothing was written",
+        OpenFault::NoMemory => NO_MEMORY,
+    }
+}
+
+pub(crate) fn checking_reason(fault: CheckingFault) -> &'static str {
+    match fault {
+        CheckingFault::Unread => {
+            "the playlist, or a segment that it lists, can't be read, or the playlist is not UTF-8"
+        }
+        CheckingFault::Unwritten => UNWRITTEN,
+        CheckingFault::NoMemory => NO_MEMORY,
+        CheckingFault::Faulty(CheckFault::Text(ListFault::NotProfile(_))) => {
+            "that line of the playlist, counted from 1, is not what tshls writes there"
+        }
+        CheckingFault::Faulty(CheckFault::Text(ListFault::NoMemory)) => NO_MEMORY,
+        CheckingFault::Faulty(CheckFault::Segments(why)) => match why {
+            UnpackFault::Missing(_) => {
+                "--keys has no key for that entry of the playlist, counted from 0"
+            }
+            UnpackFault::Closed(_) => {
+                "that entry, counted from 0, does not open: another key, or its segment is damaged"
+            }
+            UnpackFault::NoHead(_) => {
+                "that entry, counted from 0, opens to something else than a segment: exchanged or damaged"
+            }
+            UnpackFault::NoMemory => NO_MEMORY,
+        },
+    }
+}

@@ -1,0 +1,125 @@
+//! Why settings aren't allowed: the option, or the entry of a ladder, that is outside its limits.
+use commands::{EntryWords, NumberWords, PoolWords, Ranged, cut_entry, first_outside};
+use limits::{MOST_PIXELS, MOST_RENDITIONS};
+use playlist_text::{is_codecs, is_name};
+use std::fmt;
+
+/// What a rendition is listed by: of `one`, or of an entry.
+#[derive(Clone, Copy, Debug, Drop)]
+pub(crate) struct ListedWords<'a> {
+    pub name: &'a str,
+    pub codecs: &'a str,
+    pub size: &'a str,
+}
+
+/// The option, its range and its unit.
+fn range_of(option: Ranged) -> (&'static str, &'static str) {
+    match option {
+        Ranged::Target => ("--target", "1 to 3600 seconds"),
+        Ranged::Segment => ("--segment", "1 second to the target"),
+        Ranged::Window => ("--window", "1 to 10000 segments"),
+        Ranged::Frame => ("--frame", "1 to 900000 ticks"),
+        Ranged::Gap => ("--gap", "1 to 4294967295 ticks"),
+        Ranged::Most => ("--most", "1 to 1000000 packets"),
+        Ranged::Program => ("--program", "1 to 65535"),
+        Ranged::Workers => ("--workers", "1 to 64"),
+        Ranged::Queue => ("--queue", "1 to 256 segments"),
+        Ranged::Batch => ("--batch", "1 to 256 segments"),
+    }
+}
+
+/// Writes which option is outside its range, and answers whether one is.
+pub(crate) fn write_outside<W: fmt::Write>(
+    f: &mut fmt::Formatter<W>,
+    numbers: NumberWords,
+    pool: PoolWords,
+) -> Result<bool, fmt::Error> {
+    match first_outside(&numbers.numbers(), pool.pool()) {
+        Some(option) => {
+            let (name, range) = range_of(option);
+            write!(f, "{name} is outside its range, {range}")?;
+            Ok(true)
+        }
+        None => Ok(false),
+    }
+}
+
+/// Whether a side of a size has 1 to 16,384 pixels, if it is a number.
+fn is_side(text: &str) -> bool {
+    match text.parse::<u64>() {
+        Ok(pixels) => 1 <= pixels && pixels <= MOST_PIXELS,
+        Err(_) => true,
+    }
+}
+
+/// What a rendition can't be listed by, if there is such a thing.
+fn unlistable(words: ListedWords<'_>) -> Option<&'static str> {
+    if !is_name(words.name) {
+        return Some(
+            "the name is not 1 to 64 bytes without control bytes, '/', '.' and ':', or it is 'master'",
+        );
+    }
+    if !is_codecs(words.codecs) {
+        return Some("the codecs are not 1 to 128 printable ASCII bytes without a quotation mark");
+    }
+    match words.size.split_once('x') {
+        Some((width, height)) if is_side(width) && is_side(height) => None,
+        _ => Some("a side of the size is outside 1 to 16384 pixels"),
+    }
+}
+
+/// Writes why the rendition of `one` can't be listed.
+pub(crate) fn write_unlistable<W: fmt::Write>(
+    f: &mut fmt::Formatter<W>,
+    words: ListedWords<'_>,
+) -> fmt::Result {
+    f.write_str(unlistable(words).unwrap_or("an option is outside its range"))
+}
+
+/// The words that an entry is listed by.
+fn listed_words(words: EntryWords<'_>) -> ListedWords<'_> {
+    ListedWords {
+        name: words.name,
+        codecs: words.codecs,
+        size: words.size,
+    }
+}
+
+/// Writes why the entries of a ladder can't be listed together.
+pub(crate) fn write_unlistable_entries<W: fmt::Write>(
+    f: &mut fmt::Formatter<W>,
+    entries: &[&str],
+) -> fmt::Result {
+    if entries.len() as u64 > MOST_RENDITIONS {
+        return write!(f, "there are more than {MOST_RENDITIONS} entries");
+    }
+    for place in 0..entries.len() {
+        let Some(words) = cut_entry(entries[place]) else {
+            continue;
+        };
+        let number = place as u64 + 1;
+        if let Some(why) = unlistable(listed_words(words)) {
+            return write!(f, "entry {number}: {why}");
+        }
+        if is_among(words.name, &entries[..place]) {
+            return write!(
+                f,
+                "entry {number} has the name of an earlier one, {}",
+                words.name
+            );
+        }
+    }
+    f.write_str("an option is outside its range")
+}
+
+/// Whether one of these entries has the name.
+fn is_among(name: &str, entries: &[&str]) -> bool {
+    for text in entries {
+        if let Some(words) = cut_entry(text)
+            && words.name == name
+        {
+            return true;
+        }
+    }
+    false
+}

@@ -1,0 +1,83 @@
+//! Which option has a number outside its range, for whoever is told that the settings aren't allowed.
+ghost use Rattle.std.specs.Prelude.{◌≡◌, None, IfSome, Decides};
+ghost use Rattle.std.specs.Option.{unwrap_or};
+ghost use Rattle.commands.specs.declared.numbers.Numbers.{Numbers as NumbersValue};
+ghost use Rattle.commands.specs.Ranges.{IsUpTo, IsWithin, AreWithin};
+ghost use Rattle.limits.specs.declared.TheConstants.{LEAST, MOST_QUEUE, MOST_WORKERS};
+
+use crate::numbers::Numbers;
+use crate::pool::Pool;
+use limits::{
+    LEAST, MOST_FRAME, MOST_GAP, MOST_PACKETS, MOST_PROGRAM, MOST_QUEUE, MOST_TARGET, MOST_WINDOW,
+    MOST_WORKERS,
+};
+
+/// An option whose number has a range.
+#[derive(Clone, Copy, Debug, PartialEq, Eq, Drop)]
+pub enum Ranged {
+    Target,
+    Segment,
+    Window,
+    Frame,
+    Gap,
+    Most,
+    Program,
+    Workers,
+    Queue,
+    Batch,
+}
+
+fn is_up_to(number: u64, most: u64) -> bool
+    ensures { Decides result (IsUpTo number most) }
+{
+    LEAST <= number && number <= most
+}
+
+/// An option whose number is outside its range, the first in the order in which help lists them. None where all numbers are
+/// within their ranges; the period has none.
+pub fn first_outside(numbers: &Numbers, pool: Pool) -> Option<Ranged>
+    ensures some { IfSome result (λ option. ¬ IsWithin option numbers.now pool) }
+    ensures none { result ≡ None → AreWithin numbers.now pool }
+{
+    if !is_up_to(numbers.target, MOST_TARGET) {
+        return Some(Ranged::Target);
+    }
+    if !is_up_to(numbers.segment, numbers.target) {
+        return Some(Ranged::Segment);
+    }
+    if !is_up_to(numbers.window, MOST_WINDOW) {
+        return Some(Ranged::Window);
+    }
+    if !is_up_to(numbers.frame, MOST_FRAME) {
+        return Some(Ranged::Frame);
+    }
+    if !is_up_to(numbers.gap, MOST_GAP) {
+        return Some(Ranged::Gap);
+    }
+    if !is_up_to(numbers.most, MOST_PACKETS) {
+        return Some(Ranged::Most);
+    }
+    if !is_up_to(numbers.program.unwrap_or(LEAST), MOST_PROGRAM) {
+        return Some(Ranged::Program);
+    }
+    first_outside_of_pool(pool)
+}
+
+/// The same of the threads that seal.
+fn first_outside_of_pool(pool: Pool) -> Option<Ranged>
+    ensures some { IfSome result (λ option. (numbers : NumbersValue) → ¬ IsWithin option numbers pool) }
+    ensures workers { result ≡ None → IsUpTo pool.workers MOST_WORKERS }
+    ensures queue { result ≡ None → IsUpTo pool.queue MOST_QUEUE }
+    ensures batch { result ≡ None → IsUpTo (unwrap_or pool.batch LEAST) MOST_QUEUE }
+{
+    if !is_up_to(pool.workers, MOST_WORKERS) {
+        return Some(Ranged::Workers);
+    }
+    if !is_up_to(pool.queue, MOST_QUEUE) {
+        return Some(Ranged::Queue);
+    }
+    if !is_up_to(pool.batch.unwrap_or(LEAST), MOST_QUEUE) {
+        return Some(Ranged::Batch);
+    }
+    None
+}
