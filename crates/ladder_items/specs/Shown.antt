@@ -4,7 +4,7 @@ use Rattle.std.specs.List.{flat_map}
 use Rattle.playlist_text.specs.Lines.{text_of}
 use Rattle.media_playlist.specs.declared.row.FrameRow.{FrameRow}
 use Rattle.media_playlist.specs.Rows.{SegmentRow, is_long}
-use Rattle.media_playlist.specs.Listed.{Pushed}
+use Rattle.media_playlist.specs.Listed.{Pushed, nothing_gone}
 use Rattle.media_playlist.specs.Lines.{media_lines, iframe_lines}
 use Rattle.bandwidth.specs.declared.run.Span.{Span}
 use Rattle.limits.specs.declared.TheConstants.{MOST_PACKETS}
@@ -20,9 +20,9 @@ pub record Shown : Type 0 where
   pub rows : List SegmentRow
   pub ended : Bool
 
--- as the window of its playlists
+-- as the window of its playlists, before whose rows nothing came
 abbrev pub in_window : Shown → Pushed
-in_window shown = record { name = shown.name; target = shown.target; window = shown.window; event = shown.event; salt = shown.salt; rows = shown.rows }
+in_window shown = record { name = shown.name; target = shown.target; window = shown.window; event = shown.event; salt = shown.salt; gone = nothing_gone; rows = shown.rows }
 
 -- the texts of its playlists, ended or not
 abbrev pub media_text : Shown → Bool → List ℕ

@@ -1,7 +1,7 @@
 -- What settings and playlists keep.
 use Rattle.std.specs.Prelude.{◌≡◌, ◌*◌, ◌≤◌, ◌^◌, false, length}
 use Rattle.std.specs.String.{string_bytes}
-use Rattle.media_playlist.specs.Listed.{duration}
+use Rattle.media_playlist.specs.Listed.{duration, nothing_gone}
 use Rattle.ladder_items.specs.declared.settings.Rendition.TheInside.{Inside as RenditionInside}
 use Rattle.ladder_items.specs.declared.settings.Settings.TheInside.{Inside as SettingsInside}
 use Rattle.ladder_items.specs.declared.playlists.Playlists.TheInside.{Inside}
@@ -26,10 +26,11 @@ shown p = record {
   ended = p.ended;
 }
 
--- until they end, the meters and the sum are those of the rows
+-- the run is a first one; until they end, the meters and the sum are those of the rows
 pub record IsTied (p : Inside) : Type 0 where
-  pub segments : p.ended ≡ false → p.segments ≡ record { target = p.window.target; rows = segment_rates p.window.rows }
-  pub frames : p.ended ≡ false → p.frames ≡ record { target = p.window.target; rows = frame_rates p.window.rows }
+  pub gone : p.window.gone ≡ nothing_gone
+  pub segments : p.ended ≡ false → p.segments ≡ record { target = p.window.target; spans = segment_rates p.window.rows }
+  pub frames : p.ended ≡ false → p.frames ≡ record { target = p.window.target; spans = frame_rates p.window.rows }
   pub micros : p.ended ≡ false → p.micros ≡ duration p.window.rows
   pub few : p.ended ≡ false → length (frame_rates p.window.rows) ≤ MOST_PACKETS * length p.window.rows
   pub small : p.ended ≡ false → duration p.window.rows ≤ 2 ^ 32 * length p.window.rows

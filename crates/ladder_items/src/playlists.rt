@@ -1,7 +1,7 @@
 ghost use Rattle.std.specs.Prelude.{◌≡◌, ◌+◌, ◌*◌, ◌<◌, ◌≤◌, ◌^◌, [], ◌∷◌, ◌++◌, true, false, length, map, All, IfOk, IfErr, OnOk, OnErr};
 ghost use Rattle.std.specs.String.{string_bytes};
 ghost use Rattle.bandwidth.specs.Peaks.{peak_of, average_of};
-ghost use Rattle.media_playlist.specs.Listed.{duration};
+ghost use Rattle.media_playlist.specs.Listed.{duration, nothing_gone};
 ghost use Rattle.ladder_items.specs.declared.fault.PackFault.TheVariants.{NoMemory};
 ghost use Rattle.ladder_items.specs.Ladder.{is_event, least_listed};
 ghost use Rattle.ladder_items.specs.Shown.{IsNextRow, IsSmallFrame, frame_rate, segment_rates, frame_rates};
@@ -169,6 +169,7 @@ fn empty_window(
       window = least_listed kind window;
       event = is_event kind;
       salt = salt;
+      gone = nothing_gone;
       rows = [];
     }) }
 {
@@ -181,9 +182,9 @@ fn empty_window(
 
 /// Measures the I-frames of a segment.
 fn push_frames(meter: &mut Meter, frames: &[FrameRow]) -> Result<(), AllocError>
-    requires few { length meter.old.rows + length frames.now ≤ 2 ^ 52 }
+    requires few { length meter.old.spans + length frames.now ≤ 2 ^ 52 }
     requires small { All IsSmallFrame frames.now }
-    ensures { OnOk result (meter.new ≡ record meter.old { rows = meter.old.rows ++ map frame_rate frames.now }) }
+    ensures { OnOk result (meter.new ≡ record meter.old { spans = meter.old.spans ++ map frame_rate frames.now }) }
 {
     for frame in frames {
         meter.push(frame.len, frame.micros)?;

@@ -1,5 +1,5 @@
 -- What the I-frame playlist behind a segment lists of it, and the segments of a rendition.
-use Rattle.std.proofs.Common.{◌≡◌, ◌∙◌, ℕ, ◌≤◌, Bool, true, false, List, [], ◌∷◌, ◌++◌, map, length, drop, filter, Option, slice_get, refl, ap, sym, subst, append_assoc}
+use Rattle.std.proofs.Common.{◌≡◌, ◌∙◌, ℕ, ◌+◌, ◌≤◌, Bool, true, false, List, [], ◌∷◌, ◌++◌, map, length, drop, filter, Option, slice_get, refl, ap, sym, subst, append_assoc}
 use Rattle.std.specs.List.{flat_map}
 use Rattle.std.proofs.lemmas.List.{append-nil, map-append, drop-append-le}
 use Rattle.std.proofs.lemmas.List.Elements.{filter-append}
@@ -32,7 +32,7 @@ frames_value ladder r plans =
 
 -- the lines before those of the rows
 abbrev heading : Pushed → List (List ℕ)
-heading pushed = head_lines pushed.target (frame_count (removed pushed)) (discontinuity_count (removed pushed)) ++ type_lines pushed.event ++ frames_only_line ∷ []
+heading pushed = head_lines pushed.target (pushed.gone.frames + frame_count (removed pushed)) (pushed.gone.discontinuities + discontinuity_count (removed pushed)) ++ type_lines pushed.event ++ frames_only_line ∷ []
 
 lines-are : (pushed : Pushed) (rows : List SegmentRow) (row : SegmentRow) → pushed.rows ≡ rows ++ row ∷ []
     → iframe_lines pushed false ≡ heading pushed ++ flat_map (row_frame_lines pushed.name pushed.salt) (listed pushed)

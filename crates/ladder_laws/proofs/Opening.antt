@@ -20,7 +20,7 @@ use Rattle.playlist_text.specs.Lines.{text_of}
 use Rattle.playlist_text.specs.MediaLines.{Listing, listing_lines}
 use Rattle.media_playlist.specs.Rows.{SegmentRow}
 use Rattle.media_playlist.specs.Listed.{Pushed, first, first_listed, listed, removed, discontinuity_count}
-use Rattle.media_playlist.specs.Lines.{entry_of, unless_empty, media_lines}
+use Rattle.media_playlist.specs.Lines.{entry_of, listing_of, unless_empty, media_lines}
 use Rattle.item_io.specs.Items.{ItemValue, SegmentValue, PlaylistValue, SegmentItem, MediaItem}
 use Rattle.ladder_items.specs.declared.settings.Kind.{Kind}
 use Rattle.ladder_items.specs.declared.settings.Kind.TheVariants.{Live, Event as OfEvent}
@@ -75,22 +75,10 @@ pub unless-some : (rows : List SegmentRow) (row : SegmentRow) (lines : List (Lis
 unless-some [] row lines = refl
 unless-some (x ∷ rows) row lines = refl
 
-abbrev listing_of : Pushed → Listing
-listing_of pushed = record {
-  name = pushed.name;
-  target = pushed.target;
-  sequence = first pushed;
-  discontinuity_sequence = discontinuity_count (removed pushed);
-  event = pushed.event;
-  salt = pushed.salt;
-  entries = map entry_of (listed pushed);
-  ended = false;
-}
-
-lines-are : (pushed : Pushed) (rows : List SegmentRow) (row : SegmentRow) → pushed.rows ≡ rows ++ row ∷ [] → media_lines pushed false ≡ listing_lines (listing_of pushed)
+lines-are : (pushed : Pushed) (rows : List SegmentRow) (row : SegmentRow) → pushed.rows ≡ rows ++ row ∷ [] → media_lines pushed false ≡ listing_lines (listing_of pushed false)
 unfolding media_lines
 lines-are pushed rows row e =
-    ap (λ l. unless_empty l (listing_lines (listing_of pushed))) e ∙ unless-some rows row (listing_lines (listing_of pushed))
+    ap (λ l. unless_empty l (listing_lines (listing_of pushed false))) e ∙ unless-some rows row (listing_lines (listing_of pushed false))
 
 -- a segment of a plan, and the media playlist behind it
 abbrev pub segment_value : Ladder → ℕ → SegmentPlan → SegmentValue
@@ -108,7 +96,7 @@ media_value ladder r plans =
 
 is-listed : Suffice → (ladder : Ladder) (r : ℕ) (before : List SegmentPlan) (plan : SegmentPlan) → IsAllowed ladder → plan.number ≡ length before → IsOfBytes plan
     → IsListed (rendition_at ladder r).keys plan (segment_value ladder r plan) (media_value ladder r (before ++ plan ∷ []))
-unfolding row_of
+unfolding row_of listing_of
 is-listed suffice ladder r before plan allowed number of_bytes =
     let keys = (rendition_at ladder r).keys in
     let rows = rows_of keys before in
@@ -119,23 +107,23 @@ is-listed suffice ladder r before plan allowed number of_bytes =
     let j = first pushed in
     let below : j ≤ length rows = last-in-window suffice (is_event ladder.kind) ladder.kind ladder.cut.target ladder.window (rows_of keys (before ++ plan ∷ [])) rows row refl all allowed.within.window.0 in
     let many : length rows ≡ length before = length-map before (λ p. row_of keys (sealed_segment keys p)) in
-    let sequence : j + length (map entry_of (drop j rows)) ≡ plan.number =
+    let sequence : 0 + j + length (map entry_of (drop j rows)) ≡ plan.number =
     omega (arith, below, many, number, length-map (drop j rows) entry_of, length-drop j rows) in
     let bytes : sealed_text (key_of keys plan.number) (vector_of keys plan.number) (plain plan)
-    ≡ sealed_text (key_of keys plan.number) (salted_vector pushed.salt (j + length (map entry_of (drop j rows)))) (plain plan) =
+    ≡ sealed_text (key_of keys plan.number) (salted_vector pushed.salt (0 + j + length (map entry_of (drop j rows)))) (plain plan) =
     ap (λ n. sealed_text (key_of keys plan.number) (vector_of keys n) (plain plan)) (sym sequence)
-    ∙ ap (λ s. sealed_text (key_of keys plan.number) (salted_vector s (j + length (map entry_of (drop j rows)))) (plain plan)) salted in
+    ∙ ap (λ s. sealed_text (key_of keys plan.number) (salted_vector s (0 + j + length (map entry_of (drop j rows)))) (plain plan)) salted in
     let entries : map entry_of (listed pushed) ≡ map entry_of (drop j rows) ++ entry_of row ∷ [] =
     ap (λ l. map entry_of (drop j l)) all ∙ (ap (map entry_of) (drop-append-le j rows (row ∷ []) below) ∙ map-append entry_of (drop j rows) (row ∷ [])) in
     record {
-      listing = listing_of pushed;
+      listing = listing_of pushed false;
       earlier = map entry_of (drop j rows);
       entry = entry_of row;
       text_is = ap text_of (lines-are pushed rows row all);
       entries_are = entries;
       name_is = refl;
       number_is = refl;
-      applies = applies-last (listing_of pushed) (map entry_of (drop j rows)) (entry_of row) entries refl;
+      applies = applies-last (listing_of pushed false) (map entry_of (drop j rows)) (entry_of row) entries refl;
       sequence_is = sequence;
       opens = record { tables = of_bytes.tables; text = record { bytes = of_bytes.bytes; sealed = bytes } };
     }

@@ -1,14 +1,16 @@
-ghost use Rattle.std.specs.Prelude.{◌≡◌, ◌≢◌, ◌<◌, ◌^◌, ◌↔◌, [], ◌∷◌, ◌++◌, length, IsTrue, IfOk, OnOk, OnErr, IsErrOf, Some, None, true, false};
+ghost use Rattle.std.specs.Prelude.{◌≡◌, ◌≢◌, ◌+◌, ◌<◌, ◌≤◌, ◌^◌, ◌↔◌, [], ◌∷◌, ◌++◌, length, IsTrue, IfOk, OnOk, OnErr, IsErrOf, Some, None, true, false};
 ghost use Rattle.std.specs.String.{string_bytes};
 ghost use Rattle.playlist_text.specs.Lines.{text_of};
 ghost use Rattle.media_playlist.specs.Rows;
 ghost use Rattle.media_playlist.specs.Lines.{media_lines, iframe_lines};
+ghost use Rattle.media_playlist.specs.Listed.{first, nothing_gone};
+ghost use Rattle.media_playlist.specs.Gone.{IsSmall};
 
 use crate::fault::WindowFault;
 use crate::iframes::{push_frames, push_frames_only};
 use crate::lines::{push_end, push_head};
 use crate::media::push_entries;
-use crate::row::{Row, is_long};
+use crate::row::{Gone, Row, is_long};
 use crate::start::{Start, moved_on};
 use ghost_list::GhostList;
 use std::alloc::{AllocError, Global};
@@ -31,6 +33,7 @@ pub struct Window {
     window: u64,
     event: bool,
     salt: Option<[u8; 16]>,
+    gone: Gone,
     rows: VecDeque<Row>,
     start: Start,
     taken: GhostList<Row>,
@@ -57,6 +60,7 @@ impl Window {
           window = window;
           event = false;
           salt = None;
+          gone = nothing_gone;
           rows = [];
         }) }
     {
@@ -78,6 +82,7 @@ impl Window {
           window = window;
           event = false;
           salt = Some salt;
+          gone = nothing_gone;
           rows = [];
         }) }
     {
@@ -98,6 +103,7 @@ impl Window {
           window = 0;
           event = true;
           salt = salt;
+          gone = nothing_gone;
           rows = [];
         }) }
     {
@@ -118,6 +124,7 @@ impl Window {
           window = window;
           event = event;
           salt = salt;
+          gone = nothing_gone;
           rows = [];
         }) }
     {
@@ -128,10 +135,23 @@ impl Window {
             window,
             event,
             salt,
+            gone: Gone::nothing(),
             rows: VecDeque::new(alloc),
             start: Start::new(),
             taken: GhostList::new(),
         })
+    }
+
+    /// The window of a rendition that goes on: its first row is the next one behind what came before (RFC 8216, 6.2.1: a
+    /// media sequence number never falls). No row was pushed yet.
+    pub fn behind(self, gone: Gone) -> Window
+        requires empty { self.rows ≡ [] }
+        requires small { IsSmall gone }
+        ensures { result ≡ record self { gone = gone } }
+    {
+        let mut window = self;
+        window.gone = gone;
+        window
     }
 
     /// How many rows it was pushed.
@@ -139,6 +159,25 @@ impl Window {
         ensures { result ≡ length self.now.rows }
     {
         self.start.first + self.rows.len() as u64
+    }
+
+    /// The number that the next row has to have.
+    pub fn next_number(&self) -> u64
+        requires { length self.now.rows ≤ 2 ^ 52 }
+        ensures { result ≡ self.now.gone.rows + length self.now.rows }
+    {
+        self.gone.rows + self.row_count()
+    }
+
+    /// Asks for another least number of rows from now on. No row was removed so far.
+    pub fn ask_for(&mut self, window: u64)
+        requires { first self.old ≡ 0 }
+        ensures { self.new ≡ record self.old { window = window } }
+    {
+        self.window = window;
+        if !self.event {
+            self.start = moved_on(self.target, window, &mut self.rows, self.start, &self.taken);
+        }
     }
 
     /// Takes the next row. Fewer than 2^52 rows came before: the caller's care.
@@ -149,13 +188,13 @@ impl Window {
         ensures pushed { OnOk result (self.new ≡ record self.old { rows = self.old.rows ++ row ∷ [] }) }
         ensures long { IsErrOf result WindowFault.LongRow ↔ IsTrue (Rows.is_long self.old.target row) }
         ensures order { IsErrOf result WindowFault.OutOfOrder
-            ↔ ((Rows.is_long self.old.target row ≡ false) × (row.number ≢ length self.old.rows)) }
+            ↔ ((Rows.is_long self.old.target row ≡ false) × (row.number ≢ self.old.gone.rows + length self.old.rows)) }
         ensures err { OnErr result (self.new ≡ self.old) }
     {
         if is_long(self.target, &row) {
             return Err(WindowFault::LongRow);
         }
-        if row.number != self.row_count() {
+        if row.number != self.next_number() {
             return Err(WindowFault::OutOfOrder);
         }
         let start = self.start.with_micros(row.micros);
@@ -179,13 +218,9 @@ impl Window {
             return Ok(out);
         }
         let start = self.start;
-        push_head(
-            &mut out,
-            self.target,
-            u128::from(start.first),
-            start.discontinuities,
-            self.event,
-        )?;
+        let sequence = u128::from(self.gone.rows) + u128::from(start.first);
+        let breaks = u128::from(self.gone.discontinuities) + u128::from(start.discontinuities);
+        push_head(&mut out, self.target, sequence, breaks, self.event)?;
         push_entries(&mut out, &self.name, self.salt, &self.rows)?;
         push_end(&mut out, ended)?;
         Ok(out)
@@ -199,11 +234,10 @@ impl Window {
         if self.row_count() == 0 {
             return Ok(out);
         }
-        let Start {
-            frames,
-            discontinuities,
-            ..
-        } = self.start;
+        let start = self.start;
+        let frames = self.gone.frames + start.frames;
+        let discontinuities = u128::from(self.gone.discontinuities)
+            + u128::from(start.discontinuities);
         push_head(&mut out, self.target, frames, discontinuities, self.event)?;
         push_frames_only(&mut out)?;
         push_frames(&mut out, &self.name, self.salt, &self.rows)?;

@@ -15,8 +15,9 @@ use Rattle.segment_job.specs.Rotation.{KeyRotation, IsRotation, key_index, key_o
 use Rattle.segment_job.specs.Segments.{plain, sealed_segment}
 use Rattle.playlist_text.specs.MediaLines.{Entry, Listing, listing_lines}
 use Rattle.media_playlist.specs.Rows.{SegmentRow}
-use Rattle.media_playlist.specs.Listed.{Pushed, first, first_listed, listed, removed, discontinuity_count}
-use Rattle.media_playlist.specs.Lines.{entry_of, unless_empty, media_lines}
+use Rattle.media_playlist.specs.Listed.{Pushed, first, first_listed, listed, removed, discontinuity_count, nothing_gone}
+use Rattle.media_playlist.specs.declared.row.Gone.{Gone}
+use Rattle.media_playlist.specs.Lines.{entry_of, unless_empty, listing_of, media_lines}
 use Rattle.ladder_items.specs.declared.settings.Kind.{Kind}
 use Rattle.ladder_items.specs.declared.settings.Kind.TheVariants.{Live, Event}
 use Rattle.ladder_items.specs.Ladder.{is_event, least_listed}
@@ -27,9 +28,9 @@ use Rattle.hls_check.specs.MediaTexts.{AreListed}
 use Rattle.ladder_items.proofs.Elsewhere.{some-at}
 use Rattle.round_trip.proofs.Places.{mapped-at}
 
--- what a window lists
-abbrev pub listing_of : Pushed → Bool → Listing
-listing_of pushed ended = record {
+-- what a window lists before whose rows nothing came
+abbrev pub first_listing : Pushed → Bool → Listing
+first_listing pushed ended = record {
   name = pushed.name;
   target = pushed.target;
   sequence = first pushed;
@@ -44,9 +45,18 @@ unless-some : (rows : List SegmentRow) (lines : List (List ℕ)) → 0 < length 
 unless-some [] lines some = absurd (omega (arith, some))
 unless-some (row ∷ rows) lines some = refl
 
-pub lines-are : (pushed : Pushed) (ended : Bool) → 0 < length pushed.rows → media_lines pushed ended ≡ listing_lines (listing_of pushed ended)
+is-first : (pushed : Pushed) (ended : Bool) → pushed.gone ≡ nothing_gone → listing_of pushed ended ≡ first_listing pushed ended
+unfolding listing_of
+is-first pushed ended gone =
+    let at : pushed.gone.rows + first pushed ≡ first pushed = let none = ap (λ (g : Gone). g.rows) gone in omega (arith, none) in
+    let breaks : pushed.gone.discontinuities + discontinuity_count (removed pushed) ≡ discontinuity_count (removed pushed) =
+    let none = ap (λ (g : Gone). g.discontinuities) gone in omega (arith, none) in
+    rw (at, breaks) refl
+
+pub lines-are : (pushed : Pushed) (ended : Bool) → pushed.gone ≡ nothing_gone → 0 < length pushed.rows → media_lines pushed ended ≡ listing_lines (first_listing pushed ended)
 unfolding media_lines
-lines-are pushed ended some = unless-some pushed.rows (listing_lines (listing_of pushed ended)) some
+lines-are pushed ended gone some =
+    unless-some pushed.rows (listing_lines (listing_of pushed ended)) some ∙ ap listing_lines (is-first pushed ended gone)
 
 by-place : (j n window : ℕ) → 1 ≤ window → 0 < n → (0 < j → window ≤ n - j) → j < n
 by-place zero n window one some many = some

@@ -41,7 +41,7 @@ use Rattle.ladder_laws.proofs.Salts.{salt-held}
 use Rattle.ladder_items.proofs.Elsewhere.{some-at}
 use Rattle.round_trip.proofs.Places.{at-drop, at-front}
 use Rattle.round_trip.proofs.Splitting.{split}
-use Rattle.round_trip.proofs.Listing.{listing_of, lines-are, some-in-window, event-begins, AreFrom, Rounds, listed-on, bytes_of, unpack-all}
+use Rattle.round_trip.proofs.Listing.{first_listing, lines-are, some-in-window, event-begins, AreFrom, Rounds, listed-on, bytes_of, unpack-all}
 
 -- what the laws say of which this is made
 abbrev pub Suffice : Type 0
@@ -153,7 +153,7 @@ comes-back rounds unfaulted suffice has_parts seen order sealed ladder parts str
     λ i plan here. order r cut stream (j + i) plan (at_all (j + i) plan (at-drop j i given plan here)) in
     let bytes_behind : (i : ℕ) (plan : SegmentPlan) → slice_get (drop j given) i ≡ Some plan → IsOfBytes plan =
     λ i plan here. all-at (plans_of r cut stream) (j + i) plan (sealed r cut stream (of.bytes r within)) (at_all (j + i) plan (at-drop j i given plan here)) in
-    let listing = listing_of pushed at.ended in
+    let listing = first_listing pushed at.ended in
     let rows_behind : drop j rows ≡ rows_of keys (drop j given) = drop-map _ j given in
     let entries : map entry_of (drop j rows) ≡ map entry_of (rows_of keys (drop j given)) = ap (map entry_of) rows_behind in
     let few : discontinuity_count (take j rows) ≤ length (take j rows) = count_by-le-length (λ (row : SegmentRow). row.discontinuity) (take j rows) in
@@ -172,7 +172,7 @@ comes-back rounds unfaulted suffice has_parts seen order sealed ladder parts str
         some = omega (arith, length-map (drop j rows) entry_of, length-drop j rows, j_below);
         entries = subst (AreListed cut.target j) (sym entries) (listed-on rounds r cut keys j (drop j given) is_made.keys (omega (arith, allowed.within.cut.frame.0)) behind_j);
       };
-      text_is = ap (λ (p : PlaylistValue). p.text) same ∙ ap text_of (lines-are pushed at.ended (omega (arith, any, long)));
+      text_is = ap (λ (p : PlaylistValue). p.text) same ∙ ap text_of (lines-are pushed at.ended refl (omega (arith, any, long)));
       name_is = sym (ap (λ (p : PlaylistValue). p.name) same);
       ended_is = sym (ap (λ (p : PlaylistValue). p.ended) same);
       all_before = ap length at.segments_are ∙ (length-map given (segment_item ladder r) ∙ sym count);
