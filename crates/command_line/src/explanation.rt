@@ -70,6 +70,7 @@ impl fmt::Display for Explanation<'_, '_> {
     fn fmt<W: fmt::Write>(&self, f: &mut fmt::Formatter<W>) -> fmt::Result {
         match self.fault {
             Fault::Usage(_) | Fault::NoMemory => f.write_str("out of memory"),
+            Fault::Busy => f.write_str("another tshls packs into this folder; nothing was read or written"),
             Fault::NotUtf8 => f.write_str("a word of the command line is not UTF-8"),
             Fault::Cipher(fault) => f.write_str(cipher_reason(*fault)),
             Fault::KeyList(fault) => f.write_str(key_list_reason(*fault)),

@@ -26,6 +26,8 @@ pub enum Fault {
     Ladder(LadderFault),
     /// Memory for the command line was refused.
     NoMemory,
+    /// Another packager works in the folder.
+    Busy,
     Sealing(SealingFault),
     Opening(OpeningFault),
     /// A stream of a ladder can't be opened.

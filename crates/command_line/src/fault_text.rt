@@ -25,6 +25,7 @@ fn write_fault<W: fmt::Write>(f: &mut fmt::Formatter<W>, fault: &Fault) -> fmt::
         Fault::Usage(error) => write!(f, "{error}"),
         Fault::NotUtf8 => f.write_str("NotUtf8"),
         Fault::NoMemory => f.write_str("NoMemory"),
+        Fault::Busy => f.write_str("Busy"),
         Fault::Cipher(fault) => f.write_str(cipher_name(*fault)),
         Fault::Settings(fault) => f.write_str(settings_name(*fault)),
         Fault::KeyList(fault) => f.write_str(key_list_name(*fault)),

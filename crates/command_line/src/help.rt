@@ -68,6 +68,7 @@ of its stream the others are packed to their ends. What was written before a fau
   TooMany          A rendition has more than 4096 keys          ZeroPeriod     --period is 0
   Settings         An option, a name, codecs or a side of a size is out of its range, two names are the same, or there are
                    more than 32 renditions
+  Busy             Another tshls packs into DIR; nothing was read or written
   Unread           A path can't be opened; nothing was written
   Outlet           A file can't be written: DIR isn't there, or full; the packager stopped
   Unwritten        All was packed, and standard output can't be written

@@ -20,6 +20,7 @@ fn of_the_line(rt: HostRuntime) -> Result<(), Fail> {
     let table = [
         (Fault::NotUtf8, "tshls: NotUtf8\n", 2),
         (Fault::NoMemory, "tshls: NoMemory\n", 1),
+        (Fault::Busy, "tshls: Busy\n", 1),
         (Fault::Cipher(CipherFault::BadKey), "tshls: BadKey\n", 2),
         (
             Fault::Cipher(CipherFault::BadVector),

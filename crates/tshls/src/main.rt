@@ -7,6 +7,7 @@ use crate::ladder::pack_into_folder;
 use command_line::{Fault, Job, StreamJob, explain, line};
 use commands::{Packed, check, one, open, seal};
 use item_io::ReaderSource;
+use std::fs::{File, TryLockError};
 use std::io::IsTerminal;
 use std::process::ExitCode;
 use std::{env, io};
@@ -73,6 +74,19 @@ fn ended(rt: &HostRuntime, words: &[String], answer: Result<(), Fault>) -> ExitC
     }
 }
 
+/// Takes the lock on a folder, so that one packager alone changes it. None where it can't be opened or locked: what is to be
+/// told of that is told where the first file is put.
+fn hold(rt: &HostRuntime, folder: &str) -> Result<Option<File>, Fault> {
+    let Ok(held) = File::open(rt, folder) else {
+        return Ok(None);
+    };
+    match held.try_lock() {
+        Ok(()) => Ok(Some(held)),
+        Err(TryLockError::WouldBlock) => Err(Fault::Busy),
+        Err(TryLockError::Error(_)) => Ok(None),
+    }
+}
+
 fn main(rt: HostRuntime) -> ExitCode {
     let words = match words(&rt) {
         Ok(words) => words,
@@ -80,7 +94,10 @@ fn main(rt: HostRuntime) -> ExitCode {
     };
     let answer = match line(rt.alloc(), words.as_slice()) {
         Ok(Job::Stream(job)) => run(&rt, job),
-        Ok(Job::Ladder(job)) => pack_into_folder(rt, rt.alloc(), &job, &mut rt.stdout()),
+        Ok(Job::Ladder(job)) => match hold(&rt, job.folder) {
+            Ok(_held) => pack_into_folder(rt, rt.alloc(), &job, &mut rt.stdout()),
+            Err(fault) => Err(fault),
+        },
         Err(fault) => Err(fault),
     };
     ended(&rt, words.as_slice(), answer)
