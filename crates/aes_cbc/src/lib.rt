@@ -10,15 +10,17 @@ mod blocks;
 mod cbc;
 mod fault;
 mod inverse_round;
+mod inverse_sbox;
 mod inverse_tables;
 mod key;
+mod lanes;
 pub mod laws;
 mod opening;
 mod padding;
 mod round;
 mod sbox;
 mod schedule;
-mod tables;
+mod tower;
 mod unmixing;
 mod word;
 
