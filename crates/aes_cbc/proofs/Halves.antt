@@ -49,38 +49,38 @@ pub right_half_test : passes_below (λ x. is_place (right_half x)) 256 ≡ true
 unfolding passes_below right_half
 right_half_test = refl
 
--- what two tables hold at the halves of a byte's place in the tower
-abbrev pub at_halves : List ℕ → List ℕ → ℕ → ℕ
-at_halves l r b = bit_xor (look l (left_half (tower b))) (look r (right_half (tower b)))
+-- what two tables hold at the halves of a byte that t takes into the tower
+abbrev pub at_halves : (ℕ → ℕ) → List ℕ → List ℕ → ℕ → ℕ
+at_halves t l r b = bit_xor (look l (left_half (t b))) (look r (right_half (t b)))
 
-once_test : passes_below (λ b. at_halves ONCE_LEFT ONCE_RIGHT b == bit_xor (tower (slice_index SBOX b)) 91) 256 ≡ true
+once_test : passes_below (λ b. at_halves tower ONCE_LEFT ONCE_RIGHT b == bit_xor (tower (slice_index SBOX b)) 91) 256 ≡ true
 unfolding passes_below tower left_half right_half
 once_test = refl
 
-pub once_entry : (b : ℕ) → b < 256 → at_halves ONCE_LEFT ONCE_RIGHT b ≡ once b
+pub once_entry : (b : ℕ) → b < 256 → at_halves tower ONCE_LEFT ONCE_RIGHT b ≡ once b
 unfolding once
 once_entry b lt =
-    same_below (at_halves ONCE_LEFT ONCE_RIGHT) (λ b. bit_xor (tower (slice_index SBOX b)) 91) 256 once_test b lt
+    same_below (at_halves tower ONCE_LEFT ONCE_RIGHT) (λ b. bit_xor (tower (slice_index SBOX b)) 91) 256 once_test b lt
     ∙ ap (λ x. bit_xor (tower x) 91) (sbox-entry b lt)
 
-twice_test : passes_below (λ b. at_halves TWICE_LEFT TWICE_RIGHT b == bit_xor (tower (times 2 (slice_index SBOX b))) 78) 256 ≡ true
+twice_test : passes_below (λ b. at_halves tower TWICE_LEFT TWICE_RIGHT b == bit_xor (tower (times 2 (slice_index SBOX b))) 78) 256 ≡ true
 unfolding passes_below tower left_half right_half times product_by_bits
 twice_test = refl
 
-pub twice_entry : (b : ℕ) → b < 256 → at_halves TWICE_LEFT TWICE_RIGHT b ≡ twice b
+pub twice_entry : (b : ℕ) → b < 256 → at_halves tower TWICE_LEFT TWICE_RIGHT b ≡ twice b
 unfolding twice
 twice_entry b lt =
-    same_below (at_halves TWICE_LEFT TWICE_RIGHT) (λ b. bit_xor (tower (times 2 (slice_index SBOX b))) 78) 256 twice_test b lt
+    same_below (at_halves tower TWICE_LEFT TWICE_RIGHT) (λ b. bit_xor (tower (times 2 (slice_index SBOX b))) 78) 256 twice_test b lt
     ∙ ap (λ x. bit_xor (tower (times 2 x)) 78) (sbox-entry b lt)
 
-last_test : passes_below (λ b. at_halves LAST_LEFT LAST_RIGHT b == bit_xor (slice_index SBOX b) 99) 256 ≡ true
+last_test : passes_below (λ b. at_halves tower LAST_LEFT LAST_RIGHT b == bit_xor (slice_index SBOX b) 99) 256 ≡ true
 unfolding passes_below tower left_half right_half
 last_test = refl
 
-pub last_entry : (b : ℕ) → b < 256 → at_halves LAST_LEFT LAST_RIGHT b ≡ last b
+pub last_entry : (b : ℕ) → b < 256 → at_halves tower LAST_LEFT LAST_RIGHT b ≡ last b
 unfolding last
 last_entry b lt =
-    same_below (at_halves LAST_LEFT LAST_RIGHT) (λ b. bit_xor (slice_index SBOX b) 99) 256 last_test b lt
+    same_below (at_halves tower LAST_LEFT LAST_RIGHT) (λ b. bit_xor (slice_index SBOX b) 99) 256 last_test b lt
     ∙ ap (λ x. bit_xor x 99) (sbox-entry b lt)
 
 -- the sum of once and twice, computed
@@ -97,13 +97,13 @@ thrice_entry b lt =
     ∙ ap (λ x. bit_xor (tower (times 3 x)) 21) e
 
 -- two look-ups at the halves of bytes in the tower
-pub at_halves_lanes : (l r s bytes left right x y : List ℕ) (f : ℕ → ℕ) → All (λ b. b < 256) s → bytes ≡ map tower s
+pub at_halves_lanes : (t : ℕ → ℕ) (l r s bytes left right x y : List ℕ) (f : ℕ → ℕ) → All (λ b. b < 256) s → bytes ≡ map t s
     → left ≡ map left_half bytes → right ≡ map right_half bytes → x ≡ map (look l) left → y ≡ map (look r) right
-    → ((b : ℕ) → b < 256 → at_halves l r b ≡ f b) → zip2 bit_xor x y ≡ map f s
-at_halves_lanes l r s bytes left right x y f fits of_s of_left of_right of_x of_y same =
-    let at_left : x ≡ map (λ b. look l (left_half (tower b))) s
-    = of_x ∙ ap (map (look l)) (of_left ∙ ap (map left_half) of_s ∙ map-map left_half tower s) ∙ map-map (look l) (λ b. left_half (tower b)) s in
-    let at_right : y ≡ map (λ b. look r (right_half (tower b))) s
-    = of_y ∙ ap (map (look r)) (of_right ∙ ap (map right_half) of_s ∙ map-map right_half tower s) ∙ map-map (look r) (λ b. right_half (tower b)) s in
-    zip2_of_maps bit_xor (λ b. look l (left_half (tower b))) (λ b. look r (right_half (tower b))) s at_left at_right
-    ∙ map_agree (at_halves l r) f s fits same
+    → ((b : ℕ) → b < 256 → at_halves t l r b ≡ f b) → zip2 bit_xor x y ≡ map f s
+at_halves_lanes t l r s bytes left right x y f fits of_s of_left of_right of_x of_y same =
+    let at_left : x ≡ map (λ b. look l (left_half (t b))) s
+    = of_x ∙ ap (map (look l)) (of_left ∙ ap (map left_half) of_s ∙ map-map left_half t s) ∙ map-map (look l) (λ b. left_half (t b)) s in
+    let at_right : y ≡ map (λ b. look r (right_half (t b))) s
+    = of_y ∙ ap (map (look r)) (of_right ∙ ap (map right_half) of_s ∙ map-map right_half t s) ∙ map-map (look r) (λ b. right_half (t b)) s in
+    zip2_of_maps bit_xor (λ b. look l (left_half (t b))) (λ b. look r (right_half (t b))) s at_left at_right
+    ∙ map_agree (at_halves t l r) f s fits same

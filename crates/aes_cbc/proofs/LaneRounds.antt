@@ -49,7 +49,7 @@ high_linear x y hx hy =
     (passes_below-at (λ x. passes_below (λ y. bit_xor (look TOWER_HIGH x) (look TOWER_HIGH y) == look TOWER_HIGH (bit_xor x y)) 16) 16 high_test x hx) y hy
 
 -- a sum by its halves
-xor_halves : (a b : ℕ) → bit_xor a b ≡ bit_xor (a / 16) (b / 16) * 16 + bit_xor (a % 16) (b % 16)
+pub xor_halves : (a b : ℕ) → bit_xor a b ≡ bit_xor (a / 16) (b / 16) * 16 + bit_xor (a % 16) (b % 16)
 xor_halves a b =
     let of_a : a ≡ a / 16 * 2 ^ 4 + a % 16 = omega arith in
     let of_b : b ≡ b / 16 * 2 ^ 4 + b % 16 = omega arith in
@@ -135,7 +135,7 @@ row_3 a b c d k ha hb hc hd hk =
 
 -- ---- sixteen lanes
 
-abbrev cells : (ℕ → ℕ) → List ℕ
+abbrev pub cells : (ℕ → ℕ) → List ℕ
 cells f = f 0 ∷ f 1 ∷ f 2 ∷ f 3 ∷ f 4 ∷ f 5 ∷ f 6 ∷ f 7 ∷ f 8 ∷ f 9 ∷ f 10 ∷ f 11 ∷ f 12 ∷ f 13 ∷ f 14 ∷ f 15 ∷ []
 
 -- the lanes of a block after a round
@@ -179,7 +179,7 @@ block_lanes f k hf hk =
     (row_2 (f 6) (f 11) (f 12) (f 1) (k 14) (hf 6) (hf 11) (hf 12) (hf 1) (hk 14))
     (row_3 (f 11) (f 12) (f 1) (f 6) (k 15) (hf 11) (hf 12) (hf 1) (hf 6) (hk 15))
 
-as_cells : (s : List ℕ) → IsBlock s → s ≡ cells (slice_index s)
+pub as_cells : (s : List ℕ) → IsBlock s → s ≡ cells (slice_index s)
 as_cells s h = sym (from_entries-entry s h.long)
 
 -- ---- the last round

@@ -1,8 +1,10 @@
 -- Sums of blocks, byte by byte.
-use Rattle.std.proofs.Common.{◌≡◌, ℕ, List, [], ◌∷◌, length, map, replicate, bit_xor, refl, ap, ◌∙◌, w8, Fits}
+use Rattle.std.proofs.Common.{◌≡◌, ℕ, List, [], ◌∷◌, length, map, replicate, bit_xor, refl, sym, ap, ap₂, lit<, ◌∙◌, w8, Fits}
 use Rattle.std.proofs.lemmas.Simd.{zip2_splat, map-map}
 use Rattle.std.proofs.lemmas.List.{length-map}
 use Rattle.std.specs.Simd.Lanes.{zip2, Each1}
+use lib.Bits.{xor_zero_r}
+use Rattle.ghost_list.proofs.ByteLists.{bytes_from_each}
 use Rattle.aes_cbc.specs.Block.{IsBlock, xor_bytes}
 use Rattle.aes_cbc.specs.SubByte.{sub_byte}
 use Rattle.aes_cbc.specs.Tower.{tower, last, keyed, last_keyed}
@@ -39,3 +41,16 @@ sub_byte_lanes s v long e =
     zip2_splat bit_xor v 16 99 (ap length e ∙ length-map s last ∙ long)
     ∙ ap (map (λ x. bit_xor x 99)) e ∙ map-map (λ x. bit_xor x 99) last s
     ∙ (λ i. map (λ b. xor_twice (sub_byte b) 99 i) s)
+
+-- no bits set
+pub none_IsBlock : IsBlock (replicate 16 0)
+none_IsBlock = record { long = refl; bytes = bytes_from_each (replicate 16 0) (lit< tt, (lit< tt, (lit< tt, (lit< tt, (lit< tt, (lit< tt, (lit< tt, (lit< tt, (lit< tt, (lit< tt, (lit< tt, (lit< tt, (lit< tt, (lit< tt, (lit< tt, (lit< tt, tt)))))))))))))))) }
+
+-- adding them changes nothing
+add_zeros : (s : List ℕ) → xor_bytes s (replicate (length s) 0) ≡ s
+unfolding xor_bytes
+add_zeros [] = refl
+add_zeros (x ∷ s) = ap₂ (λ y r. y ∷ r) (xor_zero_r x) (add_zeros s)
+
+pub add_none : (s : List ℕ) → IsBlock s → xor_bytes s (replicate 16 0) ≡ s
+add_none s h = ap (λ n. xor_bytes s (replicate n 0)) (sym h.long) ∙ add_zeros s

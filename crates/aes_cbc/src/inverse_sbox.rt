@@ -1,31 +1,103 @@
-//! The inverse S-box (FIPS 197, 5.3.2), as a table.
+//! The inverse S-box (FIPS 197, 5.3.2) at all bytes of a block at once.
 
-ghost use Rattle.std.specs.Prelude.{◌≡◌};
+ghost use Rattle.std.specs.Prelude.{◌≡◌, ℕ, ◌<◌, List, map, All};
 ghost use Rattle.aes_cbc.specs.InverseCipher.{inv_sub_byte};
+ghost use Rattle.aes_cbc.specs.InverseTower.{entered, unmixed};
 
-/// The inverse S-box at each byte (FIPS 197, figure 14).
-const INVERSE_SBOX: [u8; 256] = [
-    0x52, 0x09, 0x6a, 0xd5, 0x30, 0x36, 0xa5, 0x38, 0xbf, 0x40, 0xa3, 0x9e, 0x81, 0xf3, 0xd7, 0xfb,
-    0x7c, 0xe3, 0x39, 0x82, 0x9b, 0x2f, 0xff, 0x87, 0x34, 0x8e, 0x43, 0x44, 0xc4, 0xde, 0xe9, 0xcb,
-    0x54, 0x7b, 0x94, 0x32, 0xa6, 0xc2, 0x23, 0x3d, 0xee, 0x4c, 0x95, 0x0b, 0x42, 0xfa, 0xc3, 0x4e,
-    0x08, 0x2e, 0xa1, 0x66, 0x28, 0xd9, 0x24, 0xb2, 0x76, 0x5b, 0xa2, 0x49, 0x6d, 0x8b, 0xd1, 0x25,
-    0x72, 0xf8, 0xf6, 0x64, 0x86, 0x68, 0x98, 0x16, 0xd4, 0xa4, 0x5c, 0xcc, 0x5d, 0x65, 0xb6, 0x92,
-    0x6c, 0x70, 0x48, 0x50, 0xfd, 0xed, 0xb9, 0xda, 0x5e, 0x15, 0x46, 0x57, 0xa7, 0x8d, 0x9d, 0x84,
-    0x90, 0xd8, 0xab, 0x00, 0x8c, 0xbc, 0xd3, 0x0a, 0xf7, 0xe4, 0x58, 0x05, 0xb8, 0xb3, 0x45, 0x06,
-    0xd0, 0x2c, 0x1e, 0x8f, 0xca, 0x3f, 0x0f, 0x02, 0xc1, 0xaf, 0xbd, 0x03, 0x01, 0x13, 0x8a, 0x6b,
-    0x3a, 0x91, 0x11, 0x41, 0x4f, 0x67, 0xdc, 0xea, 0x97, 0xf2, 0xcf, 0xce, 0xf0, 0xb4, 0xe6, 0x73,
-    0x96, 0xac, 0x74, 0x22, 0xe7, 0xad, 0x35, 0x85, 0xe2, 0xf9, 0x37, 0xe8, 0x1c, 0x75, 0xdf, 0x6e,
-    0x47, 0xf1, 0x1a, 0x71, 0x1d, 0x29, 0xc5, 0x89, 0x6f, 0xb7, 0x62, 0x0e, 0xaa, 0x18, 0xbe, 0x1b,
-    0xfc, 0x56, 0x3e, 0x4b, 0xc6, 0xd2, 0x79, 0x20, 0x9a, 0xdb, 0xc0, 0xfe, 0x78, 0xcd, 0x5a, 0xf4,
-    0x1f, 0xdd, 0xa8, 0x33, 0x88, 0x07, 0xc7, 0x31, 0xb1, 0x12, 0x10, 0x59, 0x27, 0x80, 0xec, 0x5f,
-    0x60, 0x51, 0x7f, 0xa9, 0x19, 0xb5, 0x4a, 0x0d, 0x2d, 0xe5, 0x7a, 0x9f, 0x93, 0xc9, 0x9c, 0xef,
-    0xa0, 0xe0, 0x3b, 0x4d, 0xae, 0x2a, 0xf5, 0xb0, 0xc8, 0xeb, 0xbb, 0x3c, 0x83, 0x53, 0x99, 0x61,
-    0x17, 0x2b, 0x04, 0x7e, 0xba, 0x77, 0xd6, 0x26, 0xe1, 0x69, 0x14, 0x63, 0x55, 0x21, 0x0c, 0x7d,
+use crate::lanes::{high_halves, look_up, low_halves};
+use crate::tower::halves;
+use std::simd::prelude::*;
+
+/// The inverse of the S-box's affine map, in the tower, at the low half of a byte.
+const ENTERED_LOW: [u8; 16] = [
+    232, 183, 188, 227, 236, 179, 184, 231, 242, 173, 166, 249, 246, 169, 162, 253,
 ];
 
-/// The byte at which the S-box is `byte`.
-pub(crate) fn inv_sub_byte(byte: u8) -> u8
-    ensures { result ≡ inv_sub_byte byte }
+/// What the high half adds.
+const ENTERED_HIGH: [u8; 16] = [
+    0, 101, 5, 96, 230, 131, 227, 134, 148, 241, 145, 244, 114, 23, 119, 18,
+];
+
+/// What the left half adds to 14 times the inverse S-box, as the next round takes it.
+const FOURTEEN_LEFT: [u8; 16] = [
+    0, 208, 212, 38, 150, 146, 242, 70, 176, 246, 180, 100, 4, 96, 66, 34,
+];
+
+/// What the right half adds.
+const FOURTEEN_RIGHT: [u8; 16] = [
+    0, 193, 170, 255, 205, 166, 85, 12, 50, 62, 89, 152, 107, 243, 103, 148,
+];
+
+/// What the left half adds to 11 times the inverse S-box.
+const ELEVEN_LEFT: [u8; 16] = [
+    0, 66, 180, 150, 146, 100, 34, 208, 4, 212, 242, 176, 246, 70, 38, 96,
+];
+
+/// What the right half adds.
+const ELEVEN_RIGHT: [u8; 16] = [
+    0, 103, 89, 205, 166, 152, 148, 193, 107, 170, 85, 50, 62, 12, 255, 243,
+];
+
+/// What the left half adds to 13 times the inverse S-box.
+const THIRTEEN_LEFT: [u8; 16] = [
+    0, 162, 177, 230, 223, 204, 87, 125, 57, 68, 42, 136, 19, 155, 110, 245,
+];
+
+/// What the right half adds.
+const THIRTEEN_RIGHT: [u8; 16] = [
+    0, 203, 198, 36, 247, 250, 226, 60, 211, 239, 222, 21, 13, 24, 49, 41,
+];
+
+/// What the left half adds to 9 times the inverse S-box.
+const NINE_LEFT: [u8; 16] = [
+    0, 214, 134, 154, 83, 3, 28, 133, 201, 76, 153, 79, 80, 31, 213, 202,
+];
+
+/// What the right half adds.
+const NINE_RIGHT: [u8; 16] = [
+    0, 73, 215, 236, 137, 23, 59, 192, 101, 165, 251, 178, 158, 44, 94, 114,
+];
+
+/// What the left half adds to the inverse S-box.
+const LAST_LEFT: [u8; 16] = [
+    0, 64, 249, 126, 83, 234, 135, 19, 45, 62, 148, 212, 185, 109, 170, 199,
+];
+
+/// What the right half adds.
+const LAST_RIGHT: [u8; 16] = [
+    0, 29, 68, 147, 15, 86, 215, 18, 156, 142, 197, 216, 89, 129, 75, 202,
+];
+
+/// The bytes as the rounds of the inverse cipher take them: through the inverse of the S-box's affine map, in the tower.
+#[inline(always)]
+pub(crate) fn entered(bytes: u8x16) -> u8x16
+    ensures { result ≡ map entered bytes }
 {
-    INVERSE_SBOX[byte as usize]
+    look_up(&ENTERED_LOW, low_halves(bytes)) ^ look_up(&ENTERED_HIGH, high_halves(bytes))
+}
+
+/// The inverse S-box times 14, 11, 13 and 9, as the next round takes it less its constant, which the round keys have.
+#[inline(always)]
+pub(crate) fn unmixed(bytes: u8x16) -> (u8x16, u8x16, u8x16, u8x16)
+    ensures fourteen { (s : List ℕ) → All (λ b. b < 256) s → bytes ≡ map entered s → result.0 ≡ map (unmixed 14) s }
+    ensures eleven { (s : List ℕ) → All (λ b. b < 256) s → bytes ≡ map entered s → result.1 ≡ map (unmixed 11) s }
+    ensures thirteen { (s : List ℕ) → All (λ b. b < 256) s → bytes ≡ map entered s → result.2 ≡ map (unmixed 13) s }
+    ensures nine { (s : List ℕ) → All (λ b. b < 256) s → bytes ≡ map entered s → result.3 ≡ map (unmixed 9) s }
+{
+    let (left, right) = halves(bytes);
+    (
+        look_up(&FOURTEEN_LEFT, left) ^ look_up(&FOURTEEN_RIGHT, right),
+        look_up(&ELEVEN_LEFT, left) ^ look_up(&ELEVEN_RIGHT, right),
+        look_up(&THIRTEEN_LEFT, left) ^ look_up(&THIRTEEN_RIGHT, right),
+        look_up(&NINE_LEFT, left) ^ look_up(&NINE_RIGHT, right),
+    )
+}
+
+/// The inverse S-box, out of the tower.
+#[inline(always)]
+pub(crate) fn last_unmixed(bytes: u8x16) -> u8x16
+    ensures { (s : List ℕ) → All (λ b. b < 256) s → bytes ≡ map entered s → result ≡ map inv_sub_byte s }
+{
+    let (left, right) = halves(bytes);
+    look_up(&LAST_LEFT, left) ^ look_up(&LAST_RIGHT, right)
 }

@@ -1,17 +1,16 @@
 //! A key of AES-128 with its round keys.
 
-ghost use Rattle.std.specs.Prelude.{◌≡◌, ℕ, List};
+ghost use Rattle.std.specs.Prelude.{◌≡◌};
 ghost use Rattle.aes_cbc.specs.Block.{IsBlock};
 ghost use Rattle.aes_cbc.specs.Cipher.{aes};
 ghost use Rattle.aes_cbc.specs.InverseCipher.{inv_aes};
-ghost use Rattle.aes_cbc.specs.Words.{words};
 
 use crate::inverse_round::{inv_round, last_inv_round};
+use crate::inverse_sbox::entered;
 use crate::round::{last_round, round};
 use crate::sbox::last_keyed;
-use crate::schedule::{RoundKey, mixing_keys, round_keys, round_words, unmixed_words};
+use crate::schedule::{RoundKey, mixing_keys, round_keys, unmixing_keys};
 use crate::tower::into_tower;
-use crate::word::{block_of, words_of, xor_words};
 use std::marker::Model;
 use std::simd::prelude::*;
 
@@ -22,20 +21,19 @@ pub struct Key {
     bytes: [u8; 16],
     mixing_keys: [RoundKey; 9],
     last_key: u8x16,
-    round_keys: [[u32; 4]; 11],
-    unmixed_keys: [[u32; 4]; 11],
+    tenth_key: u8x16,
+    unmixing_keys: [RoundKey; 9],
 }
 
 impl Model for Key {
     ghost use Rattle.std.specs.Prelude.{ℕ, List};
     ghost use Rattle.aes_cbc.specs.KeyLanes.{AreKeyLanes};
-    ghost use Rattle.aes_cbc.specs.KeyWords.{AreKeyWords};
 
     ghost Value = { List ℕ };
 
     ghost view = { λ k. k.bytes };
 
-    ghost invariant = { λ k. AreKeyWords k.bytes k.round_keys k.unmixed_keys × AreKeyLanes k.bytes k.mixing_keys k.last_key };
+    ghost invariant = { λ k. AreKeyLanes k.bytes k.mixing_keys k.last_key k.tenth_key k.unmixing_keys };
 }
 
 impl Key {
@@ -44,12 +42,13 @@ impl Key {
         ensures { result ≡ bytes }
     {
         let keys = round_keys(&bytes);
+        let tenth_key = u8x16::from_array(keys[10]);
         Key {
             bytes,
             mixing_keys: mixing_keys(&keys),
-            last_key: last_keyed(u8x16::from_array(keys[10])),
-            round_keys: round_words(&keys),
-            unmixed_keys: unmixed_words(&keys),
+            last_key: last_keyed(tenth_key),
+            tenth_key,
+            unmixing_keys: unmixing_keys(&keys),
         }
     }
 
@@ -75,18 +74,54 @@ impl Key {
         last_round(state, self.last_key)
     }
 
-    /// The block of which a block is the cipher block, both as columns. Slower within a loop, as well.
-    #[inline(never)]
-    pub(crate) fn decrypt_words(&self, block: &[u32; 4]) -> [u32; 4]
-        ensures plain { (m : List ℕ) → IsBlock m → block.now ≡ words m → result ≡ words (inv_aes self.now m) }
+    /// The block of which a block is the cipher block (FIPS 197, 5.3.5).
+    #[inline(always)]
+    pub(crate) fn decrypt_lanes(&self, block: u8x16) -> u8x16
+        ensures plain { result ≡ inv_aes self.now block }
         ensures key { IsBlock self.now }
+        ensures block { IsBlock block }
     {
-        let mut state = xor_words(block, &self.round_keys[10]);
-        'round: for i in 1..10 {
-            let next = inv_round(&state, &self.unmixed_keys[10 - i]);
+        let mut state = entered(block ^ self.tenth_key);
+        'round: for i in 0..9 {
+            let next = inv_round(state, self.unmixing_keys[i].lanes);
             state = next;
         }
-        last_inv_round(&state, &self.round_keys[0])
+        last_inv_round(state, u8x16::from_array(self.bytes))
+    }
+
+    /// The same of four blocks side by side.
+    #[inline(always)]
+    pub(crate) fn decrypt_four(
+        &self,
+        first: u8x16,
+        second: u8x16,
+        third: u8x16,
+        fourth: u8x16,
+    ) -> (u8x16, u8x16, u8x16, u8x16)
+        ensures first { result.0 ≡ inv_aes self.now first }
+        ensures second { result.1 ≡ inv_aes self.now second }
+        ensures third { result.2 ≡ inv_aes self.now third }
+        ensures fourth { result.3 ≡ inv_aes self.now fourth }
+        ensures key { IsBlock self.now }
+    {
+        let mut first_state = entered(first ^ self.tenth_key);
+        let mut second_state = entered(second ^ self.tenth_key);
+        let mut third_state = entered(third ^ self.tenth_key);
+        let mut fourth_state = entered(fourth ^ self.tenth_key);
+        'round: for i in 0..9 {
+            let round_key = self.unmixing_keys[i].lanes;
+            first_state = inv_round(first_state, round_key);
+            second_state = inv_round(second_state, round_key);
+            third_state = inv_round(third_state, round_key);
+            fourth_state = inv_round(fourth_state, round_key);
+        }
+        let last_key = u8x16::from_array(self.bytes);
+        (
+            last_inv_round(first_state, last_key),
+            last_inv_round(second_state, last_key),
+            last_inv_round(third_state, last_key),
+            last_inv_round(fourth_state, last_key),
+        )
     }
 
     /// The cipher block of `block` (FIPS 197, 5.1).
@@ -101,6 +136,6 @@ impl Key {
         ensures value { result ≡ inv_aes self.now block.now }
         ensures inverse { aes self.now result ≡ block.now }
     {
-        block_of(&self.decrypt_words(&words_of(block)))
+        self.decrypt_lanes(u8x16::from_array(*block)).to_array()
     }
 }

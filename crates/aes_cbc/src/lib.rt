@@ -11,7 +11,6 @@ mod cbc;
 mod fault;
 mod inverse_round;
 mod inverse_sbox;
-mod inverse_tables;
 mod key;
 mod lanes;
 pub mod laws;
@@ -21,8 +20,6 @@ mod round;
 mod sbox;
 mod schedule;
 mod tower;
-mod unmixing;
-mod word;
 
 pub use blocks::{block_before, xor_blocks};
 pub use cbc::{seal, seal_in_place};

@@ -1,4 +1,4 @@
-use Rattle.aes_cbc.specs.Tower.{last, left_half, right_half}
+use Rattle.aes_cbc.specs.Tower.{tower, last, left_half, right_half}
 use Rattle.aes_cbc.specs.declared.sbox.TheConstants.{LAST_LEFT, LAST_RIGHT}
 use Rattle.aes_cbc.proofs.LookUps.{places_from}
 use Rattle.aes_cbc.proofs.Halves.{left_half_test, right_half_test, at_halves_lanes, last_entry}
@@ -12,4 +12,4 @@ look_up-requires-2 c = places_from right_half c.args.bytes _ c.halves.ensures.ri
 
 pub returns : goal.returns
 returns c = λ s fits of_s.
-    at_halves_lanes LAST_LEFT LAST_RIGHT s c.args.bytes _ _ _ _ last fits of_s c.halves.ensures.left c.halves.ensures.right c.look_up.ensures c.look_up-2.ensures last_entry
+    at_halves_lanes tower LAST_LEFT LAST_RIGHT s c.args.bytes _ _ _ _ last fits of_s c.halves.ensures.left c.halves.ensures.right c.look_up.ensures c.look_up-2.ensures last_entry

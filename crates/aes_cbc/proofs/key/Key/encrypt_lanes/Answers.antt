@@ -19,9 +19,9 @@ pub round-preserved : goal.round-preserved
 round-preserved c =
     let key = c.args.self.now in
     let i = c.round.i in
-    let of_key : IsBlock key = subst IsBlock c.self.view_is c.self.invariant.1.block in
+    let of_key : IsBlock key = subst IsBlock c.self.view_is c.self.invariant.block in
     let of_block : IsBlock c.args.block = lanes_block c.args.block c.fits-block.0 c.fits-block.1 in
-    let lanes = c.self.invariant.1.mixing i _ (omega arith) ∙ ap (λ k. map keyed (round_key k (i + 1))) c.self.view_is in
+    let lanes = c.self.invariant.mixing i _ (omega arith) ∙ ap (λ k. map keyed (round_key k (i + 1))) c.self.view_is in
     c.round-next.ensures (state_after key c.args.block i) (round_key key (i + 1)) (state_after-IsBlock key c.args.block i of_key of_block)
     (round_key-IsBlock key (i + 1) of_key) c.round.invariant lanes
     ∙ ap (map tower) (sym (state_after_next key c.args.block i))
@@ -31,9 +31,9 @@ unfolding aes
 returns c =
     let key = c.args.self.now in
     let block = c.args.block in
-    let of_key : IsBlock key = subst IsBlock c.self.view_is c.self.invariant.1.block in
+    let of_key : IsBlock key = subst IsBlock c.self.view_is c.self.invariant.block in
     let of_block : IsBlock block = lanes_block block c.fits-block.0 c.fits-block.1 in
-    let lanes = c.self.invariant.1.last ∙ ap (λ k. map last_keyed (round_key k 10)) c.self.view_is in
+    let lanes = c.self.invariant.last ∙ ap (λ k. map last_keyed (round_key k 10)) c.self.view_is in
     let nine : c.round.i ≡ 9 = omega arith in
     let state = rw nine at c.round.invariant in
     let cipher : c.last_round.result ≡ aes key block
