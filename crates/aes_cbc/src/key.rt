@@ -74,6 +74,63 @@ impl Key {
         last_round(state, self.last_key)
     }
 
+    /// The cipher blocks of two blocks side by side, the second under the other key.
+    #[inline(always)]
+    pub(crate) fn encrypt_two(&self, other: &Key, first: u8x16, second: u8x16) -> (u8x16, u8x16)
+        ensures first { result.0 ≡ aes self.now first }
+        ensures second { result.1 ≡ aes other.now second }
+        ensures first_block { IsBlock result.0 }
+        ensures second_block { IsBlock result.1 }
+    {
+        let mut first_state = into_tower(first ^ u8x16::from_array(self.bytes));
+        let mut second_state = into_tower(second ^ u8x16::from_array(other.bytes));
+        'round: for i in 0..9 {
+            first_state = round(first_state, self.mixing_keys[i].lanes);
+            second_state = round(second_state, other.mixing_keys[i].lanes);
+        }
+        (
+            last_round(first_state, self.last_key),
+            last_round(second_state, other.last_key),
+        )
+    }
+
+    /// The cipher blocks of four blocks side by side, each under its own key.
+    #[inline(always)]
+    pub(crate) fn encrypt_four(
+        keys: (&Key, &Key, &Key, &Key),
+        first: u8x16,
+        second: u8x16,
+        third: u8x16,
+        fourth: u8x16,
+    ) -> (u8x16, u8x16, u8x16, u8x16)
+        ensures first { result.0 ≡ aes keys.entry.0.now first }
+        ensures second { result.1 ≡ aes keys.entry.1.now second }
+        ensures third { result.2 ≡ aes keys.entry.2.now third }
+        ensures fourth { result.3 ≡ aes keys.entry.3.now fourth }
+        ensures first_block { IsBlock result.0 }
+        ensures second_block { IsBlock result.1 }
+        ensures third_block { IsBlock result.2 }
+        ensures fourth_block { IsBlock result.3 }
+    {
+        let (first_key, second_key, third_key, fourth_key) = keys;
+        let mut first_state = into_tower(first ^ u8x16::from_array(first_key.bytes));
+        let mut second_state = into_tower(second ^ u8x16::from_array(second_key.bytes));
+        let mut third_state = into_tower(third ^ u8x16::from_array(third_key.bytes));
+        let mut fourth_state = into_tower(fourth ^ u8x16::from_array(fourth_key.bytes));
+        'round: for i in 0..9 {
+            first_state = round(first_state, first_key.mixing_keys[i].lanes);
+            second_state = round(second_state, second_key.mixing_keys[i].lanes);
+            third_state = round(third_state, third_key.mixing_keys[i].lanes);
+            fourth_state = round(fourth_state, fourth_key.mixing_keys[i].lanes);
+        }
+        (
+            last_round(first_state, first_key.last_key),
+            last_round(second_state, second_key.last_key),
+            last_round(third_state, third_key.last_key),
+            last_round(fourth_state, fourth_key.last_key),
+        )
+    }
+
     /// The block of which a block is the cipher block (FIPS 197, 5.3.5).
     #[inline(always)]
     pub(crate) fn decrypt_lanes(&self, block: u8x16) -> u8x16

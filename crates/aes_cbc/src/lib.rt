@@ -2,12 +2,14 @@
 //!
 //! A [`Key`] encrypts and decrypts single blocks of 16 bytes (FIPS 197). [`seal`] pads a text (RFC 5652, 6.3) and
 //! encrypts it as a chain of blocks from a vector on (SP 800-38A, 6.2), [`seal_in_place`] does so where the text lies,
-//! and [`open`] gives the text back. The functions of [`laws`] do nothing: their contracts are theorems about the
+//! [`seal_two_in_place`] and [`seal_four_in_place`] do so to several texts at once, and [`open`] gives the text back.
+//! Nothing is looked up at a place that a byte of a key or a text tells: tables of 16 bytes are shuffled as a whole. The functions of [`laws`] do nothing: their contracts are theorems about the
 //! definitions in `specs/`.
 #![tactic(auto)]
 
 mod blocks;
 mod cbc;
+mod chains;
 mod fault;
 mod inverse_round;
 mod inverse_sbox;
@@ -19,6 +21,7 @@ mod padding;
 mod round;
 mod sbox;
 mod schedule;
+mod side_by_side;
 mod tower;
 
 pub use blocks::{block_before, xor_blocks};
@@ -26,3 +29,4 @@ pub use cbc::{seal, seal_in_place};
 pub use fault::OpenFault;
 pub use key::Key;
 pub use opening::open;
+pub use side_by_side::{seal_four_in_place, seal_two_in_place};

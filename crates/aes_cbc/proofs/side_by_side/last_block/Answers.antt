@@ -1,0 +1,10 @@
+use Rattle.std.proofs.Common.{◌≡◌, ◌<◌, length, rules}
+use Rattle.std.proofs.lemmas.List.Elements.{All-from_get_or}
+use Rattle.ghost_list.specs.Bytes.{AreBytes}
+use Rattle.aes_cbc.proofs.side_by_side.last_block.Goals as goal
+
+pub returns-clause-vector : goal.returns-clause-vector
+returns-clause-vector c =
+    let long : length c.args.vector ≡ 16 = search rules in
+    let bytes : AreBytes c.args.vector = All-from_get_or (λ x. x < 256) c.args.vector 0 (λ i lt. search rules) in
+    record { long = long; bytes = bytes }
