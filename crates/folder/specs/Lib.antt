@@ -1,0 +1,14 @@
+pub mod Moves
+pub mod Kills
+pub mod Looks
+pub mod Puts
+pub mod Prefixes
+pub mod StagedFiles
+pub mod Rolling
+pub mod Playing
+pub mod PowerLoss
+pub mod GhostMoves
+pub mod FileFolders
+pub mod MemoryMoves
+pub mod MemoryFolders
+pub mod MemoryFinds

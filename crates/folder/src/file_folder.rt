@@ -1,0 +1,137 @@
+ghost use Rattle.std.specs.Prelude.{◌≡◌, []};
+
+use crate::fault::FolderFault;
+use crate::folder::Folder;
+use crate::ghost_move::GhostMove;
+use crate::notes::{note_failed_write, note_remove, note_rename, note_seen, note_sync, note_write};
+use ghost_list::GhostList;
+use std::alloc::{AllocError, Global};
+use std::fs::{File, Files, OpenFile};
+use std::io::Write;
+use std::path::{Path, PathBuf};
+use std::{fs, io};
+
+/// A folder of the file system, which has to be there.
+///
+/// **Trusted**: each method does to the folder what it notes in the ghost list, and nothing else. No contract of the
+/// standard library says what files hold, so this is read and tested, and not proved.
+#[derive(Drop)]
+pub struct FileFolder<R> {
+    files: R,
+    alloc: Global,
+    path: String,
+    syncs: bool,
+    made: GhostList<GhostMove>,
+}
+
+impl<R> FileFolder<R> {
+    ghost use Rattle.folder.specs.FileFolders.{file_moves};
+
+    /// The folder at a path, to which nothing was done yet. It can't be synced: `sync` fails.
+    pub fn new(files: R, alloc: Global, path: String) -> FileFolder<R>
+        ensures { file_moves result ≡ [] }
+    {
+        FileFolder {
+            files,
+            alloc,
+            path,
+            syncs: false,
+            made: GhostList::new(),
+        }
+    }
+
+    /// The same, of which each file is synced as it is written, so that it can be synced as a whole.
+    pub fn new_synced(files: R, alloc: Global, path: String) -> FileFolder<R>
+        ensures { file_moves result ≡ [] }
+    {
+        FileFolder {
+            files,
+            alloc,
+            path,
+            syncs: true,
+            made: GhostList::new(),
+        }
+    }
+
+    /// The path of a file.
+    fn path_of(&self, name: &str) -> Result<PathBuf, AllocError> {
+        Path::new(self.path.as_str()).join(self.alloc, name)
+    }
+}
+
+impl<R: Files> Folder for FileFolder<R> {
+    ghost use Rattle.folder.specs.FileFolders.{file_moves};
+
+    ghost made = { λ f. file_moves f };
+
+    fn write(&mut self, name: &str, bytes: &[u8]) -> Result<(), FolderFault> {
+        let path = self.path_of(name)?;
+        match write_anew(&self.files, path.as_path(), bytes, self.syncs) {
+            Ok(()) => {
+                note_write(&mut self.made, name, bytes);
+                Ok(())
+            }
+            Err(_) => {
+                let _ = fs::remove_file(&self.files, path.as_path());
+                note_failed_write(&mut self.made, name, bytes);
+                // what it left of the file isn't synced
+                self.syncs = false;
+                Err(FolderFault)
+            }
+        }
+    }
+
+    fn rename(&mut self, old: &str, new: &str) -> Result<(), FolderFault> {
+        let from = self.path_of(old)?;
+        let to = self.path_of(new)?;
+        if fs::rename(&self.files, from.as_path(), to.as_path()).is_err() {
+            return Err(FolderFault);
+        }
+        note_rename(&mut self.made, old, new);
+        Ok(())
+    }
+
+    fn remove(&mut self, name: &str) -> Result<(), FolderFault> {
+        let path = self.path_of(name)?;
+        if fs::remove_file(&self.files, path.as_path()).is_err() {
+            return Err(FolderFault);
+        }
+        note_remove(&mut self.made, name);
+        Ok(())
+    }
+
+    fn has(&mut self, name: &str) -> Result<bool, FolderFault> {
+        let path = self.path_of(name)?;
+        let Ok(there) = fs::exists(&self.files, path.as_path()) else {
+            return Err(FolderFault);
+        };
+        note_seen(&mut self.made, name, there);
+        Ok(there)
+    }
+
+    fn sync(&mut self) -> Result<(), FolderFault> {
+        if !self.syncs || sync_path(&self.files, self.path.as_str()).is_err() {
+            return Err(FolderFault);
+        }
+        note_sync(&mut self.made);
+        Ok(())
+    }
+}
+
+/// Writes a new file, and syncs it if asked to. One of its name that was there is removed before, so that whoever has it
+/// open keeps what it was.
+fn write_anew<R: Files>(files: &R, path: Path<'_>, bytes: &[u8], syncs: bool) -> io::Result<()> {
+    let _ = fs::remove_file(files, path);
+    let mut file = File::create_new(files, path)?;
+    file.write_all(bytes)?;
+    file.flush()?;
+    if syncs {
+        file.sync_all()?;
+    }
+    Ok(())
+}
+
+/// Syncs a folder: which files it has, and under which names.
+fn sync_path<R: Files>(files: &R, path: &str) -> io::Result<()> {
+    File::open(files, path)?.sync_all()
+}

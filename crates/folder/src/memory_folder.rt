@@ -1,0 +1,99 @@
+ghost use Rattle.std.specs.Prelude.{◌≡◌, ◌++◌, ◌∷◌, [], IfOk, OnErr, is_some};
+ghost use Rattle.std.specs.Option.{option_map};
+ghost use Rattle.folder.specs.Moves.{Looked, no_files, standing};
+
+use crate::fault::FolderFault;
+use crate::folder::Folder;
+use crate::memory_find::find_in;
+use crate::memory_move::{MemoryMove, removed, renamed, seen, written};
+use std::alloc::Global;
+
+/// A folder in memory, as all that was done to it. A move fails where memory is refused, and one more if asked for.
+#[derive(Drop)]
+pub struct MemoryFolder {
+    alloc: Global,
+    moves: Vec<MemoryMove>,
+    until: u64,
+}
+
+impl MemoryFolder {
+    ghost use Rattle.folder.specs.MemoryFolders.{moves_in_memory};
+
+    /// An empty folder, of which move `n` fails, counted from 1: none for 0.
+    pub fn new(alloc: Global, n: u64) -> MemoryFolder
+        ensures { moves_in_memory result ≡ [] }
+    {
+        MemoryFolder {
+            alloc,
+            moves: Vec::new(alloc),
+            until: n,
+        }
+    }
+
+    /// The bytes of the file of a name.
+    pub fn find<'a>(&'a self, name: &'a str) -> Option<&'a [u8]>
+        ensures { option_map (λ bytes. bytes.now) result ≡ standing no_files (moves_in_memory self.now) name.now }
+    {
+        find_in(&self.moves, name.as_bytes())
+    }
+
+    /// Whether the next move is the one to fail.
+    fn fails(&mut self) -> bool
+        ensures { moves_in_memory self.new ≡ moves_in_memory self.old }
+    {
+        let fails = self.until == 1;
+        self.until = self.until.saturating_sub(1);
+        fails
+    }
+}
+
+impl Folder for MemoryFolder {
+    ghost use Rattle.folder.specs.MemoryFolders.{moves_in_memory};
+
+    ghost made = { λ f. moves_in_memory f };
+
+    fn write(&mut self, name: &str, bytes: &[u8]) -> Result<(), FolderFault> {
+        if self.fails() {
+            return Err(FolderFault);
+        }
+        let made = written(self.alloc, name, bytes)?;
+        Ok(self.moves.push(made)?)
+    }
+
+    fn rename(&mut self, old: &str, new: &str) -> Result<(), FolderFault> {
+        if self.fails() {
+            return Err(FolderFault);
+        }
+        let made = renamed(self.alloc, old, new)?;
+        Ok(self.moves.push(made)?)
+    }
+
+    fn remove(&mut self, name: &str) -> Result<(), FolderFault> {
+        if self.fails() {
+            return Err(FolderFault);
+        }
+        let made = removed(self.alloc, name)?;
+        Ok(self.moves.push(made)?)
+    }
+
+    fn has(&mut self, name: &str) -> Result<bool, FolderFault>
+        ensures made { IfOk result (λ there. moves_in_memory self.new ≡ moves_in_memory self.old ++ Looked name.now there ∷ []) }
+        ensures kept { OnErr result (moves_in_memory self.new ≡ moves_in_memory self.old) }
+        ensures is_so { IfOk result (λ there. there ≡ is_some (standing no_files (moves_in_memory self.old) name.now)) }
+    {
+        if self.fails() {
+            return Err(FolderFault);
+        }
+        let there = self.find(name).is_some();
+        let made = seen(self.alloc, name, there)?;
+        self.moves.push(made)?;
+        Ok(there)
+    }
+
+    fn sync(&mut self) -> Result<(), FolderFault> {
+        if self.fails() {
+            return Err(FolderFault);
+        }
+        Ok(self.moves.push(MemoryMove::Synced)?)
+    }
+}
