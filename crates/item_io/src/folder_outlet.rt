@@ -1,72 +1,115 @@
-ghost use Rattle.std.specs.Prelude.{◌≡◌, ◌+◌, ◌<◌, ◌^◌, true, OnOk, OnErr};
-ghost use Rattle.std.specs.Io.KnownBytes.{Appends};
+ghost use Rattle.std.specs.Prelude.{◌≡◌, ◌+◌, ◌<◌, ◌^◌, ◌∷◌, [], true, IsErr, OnOk, OnErr};
+ghost use Rattle.folder.specs.FileFolders.{file_moves};
 ghost use Rattle.item_io.specs.Items.{item_value};
 ghost use Rattle.item_io.specs.FileNames.{is_named};
+ghost use Rattle.item_io.specs.FolderMoves.{HoldsFiles, HoldsFilesUpTo, new_outlet};
+ghost use Rattle.item_io.specs.Outlets.{Grows, BreaksOff};
 ghost use Rattle.item_io.specs.Views.{outlet_view};
 
 use crate::fault::OutletFault;
-use crate::file_name::{file_path, is_named, item_bytes, part_path};
+use crate::folder_put::put_file;
 use crate::item::Item;
 use crate::outlet::Outlet;
+use folder::{FileFolder, Folder, StagedFile};
 use std::alloc::Global;
-use std::fs::{File, Files};
-use std::io::{ErrorKind, Write};
+use std::fs::Files;
 use std::marker::Model;
-use std::path::Path;
-use std::{fs, io};
 
-/// An outlet that writes each item to a file of a folder, which has to be there. The files have the plain names: those
-/// of the URIs, but with the renditions' names as they are.
+/// An outlet that puts each item into a file of a folder. The files have the plain names: those of the URIs, but with the
+/// renditions' names as they are.
 ///
-/// An item is written beside its final name and then renamed onto it, so that whoever serves the folder sees a whole
-/// file at any time, and an older one is replaced in one step. Until it is whole its name begins with a point, as that
-/// of no other file of the outlet. A put that fails removes what it began, and leaves an older file as it was. It fails
-/// where the name of an item's rendition is none, where memory is refused, and where a file can't be made, written or
-/// renamed. A later put is tried all the same.
+/// An item is written under a part name, which begins with a point, as that of no other file of the outlet. With an
+/// I-frame playlist the segment, the media playlist and the I-frame playlist that go together are renamed, in this order,
+/// once all are written; a master playlist is renamed by itself. So whoever serves the folder sees whole files at any
+/// time, and an older one is replaced in one step. Wherever the process is killed, the folder holds a prefix of the items,
+/// and where some of a block are in place, the others stand whole under their part names: `given_items_are_left`.
 ///
-/// Files aren't synced: whole at any time is meant of what processes see, and not of a machine that loses its power.
+/// A put fails where the name of an item's rendition is none, where memory is refused, and where the folder fails. From
+/// there on every put fails, and nothing more is done to the folder.
 ///
-/// It can't tell what became of a file, so it holds no list of items.
+/// The folder isn't synced: what is said here is of what processes see, and not of a machine that loses its power.
 #[derive(Drop)]
 pub struct FolderOutlet<F> {
-    files: F,
+    folder: F,
     alloc: Global,
-    folder: String,
+    staged: Vec<StagedFile>,
     failures: u64,
 }
 
 impl<F> Model for FolderOutlet<F> {
-    ghost use Rattle.std.specs.Prelude.{ℕ};
+    ghost use Rattle.folder.specs.StagedFiles.{staged_names};
+    ghost use Rattle.item_io.specs.FolderMoves.{FolderState};
 
-    ghost Value = { ℕ };
+    ghost Value = { FolderState F };
 
-    ghost view = { λ o. o.failures };
+    ghost view = { λ o. record { folder = o.folder; staged = staged_names o.staged.items; failures = o.failures } };
 }
 
-impl<F: Files> FolderOutlet<F> {
-    /// The outlet of the folder at a path.
-    pub fn new(files: F, alloc: Global, folder: String) -> FolderOutlet<F>
-        ensures { result ≡ 0 }
+impl<R: Files> FolderOutlet<FileFolder<R>> {
+    /// The outlet of the folder at a path, which has to be there.
+    pub fn new(files: R, alloc: Global, path: String) -> FolderOutlet<FileFolder<R>>
+        ensures made { file_moves result.folder ≡ [] }
+        ensures staged { result.staged ≡ [] }
+        ensures failures { result.failures ≡ 0 }
     {
-        FolderOutlet {
-            files,
-            alloc,
-            folder,
-            failures: 0,
-        }
+        FolderOutlet::with_folder(FileFolder::new(files, alloc, path), alloc)
     }
 }
 
-impl<F: Files> Outlet for FolderOutlet<F> {
-    ghost output = { outlet_view (λ _ _. ⊥) (λ _ _ _. ⊥) (λ o. o) };
+impl<F: Folder> FolderOutlet<F> {
+    /// The outlet of a folder. It holds no item where nothing was done to the folder yet.
+    pub fn with_folder(folder: F, alloc: Global) -> FolderOutlet<F>
+        ensures fresh { result ≡ new_outlet folder }
+        ensures folder { result.folder ≡ folder }
+        ensures staged { result.staged ≡ [] }
+        ensures failures { result.failures ≡ 0 }
+    {
+        FolderOutlet {
+            folder,
+            alloc,
+            staged: Vec::new(alloc),
+            failures: 0,
+        }
+    }
+
+    /// The folder, with what was done to it.
+    pub fn into_folder(self) -> F
+        ensures { result ≡ self.folder }
+    {
+        let FolderOutlet { folder, .. } = self;
+        folder
+    }
+}
+
+impl<F: Folder> Outlet for FolderOutlet<F> {
+    ghost output = { outlet_view (λ o. HoldsFiles (F.made o.folder) o.staged o.failures) (λ o. HoldsFilesUpTo (F.made o.folder)) (λ o. o.failures) };
 
     fn put(&mut self, item: &Item) -> Result<(), OutletFault>
-        requires { self.old < 2 ^ 63 }
-        ensures ok { OnOk result (self.new ≡ self.old) }
-        ensures failed { OnErr result (self.new ≡ self.old + 1) }
+        requires { self.old.failures < 2 ^ 63 }
+        ensures grown { OnOk result (Grows
+            (HoldsFiles (F.made self.old.folder) self.old.staged self.old.failures)
+            (HoldsFiles (F.made self.new.folder) self.new.staged self.new.failures)
+            (item_value item.now ∷ [])) }
+        ensures ok { OnOk result (self.new.failures ≡ self.old.failures) }
+        ensures kept { OnErr result (Grows
+            (HoldsFiles (F.made self.old.folder) self.old.staged self.old.failures)
+            (HoldsFiles (F.made self.new.folder) self.new.staged self.new.failures)
+            []) }
+        ensures refused { OnErr result (self.old.failures ≡ 0 → BreaksOff
+            (HoldsFiles (F.made self.old.folder) self.old.staged self.old.failures)
+            (HoldsFilesUpTo (F.made self.new.folder))
+            []
+            (item_value item.now)) }
+        ensures failed { OnErr result (self.new.failures ≡ self.old.failures + 1) }
         ensures named { OnOk result (is_named (item_value item.now) ≡ true) }
+        ensures stays { 0 < self.old.failures → IsErr result }
+        ensures untouched { 0 < self.old.failures → self.new.folder ≡ self.old.folder }
     {
-        match put_file(&self.files, self.alloc, &self.folder, item) {
+        if self.failures > 0 {
+            self.failures += 1;
+            return Err(OutletFault);
+        }
+        match put_file(&mut self.folder, self.alloc, &mut self.staged, item) {
             Ok(()) => Ok(()),
             Err(fault) => {
                 self.failures += 1;
@@ -74,54 +117,4 @@ impl<F: Files> Outlet for FolderOutlet<F> {
             }
         }
     }
-}
-
-/// Puts an item's file in place.
-fn put_file<F: Files>(
-    files: &F,
-    alloc: Global,
-    folder: &str,
-    item: &Item,
-) -> Result<(), OutletFault>
-    ensures { OnOk result (is_named (item_value item.now) ≡ true) }
-{
-    if !is_named(item) {
-        return Err(OutletFault);
-    }
-    let part = part_path(alloc, folder, item)?;
-    let path = file_path(alloc, folder, item)?;
-    replace(files, part.as_path(), path.as_path(), item_bytes(item)).map_err(|_| OutletFault)
-}
-
-/// Writes a file beside its name and renames it onto it. Where that fails, it is removed.
-fn replace<F: Files>(files: &F, part: Path<'_>, path: Path<'_>, bytes: &[u8]) -> io::Result<()> {
-    let mut file = create_part(files, part)?;
-    let mut answer = write_file(&mut file, bytes);
-    drop(file);
-    if answer.is_ok() {
-        answer = fs::rename(files, part, path);
-    }
-    if answer.is_err() {
-        let _ = fs::remove_file(files, part);
-    }
-    answer
-}
-
-/// A new file. One that was left there is removed before.
-fn create_part<F: Files>(files: &F, part: Path<'_>) -> io::Result<F::File> {
-    match File::create_new(files, part) {
-        Err(error) if error.kind() == ErrorKind::AlreadyExists => {
-            fs::remove_file(files, part)?;
-            File::create_new(files, part)
-        }
-        answer => answer,
-    }
-}
-
-/// Writes all bytes of a file.
-fn write_file<W: Write>(file: &mut W, bytes: &[u8]) -> io::Result<()>
-    ensures { OnOk result (Appends (W.contents file.old) (W.contents file.new) bytes.now) }
-{
-    file.write_all(bytes)?;
-    file.flush()
 }
