@@ -7,37 +7,44 @@ use Rattle.live_board.specs.Snapshots.{Known}
 use Rattle.item_io.specs.Views.{OutletView, SourceView}
 use Rattle.ladder_items.specs.declared.fault.PackFault.{PackFault}
 use Rattle.ladder_items.specs.Ladder.{Ladder}
-use Rattle.rounds.specs.declared.books.Books.{Books}
-use Rattle.rounds.specs.declared.course.Course.{Course}
+use Rattle.rounds.specs.declared.run.books.Books.{Books}
+use Rattle.rounds.specs.declared.giving.broadcast.Broadcast.{Broadcast}
+use Rattle.rounds.specs.declared.run.between.BetweenRounds.{BetweenRounds}
+use Rattle.rounds.specs.declared.run.course.Course.{Course}
 use Rattle.rounds.specs.Courses.{Start, IsOn, IsStopped}
-use Rattle.rounds.specs.Rounds.{IsDriven, IsRound, IsBroken}
+use Rattle.rounds.specs.Rounds.{IsDriven, IsRound, unfed_of}
 
-module _ {X Y : Type 0} (input : SourceView X) (out : OutletView Y) (ladder : Ladder) (spools : List (List SegmentPlan)) (old : Course X Y) (shows : Known)
-    (new closed : Course X Y) (shows_now shows_closed : Known) (answer told : Result (Unit {0}) PackFault) (same : told ≡ answer) (courses : closed ≡ new) (shown : shows_closed ≡ shows_now) where
-  round-made : (books mid books_now : Books) (right : ℕ)
-      → mid ≡ books → books_now.rounds ≡ mid.rounds + 1 → books_now.right ≡ mid.right + right → length books_now.workers.items ≡ length mid.workers.items
-      → IsDriven input out ladder spools old shows 0 new shows_now right → IsRound input out ladder spools old shows books new shows_now books_now
-  round-made books mid books_now right kept rounds more each d = record {
-    driven = record { on = d.on; enough = d.enough; turns = d.turns; stays = d.stays; fair = omega (arith, more, ap (λ (b : Books). b.right) kept, d.fair) };
-    rounds = rounds ∙ ap (λ (b : Books). b.rounds + 1) kept;
-    each = each ∙ ap (λ (b : Books). length b.workers.items) kept;
-  }
+module _ {X Y R : Type 0} (input : SourceView X) (out : OutletView Y) (ladder : Ladder) (spools : List (List SegmentPlan)) (old mid closed : BetweenRounds X Y R)
+    (answer told : Result (Unit {0}) PackFault) (same : told ≡ answer) (is : closed.broadcast ≡ mid.broadcast) where
+  round-made : (right : ℕ) → mid.books ≡ old.books → closed.books.rounds ≡ mid.books.rounds + 1 → closed.books.right ≡ mid.books.right + right
+      → length closed.books.workers.items ≡ length mid.books.workers.items
+      → IsDriven input out ladder spools old.broadcast 0 mid.broadcast right → IsRound input out ladder spools old closed
+  round-made right kept rounds more each there =
+      let d = subst (λ (b : Broadcast X Y R). IsDriven input out ladder spools old.broadcast 0 b right) (sym is) there in
+      record {
+        driven = record { on = d.on; enough = d.enough; turns = d.turns; stays = d.stays; fair = omega (arith, more, ap (λ (b : Books). b.right) kept, d.fair) };
+        rounds = rounds ∙ ap (λ (b : Books). b.rounds + 1) kept;
+        each = each ∙ ap (λ (b : Books). length b.workers.items) kept;
+      }
 
-  pub round-closed : (books mid books_now : Books) (right : ℕ)
-      → mid ≡ books → books_now.rounds ≡ mid.rounds + 1 → books_now.right ≡ mid.right + right → length books_now.workers.items ≡ length mid.workers.items
-      → OnOk answer (IsDriven input out ladder spools old shows 0 new shows_now right)
-      → OnOk told (IsRound input out ladder spools old shows books closed shows_closed books_now)
-  round-closed books mid books_now right kept rounds more each all =
-      subst (λ (r : Result (Unit {0}) PackFault). OnOk r (IsRound input out ladder spools old shows books closed shows_closed books_now)) (sym same)
-      (subst (λ (d : Course X Y). OnOk answer (IsRound input out ladder spools old shows books d shows_closed books_now)) (sym courses)
-      (subst (λ (k : Known). OnOk answer (IsRound input out ladder spools old shows books new k books_now)) (sym shown)
-      (on_ok_weaker {Q = IsRound input out ladder spools old shows books new shows_now books_now} answer (round-made books mid books_now right kept rounds more each) all)))
+  pub round-closed : (right : ℕ) → mid.books ≡ old.books → closed.books.rounds ≡ mid.books.rounds + 1 → closed.books.right ≡ mid.books.right + right
+      → length closed.books.workers.items ≡ length mid.books.workers.items
+      → OnOk answer (IsDriven input out ladder spools old.broadcast 0 mid.broadcast right) → OnOk told (IsRound input out ladder spools old closed)
+  round-closed right kept rounds more each all =
+      subst (λ (r : Result (Unit {0}) PackFault). OnOk r (IsRound input out ladder spools old closed)) (sym same)
+      (on_ok_weaker {Q = IsRound input out ladder spools old closed} answer (round-made right kept rounds more each) all)
 
-  pub break-closed : IfErr answer (IsBroken input out ladder spools old shows new shows_now) → IfErr told (IsBroken input out ladder spools old shows closed shows_closed)
+module _ {X Y : Type 0} (input : SourceView X) (out : OutletView Y) (ladder : Ladder) (spools : List (List SegmentPlan)) (old new closed : Course X Y) (shows shows_now shows_closed : Known)
+    (answer told : Result (Unit {0}) PackFault) (same : told ≡ answer) (courses : closed ≡ new) (shown : shows_closed ≡ shows_now) where
+  abbrev Stops : Course X Y → Known → PackFault → Type 0
+  Stops course shows_then fault = (start : Start X Y) → IsOn input out ladder start 0 old shows (unfed_of spools) → IsStopped input out ladder start course shows_then fault
+
+  pub break-closed : IfErr answer (λ fault. (start : Start X Y) → IsOn input out ladder start 0 old shows (unfed_of spools) → IsStopped input out ladder start new shows_now fault)
+      → IfErr told (λ fault. (start : Start X Y) → IsOn input out ladder start 0 old shows (unfed_of spools) → IsStopped input out ladder start closed shows_closed fault)
   break-closed all =
-      subst (λ (r : Result (Unit {0}) PackFault). IfErr r (IsBroken input out ladder spools old shows closed shows_closed)) (sym same)
-      (subst (λ (d : Course X Y). IfErr answer (IsBroken input out ladder spools old shows d shows_closed)) (sym courses)
-      (subst (λ (k : Known). IfErr answer (IsBroken input out ladder spools old shows new k)) (sym shown) all))
+      subst (λ (r : Result (Unit {0}) PackFault). IfErr r (Stops closed shows_closed)) (sym same)
+      (subst (λ (d : Course X Y). IfErr answer (Stops d shows_closed)) (sym courses)
+      (subst (λ (k : Known). IfErr answer (Stops new k)) (sym shown) all))
 
 -- What is told of a run that stands here is told of one that stood before.
 module _ {X Y : Type 0} (input : SourceView X) (out : OutletView Y) (ladder : Ladder) (old mid new : Course X Y) (shows shows_mid shows_new : Known) (answer : Result (Unit {0}) PackFault)

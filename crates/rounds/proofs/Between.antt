@@ -11,7 +11,7 @@ use Rattle.ingest.specs.declared.lane.Lane.{Lane}
 use Rattle.item_io.specs.Views.{OutletView, SourceView}
 use Rattle.ladder_items.specs.Ladder.{Ladder}
 use Rattle.ladder_items.proofs.Stages.{turns-none}
-use Rattle.rounds.specs.declared.course.Course.{Course}
+use Rattle.rounds.specs.declared.run.course.Course.{Course}
 use Rattle.rounds.specs.Courses.{Start, IsOn, ReadsNone, Rests, HasClosed, HasEnough, NoneClosed, IsAllGiven}
 use Rattle.rounds.specs.Rounds.{unfed_of}
 

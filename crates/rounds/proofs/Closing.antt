@@ -19,7 +19,7 @@ use Rattle.ladder_items.specs.Runs.{run_of}
 use Rattle.ladder_items.specs.World.{World, Stage, stream_at, turns_of}
 use Rattle.ladder_items.proofs.Puts.{all_none}
 use Rattle.ladder_items.proofs.Worlds.{IsMoved, parts-of, parts-length, world-gave}
-use Rattle.rounds.specs.declared.course.Course.{Course}
+use Rattle.rounds.specs.declared.run.course.Course.{Course}
 use Rattle.rounds.specs.Courses.{Start, IsOn}
 use Rattle.rounds.specs.Showing.{ends_of}
 use Rattle.rounds.specs.Rounds.{unfed_of}

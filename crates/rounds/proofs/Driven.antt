@@ -16,7 +16,7 @@ use Rattle.ladder_items.specs.Ladder.{Ladder, RenditionValue, no_rendition, rend
 use Rattle.ladder_items.specs.Shown.{Shown}
 use Rattle.ladder_items.proofs.Blocks.{shown-each}
 use Rattle.ladder_items.proofs.Worlds.{parts-of, parts-length}
-use Rattle.rounds.specs.declared.course.Course.{Course}
+use Rattle.rounds.specs.declared.run.course.Course.{Course}
 use Rattle.rounds.specs.Showing.{counts_of}
 use Rattle.rounds.specs.Courses.{Start, IsOn, ReadsNone, HasEnough}
 use Rattle.rounds.specs.Rounds.{InRound, expected, unfed_of, pieces_of, gathered}

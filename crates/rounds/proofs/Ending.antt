@@ -21,10 +21,10 @@ use Rattle.ladder_items.proofs.Puts.{all_none}
 use Rattle.ladder_items.proofs.Stages.{turns-none}
 use Rattle.ladder_items.proofs.Worlds.{parts-of, nothing-given, world-first}
 use Rattle.ladder_items.proofs.Endings.{says-as, halted-said, world-halted, world-packed}
-use Rattle.rounds.specs.declared.course.Course.{Course}
+use Rattle.rounds.specs.declared.run.course.Course.{Course}
 use Rattle.rounds.specs.Showing.{shown_by, ends_of}
 use Rattle.rounds.specs.Courses.{Start, IsOn, IsStopped, IsCutShown, IsAllGiven, of_sudden, SaysSudden}
-use Rattle.rounds.specs.declared.books.Books.{Books}
+use Rattle.rounds.specs.declared.run.books.Books.{Books}
 use Rattle.rounds.specs.Begun.{IsTold}
 use Rattle.rounds.specs.Shown.{Fits, FitsThreads, IsPackedShown, IsTurnedAway, FaultSaysShown, of_shown}
 use Rattle.rounds.proofs.Running.{stopped-here}

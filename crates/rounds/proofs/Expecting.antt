@@ -18,7 +18,7 @@ use Rattle.item_io.specs.Views.{OutletView, SourceView}
 use Rattle.ladder_items.specs.Ladder.{Ladder}
 use Rattle.ladder_items.specs.Items.{part_at, count}
 use Rattle.ladder_items.proofs.Worlds.{InOrder, parts-of, parts-length}
-use Rattle.rounds.specs.declared.course.Course.{Course}
+use Rattle.rounds.specs.declared.run.course.Course.{Course}
 use Rattle.rounds.specs.Courses.{Start}
 use Rattle.rounds.specs.Rounds.{InRound, expected, unfed_of, pieces_of, gathered}
 use Rattle.rounds.proofs.Collecting.{gathered-set}

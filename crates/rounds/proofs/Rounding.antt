@@ -26,7 +26,7 @@ use Rattle.ladder_items.specs.Putting.{SaysFailures}
 use Rattle.ladder_items.proofs.Blocks.{grown-at, after-each}
 use Rattle.ladder_items.proofs.Elsewhere.{after-other}
 use Rattle.ladder_items.proofs.Worlds.{InOrder, parts-of, parts-length}
-use Rattle.rounds.specs.declared.course.Course.{Course}
+use Rattle.rounds.specs.declared.run.course.Course.{Course}
 use Rattle.rounds.specs.Showing.{counts_of}
 use Rattle.rounds.specs.Courses.{Gave, GaveSome, IsHeld, ReadsNone, Start, IsStopped, SaysSudden}
 use Rattle.rounds.specs.Rounds.{Keeps, InRound, NoneReady, expected, unfed_of, pieces_of, gathered}

@@ -25,7 +25,7 @@ use Rattle.ladder_items.proofs.Elsewhere.{some-at}
 use Rattle.ladder_items.proofs.Endings.{says-as}
 use Rattle.ladder_items.proofs.Rows.{after_all-append}
 use Rattle.ladder_items.proofs.Worlds.{InOrder, IsMoved, parts-of, parts-length, put-back, world-gave, world-stop, world-ungiven}
-use Rattle.rounds.specs.declared.course.Course.{Course}
+use Rattle.rounds.specs.declared.run.course.Course.{Course}
 use Rattle.rounds.specs.Showing.{counts_of, facts_of, snapshot_of, shown_by, ends_of}
 use Rattle.rounds.specs.Courses.{Gave, GaveSome, ReadsNone, Start, IsOn, IsStopped, of_sudden, SaysSudden}
 

@@ -18,7 +18,7 @@ use Rattle.ladder_items.specs.Runs.{run_of}
 use Rattle.ladder_items.specs.World.{World, turns_of}
 use Rattle.ladder_items.proofs.Stages.{turns-most, turns-none}
 use Rattle.ladder_items.proofs.Worlds.{world-read, world-skip, world-round, world-unread}
-use Rattle.rounds.specs.declared.course.Course.{Course}
+use Rattle.rounds.specs.declared.run.course.Course.{Course}
 use Rattle.rounds.specs.Showing.{counts_of, shown_by, ends_of}
 use Rattle.rounds.specs.Courses.{Start, IsOn, IsStopped}
 

@@ -1,15 +1,16 @@
 -- What a run begins with, and what it tells at its end.
-use Rattle.std.specs.Prelude.{◌≡◌, ℕ, ◌+◌, false, List, length, map, replicate, sum, Some, None, slice_get}
+use Rattle.std.specs.Prelude.{◌≡◌, ℕ, ◌+◌, ◌<◌, false, List, length, map, replicate, sum, Some, None, slice_get}
 use Rattle.ingest.specs.declared.lane.Lane.{Lane}
 use Rattle.ingest.specs.Lanes.{IsFirst}
+use Rattle.ladder_items.specs.declared.fault.PackFault.{PackFault}
 use Rattle.ladder_items.specs.declared.report.Report.{Report}
 use Rattle.ladder_items.specs.Ladder.{Ladder, RenditionValue}
 use Rattle.ladder_items.specs.Shown.{Shown}
 use Rattle.ladder_items.specs.Items.{shown_all}
 use Rattle.ladder_items.specs.Weave.{none_of}
 use Rattle.ladder_items.specs.Packed.{IsReport, gone_of, told_of}
-use Rattle.rounds.specs.declared.books.Books.{Books}
-use Rattle.rounds.specs.declared.first.First.{First}
+use Rattle.rounds.specs.declared.run.books.Books.{Books}
+use Rattle.rounds.specs.declared.run.first.First.{First}
 
 -- nothing was read or given, and no worker claimed anything
 pub record IsBegun (ladder : Ladder) (workers : ℕ) (first : First) : Type 0 where
@@ -22,6 +23,20 @@ pub record IsBegun (ladder : Ladder) (workers : ℕ) (first : First) : Type 0 wh
   pub right : first.books.right ≡ 0
   pub rounds : first.books.rounds ≡ 0
   pub claims : length first.books.workers.items ≡ workers
+
+-- some rendition stopped in a way that this fault tells
+abbrev pub IsStanding : List Lane → PackFault → Type 0
+IsStanding lanes fault = (r : ℕ) × (lane : Lane) × (slice_get lanes r ≡ Some lane) × (told_of r lane.stop ≡ Some fault)
+
+-- none before it stopped in a way that a fault tells
+abbrev pub IsFirstStanding : List Lane → PackFault → Type 0
+IsFirstStanding lanes fault =
+    (r : ℕ) × (lane : Lane) × (slice_get lanes r ≡ Some lane) × (told_of r lane.stop ≡ Some fault)
+    × ((k : ℕ) (earlier : Lane) → k < r → slice_get lanes k ≡ Some earlier → told_of k earlier.stop ≡ None)
+
+-- no fault stands: each rendition came to its good end
+abbrev pub NoneStands : List Lane → Type 0
+NoneStands lanes = (k : ℕ) (lane : Lane) → slice_get lanes k ≡ Some lane → told_of k lane.stop ≡ None
 
 -- Each rendition came to its good end, and the report tells the numbers of what they show. All that the workers claimed and the
 -- calling thread sealed was given, or thrown away.

@@ -8,16 +8,18 @@ use Rattle.item_io.specs.Views.{OutletView, SourceView}
 use Rattle.ingest.specs.declared.lane.Lane.{Lane}
 use Rattle.ingest.specs.Lanes.{is_good}
 use Rattle.ladder_items.specs.declared.fault.PackFault.{PackFault}
-use Rattle.ladder_items.specs.declared.fault.PackFault.TheVariants.{Held}
+use Rattle.ladder_items.specs.declared.fault.PackFault.TheVariants.{Held, NoMemory}
 use Rattle.ladder_items.specs.Ladder.{Ladder, IsAllowed}
 use Rattle.ladder_items.specs.Items.{Part, shown_all}
-use Rattle.ladder_items.specs.Weave.{Event, after, after_all, block, blocks, none_of}
+use Rattle.ladder_items.specs.Giving.{IsGoing, IsNext}
+use Rattle.ladder_items.specs.Weave.{End, Event, Row, after, after_all, block, blocks, none_of}
 use Rattle.ladder_items.specs.Faults.{Sayings, Says}
 use Rattle.ladder_items.specs.Putting.{PutAll, PutSome, of_failures}
 use Rattle.ladder_items.specs.Runs.{Run, run_of}
 use Rattle.ladder_items.specs.World.{World, HaveRoom, turns_of}
 use Rattle.ladder_items.specs.Packed.{IsCutShort}
-use Rattle.rounds.specs.declared.course.Course.{Course}
+use Rattle.rounds.specs.declared.giving.broadcast.Broadcast.{Broadcast}
+use Rattle.rounds.specs.declared.run.course.Course.{Course}
 use Rattle.rounds.specs.Showing.{snapshot_of, shown_by, counts_of, ends_of}
 use Rattle.item_io.specs.declared.limits.TheConstants.{READS}
 
@@ -33,6 +35,42 @@ pub record GaveSome {X Y : Type 0} (out : OutletView Y) (ladder : Ladder) (parts
   pub some : PutSome out old.outlet new.outlet (block ladder parts e)
   pub unshown : list_now ≡ list
 
+-- a segment or an end was given behind these parts, and published
+abbrev pub Gives : {X Y R : Type 0} → OutletView Y → Ladder → List Part → Event → Broadcast X Y R → Broadcast X Y R → Type 0
+Gives out ladder parts e old new = Gave out ladder parts e old.course new.course old.held.publisher.list new.held.publisher.list
+
+-- its items were put in part, or it wasn't published
+abbrev pub GivesSome : {X Y R : Type 0} → OutletView Y → Ladder → List Part → Event → Broadcast X Y R → Broadcast X Y R → Type 0
+GivesSome out ladder parts e old new = GaveSome out ladder parts e old.course new.course old.held.publisher.list new.held.publisher.list
+
+-- this plan is the next of rendition r behind some parts, of which the ended ones are noted
+abbrev pub IsNextOf : {X Y : Type 0} → Ladder → ℕ → SegmentPlan → Course X Y → Type 0
+IsNextOf ladder r plan course = (parts : List Part) × IsNext ladder r parts course.playlists.items plan × (course.ended.items ≡ ends_of parts)
+
+-- rendition r goes on behind some parts, of which the ended ones are noted
+abbrev pub GoesOn : {X Y : Type 0} → Ladder → ℕ → Course X Y → Type 0
+GoesOn ladder r course = (parts : List Part) × IsGoing ladder r parts course.playlists.items × (course.ended.items ≡ ends_of parts)
+
+-- behind all parts that a segment is next to, it was given and published
+abbrev pub GivesNext : {X Y R : Type 0} → OutletView Y → Ladder → ℕ → SegmentPlan → Broadcast X Y R → Broadcast X Y R → Type 0
+GivesNext out ladder r plan old new =
+    (parts : List Part) → IsNext ladder r parts old.course.playlists.items plan → old.course.ended.items ≡ ends_of parts → Gives out ladder parts (Row r plan) old new
+
+-- and in part
+abbrev pub GivesNextInPart : {X Y R : Type 0} → OutletView Y → Ladder → ℕ → SegmentPlan → Broadcast X Y R → Broadcast X Y R → Type 0
+GivesNextInPart out ladder r plan old new =
+    (parts : List Part) → IsNext ladder r parts old.course.playlists.items plan → GivesSome out ladder parts (Row r plan) old new
+
+-- behind all parts that rendition r goes on behind, its end was given and published
+abbrev pub GivesItsEnd : {X Y R : Type 0} → OutletView Y → Ladder → ℕ → Broadcast X Y R → Broadcast X Y R → Type 0
+GivesItsEnd out ladder r old new =
+    (parts : List Part) → IsGoing ladder r parts old.course.playlists.items → old.course.ended.items ≡ ends_of parts → Gives out ladder parts (End r) old new
+
+-- and in part
+abbrev pub GivesItsEndInPart : {X Y R : Type 0} → OutletView Y → Ladder → ℕ → Broadcast X Y R → Broadcast X Y R → Type 0
+GivesItsEndInPart out ladder r old new =
+    (parts : List Part) → IsGoing ladder r parts old.course.playlists.items → GivesSome out ladder parts (End r) old new
+
 -- nothing was read
 pub record ReadsNone {X Y : Type 0} (old new : Course X Y) : Type 0 where
   pub sources : new.sources ≡ old.sources
@@ -47,7 +85,7 @@ pub record Start (X Y : Type 0) : Type 0 where
   pub shows : Known
   pub reads : ℕ
 
--- A run on its way, in which the renditions before `next` had one turn more. `waiting` are the plans of each that were turned
+-- A run on its way, in which the renditions before `next` had one turn more. `waiting` are the plans of each that were swapped
 -- out and not given yet.
 pub record IsOn {X Y : Type 0} (input : SourceView X) (out : OutletView Y) (ladder : Ladder) (start : Start X Y) (next : ℕ) (course : Course X Y) (shows : Known) (waiting : ℕ → List SegmentPlan) : Type 0 where
   pub world : World (run_of input out course.reads start.sources course.sources.items start.outlet course.outlet) ladder course.turns next course.lanes.items course.playlists.items waiting
@@ -95,11 +133,45 @@ pub record IsStopped {X Y : Type 0} (input : SourceView X) (out : OutletView Y) 
   pub limit : course.reads ≡ start.reads
   pub board : shows.board ≡ start.shows.board
 
+-- some run stands here, in which the renditions before `next` had one turn more
+abbrev pub IsRun : {X Y : Type 0} → SourceView X → OutletView Y → ℕ → Course X Y → Type 0
+IsRun {X} {Y} input out next course =
+    (ladder : Ladder) × (start : Start X Y) × (shows : Known) × (waiting : ℕ → List SegmentPlan) × IsOn input out ladder start next course shows waiting
+
+-- each run that stands there, before rendition `next`, stands here before rendition `then`
+abbrev pub ReadsOn : {X Y : Type 0} → SourceView X → OutletView Y → ℕ → Course X Y → ℕ → Course X Y → Type 0
+ReadsOn {X} {Y} input out next old then new =
+    (ladder : Ladder) (start : Start X Y) (shows : Known) (waiting : ℕ → List SegmentPlan)
+    → IsOn input out ladder start next old shows waiting → IsOn input out ladder start then new shows waiting
+
+-- each run that stands there was stopped here for want of memory
+abbrev pub ReadsShort : {X Y : Type 0} → SourceView X → OutletView Y → ℕ → Course X Y → Course X Y → Type 0
+ReadsShort {X} {Y} input out next old new =
+    (ladder : Ladder) (start : Start X Y) (shows : Known) (waiting : ℕ → List SegmentPlan)
+    → IsOn input out ladder start next old shows waiting → IsStopped input out ladder start new shows NoMemory
+
+-- the run stands here between two rounds: no plan waits
+abbrev pub IsBetween : {X Y R : Type 0} → SourceView X → OutletView Y → Ladder → Start X Y → Broadcast X Y R → Type 0
+IsBetween input out ladder start at = IsOn input out ladder start 0 at.course at.held.publisher (λ k. [])
+
+-- some run does
+abbrev pub IsSomeBetween : {X Y R : Type 0} → SourceView X → OutletView Y → Ladder → Broadcast X Y R → Type 0
+IsSomeBetween {X} {Y} input out ladder at = (start : Start X Y) × IsBetween input out ladder start at
+
+-- each run that stands there between two rounds stands here between two rounds
+abbrev pub StaysBetween : {X Y R : Type 0} → SourceView X → OutletView Y → Ladder → Broadcast X Y R → Broadcast X Y R → Type 0
+StaysBetween {X} {Y} input out ladder old new = (start : Start X Y) → IsBetween input out ladder start old → IsBetween input out ladder start new
+
+-- each run that stands there between two rounds was stopped here by a fault
+abbrev pub StopsBetween : {X Y R : Type 0} → SourceView X → OutletView Y → Ladder → Broadcast X Y R → Broadcast X Y R → PackFault → Type 0
+StopsBetween {X} {Y} input out ladder old new fault =
+    (start : Start X Y) → IsBetween input out ladder start old → IsStopped input out ladder start new.course new.held.publisher fault
+
 -- no rendition is read any further: all have stopped, or had all their turns
 abbrev pub Rests : {X Y : Type 0} → Course X Y → Type 0
 Rests course = (course.reads ≤ course.turns) ⊎ ((k : ℕ) (lane : Lane) → slice_get course.lanes.items k ≡ Some lane → lane.stop ≡ None → ⊥)
 
--- a plan of some rendition is closed and not turned out
+-- a plan of some rendition is closed and not swapped out
 abbrev pub HasClosed : List Lane → Type 0
 HasClosed lanes = (k : ℕ) × (lane : Lane) × (slice_get lanes k ≡ Some lane) × (lane.intake.filled ≢ [])
 
@@ -107,9 +179,15 @@ HasClosed lanes = (k : ℕ) × (lane : Lane) × (slice_get lanes k ≡ Some lane
 abbrev pub HasEnough : {X Y : Type 0} → Course X Y → Type 0
 HasEnough course = HasClosed course.lanes.items ⊎ Rests course
 
--- nothing is closed and not turned out
+-- nothing is closed and not swapped out
 abbrev pub NoneClosed : List Lane → Type 0
 NoneClosed lanes = (k : ℕ) (lane : Lane) → slice_get lanes k ≡ Some lane → lane.intake.filled ≡ []
+
+-- of each rendition of which nothing is closed and not swapped out, it is noted whether a good end was given
+abbrev pub HasGoodEnds : {X Y : Type 0} → Ladder → Course X Y → Type 0
+HasGoodEnds ladder course =
+    (k : ℕ) (lane : Lane) → k < length ladder.renditions → slice_get course.lanes.items k ≡ Some lane → lane.intake.filled ≡ []
+    → slice_index_or course.ended.items k false ≡ is_good lane.stop
 
 -- all that was read and closed was given, each good end too, and no rendition is read any further
 pub record IsAllGiven {X Y : Type 0} (course : Course X Y) : Type 0 where

@@ -1,17 +1,20 @@
 -- A round: plans are expected, and pieces come for them.
-use Rattle.std.specs.Prelude.{◌≡◌, ℕ, ◌+◌, ◌<◌, ◌≤◌, sum, List, [], ◌∷◌, ◌++◌, map, length, slice_index_or}
+use Rattle.std.specs.Prelude.{◌≡◌, ◌≢◌, ℕ, ◌+◌, ◌<◌, ◌≤◌, sum, List, [], ◌∷◌, ◌++◌, map, length, slice_index_or, slice_set}
 use Rattle.cutter.specs.Plans.{SegmentPlan}
 use Rattle.flow_core.specs.declared.slot.Slot.{Slot}
 use Rattle.flow_core.specs.Slots.{leading, one_more}
-use Rattle.flow_core.specs.Gatherings.{Gathering, lane_at}
+use Rattle.flow_core.specs.Gatherings.{Gathering, lane_at, lanes_from}
 use Rattle.flow_core.specs.Lanes.{LaneValue}
 use Rattle.live_board.specs.Snapshots.{Known}
 use Rattle.item_io.specs.Views.{OutletView, SourceView}
 use Rattle.ladder_items.specs.declared.fault.PackFault.{PackFault}
-use Rattle.ladder_items.specs.Ladder.{Ladder, rendition_at}
-use Rattle.rounds.specs.declared.course.Course.{Course}
-use Rattle.rounds.specs.declared.books.Books.{Books}
-use Rattle.rounds.specs.Courses.{Start, IsOn, IsStopped, HasEnough}
+use Rattle.ladder_items.specs.declared.fault.PackFault.TheVariants.{NoMemory}
+use Rattle.ladder_items.specs.Ladder.{Ladder, RenditionValue, rendition_at}
+use Rattle.rounds.specs.declared.giving.broadcast.Broadcast.{Broadcast}
+use Rattle.rounds.specs.declared.round.machine.Round.{Round}
+use Rattle.rounds.specs.declared.run.between.BetweenRounds.{BetweenRounds}
+use Rattle.rounds.specs.declared.run.course.Course.{Course}
+use Rattle.rounds.specs.Courses.{Start, IsBetween, IsOn, IsStopped, HasEnough, ReadsNone}
 use Rattle.rounds.specs.Showing.{counts_of}
 
 -- the plans that a rendition of a collector expects, in order
@@ -29,7 +32,7 @@ pub record HasKeys (ladder : Ladder) (g : Gathering) : Type 0 where
   pub each : length g.lanes ≡ length ladder.renditions
   pub keys : (k : ℕ) → k < length g.lanes → (lane_at g k).keys ≡ (rendition_at ladder k).keys
 
--- no piece stands in front of any rendition: what could be given was
+-- no sealed segment stands in front of any rendition: what could be given was
 abbrev pub NoneReady : Gathering → Type 0
 NoneReady g = (k : ℕ) → leading (lane_at g k).slots ≡ 0
 
@@ -58,36 +61,140 @@ pub record InRound {X Y : Type 0} (input : SourceView X) (out : OutletView Y) (l
   pub nexts : (k : ℕ) → k < length g.lanes → (lane_at g k).next ≡ slice_index_or (counts_of course.playlists.items) k 0
   pub keys : (k : ℕ) → k < length g.lanes → (lane_at g k).keys ≡ (rendition_at ladder k).keys
 
--- some run stands here
-abbrev pub IsSomewhere : {X Y : Type 0} → SourceView X → OutletView Y → Ladder → Course X Y → Known → Gathering → Type 0
-IsSomewhere {X} {Y} input out ladder course shows g = (start : Start X Y) × (unfed : List (List SegmentPlan)) × InRound input out ladder start unfed course shows g
+-- the run stands here in a round, of which these plans aren't fed yet
+abbrev pub StandsIn : {X Y L M R : Type 0} → SourceView X → OutletView Y → Ladder → Start X Y → List (List SegmentPlan) → Round X Y L M R → Type 0
+StandsIn input out ladder start unfed at = InRound input out ladder start unfed at.broadcast.course at.broadcast.held.publisher at.collector
+
+-- some run stands here in a round
+abbrev pub IsSomewhere : {X Y L M R : Type 0} → SourceView X → OutletView Y → Ladder → Round X Y L M R → Type 0
+IsSomewhere {X} {Y} input out ladder at = (start : Start X Y) × (unfed : List (List SegmentPlan)) × StandsIn input out ladder start unfed at
 
 -- each run that stands there stands here now
-abbrev pub Moves : {X Y : Type 0} → SourceView X → OutletView Y → Ladder → Course X Y → Known → Gathering → Course X Y → Known → Gathering → Type 0
-Moves {X} {Y} input out ladder old shows_old g_old new shows_new g_new =
-    (start : Start X Y) (unfed : List (List SegmentPlan)) → InRound input out ladder start unfed old shows_old g_old → InRound input out ladder start unfed new shows_new g_new
+abbrev pub Moves : {X Y L M R : Type 0} → SourceView X → OutletView Y → Ladder → Round X Y L M R → Round X Y L M R → Type 0
+Moves {X} {Y} input out ladder old new =
+    (start : Start X Y) (unfed : List (List SegmentPlan)) → StandsIn input out ladder start unfed old → StandsIn input out ladder start unfed new
+
+-- the run was stopped here by a fault
+abbrev pub StopsIn : {X Y L M R : Type 0} → SourceView X → OutletView Y → Ladder → Start X Y → Round X Y L M R → PackFault → Type 0
+StopsIn input out ladder start at fault = IsStopped input out ladder start at.broadcast.course at.broadcast.held.publisher fault
 
 -- each run that stands there was stopped by a fault
-abbrev pub Breaks : {X Y : Type 0} → SourceView X → OutletView Y → Ladder → Course X Y → Known → Gathering → Course X Y → Known → PackFault → Type 0
-Breaks {X} {Y} input out ladder old shows_old g_old new shows_new fault =
-    (start : Start X Y) (unfed : List (List SegmentPlan)) → InRound input out ladder start unfed old shows_old g_old → IsStopped input out ladder start new shows_new fault
+abbrev pub Breaks : {X Y L M R : Type 0} → SourceView X → OutletView Y → Ladder → Round X Y L M R → Round X Y L M R → PackFault → Type 0
+Breaks {X} {Y} input out ladder old new fault =
+    (start : Start X Y) (unfed : List (List SegmentPlan)) → StandsIn input out ladder start unfed old → StopsIn input out ladder start new fault
+
+-- no more right segments were taken than were gathered
+abbrev pub IsFair : {X Y L M R : Type 0} → Round X Y L M R → Round X Y L M R → Type 0
+IsFair old new = new.taker.right + gathered old.collector.lanes ≤ old.taker.right + gathered new.collector.lanes
+
+-- in a round nothing was read
+abbrev pub ReadsNoneIn : {X Y L M R : Type 0} → Round X Y L M R → Round X Y L M R → Type 0
+ReadsNoneIn old new = ReadsNone old.broadcast.course new.broadcast.course
+
+-- nothing is in front of rendition r
+abbrev pub IsDry : {X Y L M R : Type 0} → ℕ → Round X Y L M R → Type 0
+IsDry r at = leading (lane_at at.collector r).slots ≡ 0
+
+-- but for rendition r, the collector is as it was
+abbrev pub KeepsOthers : {X Y L M R : Type 0} → ℕ → Round X Y L M R → Round X Y L M R → Type 0
+KeepsOthers r old new = (k : ℕ) → k ≢ r → lane_at new.collector k ≡ lane_at old.collector k
+
+-- what was gathered and what was taken are as many as before
+abbrev pub KeepsCounts : {X Y L M R : Type 0} → Round X Y L M R → Round X Y L M R → Type 0
+KeepsCounts old new = (gathered new.collector.lanes ≡ gathered old.collector.lanes) × (new.taker.right ≡ old.taker.right)
+
+-- some run stands here, and `plan` is the first of rendition r that isn't fed yet
+abbrev pub IsFirstUnfed : {X Y L M R : Type 0} → SourceView X → OutletView Y → Ladder → ℕ → SegmentPlan → Round X Y L M R → Type 0
+IsFirstUnfed {X} {Y} input out ladder r plan at =
+    (start : Start X Y) × (unfed : List (List SegmentPlan)) × (left : List SegmentPlan) × StandsIn input out ladder start unfed at × (unfed_of unfed r ≡ plan ∷ left)
+
+-- each run of which that plan is the first that isn't fed stands here, with it fed
+abbrev pub FeedsPlan : {X Y L M R : Type 0} → SourceView X → OutletView Y → Ladder → ℕ → SegmentPlan → Round X Y L M R → Round X Y L M R → Type 0
+FeedsPlan {X} {Y} input out ladder r plan old new =
+    (start : Start X Y) (unfed : List (List SegmentPlan)) (left : List SegmentPlan) → unfed_of unfed r ≡ plan ∷ left
+    → StandsIn input out ladder start unfed old → StandsIn input out ladder start (slice_set unfed r left) new
+
+-- some run stands here, of which these plans of rendition r aren't fed yet
+abbrev pub IsUnfed : {X Y L M R : Type 0} → SourceView X → OutletView Y → Ladder → ℕ → List SegmentPlan → Round X Y L M R → Type 0
+IsUnfed {X} {Y} input out ladder r spool at =
+    (start : Start X Y) × (unfed : List (List SegmentPlan)) × StandsIn input out ladder start unfed at × (unfed_of unfed r ≡ spool)
+
+-- each run of which those plans of rendition r weren't fed stands here, with them fed
+abbrev pub FeedsSpool : {X Y L M R : Type 0} → SourceView X → OutletView Y → Ladder → ℕ → List SegmentPlan → Round X Y L M R → Round X Y L M R → Type 0
+FeedsSpool {X} {Y} input out ladder r spool old new =
+    (start : Start X Y) (unfed : List (List SegmentPlan)) → unfed_of unfed r ≡ spool
+    → StandsIn input out ladder start unfed old → StandsIn input out ladder start (slice_set unfed r []) new
+
+-- or was stopped by a fault
+abbrev pub BreaksSpool : {X Y L M R : Type 0} → SourceView X → OutletView Y → Ladder → ℕ → List SegmentPlan → Round X Y L M R → Round X Y L M R → PackFault → Type 0
+BreaksSpool {X} {Y} input out ladder r spool old new fault =
+    (start : Start X Y) (unfed : List (List SegmentPlan)) → unfed_of unfed r ≡ spool
+    → StandsIn input out ladder start unfed old → StopsIn input out ladder start new fault
+
+-- some run stands here, of which none of these plans is fed yet
+abbrev pub HasAllUnfed : {X Y L M R : Type 0} → SourceView X → OutletView Y → Ladder → List (List SegmentPlan) → Round X Y L M R → Type 0
+HasAllUnfed {X} {Y} input out ladder spools at = (start : Start X Y) × StandsIn input out ladder start spools at
+
+-- each run of which none of those plans was fed stands here, with all of them fed
+abbrev pub FeedsAll : {X Y L M R : Type 0} → SourceView X → OutletView Y → Ladder → List (List SegmentPlan) → Round X Y L M R → Round X Y L M R → Type 0
+FeedsAll {X} {Y} input out ladder spools old new =
+    (start : Start X Y) → StandsIn input out ladder start spools old
+    → (left : List (List SegmentPlan)) × StandsIn input out ladder start left new × ((k : ℕ) → unfed_of left k ≡ [])
+
+-- or was stopped by a fault
+abbrev pub BreaksAll : {X Y L M R : Type 0} → SourceView X → OutletView Y → Ladder → List (List SegmentPlan) → Round X Y L M R → Round X Y L M R → PackFault → Type 0
+BreaksAll {X} {Y} input out ladder spools old new fault =
+    (start : Start X Y) → StandsIn input out ladder start spools old → StopsIn input out ladder start new fault
+
+-- the run stands here, and what waits are the plans of these full spools
+abbrev pub IsFull : {X Y R : Type 0} → SourceView X → OutletView Y → Ladder → Start X Y → List (List SegmentPlan) → Broadcast X Y R → Type 0
+IsFull input out ladder start spools at = IsOn input out ladder start 0 at.course at.held.publisher (unfed_of spools)
+
+-- some run does
+abbrev pub IsSomeFull : {X Y R : Type 0} → SourceView X → OutletView Y → Ladder → List (List SegmentPlan) → Broadcast X Y R → Type 0
+IsSomeFull {X} {Y} input out ladder spools at = (start : Start X Y) × IsFull input out ladder start spools at
+
+-- the spools of each run of which no plan waits were swapped out
+abbrev pub SwapsOut : {X Y : Type 0} → SourceView X → OutletView Y → Course X Y → Course X Y → List (List SegmentPlan) → Type 0
+SwapsOut {X} {Y} input out old new full =
+    (ladder : Ladder) (start : Start X Y) (shows : Known)
+    → IsOn input out ladder start 0 old shows (λ k. []) → IsOn input out ladder start 0 new shows (unfed_of full)
+
+-- each run of which no plan waits was stopped for want of memory
+abbrev pub SwapsShort : {X Y : Type 0} → SourceView X → OutletView Y → Course X Y → Course X Y → Type 0
+SwapsShort {X} {Y} input out old new =
+    (ladder : Ladder) (start : Start X Y) (shows : Known)
+    → IsOn input out ladder start 0 old shows (λ k. []) → IsStopped input out ladder start new shows NoMemory
+
+-- of each run of which no plan of rendition r waits, those of its full spool wait
+abbrev pub SwapsOne : {X Y : Type 0} → SourceView X → OutletView Y → ℕ → Course X Y → Course X Y → List SegmentPlan → Type 0
+SwapsOne {X} {Y} input out r old new full =
+    (ladder : Ladder) (start : Start X Y) (shows : Known) (waiting still : ℕ → List SegmentPlan)
+    → waiting r ≡ [] → still r ≡ full → ((k : ℕ) → (k ≡ r → ⊥) → still k ≡ waiting k)
+    → IsOn input out ladder start 0 old shows waiting → IsOn input out ladder start 0 new shows still
+
+-- the collector expects nothing yet, and each of its renditions stands behind the segments that were given of it
+abbrev pub IsBehind : {X Y L M R : Type 0} → Ladder → Round X Y L M R → Type 0
+IsBehind ladder at = at.collector.lanes ≡ lanes_from 0 (map (λ (r : RenditionValue). r.keys) ladder.renditions) (counts_of at.broadcast.course.playlists.items)
 
 -- What the calling thread made of each run that stood there with these full spools: all of them was given. It took no more right
--- pieces than segments were given.
-pub record IsDriven {X Y : Type 0} (input : SourceView X) (out : OutletView Y) (ladder : Ladder) (spools : List (List SegmentPlan)) (old : Course X Y) (shows : Known) (right : ℕ) (new : Course X Y) (shows_now : Known) (right_now : ℕ) : Type 0 where
-  pub on : (start : Start X Y) → IsOn input out ladder start 0 old shows (unfed_of spools) → IsOn input out ladder start 0 new shows_now (λ k. [])
-  pub enough : HasEnough new
-  pub turns : old.turns ≤ new.turns
-  pub stays : new.turns ≡ old.turns → new.lanes ≡ old.lanes
-  pub fair : right_now + sum (counts_of old.playlists.items) ≤ right + sum (counts_of new.playlists.items)
+-- segments than were given.
+pub record IsDriven {X Y R : Type 0} (input : SourceView X) (out : OutletView Y) (ladder : Ladder) (spools : List (List SegmentPlan))
+    (old : Broadcast X Y R) (right : ℕ) (new : Broadcast X Y R) (right_now : ℕ) : Type 0 where
+  pub on : (start : Start X Y) → IsFull input out ladder start spools old → IsBetween input out ladder start new
+  pub enough : HasEnough new.course
+  pub turns : old.course.turns ≤ new.course.turns
+  pub stays : new.course.turns ≡ old.course.turns → new.course.lanes ≡ old.course.lanes
+  pub fair : right_now + sum (counts_of old.course.playlists.items) ≤ right + sum (counts_of new.course.playlists.items)
 
 -- a round whose numbers stand in the books
-pub record IsRound {X Y : Type 0} (input : SourceView X) (out : OutletView Y) (ladder : Ladder) (spools : List (List SegmentPlan)) (old : Course X Y) (shows : Known) (books : Books) (new : Course X Y) (shows_now : Known) (books_now : Books) : Type 0 where
-  pub driven : IsDriven input out ladder spools old shows books.right new shows_now books_now.right
-  pub rounds : books_now.rounds ≡ books.rounds + 1
-  pub each : length books_now.workers.items ≡ length books.workers.items
+pub record IsRound {X Y R : Type 0} (input : SourceView X) (out : OutletView Y) (ladder : Ladder) (spools : List (List SegmentPlan))
+    (old new : BetweenRounds X Y R) : Type 0 where
+  pub driven : IsDriven input out ladder spools old.broadcast old.books.right new.broadcast new.books.right
+  pub rounds : new.books.rounds ≡ old.books.rounds + 1
+  pub each : length new.books.workers.items ≡ length old.books.workers.items
 
--- a round was stopped by a fault
-abbrev pub IsBroken : {X Y : Type 0} → SourceView X → OutletView Y → Ladder → List (List SegmentPlan) → Course X Y → Known → Course X Y → Known → PackFault → Type 0
-IsBroken {X} {Y} input out ladder spools old shows new shows_now fault =
-    (start : Start X Y) → IsOn input out ladder start 0 old shows (unfed_of spools) → IsStopped input out ladder start new shows_now fault
+-- each run that stood there with these full spools was stopped by a fault
+abbrev pub IsBroken : {X Y R : Type 0} → SourceView X → OutletView Y → Ladder → List (List SegmentPlan) → Broadcast X Y R → Broadcast X Y R → PackFault → Type 0
+IsBroken {X} {Y} input out ladder spools old new fault =
+    (start : Start X Y) → IsFull input out ladder start spools old → IsStopped input out ladder start new.course new.held.publisher fault

@@ -1,6 +1,6 @@
 -- How a run on many threads ends, and what it has shown then.
 use Rattle.std.specs.Prelude.{◌≡◌, ◌⊎◌, ℕ, ◌+◌, ◌≤◌, List, [], ◌++◌, false, length, replicate, sum, Option}
-use Rattle.live_board.specs.Snapshots.{SnapshotFacts}
+use Rattle.live_board.specs.Snapshots.{Known, SnapshotFacts}
 use Rattle.live_board.specs.Counts.{counts_shown}
 use Rattle.ingest.specs.declared.lane.Stop.{Stop}
 use Rattle.ladder_items.specs.declared.fault.PackFault.{PackFault}
@@ -8,12 +8,15 @@ use Rattle.ladder_items.specs.declared.fault.PackFault.TheVariants.{NoMemory, Se
 use Rattle.ladder_items.specs.declared.report.Report.{Report}
 use Rattle.ladder_items.specs.Ladder.{Ladder, IsAllowed}
 use Rattle.ladder_items.specs.Weave.{none_of}
-use Rattle.ladder_items.specs.Runs.{Run}
+use Rattle.item_io.specs.Views.{OutletView, SourceView}
+use Rattle.ladder_items.specs.Runs.{Run, run_of}
 use Rattle.ladder_items.specs.Faults.{Sayings, Says}
 use Rattle.ladder_items.specs.Putting.{PutAll}
 use Rattle.ladder_items.specs.Packed.{IsPacked, HasHalted}
 use Rattle.rounds.specs.Showing.{shown_by}
-use Rattle.rounds.specs.Courses.{IsCutShown}
+use Rattle.rounds.specs.declared.run.ran.Ran.{Ran}
+use Rattle.rounds.specs.declared.run.setup.Endpoints.{Endpoints}
+use Rattle.rounds.specs.Courses.{IsCutShown, Start}
 use Rattle.limits.specs.declared.TheConstants.{LEAST, MOST_WORKERS}
 
 -- no rendition has a segment or an end, and no playlist a text
@@ -67,3 +70,36 @@ abbrev pub IsTurnedAway : {X Y : Type 0} → Run X Y → Ladder → ℕ → List
 IsTurnedAway run ladder workers old new fault =
     (Fits ladder (length run.before) workers (counts_shown old) → ⊥) → ((fault ≡ SettingsFault) ⊎ ((fault ≡ NoMemory) × FitsThreads ladder workers (counts_shown old)))
     × (run.now ≡ run.before) × PutAll run.out run.outlet run.outlet_now [] × (new ≡ old)
+
+-- where a run begins that gets these inputs, this outlet and this publisher, and may read an input so often
+abbrev pub start_of : {X Y : Type 0} → List X → Y → Known → ℕ → Start X Y
+start_of sources outlet shows reads = record { sources = sources; outlet = outlet; shows = shows; reads = reads }
+
+-- where a run begins that gets these endpoints
+abbrev pub start_at : {X Y : Type 0} → Endpoints X Y → Start X Y
+start_at ends = start_of ends.sources.items ends.outlet ends.publisher ends.reads
+
+-- a run, from where it began to what it gave back
+abbrev pub run_to : {X Y : Type 0} → SourceView X → OutletView Y → Start X Y → Ran X Y → Run X Y
+run_to input out start ran = run_of input out start.reads start.sources ran.sources.items start.outlet ran.outlet
+
+-- the settings, the inputs and the publisher of a run fit, and it has 1 to 64 workers
+abbrev pub FitsStart : {X Y : Type 0} → Ladder → ℕ → Start X Y → Type 0
+FitsStart ladder workers start = Fits ladder (length start.sources) workers (counts_shown start.shows.list)
+
+-- the run ended well
+abbrev pub EndsPacked : {X Y : Type 0} → SourceView X → OutletView Y → Ladder → ℕ → Start X Y → Ran X Y → Report → Type 0
+EndsPacked input out ladder workers start ran report = IsPackedShown (run_to input out start ran) ladder workers start.shows.list ran.publisher.list report
+
+-- it ended by a fault
+abbrev pub EndsFaulted : {X Y : Type 0} → SourceView X → OutletView Y → Ladder → ℕ → Start X Y → Ran X Y → PackFault → Type 0
+EndsFaulted input out ladder workers start ran fault = FaultSaysShown (run_to input out start ran) ladder workers start.shows.list ran.publisher.list fault
+
+-- where it doesn't fit, it was turned away
+abbrev pub EndsAway : {X Y : Type 0} → SourceView X → OutletView Y → Ladder → ℕ → Start X Y → Ran X Y → PackFault → Type 0
+EndsAway input out ladder workers start ran fault = IsTurnedAway (run_to input out start ran) ladder workers start.shows.list ran.publisher.list fault
+
+-- why a run isn't begun: it doesn't fit, or memory is wanting though workers and publisher fit
+abbrev pub IsUnbegun : Ladder → ℕ → ℕ → List ℕ → PackFault → Type 0
+IsUnbegun ladder inputs workers counts fault =
+    (fault ≡ SettingsFault) × (Fits ladder inputs workers counts → ⊥) ⊎ ((fault ≡ NoMemory) × FitsThreads ladder workers counts)

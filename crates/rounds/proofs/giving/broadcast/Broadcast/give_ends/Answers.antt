@@ -1,0 +1,30 @@
+use Rattle.std.proofs.Common.{◌≡◌, ◌∙◌, inl, inr, Some, false, ap, sym, arith}
+use Rattle.std.specs.List.{slice_get, slice_index_or}
+use Rattle.std.proofs.lemmas.Bool.{cases_eq}
+use Rattle.std.proofs.lemmas.Result.{err_from_is_err_and}
+use Rattle.ingest.specs.Lanes.{is_good}
+use Rattle.rounds.proofs.Running.{reads-then}
+use Rattle.rounds.proofs.giving.broadcast.Broadcast.give_ends.Goals as goal
+
+pub give_end_of-requires-clause-on : goal.give_end_of-requires-clause-on
+give_end_of-requires-clause-on g c = let some = c.requires.on in (some.0, c.loop-r.invariant.ok some.0 some.1)
+
+pub returns-in_err-give_end_of-clause-err : goal.returns-in_err-give_end_of-clause-err
+returns-in_err-give_end_of-clause-err g c =
+    let told = err_from_is_err_and c.from_residual.result c.from_residual.ensures.1 in
+    rw (told.1, told.2) (λ start on. c.in_err-give_end_of.ensures.err start (c.loop-r.invariant.ok start on))
+
+pub loop-r-preserved : goal.loop-r-preserved
+loop-r-preserved g c = record {
+  ok = λ start on. c.in_ok-give_end_of.ensures.ok start (c.loop-r.invariant.ok start on);
+  none_read = reads-then _ _ _ c.loop-r.invariant.none_read c.in_ok-give_end_of.ensures.none_read;
+  playlists = c.in_ok-give_end_of.ensures.playlists ∙ c.loop-r.invariant.playlists;
+  ended = λ k lane below at filled.
+      elim (cases_eq k c.loop-r.r) as (λ _. slice_index_or c.give_end_of.new.self.course.ended.items k false ≡ is_good lane.stop) [
+        | inl q ↦
+            let here : slice_get c.loop-r.self.course.lanes.items c.loop-r.r ≡ Some lane =
+            ap (λ l. slice_get l.items c.loop-r.r) c.loop-r.invariant.none_read.lanes ∙ (ap (slice_get c.args.self.now.course.lanes.items) (sym q) ∙ at) in
+            ap (λ j. slice_index_or c.give_end_of.new.self.course.ended.items j false) q ∙ c.in_ok-give_end_of.ensures.ended lane here filled
+        | inr q ↦ c.in_ok-give_end_of.ensures.others k q ∙ c.loop-r.invariant.ended k lane (omega (arith, below, q)) at filled
+      ];
+}

@@ -1,8 +1,0 @@
-use Rattle.std.proofs.Common.{◌≡◌, false, replicate}
-use Rattle.rounds.proofs.opening.opening.Given as goal
-
-abbrev pub invariant-loop : goal.invariant-loop
-invariant-loop l = record {
-  counts : l.counts.items ≡ replicate l.counter 0;
-  ended : l.ended.items ≡ replicate l.counter false;
-}

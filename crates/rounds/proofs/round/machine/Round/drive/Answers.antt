@@ -1,0 +1,59 @@
+use Rattle.std.proofs.Common.{◌∙◌, sym, arith}
+use Rattle.std.proofs.lemmas.Result.{err_from_is_err_and}
+use Rattle.rounds.proofs.Driven.{enough-read, in-first, in-begun, in-last, in-given}
+use Rattle.rounds.proofs.round.machine.Round.drive.Goals as goal
+
+pub feed_all-requires : goal.feed_all-requires
+feed_all-requires g c =
+    let some = c.requires.on in
+    record { somewhere = (some.0, in-first _ _ _ _ _ some.0 c.args.spools.now _ _ _ c.requires.each c.requires.behind some.1) }
+
+pub returns-in_err-feed_all-clause-err : goal.returns-in_err-feed_all-clause-err
+returns-in_err-feed_all-clause-err g c =
+    let told = err_from_is_err_and c.from_residual.result c.from_residual.ensures.1 in
+    rw (told.1, told.2) (λ start on. c.in_err-feed_all.ensures.err start (in-first _ _ _ _ _ start c.args.spools.now _ _ _ c.requires.each c.requires.behind on))
+
+pub read_on-requires-clause-somewhere : goal.read_on-requires-clause-somewhere
+read_on-requires-clause-somewhere g c =
+    let some = c.requires.on in
+    let fed = c.in_ok-feed_all.ensures.ok some.0 (in-first _ _ _ _ _ some.0 c.args.spools.now _ _ _ c.requires.each c.requires.behind some.1) in
+    (some.0, fed.0, fed.1)
+
+pub returns-in_err-read_on-clause-err : goal.returns-in_err-read_on-clause-err
+returns-in_err-read_on-clause-err g c =
+    let told = err_from_is_err_and c.from_residual-in_err-read_on.result c.from_residual-in_err-read_on.ensures.1 in
+    rw (told.1, told.2) (λ start on.
+    let fed = c.in_ok-feed_all.ensures.ok start (in-first _ _ _ _ _ start c.args.spools.now _ _ _ c.requires.each c.requires.behind on) in
+    c.in_err-read_on.ensures.err start fed.0 fed.1)
+
+pub give_expected-requires : goal.give_expected-requires
+give_expected-requires g c =
+    let some = c.requires.on in
+    let fed = c.in_ok-feed_all.ensures.ok some.0 (in-first _ _ _ _ _ some.0 c.args.spools.now _ _ _ c.requires.each c.requires.behind some.1) in
+    record { somewhere = (some.0, fed.0, c.in_ok-read_on.ensures.ok some.0 fed.0 fed.1) }
+
+pub returns-in_err-give_expected-clause-err : goal.returns-in_err-give_expected-clause-err
+returns-in_err-give_expected-clause-err g c =
+    let told = err_from_is_err_and c.from_residual-in_err-give_expected.result c.from_residual-in_err-give_expected.ensures.1 in
+    rw (told.1, told.2) (λ start on.
+    let fed = c.in_ok-feed_all.ensures.ok start (in-first _ _ _ _ _ start c.args.spools.now _ _ _ c.requires.each c.requires.behind on) in
+    c.in_err-give_expected.ensures.err start fed.0 (c.in_ok-read_on.ensures.ok start fed.0 fed.1))
+
+pub returns-clause-ok : goal.returns-clause-ok
+returns-clause-ok g c =
+    let some = c.requires.on in
+    let fed = c.in_ok-feed_all.ensures.ok some.0 (in-first _ _ _ _ _ some.0 c.args.spools.now _ _ _ c.requires.each c.requires.behind some.1) in
+    let last = c.in_ok-give_expected.ensures.ok some.0 fed.0 (c.in_ok-read_on.ensures.ok some.0 fed.0 fed.1) in
+    let begun = in-begun _ _ _ _ _ some.0 _ _ _ c.args.self.now.collector c.requires.behind some.1 in
+    let given = in-given _ _ _ _ _ some.0 fed.0 _ _ _ c.in_ok-give_expected.ensures.all last in
+    let none = c.in_ok-give_expected.ensures.none_read in
+    let none_fed = c.in_ok-feed_all.ensures.none_read in
+    record {
+      on = λ start on.
+          let fed = c.in_ok-feed_all.ensures.ok start (in-first _ _ _ _ _ start c.args.spools.now _ _ _ c.requires.each c.requires.behind on) in
+          in-last _ _ _ _ _ start fed.0 _ _ _ c.in_ok-give_expected.ensures.all fed.2 (c.in_ok-give_expected.ensures.ok start fed.0 (c.in_ok-read_on.ensures.ok start fed.0 fed.1));
+      enough = enough-read _ _ none c.in_ok-read_on.ensures.enough;
+      turns = omega (arith, none.turns, none_fed.turns, c.in_ok-read_on.ensures.turns);
+      stays = λ e. none.lanes ∙ (c.in_ok-read_on.ensures.stays (sym none.turns ∙ (e ∙ sym none_fed.turns)) ∙ none_fed.lanes);
+      fair = omega (arith, begun, given, c.in_ok-feed_all.ensures.fair, c.in_ok-read_on.ensures.fair, c.in_ok-give_expected.ensures.fair);
+    }

@@ -1,0 +1,44 @@
+use Rattle.std.proofs.Common.{◌∙◌, ◌<◌, ◌≤◌, sym, arith, rules, [], length}
+use Rattle.std.specs.List.{slice_set}
+use Rattle.std.proofs.lemmas.List.{get_or_default}
+use Rattle.std.proofs.lemmas.Result.{err_from_is_err_and}
+use Rattle.rounds.proofs.Running.{reads-then}
+use Rattle.rounds.proofs.Expecting.{fed-before, unfed-behind, all-fed}
+use Rattle.rounds.proofs.round.machine.Round.feed_all.Goals as goal
+
+pub feed_spool-requires-clause-somewhere : goal.feed_spool-requires-clause-somewhere
+feed_spool-requires-clause-somewhere g c =
+    let some = c.requires.somewhere in
+    let now = c.loop-r.invariant.ok some.0 some.1 in
+    (some.0, now.0, now.1, now.3 c.loop-r.r (omega arith) ∙ (get_or_default c.args.spools.now c.loop-r.r [] c.index-spools-r.result (search rules) ∙ sym c.index-spools-r.is))
+
+pub returns-in_err-feed_spool-clause-err : goal.returns-in_err-feed_spool-clause-err
+returns-in_err-feed_spool-clause-err g c =
+    let told = err_from_is_err_and c.from_residual.result c.from_residual.ensures.1 in
+    rw (told.1, told.2) (λ start old.
+    let now = c.loop-r.invariant.ok start old in
+    c.in_err-feed_spool.ensures.err start now.0 (now.3 c.loop-r.r (omega arith) ∙ (get_or_default c.args.spools.now c.loop-r.r [] c.index-spools-r.result (search rules) ∙ sym c.index-spools-r.is)) now.1)
+
+pub loop-r-preserved : goal.loop-r-preserved
+loop-r-preserved g c =
+    let r = c.loop-r.r in
+    let spools = c.args.spools.now in
+    let within : r < length spools = search rules in
+    record {
+      ok = λ start old.
+          let now = c.loop-r.invariant.ok start old in
+          let left = now.0 in (
+            slice_set left r [],
+            c.in_ok-feed_spool.ensures.ok start left (now.3 r (omega arith) ∙ (get_or_default spools r [] c.index-spools-r.result (search rules) ∙ sym c.index-spools-r.is)) now.1,
+            fed-before left r (omega (arith, now.1.all, old.all, within)) now.2,
+            unfed-behind left spools r now.3,
+          );
+      none_read = reads-then _ _ _ c.loop-r.invariant.none_read c.in_ok-feed_spool.ensures.none_read;
+      fair = omega (arith, c.loop-r.invariant.fair, c.in_ok-feed_spool.ensures.fair);
+    }
+
+pub returns-clause-ok : goal.returns-clause-ok
+returns-clause-ok g c start old =
+    let now = c.loop-r.invariant.ok start old in
+    let done : length c.args.spools.now ≤ c.loop-r.r = search rules in
+    (now.0, now.1, all-fed now.0 c.loop-r.r (omega (arith, now.1.all, old.all, done)) now.2)

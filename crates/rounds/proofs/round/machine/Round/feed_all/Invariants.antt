@@ -1,0 +1,14 @@
+use Rattle.std.proofs.Common.{◌≡◌, ◌<◌, ◌≤◌, ℕ, List, []}
+use Rattle.cutter.specs.Plans.{SegmentPlan}
+use Rattle.rounds.specs.Courses.{Start}
+use Rattle.rounds.specs.Rounds.{IsFair, ReadsNoneIn, StandsIn, unfed_of}
+use Rattle.rounds.proofs.round.machine.Round.feed_all.Given as goal
+
+abbrev pub invariant-loop-r : goal.invariant-loop-r
+invariant-loop-r g l = record {
+  ok : (start : Start _ _) → StandsIn g.S.Source.input g.O.Outlet.output l.settings start l.spools l.fn.self
+      → (left : List (List SegmentPlan)) × StandsIn g.S.Source.input g.O.Outlet.output l.settings start left l.self
+      × ((k : ℕ) → k < l.r → unfed_of left k ≡ []) × ((k : ℕ) → l.r ≤ k → unfed_of left k ≡ unfed_of l.spools k);
+  none_read : ReadsNoneIn l.fn.self l.self;
+  fair : IsFair l.fn.self l.self;
+}

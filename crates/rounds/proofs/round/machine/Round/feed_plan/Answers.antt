@@ -1,0 +1,79 @@
+use Rattle.std.proofs.Common.{◌≡◌, ◌∙◌, refl, ap, sym, subst, arith}
+use Rattle.std.proofs.lemmas.Result.{err_from_is_err_and}
+use Rattle.cutter.specs.Lent.{lent}
+use Rattle.ingest.proofs.Ordered.{made_of-at}
+use Rattle.flow_core.specs.Lanes.{following, with_plan}
+use Rattle.flow_core.specs.Gatherings.{lane_at, with_lane}
+use Rattle.ladder_items.proofs.Worlds.{InOrder}
+use Rattle.rounds.proofs.Rounding.{in-keeps, in-stopped}
+use Rattle.rounds.proofs.Expecting.{plan-follows, in-expect, expects-gathered}
+use Rattle.rounds.proofs.round.machine.Round.feed_plan.Goals as goal
+
+pub make_room-requires : goal.make_room-requires
+make_room-requires g c = let some = c.requires.somewhere in record { somewhere = (some.0, some.1, some.3) }
+
+pub returns-in_err-make_room-clause-err : goal.returns-in_err-make_room-clause-err
+returns-in_err-make_room-clause-err g c =
+    let told = err_from_is_err_and c.from_residual.result c.from_residual.ensures.1 in
+    rw (told.1, told.2) c.in_err-make_room.ensures.err
+
+pub expect-requires-clause-rendition : goal.expect-requires-clause-rendition
+expect-requires-clause-rendition g c =
+    let some = c.requires.somewhere in
+    let order : InOrder c.args.settings.now = λ stop r. made_of-at stop r c.args.settings.now.cut in
+    let now = c.in_ok-make_room.ensures.ok some.0 some.1 some.3 in
+    let p = plan-follows _ _ _ _ _ some.0 some.1 _ _ _ now c.args.r c.requires.within (lent c.args.plan) some.2 some.4 order in
+    omega (arith, p.rendition, c.requires.within, now.each)
+
+pub expect-requires-clause-number : goal.expect-requires-clause-number
+expect-requires-clause-number g c =
+    let some = c.requires.somewhere in
+    let order : InOrder c.args.settings.now = λ stop r. made_of-at stop r c.args.settings.now.cut in
+    let now = c.in_ok-make_room.ensures.ok some.0 some.1 some.3 in
+    let p = plan-follows _ _ _ _ _ some.0 some.1 _ _ _ now c.args.r c.requires.within (lent c.args.plan) some.2 some.4 order in
+    p.number ∙ ap (λ k. following (lane_at c.make_room.new.self.collector k)) (sym p.rendition)
+
+pub expect-requires-clause-low : goal.expect-requires-clause-low
+expect-requires-clause-low g c =
+    let some = c.requires.somewhere in
+    let order : InOrder c.args.settings.now = λ stop r. made_of-at stop r c.args.settings.now.cut in
+    let now = c.in_ok-make_room.ensures.ok some.0 some.1 some.3 in
+    let p = plan-follows _ _ _ _ _ some.0 some.1 _ _ _ now c.args.r c.requires.within (lent c.args.plan) some.2 some.4 order in
+    omega (arith, p.number, p.below)
+
+pub returns-in_err-expect-clause-err : goal.returns-in_err-expect-clause-err
+returns-in_err-expect-clause-err g c =
+    let told = err_from_is_err_and c.from_residual-in_err-expect.result c.from_residual-in_err-expect.ensures.1 in
+    rw (told.1, told.2) (λ start unfed now. in-stopped _ _ _ _ _ start unfed _ _ _ _ (rw c.in_err-expect.ensures.fault refl) (c.in_ok-make_room.ensures.ok start unfed now))
+
+pub offer-requires : goal.offer-requires
+offer-requires g c =
+    let some = c.requires.somewhere in
+    let order : InOrder c.args.settings.now = λ stop r. made_of-at stop r c.args.settings.now.cut in
+    let now = c.in_ok-make_room.ensures.ok some.0 some.1 some.3 in
+    let p = plan-follows _ _ _ _ _ some.0 some.1 _ _ _ now c.args.r c.requires.within (lent c.args.plan) some.2 some.4 order in
+    let made = subst (λ k. c.expect.new.collector ≡ with_lane c.make_room.new.self.collector k (with_plan (lane_at c.make_room.new.self.collector k) (lent c.args.plan))) p.rendition c.in_ok-expect.ensures.ok in
+    let there = in-expect _ _ _ _ _ some.0 some.1 _ _ _ now c.args.r c.requires.within (lent c.args.plan) some.2 some.4 _ made in
+    record { keys = record { each = there.each; keys = there.keys } }
+
+pub returns-in_err-offer-clause-err : goal.returns-in_err-offer-clause-err
+returns-in_err-offer-clause-err g c =
+    let told = err_from_is_err_and c.from_residual-in_err-offer.result c.from_residual-in_err-offer.ensures.1 in
+    rw (told.1, told.2) (λ start unfed now. in-stopped _ _ _ _ _ start unfed _ _ _ _ (rw c.in_err-offer.ensures.fault refl) (c.in_ok-make_room.ensures.ok start unfed now))
+
+pub returns-clause-ok : goal.returns-clause-ok
+returns-clause-ok g c start unfed left is old =
+    let order : InOrder c.args.settings.now = λ stop r. made_of-at stop r c.args.settings.now.cut in
+    let now = c.in_ok-make_room.ensures.ok start unfed old in
+    let p = plan-follows _ _ _ _ _ start unfed _ _ _ now c.args.r c.requires.within (lent c.args.plan) left is order in
+    let made = subst (λ k. c.expect.new.collector ≡ with_lane c.make_room.new.self.collector k (with_plan (lane_at c.make_room.new.self.collector k) (lent c.args.plan))) p.rendition c.in_ok-expect.ensures.ok in
+    in-keeps _ _ _ _ _ start _ _ _ _ _ c.in_ok-offer.ensures.keeps (in-expect _ _ _ _ _ start unfed _ _ _ now c.args.r c.requires.within (lent c.args.plan) left is _ made)
+
+pub returns-clause-fair : goal.returns-clause-fair
+returns-clause-fair g c =
+    let some = c.requires.somewhere in
+    let order : InOrder c.args.settings.now = λ stop r. made_of-at stop r c.args.settings.now.cut in
+    let now = c.in_ok-make_room.ensures.ok some.0 some.1 some.3 in
+    let p = plan-follows _ _ _ _ _ some.0 some.1 _ _ _ now c.args.r c.requires.within (lent c.args.plan) some.2 some.4 order in
+    let same = expects-gathered _ _ _ _ (omega (arith, p.rendition, c.requires.within, now.each)) c.in_ok-expect.ensures.ok in
+    omega (arith, c.in_ok-make_room.ensures.fair, same, c.in_ok-offer.ensures.more)

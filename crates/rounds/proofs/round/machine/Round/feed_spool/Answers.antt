@@ -1,0 +1,41 @@
+use Rattle.std.proofs.Common.{◌+◌, subst, arith, drop}
+use Rattle.std.specs.List.{slice_set}
+use Rattle.std.proofs.lemmas.List.{set-set}
+use Rattle.std.proofs.lemmas.Result.{err_from_is_err_and}
+use Rattle.cutter.specs.Lent.{lent}
+use Rattle.rounds.specs.Rounds.{InRound}
+use Rattle.rounds.proofs.Running.{reads-then}
+use Rattle.rounds.proofs.Expecting.{next-unfed}
+use Rattle.rounds.proofs.round.machine.Round.feed_spool.Goals as goal
+
+pub feed_plan-requires-clause-somewhere : goal.feed_plan-requires-clause-somewhere
+feed_plan-requires-clause-somewhere g c =
+    let some = c.requires.somewhere in
+    let r = c.args.r in
+    let i = c.loop-i.i in
+    let spool = c.args.spool.now in (
+      some.0,
+      slice_set some.1 r (drop i spool),
+      drop (i + 1) spool,
+      c.loop-i.invariant.ok some.0 some.1 some.3 some.2,
+      next-unfed some.1 r i spool (lent c.in-Some.plan) (omega (arith, c.requires.within, some.2.all)) c.in-Some.ensures.some,
+    )
+
+pub returns-in_err-feed_plan-clause-err : goal.returns-in_err-feed_plan-clause-err
+returns-in_err-feed_plan-clause-err g c =
+    let told = err_from_is_err_and c.from_residual.result c.from_residual.ensures.1 in
+    rw (told.1, told.2) (λ start unfed is now. c.in_err-feed_plan.ensures.err start (slice_set unfed c.args.r (drop c.loop-i.i c.args.spool.now)) (c.loop-i.invariant.ok start unfed is now))
+
+pub loop-i-preserved : goal.loop-i-preserved
+loop-i-preserved g c =
+    let r = c.args.r in
+    let i = c.loop-i.i in
+    let spool = c.args.spool.now in
+    record {
+      ok = λ start unfed is old.
+          let next = next-unfed unfed r i spool (lent c.in-Some.plan) (omega (arith, c.requires.within, old.all)) c.in-Some.ensures.some in
+          subst (λ u. InRound g.S.Source.input g.O.Outlet.output c.args.settings.now start u c.feed_plan.new.self.broadcast.course c.feed_plan.new.self.broadcast.held.publisher c.feed_plan.new.self.collector) (set-set unfed r (drop i spool) (drop (i + 1) spool))
+          (c.in_ok-feed_plan.ensures.ok start (slice_set unfed r (drop i spool)) (drop (i + 1) spool) next (c.loop-i.invariant.ok start unfed is old));
+      none_read = reads-then _ _ _ c.loop-i.invariant.none_read c.in_ok-feed_plan.ensures.none_read;
+      fair = omega (arith, c.loop-i.invariant.fair, c.in_ok-feed_plan.ensures.fair);
+    }

@@ -1,0 +1,11 @@
+use Rattle.std.proofs.Common.{◌<◌, ℕ}
+use Rattle.rounds.specs.Rounds.{IsDry, KeepsCounts, Moves, ReadsNoneIn}
+use Rattle.rounds.proofs.round.machine.Round.give_all_ready.Given as goal
+
+abbrev pub invariant-loop-r : goal.invariant-loop-r
+invariant-loop-r g l = record {
+  ok : Moves g.S.Source.input g.O.Outlet.output l.settings l.fn.self l.self;
+  none_read : ReadsNoneIn l.fn.self l.self;
+  counts : KeepsCounts l.fn.self l.self;
+  dry : (k : ℕ) → k < l.r → IsDry k l.self;
+}

@@ -1,0 +1,50 @@
+use Rattle.std.proofs.Common.{◌∙◌, refl, ap, arith}
+use Rattle.std.proofs.lemmas.Result.{err_from_is_err_and}
+use Rattle.ingest.proofs.Ordered.{made_of-at}
+use Rattle.flow_core.specs.Gatherings.{Gathering, awaited}
+use Rattle.ladder_items.proofs.Worlds.{InOrder, parts-of}
+use Rattle.rounds.specs.Rounds.{gathered}
+use Rattle.rounds.proofs.Rounding.{in-next, in-sealed, in-gave, in-ungiven, passed-gathered, passed-fewer}
+use Rattle.rounds.proofs.round.machine.Round.give_next.Goals as goal
+
+pub give_segment-requires-clause-next : goal.give_segment-requires-clause-next
+give_segment-requires-clause-next g c =
+    let some = c.requires.somewhere in
+    let order : InOrder c.args.settings.now = λ stop r. made_of-at stop r c.args.settings.now.cut in
+    (parts-of c.args.settings.now some.2.on.world.events, in-next _ _ _ _ _ some.0 some.1 _ _ _ some.2 order c.args.r c.in-Some.sealed c.in-Some.ensures.first, some.2.on.ends)
+
+pub give_segment-requires-clause-sealed : goal.give_segment-requires-clause-sealed
+give_segment-requires-clause-sealed g c =
+    let some = c.requires.somewhere in
+    let order : InOrder c.args.settings.now = λ stop r. made_of-at stop r c.args.settings.now.cut in
+    in-sealed _ _ _ _ _ some.0 some.1 _ _ _ some.2 order c.args.r c.in-Some.sealed c.in-Some.ensures.first c.in-Some.ensures.sealed
+
+pub returns-in_err-give_segment-clause-err : goal.returns-in_err-give_segment-clause-err
+returns-in_err-give_segment-clause-err g c =
+    let order : InOrder c.args.settings.now = λ stop r. made_of-at stop r c.args.settings.now.cut in
+    let told = err_from_is_err_and c.from_residual.result c.from_residual.ensures.1 in
+    rw (told.1, told.2) (λ start unfed now.
+    let at = c.in-Some.ensures.first in
+    let next = in-next _ _ _ _ _ start unfed _ _ _ now order c.args.r c.in-Some.sealed at in
+    in-ungiven _ _ _ _ _ start unfed _ _ _ now order c.args.r c.in-Some.sealed at _ _ _ (c.in_err-give_segment.ensures.err (parts-of c.args.settings.now now.on.world.events) next)
+    c.in_err-give_segment.ensures.none_read c.in_err-give_segment.ensures.board c.in_err-give_segment.ensures.fault)
+
+pub returns-clause-ok : goal.returns-clause-ok
+returns-clause-ok g c start unfed now =
+    let order : InOrder c.args.settings.now = λ stop r. made_of-at stop r c.args.settings.now.cut in
+    let at = c.in-Some.ensures.first in
+    let next = in-next _ _ _ _ _ start unfed _ _ _ now order c.args.r c.in-Some.sealed at in
+    in-gave _ _ _ _ _ start unfed _ _ _ now order c.args.r c.in-Some.sealed at _ _ _ (c.in_ok-give_segment.ensures.ok (parts-of c.args.settings.now now.on.world.events) next now.on.ends)
+    c.in_ok-give_segment.ensures.none_read c.in_ok-give_segment.ensures.board c.in-Some.ensures.some
+
+pub returns-clause-counts : goal.returns-clause-counts
+returns-clause-counts g c = (
+  ap (λ (x : Gathering). gathered x.lanes) c.in-Some.ensures.some ∙ passed-gathered c.args.self.now.collector c.args.r c.in-Some.sealed.plan c.in-Some.sealed c.in-Some.ensures.first,
+  refl,
+)
+
+pub returns-clause-fewer : goal.returns-clause-fewer
+returns-clause-fewer g c any =
+    let now = ap (λ (x : Gathering). awaited x.lanes) c.in-Some.ensures.some in
+    let less = passed-fewer c.args.self.now.collector c.args.r c.in-Some.sealed.plan c.in-Some.sealed c.in-Some.ensures.first in
+    omega (arith, now, less)

@@ -1,0 +1,14 @@
+use Rattle.flow_core.specs.Gatherings.{awaited}
+use Rattle.rounds.specs.Rounds.{KeepsCounts, KeepsOthers, Moves, ReadsNoneIn}
+use Rattle.rounds.proofs.round.machine.Round.give_ready.Given as goal
+
+abbrev pub invariant-loop : goal.invariant-loop
+invariant-loop g l = record {
+  ok : Moves g.S.Source.input g.O.Outlet.output l.settings l.fn.self l.self;
+  none_read : ReadsNoneIn l.fn.self l.self;
+  counts : KeepsCounts l.fn.self l.self;
+  others : KeepsOthers l.r l.fn.self l.self;
+}
+
+abbrev pub decreases-loop : goal.decreases-loop
+decreases-loop g l = awaited l.self.collector.lanes

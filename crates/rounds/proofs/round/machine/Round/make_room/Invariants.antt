@@ -1,0 +1,9 @@
+use Rattle.rounds.specs.Rounds.{IsFair, Moves, ReadsNoneIn}
+use Rattle.rounds.proofs.round.machine.Round.make_room.Given as goal
+
+abbrev pub invariant-loop : goal.invariant-loop
+invariant-loop g l = record {
+  ok : Moves g.S.Source.input g.O.Outlet.output l.settings l.fn.self l.self;
+  none_read : ReadsNoneIn l.fn.self l.self;
+  fair : IsFair l.fn.self l.self;
+}

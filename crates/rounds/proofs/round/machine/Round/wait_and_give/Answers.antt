@@ -1,0 +1,22 @@
+use Rattle.std.proofs.lemmas.Result.{err_from_is_err_and}
+use Rattle.rounds.proofs.Rounding.{in-keeps, in-stopped}
+use Rattle.rounds.proofs.round.machine.Round.wait_and_give.Goals as goal
+
+pub wait_or_seal-requires : goal.wait_or_seal-requires
+wait_or_seal-requires g c = let some = c.requires.somewhere in record { keys = record { each = some.2.each; keys = some.2.keys } }
+
+pub returns-in_err-wait_or_seal-clause-err : goal.returns-in_err-wait_or_seal-clause-err
+returns-in_err-wait_or_seal-clause-err g c =
+    let told = err_from_is_err_and c.from_residual.result c.from_residual.ensures.1 in
+    rw (told.1, told.2) (λ start unfed now. in-stopped _ _ _ _ _ start unfed _ _ _ _ (c.in_err-wait_or_seal.ensures.fault (g.O.Outlet.output.failures c.args.self.now.broadcast.course.outlet)) now)
+
+pub take_and_give-requires : goal.take_and_give-requires
+take_and_give-requires g c = let some = c.requires.somewhere in record { somewhere = (some.0, some.1, in-keeps _ _ _ _ _ some.0 some.1 _ _ _ _ c.in_ok-wait_or_seal.ensures.keeps some.2) }
+
+pub returns-in_err-take_and_give-clause-err : goal.returns-in_err-take_and_give-clause-err
+returns-in_err-take_and_give-clause-err g c =
+    let told = err_from_is_err_and c.from_residual-in_err-take_and_give.result c.from_residual-in_err-take_and_give.ensures.1 in
+    rw (told.1, told.2) (λ start unfed now. c.in_err-take_and_give.ensures.err start unfed (in-keeps _ _ _ _ _ start unfed _ _ _ _ c.in_ok-wait_or_seal.ensures.keeps now))
+
+pub returns-clause-ok : goal.returns-clause-ok
+returns-clause-ok g c start unfed now = c.in_ok-take_and_give.ensures.ok start unfed (in-keeps _ _ _ _ _ start unfed _ _ _ _ c.in_ok-wait_or_seal.ensures.keeps now)

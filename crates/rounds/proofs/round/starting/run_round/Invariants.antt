@@ -1,0 +1,7 @@
+use Rattle.rounds.proofs.round.starting.run_round.Given as goal
+
+abbrev pub ghosts-round_with-L-Ledger : goal.ghosts-round_with-L-Ledger
+ghosts-round_with-L-Ledger g a = record { name = a.claims.name; parts = a.claims.parts }
+
+abbrev pub ghosts-round_with-M-Ledger : goal.ghosts-round_with-M-Ledger
+ghosts-round_with-M-Ledger g a = record { name = a.takes.name; parts = a.takes.parts }

@@ -1,0 +1,83 @@
+use Rattle.std.proofs.Common.{◌∙◌, ap, sym, arith, length}
+use Rattle.std.proofs.lemmas.Result.{IfErr-at_err, IfErr-weaker, IfOk-at_ok}
+use Rattle.live_board.specs.Snapshots.{Known}
+use Rattle.ladder_items.proofs.Blocks.{shown-going, shown-each}
+use Rattle.ladder_items.proofs.Worlds.{parts-of, parts-length}
+use Rattle.rounds.specs.Courses.{Start}
+use Rattle.rounds.specs.Shown.{start_at}
+use Rattle.rounds.proofs.Answered.{ok-weaker}
+use Rattle.rounds.proofs.Ending.{stopped-shown, told-shown, packed-shown}
+use Rattle.rounds.proofs.run.fitted.pack_fitted.Goals as goal
+
+pub run-between-requires-clause-on : goal.run-between-requires-clause-on
+run-between-requires-clause-on g c κs within = (start_at c.args.endpoints, c.set_out-between.ensures.on c.args.setup.now.settings.now c.args.setup.now.workers c.requires.fits c.requires.begun)
+
+pub returns-in-Err-clause-fault : goal.returns-in-Err-clause-fault
+returns-in-Err-clause-fault g c =
+    let start : Start _ _ = start_at c.args.endpoints in
+    let on = c.set_out-between.ensures.on c.args.setup.now.settings.now c.args.setup.now.workers c.requires.fits c.requires.begun in
+    rw (c.give_back.ensures.answer, c.give_back.ensures.sources, c.give_back.ensures.outlet, c.give_back.ensures.publisher)
+    (stopped-shown _ _ _ _ _ start _ _ c.args.setup.now.workers c.in-Err.fault (IfErr-at_err _ c.in-Err.is c.run-between.ensures.err start on))
+
+pub returns-in-Err-clause-board : goal.returns-in-Err-clause-board
+returns-in-Err-clause-board g c =
+    let start : Start _ _ = start_at c.args.endpoints in
+    let on = c.set_out-between.ensures.on c.args.setup.now.settings.now c.args.setup.now.workers c.requires.fits c.requires.begun in
+    ap (λ (k : Known). k.board) c.give_back.ensures.publisher ∙ (IfErr-at_err _ c.in-Err.is c.run-between.ensures.err start on).board
+
+pub answer_of-answer-requires-clause-each : goal.answer_of-answer-requires-clause-each
+answer_of-answer-requires-clause-each g c =
+    let start : Start _ _ = start_at c.args.endpoints in
+    let on = c.set_out-between.ensures.on c.args.setup.now.settings.now c.args.setup.now.workers c.requires.fits c.requires.begun in
+    let done = IfOk-at_ok _ c.in_default.is c.run-between.ensures.ok start on in
+    let parts = parts-of c.args.setup.now.settings.now done.world.events in
+    let each = parts-length c.args.setup.now.settings.now done.world.events in
+    ap length c.deref-2.ensures.value ∙ (done.world.same_lanes ∙ (sym (shown-each c.args.setup.now.settings.now parts _ each done.world.shown_are) ∙ ap length (sym c.deref-3.ensures.value)))
+
+pub answer_of-answer-requires-clause-going : goal.answer_of-answer-requires-clause-going
+answer_of-answer-requires-clause-going g c =
+    let start : Start _ _ = start_at c.args.endpoints in
+    let on = c.set_out-between.ensures.on c.args.setup.now.settings.now c.args.setup.now.workers c.requires.fits c.requires.begun in
+    let done = IfOk-at_ok _ c.in_default.is c.run-between.ensures.ok start on in
+    let parts = parts-of c.args.setup.now.settings.now done.world.events in
+    let each = parts-length c.args.setup.now.settings.now done.world.events in
+    shown-going c.args.setup.now.settings.now parts c.deref-3.result.now each (c.deref-3.ensures.value ∙ done.world.shown_are)
+
+pub answer_of-answer-requires-clause-few : goal.answer_of-answer-requires-clause-few
+answer_of-answer-requires-clause-few g c =
+    let start : Start _ _ = start_at c.args.endpoints in
+    let on = c.set_out-between.ensures.on c.args.setup.now.settings.now c.args.setup.now.workers c.requires.fits c.requires.begun in
+    let done = IfOk-at_ok _ c.in_default.is c.run-between.ensures.ok start on in
+    let parts = parts-of c.args.setup.now.settings.now done.world.events in
+    let each = parts-length c.args.setup.now.settings.now done.world.events in
+    let size = shown-each c.args.setup.now.settings.now parts c.deref-3.result.now each (c.deref-3.ensures.value ∙ done.world.shown_are) in
+    let few = c.requires.fits.0.within.renditions.1 in
+    omega (arith, size, few)
+
+pub returns-clause-ok : goal.returns-clause-ok
+returns-clause-ok g c =
+    let start : Start _ _ = start_at c.args.endpoints in
+    let on = c.set_out-between.ensures.on c.args.setup.now.settings.now c.args.setup.now.workers c.requires.fits c.requires.begun in
+    let done = IfOk-at_ok _ c.in_default.is c.run-between.ensures.ok start on in
+    let all = IfOk-at_ok _ c.in_default.is c.run-between.ensures.all in
+    rw (c.give_back-2.ensures.answer, c.give_back-2.ensures.sources, c.give_back-2.ensures.outlet, c.give_back-2.ensures.publisher)
+    (ok-weaker c.answer_of-answer.result _ _ (λ report told.
+    packed-shown _ _ _ _ _ start _ _ done all c.args.setup.now.workers c.run-between.result.0.books report (IfOk-at_ok _ c.in_default.is c.run-between.ensures.workers) (rw (← c.deref-2.ensures.value, ← c.deref-3.ensures.value) told))
+    c.answer_of-answer.ensures.ok)
+
+pub returns-clause-fault : goal.returns-clause-fault
+returns-clause-fault g c =
+    let start : Start _ _ = start_at c.args.endpoints in
+    let on = c.set_out-between.ensures.on c.args.setup.now.settings.now c.args.setup.now.workers c.requires.fits c.requires.begun in
+    let done = IfOk-at_ok _ c.in_default.is c.run-between.ensures.ok start on in
+    let all = IfOk-at_ok _ c.in_default.is c.run-between.ensures.all in
+    rw (c.give_back-2.ensures.answer, c.give_back-2.ensures.sources, c.give_back-2.ensures.outlet, c.give_back-2.ensures.publisher)
+    (IfErr-weaker c.answer_of-answer.result _ _ (λ fault told.
+    told-shown _ _ _ _ _ start _ _ done all c.args.setup.now.workers fault (rw (← c.deref-2.ensures.value) told))
+    c.answer_of-answer.ensures.fault)
+
+pub returns-clause-board : goal.returns-clause-board
+returns-clause-board g c =
+    let start : Start _ _ = start_at c.args.endpoints in
+    let on = c.set_out-between.ensures.on c.args.setup.now.settings.now c.args.setup.now.workers c.requires.fits c.requires.begun in
+    ap (λ (k : Known). k.board) c.give_back-2.ensures.publisher ∙ (IfOk-at_ok _ c.in_default.is c.run-between.ensures.ok start on).board

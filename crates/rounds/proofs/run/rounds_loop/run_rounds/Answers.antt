@@ -1,0 +1,113 @@
+use Rattle.std.proofs.Common.{◌∙◌, refl, ap, sym, subst, arith, length}
+use Rattle.std.specs.Prelude.{sum}
+use Rattle.std.proofs.lemmas.Result.{IfErr-at_err, IfOk-at_ok}
+use Rattle.live_board.specs.Snapshots.{Known}
+use Rattle.ladder_items.specs.declared.fault.PackFault.TheVariants.{NoMemory}
+use Rattle.rounds.specs.declared.run.books.Books.{Books}
+use Rattle.rounds.specs.declared.run.course.Course.{Course}
+use Rattle.rounds.specs.Showing.{counts_of}
+use Rattle.rounds.specs.Courses.{HasClosed, IsStopped, NoneClosed}
+use Rattle.rounds.proofs.Between.{counted-read, few-rounds, counted-round, on-turns, on-as, never, all-given}
+use Rattle.rounds.proofs.run.rounds_loop.run_rounds.Goals as goal
+use Rattle.rounds.proofs.run.rounds_loop.run_rounds.Goals.{in-None, in-Some+in_default+then-not-any_closed}
+
+pub give_due_ends-now-requires : goal.give_due_ends-now-requires
+give_due_ends-now-requires g c = let some = c.requires.on in record { on = (some.0, c.loop.invariant.on some.0 some.1) }
+
+pub returns-in-Err-clause-err : goal.returns-in-Err-clause-err
+returns-in-Err-clause-err g c start on = IfErr-at_err _ c.in-Err.is c.give_due_ends-now.ensures.err start (c.loop.invariant.on start on)
+
+pub swap_spools-now-requires : goal.swap_spools-now-requires
+swap_spools-now-requires g c =
+    let some = c.requires.on in
+    let on = c.loop.invariant.on some.0 some.1 in
+    record { each = c.loop.invariant.each ∙ (sym on.world.same_lanes ∙ ap (λ l. length l.items) (sym c.give_due_ends-now.ensures.none_read.lanes)) }
+
+pub returns-in_default-swapped-clause-err : goal.returns-in_default-swapped-clause-err
+returns-in_default-swapped-clause-err g c start on =
+    let e = c.give_due_ends-now.ensures in
+    let on1 = IfOk-at_ok _ c.in_default.is e.ok start (c.loop.invariant.on start on) in
+    subst (λ (k : Known). IsStopped g.S.Source.input g.O.Outlet.output c.args.setup.now.settings.now start c.swap_spools-now.result.0.broadcast.course k NoMemory) (sym c.swap_spools-now.ensures.held)
+    (IfErr-at_err _ c.in_default-swapped.is c.swap_spools-now.ensures.err c.args.setup.now.settings.now start _ on1)
+
+pub run_round-now-requires-clause-each : goal.run_round-now-requires-clause-each
+run_round-now-requires-clause-each g c κs within =
+    let some = c.requires.on in
+    let on = c.loop.invariant.on some.0 some.1 in
+    ap length c.deref-in-loop.ensures.value
+    ∙ (IfOk-at_ok _ c.in-Ok.is c.swap_spools-now.ensures.each ∙ (ap (λ l. length l.items) c.give_due_ends-now.ensures.none_read.lanes ∙ on.world.same_lanes))
+
+pub run_round-now-requires-clause-on : goal.run_round-now-requires-clause-on
+run_round-now-requires-clause-on g c κs within =
+    let some = c.requires.on in
+    let e = c.give_due_ends-now.ensures in
+    let on1 = IfOk-at_ok _ c.in_default.is e.ok some.0 (c.loop.invariant.on some.0 some.1) in
+    let t = c.swap_spools-now.ensures in
+    let full = IfOk-at_ok _ c.in-Ok.is t.ok c.args.setup.now.settings.now some.0 _ on1 in
+    let on2 = on-as _ _ _ some.0 _ _ _ _ c.deref-in-loop.result.now t.held c.deref-in-loop.ensures.value full in
+    (some.0, on2)
+
+pub run_round-now-requires-clause-rounds : goal.run_round-now-requires-clause-rounds
+run_round-now-requires-clause-rounds g c κs within =
+    let some = c.requires.on in
+    let e = c.give_due_ends-now.ensures in
+    let on1 = IfOk-at_ok _ c.in_default.is e.ok some.0 (c.loop.invariant.on some.0 some.1) in
+    let closed : HasClosed c.give_due_ends-now.result.0.broadcast.course.lanes.items = subst HasClosed c.deref.ensures.value (c.if-not-any_closed.ensures.some refl) in
+    let few = few-rounds c.give_due_ends-now.result.0.books.rounds c.give_due_ends-now.result.0.broadcast.course closed
+    (counted-read c.loop.between.books.rounds c.give_due_ends-now.result.0.books.rounds _ _ (ap (λ (b : Books). b.rounds) e.books) e.none_read c.loop.invariant.counted) in
+    omega (arith, few, (on-turns _ _ _ some.0 _ _ _ on1).1, ap (λ (b : Books). b.rounds) c.swap_spools-now.ensures.books)
+
+pub returns-in-Err-answer-clause-err : goal.returns-in-Err-answer-clause-err
+returns-in-Err-answer-clause-err g c start on =
+    let e = c.give_due_ends-now.ensures in
+    let on1 = IfOk-at_ok _ c.in_default.is e.ok start (c.loop.invariant.on start on) in
+    let t = c.swap_spools-now.ensures in
+    let full = IfOk-at_ok _ c.in-Ok.is t.ok c.args.setup.now.settings.now start _ on1 in
+    let on2 = on-as _ _ _ start _ _ _ _ c.deref-in-loop.result.now t.held c.deref-in-loop.ensures.value full in
+    IfErr-at_err _ c.in-Err-answer.is c.run_round-now.ensures.err start on2
+
+pub loop-preserved : goal.loop-preserved
+loop-preserved g c =
+    let some = c.requires.on in
+    let e = c.give_due_ends-now.ensures in
+    let on1 = IfOk-at_ok _ c.in_default.is e.ok some.0 (c.loop.invariant.on some.0 some.1) in
+    let closed : HasClosed c.give_due_ends-now.result.0.broadcast.course.lanes.items = subst HasClosed c.deref.ensures.value (c.if-not-any_closed.ensures.some refl) in
+    let few = few-rounds c.give_due_ends-now.result.0.books.rounds c.give_due_ends-now.result.0.broadcast.course closed
+    (counted-read c.loop.between.books.rounds c.give_due_ends-now.result.0.books.rounds _ _ (ap (λ (b : Books). b.rounds) e.books) e.none_read c.loop.invariant.counted) in
+    let t = c.swap_spools-now.ensures in
+    let r = IfOk-at_ok _ c.in_default-answer.is c.run_round-now.ensures.ok in
+    let before = c.loop.invariant.on some.0 some.1 in
+    let none = IfOk-at_ok _ c.in-Ok.is t.empty in
+    let sums = ap (λ (d : Course _ _). sum (counts_of d.playlists.items)) t.same ∙ ap (λ p. sum (counts_of p.items)) e.playlists in
+    let turns = ap (λ (d : Course _ _). d.turns) t.same in
+    record {
+      on = λ start on.
+          let on1 = IfOk-at_ok _ c.in_default.is e.ok start (c.loop.invariant.on start on) in
+          let full = IfOk-at_ok _ c.in-Ok.is t.ok c.args.setup.now.settings.now start _ on1 in
+          r.driven.on start (on-as _ _ _ start _ _ _ _ c.deref-in-loop.result.now t.held c.deref-in-loop.ensures.value full);
+      each = IfOk-at_ok _ c.in-Ok.is t.each ∙ (ap (λ l. length l.items) e.none_read.lanes ∙ before.world.same_lanes);
+      enough = r.driven.enough;
+      workers = r.each ∙ (ap (λ (b : Books). length b.workers.items) t.books ∙ (ap (λ (b : Books). length b.workers.items) e.books ∙ c.loop.invariant.workers));
+      right = omega (arith, r.driven.fair, c.loop.invariant.right, ap (λ (b : Books). b.right) t.books, ap (λ (b : Books). b.right) e.books, sums);
+      counted = counted-round c.swap_spools-now.result.0.books.rounds c.run_round-now.result.0.books.rounds c.swap_spools-now.result.0.broadcast.course c.run_round-now.result.0.broadcast.course r.rounds (omega (arith, few, ap (λ (b : Books). b.rounds) t.books, turns)) r.driven.turns r.driven.stays none;
+    }
+
+pub returns-clause-ok : goal.returns-clause-ok
+returns-clause-ok g c start on =
+    elim c.match-next.branch [
+      | in-None w ↦ never w.in-None.ensures.steps
+      | in-Some+in_default+then-not-any_closed w ↦ rw w.between-is (IfOk-at_ok _ w.in_default.is w.give_due_ends-now.ensures.ok start (c.loop.invariant.on start on))
+    ]
+
+pub returns-clause-all : goal.returns-clause-all
+returns-clause-all g c =
+    elim c.match-next.branch [
+      | in-None w ↦ never w.in-None.ensures.steps
+      | in-Some+in_default+then-not-any_closed w ↦
+          let e = w.give_due_ends-now.ensures in
+          let some = c.requires.on in
+          let on = c.loop.invariant.on some.0 some.1 in
+          rw w.between-is (all-given (length c.args.setup.now.settings.now.renditions) c.loop.between.broadcast.course w.give_due_ends-now.result.0.broadcast.course e.none_read c.loop.invariant.enough
+          (subst NoneClosed w.deref.ensures.value (w.if-not-any_closed.ensures.none refl)) (ap (λ l. length l.items) e.none_read.lanes ∙ on.world.same_lanes)
+          (IfOk-at_ok _ w.in_default.is e.ended))
+    ]

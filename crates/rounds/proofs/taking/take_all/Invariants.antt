@@ -1,9 +1,0 @@
-use Rattle.std.proofs.Common.{◌≡◌, ◌+◌}
-use Rattle.rounds.specs.Rounds.{Keeps, gathered}
-use Rattle.rounds.proofs.taking.take_all.Given as goal
-
-abbrev pub invariant-loop : goal.invariant-loop
-invariant-loop g l = record {
-  keeps : Keeps l.fn.collector l.collector;
-  fair : l.taker.right + gathered l.fn.collector.lanes ≡ l.fn.taker.right + gathered l.collector.lanes;
-}

@@ -1,0 +1,63 @@
+//! The board on which a run publishes, before anything was given.
+
+ghost use Rattle.std.specs.Prelude.{◌≡◌, ◌≤◌, IfOk, OnErr, [], Err, length, map, false, replicate, ◌⊎◌, All};
+ghost use Rattle.std.specs.String.{string_bytes};
+ghost use Rattle.live_board.specs.Counts.{counts_shown};
+ghost use Rattle.live_board.specs.declared.fault.BoardFault.TheVariants.{NoMemory, NoPlace};
+ghost use Rattle.rounds.specs.Shown.{none_shown};
+ghost use Rattle.live_board.specs.declared.publisher.TheConstants.{MOST_VIEWERS};
+
+use live_board::{BoardFault, Publisher, Snapshot, Viewer, board};
+use std::alloc::{AllocError, Global};
+use std::sync::Wait;
+
+/// A board on which none of so many renditions has a segment, with so many viewers: what a run shows its snapshots on.
+///
+/// It is refused with NoPlace or for want of memory alone; which of the two it was no clause says.
+pub fn opening_board<R: Wait>(
+    rt: &R,
+    alloc: Global,
+    renditions: usize,
+    viewers: usize,
+) -> Result<(Publisher, Vec<Viewer>), BoardFault>
+    requires { (1 ≤ viewers) × (viewers ≤ MOST_VIEWERS) }
+    ensures none { IfOk result (λ b. counts_shown b.0.list ≡ replicate renditions 0) }
+    ensures count { IfOk result (λ b. length b.1.items ≡ viewers) }
+    ensures viewers { IfOk result (λ b. All (λ v. v ≡ b.0) b.1.items) }
+    ensures fault { OnErr result ((result ≡ Err NoPlace) ⊎ (result ≡ Err NoMemory)) }
+{
+    match nothing_shown(alloc, renditions) {
+        Ok(first) => board(rt, alloc, first, viewers),
+        Err(_) => Err(BoardFault::NoMemory),
+    }
+}
+
+/// The snapshot of so many renditions without a segment: their playlists have no text yet.
+fn nothing_shown(alloc: Global, renditions: usize) -> Result<Snapshot, AllocError>
+    ensures { IfOk result (λ first. first ≡ none_shown renditions) }
+{
+    let mut counts = Vec::new(alloc);
+    let mut ended = Vec::new(alloc);
+    for _ in 0..renditions {
+        counts.push(0)?;
+        ended.push(false)?;
+    }
+    Ok(Snapshot {
+        counts,
+        ended,
+        media: no_texts(alloc, renditions)?,
+        frames: no_texts(alloc, renditions)?,
+        master: String::new(alloc),
+    })
+}
+
+/// So many empty texts.
+fn no_texts(alloc: Global, count: usize) -> Result<Vec<String>, AllocError>
+    ensures { IfOk result (λ texts. map string_bytes texts.items ≡ replicate count []) }
+{
+    let mut texts = Vec::new(alloc);
+    for _ in 0..count {
+        texts.push(String::new(alloc))?;
+    }
+    Ok(texts)
+}

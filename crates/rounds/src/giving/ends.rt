@@ -1,0 +1,53 @@
+//! The ends of renditions are given, of which nothing is left to give.
+
+ghost use Rattle.std.specs.Prelude.{◌≡◌, ◌≢◌, ◌<◌, [], ℕ, IfErr, OnOk, Some, false, length, slice_get, slice_index_or};
+ghost use Rattle.ingest.specs.Lanes.{is_good};
+ghost use Rattle.ingest.specs.declared.lane.Lane.{Lane};
+ghost use Rattle.rounds.specs.Courses.{HasGoodEnds, IsSomeBetween, ReadsNone, StaysBetween, StopsBetween};
+
+use crate::giving::broadcast::Broadcast;
+use item_io::{Outlet, Source};
+use ladder_items::{PackFault, Settings};
+use std::alloc::Global;
+use std::sync::Wait;
+
+impl<'r, S: Source, O: Outlet, R: Wait> Broadcast<'r, S, O, R> {
+    /// Gives the end of rendition `r`, if it came to a good one, nothing of it is left to give and its end wasn't given.
+    fn give_end_of(&mut self, alloc: Global, settings: &Settings, r: usize) -> Result<(), PackFault>
+        requires within { r < length settings.now.renditions }
+        requires on { IsSomeBetween S.input O.output settings.now self.old }
+        ensures ok { OnOk result (StaysBetween S.input O.output settings.now self.old self.new) }
+        ensures err { IfErr result (StopsBetween S.input O.output settings.now self.old self.new) }
+        ensures none_read { ReadsNone self.old.course self.new.course }
+        ensures playlists { self.new.course.playlists ≡ self.old.course.playlists }
+        ensures ended { OnOk result ((lane : Lane) → slice_get self.old.course.lanes.items r ≡ Some lane → lane.intake.filled ≡ []
+            → slice_index_or self.new.course.ended.items r false ≡ is_good lane.stop) }
+        ensures others { OnOk result ((k : ℕ) → k ≢ r
+            → slice_index_or self.new.course.ended.items k false ≡ slice_index_or self.old.course.ended.items k false) }
+    {
+        let lane = &self.course.lanes[r];
+        if lane.intake.plans() > 0 {
+            return Ok(());
+        }
+        if lane.is_good() == self.course.ended[r] {
+            return Ok(());
+        }
+        self.give_its_end(alloc, settings, r)?;
+        Ok(())
+    }
+
+    /// Gives the end of each rendition that came to a good one, of which nothing is left to give and whose end wasn't given.
+    pub fn give_ends(&mut self, alloc: Global, settings: &Settings) -> Result<(), PackFault>
+        requires on { IsSomeBetween S.input O.output settings.now self.old }
+        ensures ok { OnOk result (StaysBetween S.input O.output settings.now self.old self.new) }
+        ensures err { IfErr result (StopsBetween S.input O.output settings.now self.old self.new) }
+        ensures none_read { ReadsNone self.old.course self.new.course }
+        ensures playlists { self.new.course.playlists ≡ self.old.course.playlists }
+        ensures ended { OnOk result (HasGoodEnds settings.now self.new.course) }
+    {
+        for r in 0..settings.renditions.len() {
+            self.give_end_of(alloc, settings, r)?;
+        }
+        Ok(())
+    }
+}

@@ -1,0 +1,101 @@
+//! The snapshot of what was given: how many segments each rendition has, its playlists, and the master playlist.
+
+ghost use Rattle.std.specs.Prelude.{◌≡◌, ◌++◌, ◌∷◌, [], List, Bool, All, None, false, length, map, IfOk, IfErr, OnOk, OnErr};
+ghost use Rattle.std.specs.String.{string_bytes};
+ghost use Rattle.std.specs.List.{zip};
+ghost use Rattle.master_playlist.specs.Faults.{fault_of};
+ghost use Rattle.live_board.specs.Counts.{NoneFalls, counts_shown};
+ghost use Rattle.ladder_items.specs.declared.fault.PackFault.TheVariants.{NoMemory};
+ghost use Rattle.ladder_items.specs.Ladder.{unmeasured};
+ghost use Rattle.ladder_items.specs.Shown.{media_text, frames_text};
+ghost use Rattle.rounds.specs.Showing.{counts_of, facts_of};
+
+use ladder_items::{PackFault, Playlists, Rendition, ladder_master};
+use live_board::{Publisher, Snapshot};
+use std::alloc::{AllocError, Global};
+use std::sync::Wait;
+
+/// The snapshot of what the renditions show, which have ended or not.
+#[tactic(auto, unfolding(crate::specs::Showing::facts_of))]
+fn snapshot(
+    alloc: Global,
+    renditions: &[Rendition],
+    playlists: &[Playlists],
+    ended: &[bool],
+) -> Result<Snapshot, PackFault>
+    requires going { All (λ shown. shown.ended ≡ false) playlists.now }
+    requires each { length playlists.now ≡ length renditions.now }
+    requires ends { length ended.now ≡ length playlists.now }
+    requires listable { fault_of (map unmeasured renditions.now) ≡ None }
+    ensures facts { IfOk result (λ snapshot. snapshot ≡ facts_of renditions.now playlists.now ended.now) }
+    ensures fault { IfErr result (λ fault. fault ≡ NoMemory) }
+{
+    let mut flags = Vec::new(alloc);
+    flags.extend_from_slice(ended)?;
+    let (media, frames) = texts(alloc, playlists, ended)?;
+    Ok(Snapshot {
+        counts: counts(alloc, playlists)?,
+        ended: flags,
+        media,
+        frames,
+        master: ladder_master(alloc, renditions, playlists)?,
+    })
+}
+
+/// How many segments each rendition has.
+pub fn counts(alloc: Global, playlists: &[Playlists]) -> Result<Vec<u64>, AllocError>
+    ensures { IfOk result (λ counts. counts.items ≡ counts_of playlists.now) }
+{
+    let mut counts = Vec::new(alloc);
+    for rendition in playlists {
+        counts.push(rendition.count())?;
+    }
+    Ok(counts)
+}
+
+/// The media playlist and the I-frame playlist of each rendition.
+fn texts(
+    alloc: Global,
+    playlists: &[Playlists],
+    ended: &[bool],
+) -> Result<(Vec<String>, Vec<String>), AllocError>
+    requires { length ended.now ≡ length playlists.now }
+    ensures media { IfOk result (λ texts. map string_bytes texts.0.items ≡ map (λ x. media_text x.0 x.1) (zip playlists.now ended.now)) }
+    ensures frames { IfOk result (λ texts. map string_bytes texts.1.items ≡ map (λ x. frames_text x.0 x.1) (zip playlists.now ended.now)) }
+{
+    let mut media = Vec::new(alloc);
+    let mut frames = Vec::new(alloc);
+    for i in 0..playlists.len() {
+        media.push(playlists[i].media_text(ended[i])?)?;
+        frames.push(playlists[i].frames_text(ended[i])?)?;
+    }
+    Ok((media, frames))
+}
+
+/// Publishes the snapshot of what the renditions show, which have ended or not. No rendition has fewer segments than the board
+/// shows.
+pub fn publish<R: Wait>(
+    rt: &R,
+    alloc: Global,
+    publisher: &mut Publisher,
+    renditions: &[Rendition],
+    playlists: &[Playlists],
+    ended: &[bool],
+) -> Result<(), PackFault>
+    requires going { All (λ shown. shown.ended ≡ false) playlists.now }
+    requires each { length playlists.now ≡ length renditions.now }
+    requires ends { length ended.now ≡ length playlists.now }
+    requires listable { fault_of (map unmeasured renditions.now) ≡ None }
+    requires rising { NoneFalls (counts_shown publisher.old.list) (counts_of playlists.now) }
+    ensures ok { OnOk result (publisher.new.list ≡ publisher.old.list ++ facts_of renditions.now playlists.now ended.now ∷ []) }
+    ensures err { OnErr result (publisher.new.list ≡ publisher.old.list) }
+    ensures fault { IfErr result (λ fault. fault ≡ NoMemory) }
+    ensures board { publisher.new.board ≡ publisher.old.board }
+{
+    let next = snapshot(alloc, renditions, playlists, ended)?;
+    match publisher.publish(rt, alloc, next) {
+        Ok(()) => Ok(()),
+        // No count falls, so that memory alone was wanting.
+        Err(_) => Err(PackFault::NoMemory),
+    }
+}

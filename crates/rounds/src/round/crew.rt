@@ -1,0 +1,16 @@
+//! Who may use the desk of a round.
+
+use std::sync::ledger::{Ledger, Share};
+use work_desk::Pass;
+
+/// The passes to a round's desk, and what its books are balanced by.
+#[derive(Drop)]
+pub struct Crew<L: Ledger, M: Ledger> {
+    /// A pass for each worker, by its number.
+    pub workers: Vec<Pass<L>>,
+    pub taker: Pass<M>,
+    /// A share with no part of the ledger of claims, to which those of the workers are merged.
+    pub rest: Share<L>,
+    /// How many segments each worker claimed in this round.
+    pub claims: Vec<u128>,
+}

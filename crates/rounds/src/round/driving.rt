@@ -1,0 +1,98 @@
+//! The calling thread drives a round: it feeds the full spools, reads on for the next round, and gives what is expected.
+
+ghost use Rattle.std.specs.Prelude.{◌≡◌, ◌<◌, ◌≤◌, IfErr, IfOk, OnOk, length, map};
+ghost use Rattle.flow_core.specs.Gatherings.{lanes_from};
+ghost use Rattle.ladder_items.specs.Ladder.{RenditionValue};
+ghost use Rattle.rounds.specs.Courses.{HasEnough};
+ghost use Rattle.rounds.specs.Rounds.{Breaks, IsBehind, IsBroken, IsDriven, IsFair, IsSomeFull, IsSomewhere, Moves};
+ghost use Rattle.rounds.specs.Showing.{counts_of};
+ghost use Rattle.item_io.specs.declared.limits.TheConstants.{PIECE};
+
+use crate::giving::snapshots::counts;
+use crate::round::machine::Round;
+use crate::run::first::copy_keys;
+use crate::run::pace::Pace;
+use cutter::Spool;
+use flow_core::Collector;
+use item_io::{Outlet, PIECE, Source};
+use ladder_items::{PackFault, Playlists, Settings};
+use std::alloc::{AllocError, Global};
+use std::sync::Wait;
+use std::sync::ledger::Ledger;
+
+/// A collector behind the segments that were given.
+pub fn collector_behind<'s>(
+    alloc: Global,
+    settings: &Settings,
+    playlists: &[Playlists],
+) -> Result<Collector<'s>, AllocError>
+    ensures { IfOk result (λ collector. collector ≡ record {
+      most = settings.now.queue;
+      lanes = lanes_from 0 (map (λ (r : RenditionValue). r.keys) settings.now.renditions) (counts_of playlists.now);
+    }) }
+{
+    let keys = copy_keys(alloc, &settings.renditions)?;
+    let starts = counts(alloc, playlists)?;
+    Collector::starting(alloc, keys, starts, settings.queue as usize)
+}
+
+impl<'d, 's, 'r, S: Source, O: Outlet, L: Ledger, M: Ledger, R: Wait> Round<
+    'd,
+    's,
+    'r,
+    S,
+    O,
+    L,
+    M,
+    R,
+> {
+    /// Drives the round: feeds the plans of the full spools, reads on for the next round, and gives all segments in sequence.
+    pub fn drive(
+        &mut self,
+        settings: &Settings,
+        pace: Pace,
+        spools: &'s [Spool],
+    ) -> Result<(), PackFault>
+        requires each { length spools.now ≡ length settings.now.renditions }
+        requires on { IsSomeFull S.input O.output settings.now spools.now self.old.broadcast }
+        requires behind { IsBehind settings.now self.old }
+        ensures ok { OnOk result (IsDriven S.input O.output settings.now spools.now
+            self.old.broadcast self.old.taker.right self.new.broadcast self.new.taker.right) }
+        ensures err { IfErr result (IsBroken S.input O.output settings.now spools.now self.old.broadcast self.new.broadcast) }
+    {
+        let mut buffer = [0; PIECE];
+        self.feed_all(settings, spools)?;
+        self.read_on(settings, pace, &mut buffer)?;
+        self.give_expected(settings)?;
+        Ok(())
+    }
+
+    /// Reads on for the next round, and gives between two turns what is ready.
+    fn read_on(
+        &mut self,
+        settings: &Settings,
+        pace: Pace,
+        buffer: &mut [u8],
+    ) -> Result<(), PackFault>
+        requires some { 0 < length buffer.old }
+        requires short { length buffer.old ≤ PIECE }
+        requires somewhere { IsSomewhere S.input O.output settings.now self.old }
+        ensures ok { OnOk result (Moves S.input O.output settings.now self.old self.new) }
+        ensures err { IfErr result (Breaks S.input O.output settings.now self.old self.new) }
+        ensures enough { OnOk result (HasEnough self.new.broadcast.course) }
+        ensures turns { OnOk result (self.old.broadcast.course.turns ≤ self.new.broadcast.course.turns) }
+        ensures stays { OnOk result (self.new.broadcast.course.turns ≡ self.old.broadcast.course.turns
+            → self.new.broadcast.course.lanes ≡ self.old.broadcast.course.lanes) }
+        ensures fair { OnOk result (IsFair self.old self.new) }
+    {
+        while !self
+            .broadcast
+            .course
+            .is_enough(pace, self.collector.awaited())
+        {
+            self.broadcast.course.read_turn(buffer)?;
+            self.take_and_give(settings)?;
+        }
+        Ok(())
+    }
+}

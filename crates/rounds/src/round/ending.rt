@@ -1,0 +1,109 @@
+//! The calling thread's part of a round, with what it changes by value, and how the round's numbers get to the books.
+
+ghost use Rattle.std.specs.Prelude.{◌≡◌, ◌+◌, ◌<◌, ◌^◌, IfErr, OnOk, length, sum};
+ghost use Rattle.rounds.specs.Rounds.{IsBroken, IsDriven, IsSomeFull};
+
+use crate::round::driving::collector_behind;
+use crate::round::machine::Round;
+use crate::round::taker::Taker;
+use crate::run::between::BetweenRounds;
+use crate::run::setup::Setup;
+use cutter::Spool;
+use item_io::{Outlet, Source};
+use ladder_items::PackFault;
+use std::sync::Wait;
+use std::sync::ledger::Ledger;
+use work_desk::{Desk, Pass};
+
+/// A round that the calling thread drove to its end.
+#[derive(Drop)]
+pub struct EndedRound<'r, S, O, M: Ledger, R: Wait> {
+    pub between: BetweenRounds<'r, S, O, R>,
+    pub answer: Result<(), PackFault>,
+    pub taker: Taker<M>,
+}
+
+/// The calling thread's part of a round, with what it changes by value.
+pub fn driven<'s, 'r, S: Source, O: Outlet, G, L: Ledger, M: Ledger, R: Wait>(
+    setup: &Setup<'_, G, R>,
+    spools: &'s [Spool],
+    desk: &Desk<'s, L, M>,
+    pass: Pass<M>,
+    between: BetweenRounds<'r, S, O, R>,
+) -> EndedRound<'r, S, O, M, R>
+    requires each { length spools.now ≡ length setup.now.settings.now.renditions }
+    requires unused { pass.count ≡ 0 }
+    requires on { IsSomeFull S.input O.output setup.now.settings.now spools.now between.broadcast }
+    ensures ok { OnOk result.answer (IsDriven S.input O.output setup.now.settings.now spools.now
+        between.entry.broadcast 0 result.between.broadcast result.taker.right) }
+    ensures err { IfErr result.answer (IsBroken S.input O.output setup.now.settings.now spools.now between.entry.broadcast result.between.broadcast) }
+    ensures books { result.between.books ≡ between.entry.books }
+{
+    let BetweenRounds { broadcast, books } = between;
+    let taker = Taker {
+        pass,
+        right: 0,
+        thrown: 0,
+    };
+    let collector = collector_behind(setup.alloc, setup.settings, &broadcast.course.playlists);
+    let Ok(collector) = collector else {
+        return EndedRound {
+            between: BetweenRounds { broadcast, books },
+            answer: Err(PackFault::NoMemory),
+            taker,
+        };
+    };
+    let mut round = Round {
+        alloc: setup.alloc,
+        desk,
+        broadcast,
+        collector,
+        taker,
+    };
+    let answer = round.drive(setup.settings, setup.pace, spools);
+    let Round {
+        alloc: _,
+        desk: _,
+        broadcast,
+        collector: _,
+        taker,
+    } = round;
+    EndedRound {
+        between: BetweenRounds { broadcast, books },
+        answer,
+        taker,
+    }
+}
+
+/// Ends a round: its numbers stand in the books.
+pub fn closed<'r, S, O, M: Ledger, R: Wait>(
+    ended: EndedRound<'r, S, O, M, R>,
+    claims: &[u128],
+    left: usize,
+) -> (BetweenRounds<'r, S, O, R>, Result<(), PackFault>)
+    requires each { length claims.now ≡ length ended.between.books.workers.items }
+    requires balanced { sum claims.now ≡ ended.taker.pass.count + left }
+    requires rounds { ended.between.books.rounds < 2 ^ 41 }
+    ensures broadcast { result.0.broadcast ≡ ended.entry.between.broadcast }
+    ensures answer { result.1 ≡ ended.entry.answer }
+    ensures rounds { result.0.books.rounds ≡ ended.entry.between.books.rounds + 1 }
+    ensures right { result.0.books.right ≡ ended.entry.between.books.right + ended.entry.taker.right }
+    ensures each { length result.0.books.workers.items ≡ length ended.entry.between.books.workers.items }
+{
+    let EndedRound {
+        between,
+        answer,
+        taker,
+    } = ended;
+    let Taker {
+        pass: _,
+        right,
+        thrown,
+    } = taker;
+    let BetweenRounds {
+        broadcast,
+        mut books,
+    } = between;
+    books.add(claims, right, u128::from(thrown) + left as u128);
+    (BetweenRounds { broadcast, books }, answer)
+}

@@ -1,0 +1,133 @@
+//! Feeding: each plan of the full spools is expected by the collector, and goes to the desk or is sealed on this thread.
+
+ghost use Rattle.std.specs.Prelude.{◌≡◌, ◌<◌, ◌≤◌, IfErr, OnOk, length};
+ghost use Rattle.cutter.specs.Lent.{lent};
+ghost use Rattle.flow_core.specs.Gatherings.{awaited, lane_at, with_lane};
+ghost use Rattle.flow_core.specs.Lanes.{following, with_plan};
+ghost use Rattle.ladder_items.specs.declared.fault.PackFault.TheVariants.{NoMemory};
+ghost use Rattle.rounds.specs.Rounds.{Breaks, BreaksAll, BreaksSpool, FeedsAll, FeedsPlan, FeedsSpool, HasAllUnfed, IsFirstUnfed, IsUnfed};
+ghost use Rattle.rounds.specs.Rounds.{HasKeys, IsFair, Keeps, ReadsNoneIn, gathered};
+ghost use Rattle.limits.specs.declared.TheConstants.{LAST_SEGMENT};
+
+use crate::round::machine::Round;
+use crate::round::sealing::seal_own;
+use cutter::{PlanRef, Spool};
+use flow_core::{Collector, FeedFault};
+use item_io::{Outlet, Source};
+use ladder_items::{PackFault, Settings};
+use std::alloc::Global;
+use std::sync::Wait;
+use std::sync::ledger::Ledger;
+use work_desk::Desk;
+
+impl<'d, 's, 'r, S: Source, O: Outlet, L: Ledger, M: Ledger, R: Wait> Round<
+    'd,
+    's,
+    'r,
+    S,
+    O,
+    L,
+    M,
+    R,
+> {
+    /// Feeds all plans of the full spools, rendition by rendition.
+    pub fn feed_all(&mut self, settings: &Settings, spools: &'s [Spool]) -> Result<(), PackFault>
+        requires somewhere { HasAllUnfed S.input O.output settings.now spools.now self.old }
+        ensures ok { OnOk result (FeedsAll S.input O.output settings.now spools.now self.old self.new) }
+        ensures err { IfErr result (BreaksAll S.input O.output settings.now spools.now self.old self.new) }
+        ensures none_read { ReadsNoneIn self.old self.new }
+        ensures fair { OnOk result (IsFair self.old self.new) }
+    {
+        for r in 0..spools.len() {
+            self.feed_spool(settings, r, &spools[r])?;
+        }
+        Ok(())
+    }
+
+    /// Feeds all plans of rendition `r`.
+    fn feed_spool(
+        &mut self,
+        settings: &Settings,
+        r: usize,
+        spool: &'s Spool,
+    ) -> Result<(), PackFault>
+        requires within { r < length settings.now.renditions }
+        requires somewhere { IsUnfed S.input O.output settings.now r spool.now self.old }
+        ensures ok { OnOk result (FeedsSpool S.input O.output settings.now r spool.now self.old self.new) }
+        ensures err { IfErr result (BreaksSpool S.input O.output settings.now r spool.now self.old self.new) }
+        ensures none_read { ReadsNoneIn self.old self.new }
+        ensures fair { OnOk result (IsFair self.old self.new) }
+    {
+        for i in 0..spool.plans() {
+            let Some(plan) = spool.plan(i) else {
+                continue;
+            };
+            self.feed_plan(settings, r, plan)?;
+        }
+        Ok(())
+    }
+
+    /// Feeds a plan, the first of rendition `r` that wasn't fed, as soon as there is room for it.
+    fn feed_plan(
+        &mut self,
+        settings: &Settings,
+        r: usize,
+        plan: PlanRef<'s>,
+    ) -> Result<(), PackFault>
+        requires within { r < length settings.now.renditions }
+        requires somewhere { IsFirstUnfed S.input O.output settings.now r (lent plan) self.old }
+        ensures ok { OnOk result (FeedsPlan S.input O.output settings.now r (lent plan.entry) self.old self.new) }
+        ensures err { IfErr result (Breaks S.input O.output settings.now self.old self.new) }
+        ensures none_read { ReadsNoneIn self.old self.new }
+        ensures fair { OnOk result (IsFair self.old self.new) }
+    {
+        self.make_room(settings)?;
+        expect(&mut self.collector, plan)?;
+        offer(
+            self.broadcast.held.rt,
+            self.alloc,
+            settings,
+            self.desk,
+            plan,
+            &mut self.collector,
+        )?;
+        Ok(())
+    }
+}
+
+/// Expects a plan, for which there is room.
+fn expect<'s>(collector: &mut Collector<'s>, plan: PlanRef<'s>) -> Result<(), PackFault>
+    requires room { awaited collector.old.lanes < collector.old.most }
+    requires rendition { plan.rendition < length collector.old.lanes }
+    requires number { plan.number ≡ following (lane_at collector.old plan.rendition) }
+    requires low { plan.number ≤ LAST_SEGMENT }
+    ensures ok { OnOk result (collector.new
+        ≡ with_lane collector.old plan.entry.rendition (with_plan (lane_at collector.old plan.entry.rendition) (lent plan.entry))) }
+    ensures fault { IfErr result (λ fault. fault ≡ NoMemory) }
+{
+    match collector.expect(plan) {
+        Ok(()) => Ok(()),
+        Err(_) => Err(PackFault::NoMemory),
+    }
+}
+
+/// Gives a plan to the workers. One that the desk refuses is sealed on this thread.
+fn offer<'s, L: Ledger, M: Ledger, R: Wait>(
+    rt: &R,
+    alloc: Global,
+    settings: &Settings,
+    desk: &Desk<'s, L, M>,
+    plan: PlanRef<'s>,
+    collector: &mut Collector<'s>,
+) -> Result<(), PackFault>
+    requires keys { HasKeys settings.now collector.old }
+    ensures keeps { Keeps collector.old collector.new }
+    ensures more { gathered collector.old.lanes ≤ gathered collector.new.lanes }
+    ensures fault { IfErr result (λ fault. fault ≡ NoMemory) }
+{
+    match desk.feed(rt, plan) {
+        Ok(()) => Ok(()),
+        Err(FeedFault::NoMemory(_)) => Err(PackFault::NoMemory),
+        Err(_) => seal_own(alloc, settings, plan, collector),
+    }
+}

@@ -1,0 +1,20 @@
+//! A round on its way, as the calling thread drives it.
+
+use crate::giving::broadcast::Broadcast;
+use crate::round::taker::Taker;
+use flow_core::Collector;
+use std::alloc::Global;
+use std::sync::Wait;
+use std::sync::ledger::Ledger;
+use work_desk::Desk;
+
+/// A round on its way: plans are fed to its desk and expected by its collector, sealed segments are taken from the desk, and
+/// what stands in sequence is given and published.
+#[derive(Drop)]
+pub struct Round<'d, 's, 'r, S, O, L: Ledger, M: Ledger, R: Wait> {
+    pub alloc: Global,
+    pub desk: &'d Desk<'s, L, M>,
+    pub broadcast: Broadcast<'r, S, O, R>,
+    pub collector: Collector<'s>,
+    pub taker: Taker<M>,
+}

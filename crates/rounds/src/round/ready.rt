@@ -1,0 +1,70 @@
+//! What is ready is given: the sealed segments that stand in front of a rendition without a gap.
+
+ghost use Rattle.std.specs.Prelude.{◌<◌, ◌≡◌, IfErr, IfOk, OnOk, false, true};
+ghost use Rattle.flow_core.specs.Gatherings.{awaited};
+ghost use Rattle.rounds.specs.Rounds.{Breaks, IsDry, IsSomewhere, KeepsCounts, KeepsOthers, Moves, NoneReady, ReadsNoneIn};
+
+use crate::round::machine::Round;
+use item_io::{Outlet, Source};
+use ladder_items::{PackFault, Settings};
+use std::sync::Wait;
+use std::sync::ledger::Ledger;
+
+impl<'d, 's, 'r, S: Source, O: Outlet, L: Ledger, M: Ledger, R: Wait> Round<
+    'd,
+    's,
+    'r,
+    S,
+    O,
+    L,
+    M,
+    R,
+> {
+    /// Gives the segments of all renditions that stand without a gap.
+    pub fn give_all_ready(&mut self, settings: &Settings) -> Result<(), PackFault>
+        requires somewhere { IsSomewhere S.input O.output settings.now self.old }
+        ensures ok { OnOk result (Moves S.input O.output settings.now self.old self.new) }
+        ensures err { IfErr result (Breaks S.input O.output settings.now self.old self.new) }
+        ensures none_read { ReadsNoneIn self.old self.new }
+        ensures counts { OnOk result (KeepsCounts self.old self.new) }
+        ensures dry { OnOk result (NoneReady self.new.collector) }
+    {
+        for r in 0..settings.renditions.len() {
+            self.give_ready(settings, r)?;
+        }
+        Ok(())
+    }
+
+    /// Gives the segments of rendition `r` that stand without a gap.
+    fn give_ready(&mut self, settings: &Settings, r: usize) -> Result<(), PackFault>
+        requires somewhere { IsSomewhere S.input O.output settings.now self.old }
+        ensures ok { OnOk result (Moves S.input O.output settings.now self.old self.new) }
+        ensures err { IfErr result (Breaks S.input O.output settings.now self.old self.new) }
+        ensures none_read { ReadsNoneIn self.old self.new }
+        ensures counts { OnOk result (KeepsCounts self.old self.new) }
+        ensures dry { OnOk result (IsDry r self.new) }
+        ensures others { OnOk result (KeepsOthers r self.old self.new) }
+    {
+        while self.give_next(settings, r)? {}
+        Ok(())
+    }
+
+    /// Gives the next segment of rendition `r` if it came sealed, and tells whether it did.
+    fn give_next(&mut self, settings: &Settings, r: usize) -> Result<bool, PackFault>
+        requires somewhere { IsSomewhere S.input O.output settings.now self.old }
+        ensures ok { OnOk result (Moves S.input O.output settings.now self.old self.new) }
+        ensures err { IfErr result (Breaks S.input O.output settings.now self.old self.new) }
+        ensures none_read { ReadsNoneIn self.old self.new }
+        ensures counts { OnOk result (KeepsCounts self.old self.new) }
+        ensures fewer { IfOk result (λ any. any ≡ true → awaited self.new.collector.lanes < awaited self.old.collector.lanes) }
+        ensures dry { IfOk result (λ any. any ≡ false → IsDry r self.new) }
+        ensures others { OnOk result (KeepsOthers r self.old self.new) }
+    {
+        let Some(sealed) = self.collector.next(r) else {
+            return Ok(false);
+        };
+        self.broadcast
+            .give_segment(self.alloc, settings, r, sealed)?;
+        Ok(true)
+    }
+}

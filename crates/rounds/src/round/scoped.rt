@@ -1,0 +1,88 @@
+//! A round in a scope of threads: workers seal at the desk, and the calling thread drives.
+
+ghost use Rattle.std.specs.Prelude.{◌≡◌, ◌+◌, ◌<◌, ◌^◌, IfErr, OnOk, length, sum, vec_len};
+ghost use Rattle.rounds.specs.Rounds.{IsBroken, IsRound, IsSomeFull};
+
+use crate::round::crew::Crew;
+use crate::round::ending::driven;
+use crate::round::joining::joined;
+use crate::run::between::BetweenRounds;
+use crate::run::setup::Setup;
+use cutter::Spool;
+use item_io::{Outlet, Source};
+use ladder_items::PackFault;
+use segment_job::Keys;
+use std::sync::Wait;
+use std::sync::ledger::Ledger;
+use std::thread::{self, JoinHandle, Threads};
+use work_desk::{Desk, Gate, Tally, work};
+
+/// A round in a scope of threads, over a desk that was opened for it.
+pub fn in_scope<
+    's,
+    'r,
+    S: Source + Drop,
+    O: Outlet + Drop,
+    G: Gate + Sync,
+    L: Ledger + Send + Sync,
+    M: Ledger + Send + Sync,
+    R: Threads + Wait + Sync,
+>(
+    setup: &Setup<'_, G, R>,
+    keys: &[Keys],
+    spools: &'s [Spool],
+    desk: &Desk<'s, L, M>,
+    crew: Crew<L, M>,
+    between: BetweenRounds<'r, S, O, R>,
+) -> (BetweenRounds<'r, S, O, R>, Result<(), PackFault>)
+    requires each { length spools.now ≡ length setup.now.settings.now.renditions }
+    requires on { IsSomeFull S.input O.output setup.now.settings.now spools.now between.broadcast }
+    requires unused { crew.taker.count ≡ 0 }
+    requires parts { crew.rest.parts + vec_len crew.workers ≡ L.parts }
+    requires none { (crew.rest.amount ≡ 0) × (M.parts ≡ 1) }
+    requires unclaimed { (sum crew.claims.items ≡ 0) × (length crew.claims.items ≡ vec_len crew.workers) }
+    requires booked { length crew.claims.items ≡ length between.books.workers.items }
+    requires rounds { between.books.rounds < 2 ^ 41 }
+    ensures ok { OnOk result.1 (IsRound S.input O.output setup.now.settings.now spools.now between.entry result.0) }
+    ensures err { IfErr result.1 (IsBroken S.input O.output setup.now.settings.now spools.now between.entry.broadcast result.0.broadcast) }
+{
+    let rt = setup.rt;
+    let alloc = setup.alloc;
+    let gate = setup.gate;
+    thread::scope(
+        thread::scope_env(),
+        rt,
+        |scope| -> (BetweenRounds<'_, S, O, R>, Result<(), PackFault>)
+            requires { (length spools.now ≡ length setup.now.settings.now.renditions)
+                × IsSomeFull S.input O.output setup.now.settings.now spools.now between.broadcast
+                × (crew.taker.count ≡ 0) × (crew.rest.parts + vec_len crew.workers ≡ L.parts) × (crew.rest.amount ≡ 0) × (M.parts ≡ 1)
+                × (sum crew.claims.items ≡ 0) × (length crew.claims.items ≡ vec_len crew.workers)
+                × (length crew.claims.items ≡ length between.books.workers.items) × (between.books.rounds < 2 ^ 41) }
+            ensures ok { OnOk result.1 (IsRound S.input O.output setup.entry.now.settings.now spools.entry.now between.entry result.0) }
+            ensures err { IfErr result.1 (IsBroken S.input O.output setup.entry.now.settings.now spools.entry.now between.entry.broadcast result.0.broadcast) }
+        {
+            let Crew {
+                workers: passes,
+                taker,
+                rest,
+                claims,
+            } = crew;
+            let workers = passes.len();
+            let mut running: Vec<JoinHandle<Tally<L>>> = Vec::new(alloc);
+            for pass in passes {
+                let Ok(child) = scope.spawn(move || work(rt, alloc, desk, pass, keys, gate)) else {
+                    break;
+                };
+                if running.push(child).is_err() {
+                    break;
+                }
+            }
+            if running.len() != workers {
+                desk.close(rt);
+                return (between, Err(PackFault::NoMemory));
+            }
+            let ended = driven(setup, spools, desk, taker, between);
+            joined(rt, desk, running, rest, claims, ended)
+        },
+    )
+}

@@ -1,0 +1,113 @@
+//! What is done at the desk is collected, and what is missing is sealed on this thread.
+
+ghost use Rattle.std.specs.Prelude.{◌≡◌, ◌≢◌, ◌<◌, ◌≤◌, ◌^◌, ◌+◌, [], true, false, IfErr, OnErr, OnOk, length};
+ghost use Rattle.cutter.specs.Lent.{lent};
+ghost use Rattle.flow_core.specs.Gatherings.{lane_at, missing_in};
+ghost use Rattle.flow_core.specs.Lanes.{IsRight, Lacks};
+ghost use Rattle.flow_core.specs.declared.piece.Outcome.TheVariants.{Held as HeldBack};
+ghost use Rattle.ladder_items.specs.declared.fault.PackFault.TheVariants.{Held, NoMemory};
+ghost use Rattle.rounds.specs.Rounds.{HasKeys, Keeps, gathered};
+
+use cutter::PlanRef;
+use flow_core::{Collector, Outcome, Piece};
+use ladder_items::{PackFault, Settings};
+use segment_job::{Sealed, seal_plan};
+use std::alloc::Global;
+
+/// Collects a sealed segment, and tells whether it was right.
+#[tactic(auto, using(crate::proofs::Collecting::keeps_same))]
+fn collect<'s>(collector: &mut Collector<'s>, sealed: Sealed<'s>) -> bool
+    ensures keeps { Keeps collector.old collector.new }
+    ensures right { result ≡ true → gathered collector.new.lanes ≡ gathered collector.old.lanes + 1 }
+    ensures wrong { result ≡ false → collector.new ≡ collector.old }
+    ensures sure { IsRight (lane_at collector.old sealed.entry.plan.rendition) sealed.entry → result ≡ true }
+    ensures fewer { result ≡ true → length (missing_in collector.new.lanes) + 1 ≡ length (missing_in collector.old.lanes) }
+{
+    let Ok(_) = collector.collect(sealed) else {
+        return false;
+    };
+    true
+}
+
+/// Takes in what is done. A sealed segment that isn't right is thrown away, and so is a refusal. What was held stops the run.
+#[tactic(auto, using(crate::proofs::Collecting::keeps_same))]
+pub fn take_in<'s>(
+    collector: &mut Collector<'s>,
+    done: Piece<'s>,
+    right: &mut u64,
+    thrown: &mut u64,
+) -> Result<(), PackFault>
+    requires few { right.old + thrown.old + 1 < 2 ^ 64 }
+    ensures keeps { Keeps collector.old collector.new }
+    ensures counted { right.new + thrown.new ≡ right.old + thrown.old + 1 }
+    ensures fair { right.new + gathered collector.old.lanes ≡ right.old + gathered collector.new.lanes }
+    ensures held { OnErr result (done.entry.outcome ≡ HeldBack) }
+    ensures unheld { OnOk result (done.entry.outcome ≢ HeldBack) }
+    ensures fault { IfErr result (λ fault. fault ≡ Held done.entry.rendition done.entry.number) }
+{
+    let Piece {
+        rendition,
+        number,
+        outcome,
+    } = done;
+    match outcome {
+        Outcome::Sealed(sealed) => {
+            if collect(collector, sealed) {
+                *right += 1;
+                return Ok(());
+            }
+            *thrown += 1;
+            Ok(())
+        }
+        Outcome::Refused => {
+            *thrown += 1;
+            Ok(())
+        }
+        Outcome::Held => {
+            *thrown += 1;
+            Err(PackFault::Held(rendition, number))
+        }
+    }
+}
+
+/// Seals a plan on this thread. Where its sealed segment came by now, that one stays.
+#[tactic(auto, using(crate::proofs::Collecting::keeps_same))]
+pub fn seal_own<'s>(
+    alloc: Global,
+    settings: &Settings,
+    plan: PlanRef<'s>,
+    collector: &mut Collector<'s>,
+) -> Result<(), PackFault>
+    requires keys { HasKeys settings.now collector.old }
+    ensures keeps { Keeps collector.old collector.new }
+    ensures more { gathered collector.old.lanes ≤ gathered collector.new.lanes }
+    ensures fewer { OnOk result (Lacks (lane_at collector.old plan.entry.rendition) (lent plan.entry)
+        → length (missing_in collector.new.lanes) < length (missing_in collector.old.lanes)) }
+    ensures fault { IfErr result (λ fault. fault ≡ NoMemory) }
+{
+    let Some(rendition) = settings.renditions.get(plan.rendition) else {
+        return Ok(());
+    };
+    let sealed = seal_plan(alloc, plan, &rendition.keys)?;
+    collect(collector, sealed);
+    Ok(())
+}
+
+/// Seals all that is missing on this thread.
+#[tactic(auto, using(crate::proofs::Collecting::keeps_same))]
+pub fn seal_missing(
+    alloc: Global,
+    settings: &Settings,
+    collector: &mut Collector<'_>,
+) -> Result<(), PackFault>
+    requires keys { HasKeys settings.now collector.old }
+    ensures keeps { Keeps collector.old collector.new }
+    ensures more { gathered collector.old.lanes ≤ gathered collector.new.lanes }
+    ensures all { OnOk result (missing_in collector.new.lanes ≡ []) }
+    ensures fault { IfErr result (λ fault. fault ≡ NoMemory) }
+{
+    while let Some(plan) = collector.first_missing() {
+        seal_own(alloc, settings, plan, collector)?;
+    }
+    Ok(())
+}

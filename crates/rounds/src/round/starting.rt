@@ -1,0 +1,88 @@
+//! A round is started: its desk is opened, and a scope of threads works at it.
+
+ghost use Rattle.std.specs.Prelude.{◌≡◌, ◌<◌, ◌^◌, IfErr, OnOk, length};
+ghost use Rattle.rounds.specs.Rounds.{IsBroken, IsRound, IsSomeFull};
+
+use crate::round::crew::Crew;
+use crate::round::scoped::in_scope;
+use crate::run::between::BetweenRounds;
+use crate::run::books::no_counts;
+use crate::run::setup::Setup;
+use cutter::Spool;
+use item_io::{Outlet, Source};
+use ladder_items::PackFault;
+use segment_job::Keys;
+use std::marker::Brand;
+use std::sync::Wait;
+use std::sync::ledger::{Blank, Ledger};
+use std::thread::Threads;
+use work_desk::{Desk, Gate, Opened};
+
+/// A round: the plans of the full spools are sealed by the workers and given in sequence, and meanwhile the next round is read,
+/// until enough of it is closed.
+pub fn run_round<'r, S: Source + Drop, O: Outlet + Drop, G: Gate + Sync, R: Threads + Wait + Sync>(
+    setup: &Setup<'_, G, R>,
+    keys: &[Keys],
+    spools: &[Spool],
+    between: BetweenRounds<'r, S, O, R>,
+) -> (BetweenRounds<'r, S, O, R>, Result<(), PackFault>)
+    requires each { length spools.now ≡ length setup.now.settings.now.renditions }
+    requires on { IsSomeFull S.input O.output setup.now.settings.now spools.now between.broadcast }
+    requires workers { length between.books.workers.items ≡ setup.now.workers }
+    requires rounds { between.books.rounds < 2 ^ 41 }
+    ensures ok { OnOk result.1 (IsRound S.input O.output setup.now.settings.now spools.now between.entry result.0) }
+    ensures err { IfErr result.1 (IsBroken S.input O.output setup.now.settings.now spools.now between.entry.broadcast result.0.broadcast) }
+{
+    let claims = Blank::new(setup.workers as u64);
+    let takes = Blank::new(1);
+    round_with::<S, O, G, Brand, Brand, R>(setup, keys, spools, claims, takes, between)
+}
+
+/// A round over ledgers that the call picks.
+fn round_with<
+    'r,
+    S: Source + Drop,
+    O: Outlet + Drop,
+    G: Gate + Sync,
+    L: Ledger + Send + Sync,
+    M: Ledger + Send + Sync,
+    R: Threads + Wait + Sync,
+>(
+    setup: &Setup<'_, G, R>,
+    keys: &[Keys],
+    spools: &[Spool],
+    claims: Blank,
+    takes: Blank,
+    between: BetweenRounds<'r, S, O, R>,
+) -> (BetweenRounds<'r, S, O, R>, Result<(), PackFault>)
+    requires each { length spools.now ≡ length setup.now.settings.now.renditions }
+    requires on { IsSomeFull S.input O.output setup.now.settings.now spools.now between.broadcast }
+    requires workers { length between.books.workers.items ≡ setup.now.workers }
+    requires rounds { between.books.rounds < 2 ^ 41 }
+    requires claims { (claims.name ≡ L.name) × (claims.parts ≡ L.parts) × (L.parts ≡ setup.now.workers) }
+    requires takes { (takes.name ≡ M.name) × (takes.parts ≡ M.parts) × (M.parts ≡ 1) }
+    ensures ok { OnOk result.1 (IsRound S.input O.output setup.now.settings.now spools.now between.entry result.0) }
+    ensures err { IfErr result.1 (IsBroken S.input O.output setup.now.settings.now spools.now between.entry.broadcast result.0.broadcast) }
+{
+    let Ok(counts) = no_counts(setup.alloc, setup.workers) else {
+        return (between, Err(PackFault::NoMemory));
+    };
+    let settings = setup.settings;
+    let queue = settings.queue as usize;
+    let Ok(opened) = Desk::<L, M>::new(setup.alloc, queue, setup.workers, claims, takes) else {
+        return (between, Err(PackFault::NoMemory));
+    };
+    let Opened {
+        desk,
+        workers,
+        taker,
+        rest,
+    } = opened;
+    let crew = Crew {
+        workers,
+        taker,
+        rest,
+        claims: counts,
+    };
+    in_scope(setup, keys, spools, &desk, crew, between)
+}

@@ -1,0 +1,183 @@
+//! Taking: what is done at the desk is taken in, and then what is ready is given.
+
+ghost use Rattle.std.specs.Prelude.{◌≡◌, ◌+◌, ◌<◌, ◌≤◌, ℕ, IfErr, IfNone, IfSome, OnOk};
+ghost use Rattle.flow_core.specs.Gatherings.{awaited};
+ghost use Rattle.rounds.specs.Courses.{IsHeld, SaysSudden};
+ghost use Rattle.rounds.specs.Rounds.{Breaks, HasKeys, IsFair, IsSomewhere, Keeps, Moves, NoneReady, ReadsNoneIn, gathered};
+
+use crate::round::machine::Round;
+use crate::round::sealing::{seal_missing, take_in};
+use crate::round::taker::Taker;
+use flow_core::{Collector, Piece};
+use item_io::{Outlet, Source};
+use ladder_items::{PackFault, Settings};
+use std::alloc::Global;
+use std::sync::Wait;
+use std::sync::ledger::Ledger;
+use work_desk::{Desk, Pass};
+
+impl<'d, 's, 'r, S: Source, O: Outlet, L: Ledger, M: Ledger, R: Wait> Round<
+    'd,
+    's,
+    'r,
+    S,
+    O,
+    L,
+    M,
+    R,
+> {
+    /// Waits until something is done, and gives what is ready, until one more plan may be expected.
+    pub fn make_room(&mut self, settings: &Settings) -> Result<(), PackFault>
+        requires somewhere { IsSomewhere S.input O.output settings.now self.old }
+        ensures ok { OnOk result (Moves S.input O.output settings.now self.old self.new) }
+        ensures err { IfErr result (Breaks S.input O.output settings.now self.old self.new) }
+        ensures none_read { ReadsNoneIn self.old self.new }
+        ensures fair { OnOk result (IsFair self.old self.new) }
+        ensures room { OnOk result (awaited self.new.collector.lanes < self.new.collector.most) }
+    {
+        for _ in self.broadcast.held.rt.forever() {
+            if self.collector.room() {
+                break;
+            }
+            self.wait_and_give(settings)?;
+        }
+        Ok(())
+    }
+
+    /// Gives all that is expected, in sequence.
+    pub fn give_expected(&mut self, settings: &Settings) -> Result<(), PackFault>
+        requires somewhere { IsSomewhere S.input O.output settings.now self.old }
+        ensures ok { OnOk result (Moves S.input O.output settings.now self.old self.new) }
+        ensures err { IfErr result (Breaks S.input O.output settings.now self.old self.new) }
+        ensures none_read { ReadsNoneIn self.old self.new }
+        ensures fair { OnOk result (IsFair self.old self.new) }
+        ensures all { OnOk result (awaited self.new.collector.lanes ≡ 0) }
+    {
+        for _ in self.broadcast.held.rt.forever() {
+            if self.collector.awaited() == 0 {
+                break;
+            }
+            self.wait_and_give(settings)?;
+        }
+        Ok(())
+    }
+
+    /// Waits until something is done, takes in all that is, and gives what is ready then.
+    fn wait_and_give(&mut self, settings: &Settings) -> Result<(), PackFault>
+        requires somewhere { IsSomewhere S.input O.output settings.now self.old }
+        ensures ok { OnOk result (Moves S.input O.output settings.now self.old self.new) }
+        ensures err { IfErr result (Breaks S.input O.output settings.now self.old self.new) }
+        ensures none_read { ReadsNoneIn self.old self.new }
+        ensures fair { OnOk result (IsFair self.old self.new) }
+    {
+        wait_or_seal(
+            self.broadcast.held.rt,
+            self.alloc,
+            settings,
+            self.desk,
+            &mut self.taker,
+            &mut self.collector,
+        )?;
+        self.take_and_give(settings)?;
+        Ok(())
+    }
+
+    /// Takes in all that is done, and gives what is ready then.
+    pub fn take_and_give(&mut self, settings: &Settings) -> Result<(), PackFault>
+        requires somewhere { IsSomewhere S.input O.output settings.now self.old }
+        ensures ok { OnOk result (Moves S.input O.output settings.now self.old self.new) }
+        ensures err { IfErr result (Breaks S.input O.output settings.now self.old self.new) }
+        ensures none_read { ReadsNoneIn self.old self.new }
+        ensures fair { OnOk result (IsFair self.old self.new) }
+        ensures dry { OnOk result (NoneReady self.new.collector) }
+    {
+        take_all(
+            self.broadcast.held.rt,
+            self.desk,
+            &mut self.taker,
+            &mut self.collector,
+        )?;
+        self.give_all_ready(settings)?;
+        Ok(())
+    }
+}
+
+/// What is done at the desk. Where `wait` is true, it is waited for while anything is outstanding.
+fn hand_out<'s, L: Ledger, M: Ledger, R: Wait>(
+    rt: &R,
+    desk: &Desk<'s, L, M>,
+    wait: bool,
+    pass: &mut Pass<M>,
+) -> Option<Piece<'s>>
+    ensures counted { IfSome result (λ _. pass.new.count ≡ pass.old.count + 1) }
+    ensures uncounted { IfNone result (pass.new.count ≡ pass.old.count) }
+{
+    if wait {
+        return desk.wait_done(rt, pass);
+    }
+    desk.take_done(rt, pass)
+}
+
+/// Takes in what the desk hands out. False where it hands out nothing.
+fn take_one<'s, L: Ledger, M: Ledger, R: Wait>(
+    rt: &R,
+    desk: &Desk<'s, L, M>,
+    wait: bool,
+    taker: &mut Taker<M>,
+    collector: &mut Collector<'s>,
+) -> Result<bool, PackFault>
+    ensures keeps { Keeps collector.old collector.new }
+    ensures fair { taker.new.right + gathered collector.old.lanes ≡ taker.old.right + gathered collector.new.lanes }
+    ensures fault { IfErr result IsHeld }
+{
+    let Taker {
+        pass,
+        right,
+        thrown,
+    } = taker;
+    let Some(done) = hand_out(rt, desk, wait, pass) else {
+        return Ok(false);
+    };
+    prove!(pass.count > 0);
+    take_in(collector, done, right, thrown)?;
+    Ok(true)
+}
+
+/// Takes in all that is done.
+fn take_all<'s, L: Ledger, M: Ledger, R: Wait>(
+    rt: &R,
+    desk: &Desk<'s, L, M>,
+    taker: &mut Taker<M>,
+    collector: &mut Collector<'s>,
+) -> Result<(), PackFault>
+    ensures keeps { Keeps collector.old collector.new }
+    ensures fair { taker.new.right + gathered collector.old.lanes ≡ taker.old.right + gathered collector.new.lanes }
+    ensures fault { IfErr result IsHeld }
+{
+    for _ in rt.forever() {
+        if !take_one(rt, desk, false, taker, collector)? {
+            break;
+        }
+    }
+    Ok(())
+}
+
+/// Waits until something is done, and takes it in. Where nothing is outstanding, seals on this thread all that is missing.
+fn wait_or_seal<'s, L: Ledger, M: Ledger, R: Wait>(
+    rt: &R,
+    alloc: Global,
+    settings: &Settings,
+    desk: &Desk<'s, L, M>,
+    taker: &mut Taker<M>,
+    collector: &mut Collector<'s>,
+) -> Result<(), PackFault>
+    requires keys { HasKeys settings.now collector.old }
+    ensures keeps { Keeps collector.old collector.new }
+    ensures fair { taker.new.right + gathered collector.old.lanes ≤ taker.old.right + gathered collector.new.lanes }
+    ensures fault { IfErr result (λ fault. (n : ℕ) → SaysSudden fault n n) }
+{
+    if !take_one(rt, desk, true, taker, collector)? {
+        seal_missing(alloc, settings, collector)?;
+    }
+    Ok(())
+}

@@ -1,0 +1,46 @@
+//! Whether a run fits its settings, its inputs, its workers and its publisher.
+
+ghost use Rattle.std.specs.Prelude.{◌≡◌, ◌≤◌, Decides, IfOk, OnErr, length, replicate};
+ghost use Rattle.live_board.specs.Counts.{counts_shown};
+ghost use Rattle.rounds.specs.Shown.{Fits, FitsThreads};
+
+use ladder_items::{Settings, is_allowed};
+use limits::{LEAST, MOST_WORKERS};
+use live_board::Publisher;
+use std::alloc::{AllocError, Global};
+
+/// Whether the settings are allowed, there are as many inputs as renditions, 1 to 64 workers, and the publisher shows as many
+/// renditions, of which none has a segment.
+pub fn fits(
+    alloc: Global,
+    settings: &Settings,
+    inputs: usize,
+    workers: usize,
+    publisher: &Publisher,
+) -> Result<bool, AllocError>
+    ensures fits { IfOk result (λ fits. Decides fits (Fits settings.now inputs workers (counts_shown publisher.now.list))) }
+    ensures scarce { OnErr result (FitsThreads settings.now workers (counts_shown publisher.now.list)) }
+{
+    if (workers as u64) < LEAST || workers as u64 > MOST_WORKERS {
+        return Ok(false);
+    }
+    if !shows_none(publisher.counts(), settings.renditions.len()) {
+        return Ok(false);
+    }
+    is_allowed(alloc, settings, inputs)
+}
+
+/// Whether these are the counts of so many renditions, of which none has a segment.
+fn shows_none(counts: &[u64], renditions: usize) -> bool
+    ensures { Decides result (counts.now ≡ replicate renditions 0) }
+{
+    if counts.len() != renditions {
+        return false;
+    }
+    for count in counts {
+        if *count != 0 {
+            return false;
+        }
+    }
+    true
+}

@@ -1,0 +1,16 @@
+//! A whole run: what it begins with, how it reads, how it goes from round to round, and what it answers.
+
+pub mod between;
+pub mod books;
+pub mod course;
+pub mod first;
+pub mod fitted;
+pub mod fitting;
+pub mod pace;
+pub mod packing;
+pub mod ran;
+pub mod reading;
+pub mod reporting;
+pub mod rounds_loop;
+pub mod setup;
+pub mod swapping;

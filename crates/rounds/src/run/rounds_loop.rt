@@ -1,0 +1,111 @@
+//! From round to round, until all is given.
+
+ghost use Rattle.std.specs.Prelude.{◌≡◌, ◌+◌, ◌≤◌, IfErr, IfOk, OnErr, OnOk, length, sum};
+ghost use Rattle.rounds.specs.Courses.{HasEnough, HasGoodEnds, IsAllGiven, IsSomeBetween, NoneClosed, ReadsNone, StaysBetween, StopsBetween};
+ghost use Rattle.rounds.specs.Rounds.{SwapsOut, SwapsShort};
+ghost use Rattle.rounds.specs.Showing.{counts_of};
+
+use crate::round::starting::run_round;
+use crate::run::between::BetweenRounds;
+use crate::run::reading::any_closed;
+use crate::run::setup::Setup;
+use cutter::Spool;
+use item_io::{Outlet, Source};
+use ladder_items::{PackFault, Settings};
+use segment_job::Keys;
+use std::alloc::{AllocError, Global};
+use std::sync::Wait;
+use std::thread::Threads;
+use work_desk::Gate;
+
+/// Gives the ends that are due.
+fn give_due_ends<'r, S: Source, O: Outlet, R: Wait>(
+    alloc: Global,
+    settings: &Settings,
+    between: BetweenRounds<'r, S, O, R>,
+) -> (BetweenRounds<'r, S, O, R>, Result<(), PackFault>)
+    requires on { IsSomeBetween S.input O.output settings.now between.broadcast }
+    ensures ok { OnOk result.1 (StaysBetween S.input O.output settings.now between.entry.broadcast result.0.broadcast) }
+    ensures err { IfErr result.1 (StopsBetween S.input O.output settings.now between.entry.broadcast result.0.broadcast) }
+    ensures none_read { ReadsNone between.entry.broadcast.course result.0.broadcast.course }
+    ensures playlists { result.0.broadcast.course.playlists ≡ between.entry.broadcast.course.playlists }
+    ensures ended { OnOk result.1 (HasGoodEnds settings.now result.0.broadcast.course) }
+    ensures books { result.0.books ≡ between.entry.books }
+{
+    let BetweenRounds {
+        mut broadcast,
+        books,
+    } = between;
+    let answer = broadcast.give_ends(alloc, settings);
+    (BetweenRounds { broadcast, books }, answer)
+}
+
+/// Swaps the spools of all renditions against the spare ones.
+fn swap_spools<'r, S: Source, O: Outlet, R: Wait>(
+    alloc: Global,
+    between: BetweenRounds<'r, S, O, R>,
+    spare: Vec<Spool>,
+) -> (BetweenRounds<'r, S, O, R>, Result<Vec<Spool>, AllocError>)
+    requires each { length spare.items ≡ length between.broadcast.course.lanes.items }
+    ensures ok { IfOk result.1 (λ full. SwapsOut S.input O.output between.entry.broadcast.course result.0.broadcast.course full.items) }
+    ensures err { OnErr result.1 (SwapsShort S.input O.output between.entry.broadcast.course result.0.broadcast.course) }
+    ensures same { result.0.broadcast.course ≡ record between.entry.broadcast.course { lanes = result.0.broadcast.course.lanes } }
+    ensures each { IfOk result.1 (λ full. length full.items ≡ length between.entry.broadcast.course.lanes.items) }
+    ensures empty { OnOk result.1 (NoneClosed result.0.broadcast.course.lanes.items) }
+    ensures held { result.0.broadcast.held.publisher ≡ between.entry.broadcast.held.publisher }
+    ensures books { result.0.books ≡ between.entry.books }
+{
+    let BetweenRounds {
+        mut broadcast,
+        books,
+    } = between;
+    let swapped = broadcast.course.swap_all(alloc, spare);
+    (BetweenRounds { broadcast, books }, swapped)
+}
+
+/// Goes on from round to round until all is given.
+///
+/// Each rendition's end is given before the round that begins next where nothing of it is left to give.
+pub fn run_rounds<'r, S: Source + Drop, O: Outlet + Drop, G: Gate + Sync, R: Threads + Wait + Sync>(
+    setup: &Setup<'_, G, R>,
+    keys: &[Keys],
+    spare: Vec<Spool>,
+    between: BetweenRounds<'r, S, O, R>,
+) -> (BetweenRounds<'r, S, O, R>, Result<(), PackFault>)
+    requires each { length spare.items ≡ length setup.now.settings.now.renditions }
+    requires on { IsSomeBetween S.input O.output setup.now.settings.now between.broadcast }
+    requires enough { HasEnough between.broadcast.course }
+    requires workers { length between.books.workers.items ≡ setup.now.workers }
+    requires first { between.books.rounds ≡ 0 }
+    ensures ok { OnOk result.1 (StaysBetween S.input O.output setup.now.settings.now between.entry.broadcast result.0.broadcast) }
+    ensures err { IfErr result.1 (StopsBetween S.input O.output setup.now.settings.now between.entry.broadcast result.0.broadcast) }
+    ensures all { OnOk result.1 (IsAllGiven result.0.broadcast.course) }
+    ensures right { OnOk result.1 (result.0.books.right + sum (counts_of between.entry.broadcast.course.playlists.items)
+        ≤ between.entry.books.right + sum (counts_of result.0.broadcast.course.playlists.items)) }
+    ensures workers { OnOk result.1 (length result.0.books.workers.items ≡ setup.now.workers) }
+{
+    let mut between = between;
+    let mut spare = spare;
+    for _ in setup.rt.forever() {
+        let (now, answer) = give_due_ends(setup.alloc, setup.settings, between);
+        between = now;
+        if let Err(fault) = answer {
+            return (between, Err(fault));
+        }
+        if !any_closed(&between.broadcast.course.lanes) {
+            break;
+        }
+        let (now, swapped) = swap_spools(setup.alloc, between, spare);
+        between = now;
+        let Ok(full) = swapped else {
+            return (between, Err(PackFault::NoMemory));
+        };
+        let (now, answer) = run_round(setup, keys, &full, between);
+        between = now;
+        if let Err(fault) = answer {
+            return (between, Err(fault));
+        }
+        spare = full;
+    }
+    (between, Ok(()))
+}

@@ -1,0 +1,48 @@
+//! Swapping: the full spools of all renditions are swapped out against spare ones.
+
+ghost use Rattle.std.specs.Prelude.{◌≡◌, ◌≢◌, ◌<◌, [], ℕ, IfOk, OnErr, OnOk, Some, length, slice_get};
+ghost use Rattle.ingest.specs.declared.lane.Lane.{Lane};
+ghost use Rattle.rounds.specs.Courses.{NoneClosed};
+ghost use Rattle.rounds.specs.Rounds.{SwapsOne, SwapsOut, SwapsShort};
+
+use crate::run::course::Course;
+use cutter::Spool;
+use item_io::{Outlet, Source};
+use std::alloc::{AllocError, Global};
+
+impl<S: Source, O: Outlet> Course<S, O> {
+    /// Swaps the spools of all renditions, of which nothing waits, against the spare ones.
+    pub fn swap_all(&mut self, alloc: Global, spare: Vec<Spool>) -> Result<Vec<Spool>, AllocError>
+        requires each { length spare.items ≡ length self.old.lanes.items }
+        ensures ok { IfOk result (λ full. SwapsOut S.input O.output self.old self.new full.items) }
+        ensures err { OnErr result (SwapsShort S.input O.output self.old self.new) }
+        ensures same { self.new ≡ record self.old { lanes = self.new.lanes } }
+        ensures count { length self.new.lanes.items ≡ length self.old.lanes.items }
+        ensures each { IfOk result (λ full. length full.items ≡ length self.old.lanes.items) }
+        ensures empty { OnOk result (NoneClosed self.new.lanes.items) }
+    {
+        let mut full = Vec::new(alloc);
+        for spool in spare {
+            let r = full.len();
+            full.reserve(1)?;
+            full.push_reserved(self.swap_one(r, spool)?);
+        }
+        Ok(full)
+    }
+
+    /// Swaps the spool of rendition `r`, of which nothing waits.
+    fn swap_one(&mut self, r: usize, spare: Spool) -> Result<Spool, AllocError>
+        requires within { r < length self.old.lanes.items }
+        ensures ok { IfOk result (SwapsOne S.input O.output r self.old self.new) }
+        ensures empty { OnOk result ((lane : Lane) → slice_get self.new.lanes.items r ≡ Some lane → lane.intake.filled ≡ []) }
+        ensures others { OnOk result ((k : ℕ) → k ≢ r → slice_get self.new.lanes.items k ≡ slice_get self.old.lanes.items k) }
+        ensures err { OnErr result (self.new.lanes.items ≡ self.old.lanes.items) }
+        ensures same { self.new ≡ record self.old { lanes = self.new.lanes } }
+        ensures count { length self.new.lanes.items ≡ length self.old.lanes.items }
+    {
+        match self.lanes[r].intake.turn(spare) {
+            Ok(full) => Ok(full),
+            Err(_) => Err(AllocError),
+        }
+    }
+}
