@@ -18,34 +18,34 @@ const ENTERED_HIGH: [u8; 16] = [
     0, 101, 5, 96, 230, 131, 227, 134, 148, 241, 145, 244, 114, 23, 119, 18,
 ];
 
-/// What the left half adds to 14 times the inverse S-box, as the next round takes it.
-const FOURTEEN_LEFT: [u8; 16] = [
-    0, 208, 212, 38, 150, 146, 242, 70, 176, 246, 180, 100, 4, 96, 66, 34,
+/// What the left half adds to 7 times the inverse S-box, as the next round takes it.
+const SEVEN_LEFT: [u8; 16] = [
+    0, 6, 82, 188, 197, 145, 238, 195, 121, 186, 45, 43, 84, 127, 151, 232,
 ];
 
 /// What the right half adds.
-const FOURTEEN_RIGHT: [u8; 16] = [
-    0, 193, 170, 255, 205, 166, 85, 12, 50, 62, 89, 152, 107, 243, 103, 148,
+const SEVEN_RIGHT: [u8; 16] = [
+    0, 136, 125, 19, 68, 177, 110, 204, 87, 155, 162, 42, 245, 223, 57, 230,
 ];
 
-/// What the left half adds to 11 times the inverse S-box.
-const ELEVEN_LEFT: [u8; 16] = [
-    0, 66, 180, 150, 146, 100, 34, 208, 4, 212, 242, 176, 246, 70, 38, 96,
-];
-
-/// What the right half adds.
-const ELEVEN_RIGHT: [u8; 16] = [
-    0, 103, 89, 205, 166, 152, 148, 193, 107, 170, 85, 50, 62, 12, 255, 243,
-];
-
-/// What the left half adds to 13 times the inverse S-box.
-const THIRTEEN_LEFT: [u8; 16] = [
-    0, 162, 177, 230, 223, 204, 87, 125, 57, 68, 42, 136, 19, 155, 110, 245,
+/// What the left half adds to twice the inverse S-box.
+const TWICE_LEFT: [u8; 16] = [
+    0, 148, 50, 12, 193, 103, 62, 85, 205, 152, 107, 255, 166, 89, 243, 170,
 ];
 
 /// What the right half adds.
-const THIRTEEN_RIGHT: [u8; 16] = [
-    0, 203, 198, 36, 247, 250, 226, 60, 211, 239, 222, 21, 13, 24, 49, 41,
+const TWICE_RIGHT: [u8; 16] = [
+    0, 46, 142, 33, 47, 143, 175, 1, 14, 15, 174, 128, 160, 32, 161, 129,
+];
+
+/// What the left half adds to 4 times the inverse S-box.
+const FOUR_LEFT: [u8; 16] = [
+    0, 116, 55, 124, 140, 207, 75, 248, 240, 8, 179, 199, 67, 132, 187, 63,
+];
+
+/// What the right half adds.
+const FOUR_RIGHT: [u8; 16] = [
+    0, 130, 17, 200, 126, 237, 217, 252, 182, 74, 37, 167, 147, 52, 111, 91,
 ];
 
 /// What the left half adds to 9 times the inverse S-box.
@@ -85,12 +85,12 @@ pub(crate) fn unmixed(bytes: u8x16) -> (u8x16, u8x16, u8x16, u8x16)
     ensures nine { (s : List ℕ) → All (λ b. b < 256) s → bytes ≡ map entered s → result.3 ≡ map (unmixed 9) s }
 {
     let (left, right) = halves(bytes);
-    (
-        look_up(&FOURTEEN_LEFT, left) ^ look_up(&FOURTEEN_RIGHT, right),
-        look_up(&ELEVEN_LEFT, left) ^ look_up(&ELEVEN_RIGHT, right),
-        look_up(&THIRTEEN_LEFT, left) ^ look_up(&THIRTEEN_RIGHT, right),
-        look_up(&NINE_LEFT, left) ^ look_up(&NINE_RIGHT, right),
-    )
+    let nine = look_up(&NINE_LEFT, left) ^ look_up(&NINE_RIGHT, right);
+    let seven = look_up(&SEVEN_LEFT, left) ^ look_up(&SEVEN_RIGHT, right);
+    let twice = look_up(&TWICE_LEFT, left) ^ look_up(&TWICE_RIGHT, right);
+    let four = look_up(&FOUR_LEFT, left) ^ look_up(&FOUR_RIGHT, right);
+    // Sums with a part in common: with look-ups for each, the compiler shuffles the halves of each one by one.
+    (nine ^ seven, nine ^ twice, nine ^ four, nine)
 }
 
 /// The inverse S-box, out of the tower.
