@@ -1,4 +1,4 @@
--- A run on its way on many threads.
+-- A run under way on many threads.
 use Rattle.std.specs.Prelude.{◌≡◌, ◌≢◌, ◌⊎◌, ℕ, ◌<◌, ◌≤◌, ◌^◌, List, [], ◌∷◌, ◌++◌, length, None, Some, slice_get, slice_index_or, false}
 use Rattle.cutter.specs.Plans.{SegmentPlan}
 use Rattle.item_io.specs.Items.{ItemValue}
@@ -23,23 +23,23 @@ use Rattle.rounds.specs.declared.run.course.Course.{Course}
 use Rattle.rounds.specs.Showing.{snapshot_of, shown_by, counts_of, ends_of}
 use Rattle.item_io.specs.declared.limits.TheConstants.{READS}
 
--- a segment or an end was given behind these parts, and shown
+-- a segment or an end was given after these parts, and a snapshot published
 pub record Gave {X Y : Type 0} (out : OutletView Y) (ladder : Ladder) (parts : List Part) (e : Event) (old new : Course X Y) (list list_now : List SnapshotFacts) : Type 0 where
   pub puts : PutAll out old.outlet new.outlet (block ladder parts e)
   pub shown : new.playlists.items ≡ shown_all ladder (after parts e)
   pub ends : new.ended.items ≡ ends_of (after parts e)
   pub shows : list_now ≡ list ++ snapshot_of ladder (after parts e) ∷ []
 
--- it was put in part, or not shown
+-- its items were put in part, or no snapshot was published
 pub record GaveSome {X Y : Type 0} (out : OutletView Y) (ladder : Ladder) (parts : List Part) (e : Event) (old new : Course X Y) (list list_now : List SnapshotFacts) : Type 0 where
   pub some : PutSome out old.outlet new.outlet (block ladder parts e)
   pub unshown : list_now ≡ list
 
--- a segment or an end was given behind these parts, and published
+-- the same, of a run and its publisher
 abbrev pub Gives : {X Y R : Type 0} → OutletView Y → Ladder → List Part → Event → Broadcast X Y R → Broadcast X Y R → Type 0
 Gives out ladder parts e old new = Gave out ladder parts e old.course new.course old.held.publisher.list new.held.publisher.list
 
--- its items were put in part, or it wasn't published
+-- the same, where it was given in part
 abbrev pub GivesSome : {X Y R : Type 0} → OutletView Y → Ladder → List Part → Event → Broadcast X Y R → Broadcast X Y R → Type 0
 GivesSome out ladder parts e old new = GaveSome out ladder parts e old.course new.course old.held.publisher.list new.held.publisher.list
 
@@ -85,7 +85,7 @@ pub record Start (X Y : Type 0) : Type 0 where
   pub shows : Known
   pub reads : ℕ
 
--- A run on its way, in which the renditions before `next` had one turn more. `waiting` are the plans of each that were swapped
+-- A run under way, in which the renditions before `next` had one turn more. `waiting` are the plans of each that were swapped
 -- out and not given yet.
 pub record IsOn {X Y : Type 0} (input : SourceView X) (out : OutletView Y) (ladder : Ladder) (start : Start X Y) (next : ℕ) (course : Course X Y) (shows : Known) (waiting : ℕ → List SegmentPlan) : Type 0 where
   pub world : World (run_of input out course.reads start.sources course.sources.items start.outlet course.outlet) ladder course.turns next course.lanes.items course.playlists.items waiting

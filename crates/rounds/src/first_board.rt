@@ -1,4 +1,4 @@
-//! The board on which a run publishes, before anything was given.
+//! The board on which a run publishes, before anything has been given.
 
 ghost use Rattle.std.specs.Prelude.{◌≡◌, ◌≤◌, IfOk, OnErr, [], Err, length, map, false, replicate, ◌⊎◌, All};
 ghost use Rattle.std.specs.String.{string_bytes};
@@ -11,9 +11,9 @@ use live_board::{BoardFault, Publisher, Snapshot, Viewer, board};
 use std::alloc::{AllocError, Global};
 use std::sync::Wait;
 
-/// A board on which none of so many renditions has a segment, with so many viewers: what a run shows its snapshots on.
+/// A board with `viewers` viewers on which none of `renditions` renditions has a segment yet: where a run publishes its snapshots.
 ///
-/// It is refused with NoPlace or for want of memory alone; which of the two it was no clause says.
+/// The only refusals are NoPlace and want of memory; no clause says which of the two it is.
 pub fn opening_board<R: Wait>(
     rt: &R,
     alloc: Global,
@@ -32,7 +32,7 @@ pub fn opening_board<R: Wait>(
     }
 }
 
-/// The snapshot of so many renditions without a segment: their playlists have no text yet.
+/// The snapshot of renditions that have no segment yet: their playlists have no text.
 fn nothing_shown(alloc: Global, renditions: usize) -> Result<Snapshot, AllocError>
     ensures { IfOk result (λ first. first ≡ none_shown renditions) }
 {
@@ -51,7 +51,7 @@ fn nothing_shown(alloc: Global, renditions: usize) -> Result<Snapshot, AllocErro
     })
 }
 
-/// So many empty texts.
+/// `count` empty texts.
 fn no_texts(alloc: Global, count: usize) -> Result<Vec<String>, AllocError>
     ensures { IfOk result (λ texts. map string_bytes texts.items ≡ replicate count []) }
 {

@@ -4,7 +4,7 @@ use crate::run::course::Course;
 use live_board::HeldPublisher;
 use std::sync::Wait;
 
-/// A run on its way, and the publisher that shows what was given of it.
+/// A run under way, and the publisher of what it has given.
 #[derive(Drop)]
 pub struct Broadcast<'r, S, O, R: Wait> {
     pub course: Course<S, O>,

@@ -1,4 +1,4 @@
-//! The ends of renditions are given, of which nothing is left to give.
+//! Gives the ends of the renditions that have nothing left to give.
 
 ghost use Rattle.std.specs.Prelude.{◌≡◌, ◌≢◌, ◌<◌, [], ℕ, IfErr, OnOk, Some, false, length, slice_get, slice_index_or};
 ghost use Rattle.ingest.specs.Lanes.{is_good};
@@ -12,7 +12,7 @@ use std::alloc::Global;
 use std::sync::Wait;
 
 impl<'r, S: Source, O: Outlet, R: Wait> Broadcast<'r, S, O, R> {
-    /// Gives the end of rendition `r`, if it came to a good one, nothing of it is left to give and its end wasn't given.
+    /// Gives the end of rendition `r` if its input ended well, nothing of it is left to give, and its end hasn't been given.
     fn give_end_of(&mut self, alloc: Global, settings: &Settings, r: usize) -> Result<(), PackFault>
         requires within { r < length settings.now.renditions }
         requires on { IsSomeBetween S.input O.output settings.now self.old }
@@ -36,7 +36,7 @@ impl<'r, S: Source, O: Outlet, R: Wait> Broadcast<'r, S, O, R> {
         Ok(())
     }
 
-    /// Gives the end of each rendition that came to a good one, of which nothing is left to give and whose end wasn't given.
+    /// Gives the end of each rendition whose input ended well, that has nothing left to give, and whose end hasn't been given.
     pub fn give_ends(&mut self, alloc: Global, settings: &Settings) -> Result<(), PackFault>
         requires on { IsSomeBetween S.input O.output settings.now self.old }
         ensures ok { OnOk result (StaysBetween S.input O.output settings.now self.old self.new) }

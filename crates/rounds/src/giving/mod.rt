@@ -1,4 +1,4 @@
-//! Giving: the items of a segment or of an end are put to the outlet, and then a snapshot is published.
+//! Giving: the items of a segment or an end are put to the outlet, then a snapshot is published.
 
 pub mod broadcast;
 pub mod ends;

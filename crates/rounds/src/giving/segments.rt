@@ -1,4 +1,4 @@
-//! A segment or an end is given: its items are put to the outlet, and a snapshot is published behind them.
+//! Gives a segment or an end: puts its items to the outlet, then publishes a snapshot.
 
 ghost use Rattle.std.specs.Prelude.{◌++◌, ◌<◌, ◌^◌, ◌∷◌, ◌≡◌, All, IfErr, OnErr, OnOk, [], false, length};
 ghost use Rattle.ladder_items.specs.Ladder.{IsAllowed, rendition_at};
@@ -20,7 +20,7 @@ use std::alloc::Global;
 use std::sync::Wait;
 
 impl<'r, S: Source, O: Outlet, R: Wait> Broadcast<'r, S, O, R> {
-    /// Gives a sealed segment, the next of rendition `r`, with the playlists behind it, and publishes what was given.
+    /// Gives a sealed segment, the next of rendition `r`, followed by its playlists, and publishes a snapshot.
     pub fn give_segment(
         &mut self,
         alloc: Global,
@@ -52,7 +52,7 @@ impl<'r, S: Source, O: Outlet, R: Wait> Broadcast<'r, S, O, R> {
         Ok(())
     }
 
-    /// Gives the end of rendition `r`, its last playlists, and publishes what was given.
+    /// Gives the end of rendition `r`, which is its final playlists, and publishes a snapshot.
     pub fn give_its_end(
         &mut self,
         alloc: Global,
@@ -78,7 +78,7 @@ impl<'r, S: Source, O: Outlet, R: Wait> Broadcast<'r, S, O, R> {
     }
 }
 
-/// Publishes what was given.
+/// Publishes a snapshot of what has been given.
 fn publish_given<S: Source, O: Outlet, R: Wait>(
     alloc: Global,
     settings: &Settings,

@@ -1,4 +1,4 @@
-//! The snapshot of what was given: how many segments each rendition has, its playlists, and the master playlist.
+//! The snapshot of what has been given: each rendition's count of segments and playlists, and the master playlist.
 
 ghost use Rattle.std.specs.Prelude.{◌≡◌, ◌++◌, ◌∷◌, [], List, Bool, All, None, false, length, map, IfOk, IfErr, OnOk, OnErr};
 ghost use Rattle.std.specs.String.{string_bytes};
@@ -15,7 +15,7 @@ use live_board::{Publisher, Snapshot};
 use std::alloc::{AllocError, Global};
 use std::sync::Wait;
 
-/// The snapshot of what the renditions show, which have ended or not.
+/// The snapshot of these playlists; `ended` says which renditions have ended.
 #[tactic(auto, unfolding(crate::specs::Showing::facts_of))]
 fn snapshot(
     alloc: Global,
@@ -53,7 +53,7 @@ pub fn counts(alloc: Global, playlists: &[Playlists]) -> Result<Vec<u64>, AllocE
     Ok(counts)
 }
 
-/// The media playlist and the I-frame playlist of each rendition.
+/// Each rendition's media playlist and I-frame playlist.
 fn texts(
     alloc: Global,
     playlists: &[Playlists],
@@ -72,8 +72,8 @@ fn texts(
     Ok((media, frames))
 }
 
-/// Publishes the snapshot of what the renditions show, which have ended or not. No rendition has fewer segments than the board
-/// shows.
+/// Publishes the snapshot of these playlists; `ended` says which renditions have ended. No rendition has fewer segments than
+/// in the snapshot published last.
 pub fn publish<R: Wait>(
     rt: &R,
     alloc: Global,

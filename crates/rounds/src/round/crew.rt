@@ -3,13 +3,13 @@
 use std::sync::ledger::{Ledger, Share};
 use work_desk::Pass;
 
-/// The passes to a round's desk, and what its books are balanced by.
+/// The passes to a round's desk, and what is needed to balance its books.
 #[derive(Drop)]
 pub struct Crew<L: Ledger, M: Ledger> {
     /// A pass for each worker, by its number.
     pub workers: Vec<Pass<L>>,
     pub taker: Pass<M>,
-    /// A share with no part of the ledger of claims, to which those of the workers are merged.
+    /// A share of the ledger of claims, empty at first, into which the workers' shares are merged.
     pub rest: Share<L>,
     /// How many segments each worker claimed in this round.
     pub claims: Vec<u128>,

@@ -1,4 +1,4 @@
-//! The calling thread drives a round: it feeds the full spools, reads on for the next round, and gives what is expected.
+//! Driving: the calling thread feeds the full spools, reads the next round, and gives what is expected.
 
 ghost use Rattle.std.specs.Prelude.{◌≡◌, ◌<◌, ◌≤◌, IfErr, IfOk, OnOk, length, map};
 ghost use Rattle.flow_core.specs.Gatherings.{lanes_from};
@@ -20,7 +20,7 @@ use std::alloc::{AllocError, Global};
 use std::sync::Wait;
 use std::sync::ledger::Ledger;
 
-/// A collector behind the segments that were given.
+/// A collector that goes on after the segments given so far.
 pub fn collector_behind<'s>(
     alloc: Global,
     settings: &Settings,
@@ -46,7 +46,7 @@ impl<'d, 's, 'r, S: Source, O: Outlet, L: Ledger, M: Ledger, R: Wait> Round<
     M,
     R,
 > {
-    /// Drives the round: feeds the plans of the full spools, reads on for the next round, and gives all segments in sequence.
+    /// Drives the round: feeds the plans of the full spools, reads the next round, and gives every segment in sequence.
     pub fn drive(
         &mut self,
         settings: &Settings,
@@ -67,7 +67,7 @@ impl<'d, 's, 'r, S: Source, O: Outlet, L: Ledger, M: Ledger, R: Wait> Round<
         Ok(())
     }
 
-    /// Reads on for the next round, and gives between two turns what is ready.
+    /// Reads the next round, and between turns gives what is ready.
     fn read_on(
         &mut self,
         settings: &Settings,

@@ -1,4 +1,4 @@
-//! The calling thread's part of a round, with what it changes by value, and how the round's numbers get to the books.
+//! The calling thread's part of a round from its start to its end, and how the round's numbers get into the books.
 
 ghost use Rattle.std.specs.Prelude.{◌≡◌, ◌+◌, ◌<◌, ◌^◌, IfErr, OnOk, length, sum};
 ghost use Rattle.rounds.specs.Rounds.{IsBroken, IsDriven, IsSomeFull};
@@ -15,7 +15,7 @@ use std::sync::Wait;
 use std::sync::ledger::Ledger;
 use work_desk::{Desk, Pass};
 
-/// A round that the calling thread drove to its end.
+/// A round that the calling thread has driven to its end.
 #[derive(Drop)]
 pub struct EndedRound<'r, S, O, M: Ledger, R: Wait> {
     pub between: BetweenRounds<'r, S, O, R>,
@@ -23,7 +23,7 @@ pub struct EndedRound<'r, S, O, M: Ledger, R: Wait> {
     pub taker: Taker<M>,
 }
 
-/// The calling thread's part of a round, with what it changes by value.
+/// Does the calling thread's part of a round, taking and returning by value what it changes.
 pub fn driven<'s, 'r, S: Source, O: Outlet, G, L: Ledger, M: Ledger, R: Wait>(
     setup: &Setup<'_, G, R>,
     spools: &'s [Spool],
@@ -75,7 +75,7 @@ pub fn driven<'s, 'r, S: Source, O: Outlet, G, L: Ledger, M: Ledger, R: Wait>(
     }
 }
 
-/// Ends a round: its numbers stand in the books.
+/// Closes a round: adds its numbers to the books.
 pub fn closed<'r, S, O, M: Ledger, R: Wait>(
     ended: EndedRound<'r, S, O, M, R>,
     claims: &[u128],

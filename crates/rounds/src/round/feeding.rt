@@ -1,4 +1,4 @@
-//! Feeding: each plan of the full spools is expected by the collector, and goes to the desk or is sealed on this thread.
+//! Feeding: the collector expects each plan of the full spools, and the plan goes to the desk or is sealed on this thread.
 
 ghost use Rattle.std.specs.Prelude.{◌≡◌, ◌<◌, ◌≤◌, IfErr, OnOk, length};
 ghost use Rattle.cutter.specs.Lent.{lent};
@@ -30,7 +30,7 @@ impl<'d, 's, 'r, S: Source, O: Outlet, L: Ledger, M: Ledger, R: Wait> Round<
     M,
     R,
 > {
-    /// Feeds all plans of the full spools, rendition by rendition.
+    /// Feeds every plan of the full spools, rendition by rendition.
     pub fn feed_all(&mut self, settings: &Settings, spools: &'s [Spool]) -> Result<(), PackFault>
         requires somewhere { HasAllUnfed S.input O.output settings.now spools.now self.old }
         ensures ok { OnOk result (FeedsAll S.input O.output settings.now spools.now self.old self.new) }
@@ -44,7 +44,7 @@ impl<'d, 's, 'r, S: Source, O: Outlet, L: Ledger, M: Ledger, R: Wait> Round<
         Ok(())
     }
 
-    /// Feeds all plans of rendition `r`.
+    /// Feeds every plan of rendition `r`.
     fn feed_spool(
         &mut self,
         settings: &Settings,
@@ -67,7 +67,7 @@ impl<'d, 's, 'r, S: Source, O: Outlet, L: Ledger, M: Ledger, R: Wait> Round<
         Ok(())
     }
 
-    /// Feeds a plan, the first of rendition `r` that wasn't fed, as soon as there is room for it.
+    /// Feeds the first plan of rendition `r` that hasn't been fed, once there is room for it.
     fn feed_plan(
         &mut self,
         settings: &Settings,
@@ -95,7 +95,7 @@ impl<'d, 's, 'r, S: Source, O: Outlet, L: Ledger, M: Ledger, R: Wait> Round<
     }
 }
 
-/// Expects a plan, for which there is room.
+/// Has the collector expect a plan, for which there is room.
 fn expect<'s>(collector: &mut Collector<'s>, plan: PlanRef<'s>) -> Result<(), PackFault>
     requires room { awaited collector.old.lanes < collector.old.most }
     requires rendition { plan.rendition < length collector.old.lanes }
@@ -111,7 +111,7 @@ fn expect<'s>(collector: &mut Collector<'s>, plan: PlanRef<'s>) -> Result<(), Pa
     }
 }
 
-/// Gives a plan to the workers. One that the desk refuses is sealed on this thread.
+/// Offers a plan to the workers. If the desk refuses it, it is sealed on this thread.
 fn offer<'s, L: Ledger, M: Ledger, R: Wait>(
     rt: &R,
     alloc: Global,

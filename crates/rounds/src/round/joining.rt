@@ -1,4 +1,4 @@
-//! A round is closed: its desk is shut, its workers are joined, and their shares are compared with the desk's books.
+//! Closes a round: shuts its desk, joins its workers, and compares their shares with the desk's books.
 
 ghost use Rattle.std.specs.Prelude.{◌≡◌, ◌+◌, ◌<◌, ◌≤◌, ◌^◌, length, sum, vec_len};
 
@@ -11,7 +11,7 @@ use std::sync::ledger::{Ledger, Share};
 use std::thread::{JoinHandle, Threads};
 use work_desk::{Desk, Pass, Tally};
 
-/// Ends a round: the desk is shut, the workers are joined, and what all did stands in the books.
+/// Closes a round: shuts the desk, joins the workers, and enters what each did into the books.
 pub fn joined<'r, S, O, L: Ledger, M: Ledger, R: Threads + Wait>(
     rt: &R,
     desk: &Desk<'_, L, M>,
@@ -52,7 +52,7 @@ pub fn joined<'r, S, O, L: Ledger, M: Ledger, R: Threads + Wait>(
     closed(ended, &claims, left)
 }
 
-/// Joins each worker, notes what each claimed, and gathers their shares.
+/// Joins the workers, notes how many segments each claimed, and merges their shares.
 fn join_all<L: Ledger, R: Threads>(
     rt: &R,
     running: Vec<JoinHandle<Tally<L>>>,
@@ -77,7 +77,7 @@ fn join_all<L: Ledger, R: Threads>(
     }
 }
 
-/// Compares the desk's books with the shares of the workers and the taker's, and tells how many claimed segments weren't taken.
+/// Compares the desk's books with the shares of the workers and the taker. Returns how many claimed segments weren't taken.
 fn settled<L: Ledger, M: Ledger, R: Wait>(
     rt: &R,
     desk: &Desk<'_, L, M>,

@@ -1,4 +1,4 @@
-//! A round on its way, as the calling thread drives it.
+//! A round under way, as the calling thread drives it.
 
 use crate::giving::broadcast::Broadcast;
 use crate::round::taker::Taker;
@@ -8,8 +8,8 @@ use std::sync::Wait;
 use std::sync::ledger::Ledger;
 use work_desk::Desk;
 
-/// A round on its way: plans are fed to its desk and expected by its collector, sealed segments are taken from the desk, and
-/// what stands in sequence is given and published.
+/// A round under way: plans are fed to its desk and expected by its collector, sealed segments are taken from the desk, and
+/// those that are next in sequence are given and published.
 #[derive(Drop)]
 pub struct Round<'d, 's, 'r, S, O, L: Ledger, M: Ledger, R: Wait> {
     pub alloc: Global,

@@ -1,4 +1,4 @@
-//! One round: its plans are sealed by workers at a desk, and given in sequence while the next round is read.
+//! One round: workers at a desk seal its plans, and the calling thread gives them in sequence while it reads the next round.
 
 pub mod crew;
 pub mod driving;

@@ -1,4 +1,4 @@
-//! What is ready is given: the sealed segments that stand in front of a rendition without a gap.
+//! Gives what is ready: the sealed segments that come next in their rendition, without a gap.
 
 ghost use Rattle.std.specs.Prelude.{◌<◌, ◌≡◌, IfErr, IfOk, OnOk, false, true};
 ghost use Rattle.flow_core.specs.Gatherings.{awaited};
@@ -20,7 +20,7 @@ impl<'d, 's, 'r, S: Source, O: Outlet, L: Ledger, M: Ledger, R: Wait> Round<
     M,
     R,
 > {
-    /// Gives the segments of all renditions that stand without a gap.
+    /// Gives the sealed segments of every rendition, up to its first gap.
     pub fn give_all_ready(&mut self, settings: &Settings) -> Result<(), PackFault>
         requires somewhere { IsSomewhere S.input O.output settings.now self.old }
         ensures ok { OnOk result (Moves S.input O.output settings.now self.old self.new) }
@@ -35,7 +35,7 @@ impl<'d, 's, 'r, S: Source, O: Outlet, L: Ledger, M: Ledger, R: Wait> Round<
         Ok(())
     }
 
-    /// Gives the segments of rendition `r` that stand without a gap.
+    /// Gives the sealed segments of rendition `r`, up to the first gap.
     fn give_ready(&mut self, settings: &Settings, r: usize) -> Result<(), PackFault>
         requires somewhere { IsSomewhere S.input O.output settings.now self.old }
         ensures ok { OnOk result (Moves S.input O.output settings.now self.old self.new) }
@@ -49,7 +49,7 @@ impl<'d, 's, 'r, S: Source, O: Outlet, L: Ledger, M: Ledger, R: Wait> Round<
         Ok(())
     }
 
-    /// Gives the next segment of rendition `r` if it came sealed, and tells whether it did.
+    /// Gives the next segment of rendition `r` if it has come sealed, and returns whether it had.
     fn give_next(&mut self, settings: &Settings, r: usize) -> Result<bool, PackFault>
         requires somewhere { IsSomewhere S.input O.output settings.now self.old }
         ensures ok { OnOk result (Moves S.input O.output settings.now self.old self.new) }

@@ -1,4 +1,4 @@
-//! A round in a scope of threads: workers seal at the desk, and the calling thread drives.
+//! A round in a scope of threads: the workers seal at the desk, and the calling thread drives.
 
 ghost use Rattle.std.specs.Prelude.{◌≡◌, ◌+◌, ◌<◌, ◌^◌, IfErr, OnOk, length, sum, vec_len};
 ghost use Rattle.rounds.specs.Rounds.{IsBroken, IsRound, IsSomeFull};
@@ -17,7 +17,7 @@ use std::sync::ledger::Ledger;
 use std::thread::{self, JoinHandle, Threads};
 use work_desk::{Desk, Gate, Tally, work};
 
-/// A round in a scope of threads, over a desk that was opened for it.
+/// Runs a round in a scope of threads, at the desk that was opened for it.
 pub fn in_scope<
     's,
     'r,

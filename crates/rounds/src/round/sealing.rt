@@ -1,4 +1,4 @@
-//! What is done at the desk is collected, and what is missing is sealed on this thread.
+//! Collects what is done at the desk, and seals on this thread what is missing.
 
 ghost use Rattle.std.specs.Prelude.{◌≡◌, ◌≢◌, ◌<◌, ◌≤◌, ◌^◌, ◌+◌, [], true, false, IfErr, OnErr, OnOk, length};
 ghost use Rattle.cutter.specs.Lent.{lent};
@@ -14,7 +14,7 @@ use ladder_items::{PackFault, Settings};
 use segment_job::{Sealed, seal_plan};
 use std::alloc::Global;
 
-/// Collects a sealed segment, and tells whether it was right.
+/// Collects a sealed segment, and returns whether it was right.
 #[tactic(auto, using(crate::proofs::Collecting::keeps_same))]
 fn collect<'s>(collector: &mut Collector<'s>, sealed: Sealed<'s>) -> bool
     ensures keeps { Keeps collector.old collector.new }
@@ -29,7 +29,7 @@ fn collect<'s>(collector: &mut Collector<'s>, sealed: Sealed<'s>) -> bool
     true
 }
 
-/// Takes in what is done. A sealed segment that isn't right is thrown away, and so is a refusal. What was held stops the run.
+/// Takes in what is done. A sealed segment that isn't right is thrown away, as is a refusal. A held segment stops the run.
 #[tactic(auto, using(crate::proofs::Collecting::keeps_same))]
 pub fn take_in<'s>(
     collector: &mut Collector<'s>,
@@ -70,7 +70,7 @@ pub fn take_in<'s>(
     }
 }
 
-/// Seals a plan on this thread. Where its sealed segment came by now, that one stays.
+/// Seals a plan on this thread. If its sealed segment has come in the meantime, that one stays.
 #[tactic(auto, using(crate::proofs::Collecting::keeps_same))]
 pub fn seal_own<'s>(
     alloc: Global,
@@ -93,7 +93,7 @@ pub fn seal_own<'s>(
     Ok(())
 }
 
-/// Seals all that is missing on this thread.
+/// Seals everything that is missing on this thread.
 #[tactic(auto, using(crate::proofs::Collecting::keeps_same))]
 pub fn seal_missing(
     alloc: Global,

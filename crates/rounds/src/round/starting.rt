@@ -1,4 +1,4 @@
-//! A round is started: its desk is opened, and a scope of threads works at it.
+//! Starts a round: opens its desk, and a scope of threads to work at it.
 
 ghost use Rattle.std.specs.Prelude.{◌≡◌, ◌<◌, ◌^◌, IfErr, OnOk, length};
 ghost use Rattle.rounds.specs.Rounds.{IsBroken, IsRound, IsSomeFull};
@@ -18,8 +18,8 @@ use std::sync::ledger::{Blank, Ledger};
 use std::thread::Threads;
 use work_desk::{Desk, Gate, Opened};
 
-/// A round: the plans of the full spools are sealed by the workers and given in sequence, and meanwhile the next round is read,
-/// until enough of it is closed.
+/// Runs a round: the workers seal the plans of the full spools, which are given in sequence, and meanwhile the next round is
+/// read until enough of it is closed.
 pub fn run_round<'r, S: Source + Drop, O: Outlet + Drop, G: Gate + Sync, R: Threads + Wait + Sync>(
     setup: &Setup<'_, G, R>,
     keys: &[Keys],
@@ -38,7 +38,7 @@ pub fn run_round<'r, S: Source + Drop, O: Outlet + Drop, G: Gate + Sync, R: Thre
     round_with::<S, O, G, Brand, Brand, R>(setup, keys, spools, claims, takes, between)
 }
 
-/// A round over ledgers that the call picks.
+/// Runs a round with the ledgers that the caller picks.
 fn round_with<
     'r,
     S: Source + Drop,

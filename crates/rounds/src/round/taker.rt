@@ -1,11 +1,11 @@
-//! The taker of a round: what it took from the desk, and what became of that.
+//! Who takes sealed segments from a round's desk, and what became of them.
 
 ghost use Rattle.std.specs.Prelude.{◌≡◌, ◌+◌};
 
 use std::sync::ledger::Ledger;
 use work_desk::Pass;
 
-/// The right to take what is done at a round's desk, with what became of what was taken.
+/// The right to take what is done at a round's desk, and counts of what was taken.
 #[derive(Drop)]
 pub struct Taker<M: Ledger> {
     pub pass: Pass<M>,

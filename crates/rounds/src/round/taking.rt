@@ -1,4 +1,4 @@
-//! Taking: what is done at the desk is taken in, and then what is ready is given.
+//! Taking: takes in what is done at the desk, then gives what is ready.
 
 ghost use Rattle.std.specs.Prelude.{◌≡◌, ◌+◌, ◌<◌, ◌≤◌, ℕ, IfErr, IfNone, IfSome, OnOk};
 ghost use Rattle.flow_core.specs.Gatherings.{awaited};
@@ -26,7 +26,7 @@ impl<'d, 's, 'r, S: Source, O: Outlet, L: Ledger, M: Ledger, R: Wait> Round<
     M,
     R,
 > {
-    /// Waits until something is done, and gives what is ready, until one more plan may be expected.
+    /// Waits and gives what is ready until one more plan may be expected.
     pub fn make_room(&mut self, settings: &Settings) -> Result<(), PackFault>
         requires somewhere { IsSomewhere S.input O.output settings.now self.old }
         ensures ok { OnOk result (Moves S.input O.output settings.now self.old self.new) }
@@ -44,7 +44,7 @@ impl<'d, 's, 'r, S: Source, O: Outlet, L: Ledger, M: Ledger, R: Wait> Round<
         Ok(())
     }
 
-    /// Gives all that is expected, in sequence.
+    /// Gives everything that is expected, in sequence.
     pub fn give_expected(&mut self, settings: &Settings) -> Result<(), PackFault>
         requires somewhere { IsSomewhere S.input O.output settings.now self.old }
         ensures ok { OnOk result (Moves S.input O.output settings.now self.old self.new) }
@@ -62,7 +62,7 @@ impl<'d, 's, 'r, S: Source, O: Outlet, L: Ledger, M: Ledger, R: Wait> Round<
         Ok(())
     }
 
-    /// Waits until something is done, takes in all that is, and gives what is ready then.
+    /// Waits until something is done, takes in everything that is done, and gives what is then ready.
     fn wait_and_give(&mut self, settings: &Settings) -> Result<(), PackFault>
         requires somewhere { IsSomewhere S.input O.output settings.now self.old }
         ensures ok { OnOk result (Moves S.input O.output settings.now self.old self.new) }
@@ -82,7 +82,7 @@ impl<'d, 's, 'r, S: Source, O: Outlet, L: Ledger, M: Ledger, R: Wait> Round<
         Ok(())
     }
 
-    /// Takes in all that is done, and gives what is ready then.
+    /// Takes in everything that is done, and gives what is then ready.
     pub fn take_and_give(&mut self, settings: &Settings) -> Result<(), PackFault>
         requires somewhere { IsSomewhere S.input O.output settings.now self.old }
         ensures ok { OnOk result (Moves S.input O.output settings.now self.old self.new) }
@@ -102,7 +102,7 @@ impl<'d, 's, 'r, S: Source, O: Outlet, L: Ledger, M: Ledger, R: Wait> Round<
     }
 }
 
-/// What is done at the desk. Where `wait` is true, it is waited for while anything is outstanding.
+/// Takes what has been done longest from the desk. With `wait`, waits for it as long as anything is outstanding.
 fn hand_out<'s, L: Ledger, M: Ledger, R: Wait>(
     rt: &R,
     desk: &Desk<'s, L, M>,
@@ -118,7 +118,7 @@ fn hand_out<'s, L: Ledger, M: Ledger, R: Wait>(
     desk.take_done(rt, pass)
 }
 
-/// Takes in what the desk hands out. False where it hands out nothing.
+/// Takes in what the desk hands out; false if that is nothing.
 fn take_one<'s, L: Ledger, M: Ledger, R: Wait>(
     rt: &R,
     desk: &Desk<'s, L, M>,
@@ -143,7 +143,7 @@ fn take_one<'s, L: Ledger, M: Ledger, R: Wait>(
     Ok(true)
 }
 
-/// Takes in all that is done.
+/// Takes in everything that is done.
 fn take_all<'s, L: Ledger, M: Ledger, R: Wait>(
     rt: &R,
     desk: &Desk<'s, L, M>,
@@ -162,7 +162,7 @@ fn take_all<'s, L: Ledger, M: Ledger, R: Wait>(
     Ok(())
 }
 
-/// Waits until something is done, and takes it in. Where nothing is outstanding, seals on this thread all that is missing.
+/// Waits until something is done, and takes it in. If nothing is outstanding, seals what is missing on this thread.
 fn wait_or_seal<'s, L: Ledger, M: Ledger, R: Wait>(
     rt: &R,
     alloc: Global,

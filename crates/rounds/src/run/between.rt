@@ -4,7 +4,7 @@ use crate::giving::broadcast::Broadcast;
 use crate::run::books::Books;
 use std::sync::Wait;
 
-/// A run between two rounds: nothing is at a desk.
+/// A run between two rounds, while no desk is open.
 #[derive(Drop)]
 pub struct BetweenRounds<'r, S, O, R: Wait> {
     pub broadcast: Broadcast<'r, S, O, R>,

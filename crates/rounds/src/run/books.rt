@@ -1,15 +1,15 @@
-//! The books of a run's rounds: what the workers claimed, and what became of it.
+//! The books of a run: how many segments the workers claimed, and what became of them.
 
 ghost use Rattle.std.specs.Prelude.{sum, ◌≡◌, ◌≤◌, ◌<◌, ◌+◌, ◌*◌, ◌^◌, ℕ, length, slice_index_or, IfOk};
 
 use std::alloc::{AllocError, Global};
 
-/// The books of the rounds of a run: how many segments each worker claimed, and what became of those that were claimed.
+/// The books of a run's rounds: how many segments each worker claimed, and what became of them.
 #[derive(Drop)]
 pub struct Books {
-    /// By the number of the worker.
+    /// How many segments each worker claimed, by the worker's number.
     pub workers: Vec<u128>,
-    /// How many segments that workers sealed were right.
+    /// How many of the claimed segments were right.
     pub right: u128,
     /// How many were thrown away.
     pub thrown: u128,
@@ -20,7 +20,7 @@ pub struct Books {
 }
 
 impl Books {
-    /// The books of no round.
+    /// The books before the first round.
     pub fn new(alloc: Global, workers: usize) -> Result<Books, AllocError>
         ensures none { IfOk result (λ books. (books.right ≡ 0) × (books.thrown ≡ 0) × (books.rounds ≡ 0)) }
         ensures each { IfOk result (λ books. length books.workers.items ≡ workers) }
@@ -33,7 +33,7 @@ impl Books {
         })
     }
 
-    /// Adds a round: what each worker claimed, and of that how much was right and how much thrown away.
+    /// Adds a round: how many segments each worker claimed, and how many of them were right and how many thrown away.
     pub fn add(&mut self, claims: &[u128], right: u64, thrown: u128)
         requires each { length claims.now ≡ length self.old.workers.items }
         requires balanced { sum claims.now ≡ right + thrown }
@@ -61,7 +61,7 @@ impl Books {
     }
 }
 
-/// A count for each worker, which is 0.
+/// A count of 0 for each worker.
 pub fn no_counts(alloc: Global, count: usize) -> Result<Vec<u128>, AllocError>
     ensures none { IfOk result (λ counts. sum counts.items ≡ 0) }
     ensures each { IfOk result (λ counts. length counts.items ≡ count) }

@@ -1,19 +1,19 @@
-//! The course of a run: its inputs and its outlet, and what was read and given of each rendition.
+//! The course of a run: its inputs and outlet, and what has been read and given of each rendition.
 
 use ingest::Lane;
 use ladder_items::Playlists;
 
-/// A run on its way: its inputs, what they closed, what was given of it, and the outlet that got it. Lists are by rendition.
+/// A run under way: its inputs, what they have closed, what has been given, and the outlet. Lists are by rendition.
 #[derive(Drop)]
 pub struct Course<S, O> {
     pub sources: Vec<S>,
     pub lanes: Vec<Lane>,
     pub playlists: Vec<Playlists>,
-    /// Whether the rendition's end was given.
+    /// Whether the rendition's end has been given.
     pub ended: Vec<bool>,
     pub outlet: O,
-    /// How many turns each rendition had that goes on.
+    /// How many turns each rendition that goes on has had.
     pub turns: u64,
-    /// How many reads of an input may give a byte.
+    /// At most how many reads of an input may return bytes.
     pub reads: u64,
 }

@@ -11,19 +11,19 @@ use ladder_items::{Playlists, Rendition, Settings, first_lanes, first_playlists}
 use segment_job::Keys;
 use std::alloc::{AllocError, Global};
 
-/// What a run begins with. Lists are by rendition, but that of the books' workers.
+/// What a run begins with. Lists are by rendition.
 #[derive(Drop)]
 pub struct First {
     pub lanes: Vec<Lane>,
     pub playlists: Vec<Playlists>,
-    /// Whether the rendition's end was given.
+    /// Whether the rendition's end has been given.
     pub ended: Vec<bool>,
     pub spare: Vec<Spool>,
     pub keys: Vec<Keys>,
     pub books: Books,
 }
 
-/// What a run with so many workers begins with.
+/// What a run with `workers` workers begins with.
 pub fn beginning(alloc: Global, settings: &Settings, workers: usize) -> Result<First, AllocError>
     requires { IsAllowed settings.now }
     ensures { IfOk result (IsBegun settings.now workers) }
@@ -39,7 +39,7 @@ pub fn beginning(alloc: Global, settings: &Settings, workers: usize) -> Result<F
     })
 }
 
-/// For each rendition, that its end wasn't given, and an empty spool.
+/// For each rendition, that its end hasn't been given, and an empty spool.
 fn open_ends(alloc: Global, renditions: usize) -> Result<(Vec<bool>, Vec<Spool>), AllocError>
     ensures ended { IfOk result (λ made. made.0.items ≡ replicate renditions false) }
     ensures spare { IfOk result (λ made. length made.1.items ≡ renditions) }
@@ -53,7 +53,7 @@ fn open_ends(alloc: Global, renditions: usize) -> Result<(Vec<bool>, Vec<Spool>)
     Ok((ended, spare))
 }
 
-/// The keys of each rendition.
+/// A copy of the keys of each rendition.
 pub fn copy_keys(alloc: Global, renditions: &[Rendition]) -> Result<Vec<Keys>, AllocError>
     ensures { IfOk result (λ keys. keys.items ≡ map (λ (r : RenditionValue). r.keys) renditions.now) }
 {

@@ -1,4 +1,4 @@
-//! A run that fits: it reads until there is enough for a first round, goes on from round to round, and answers.
+//! A run that fits: it reads until there is enough for a first round, goes from round to round, and answers.
 
 ghost use Rattle.std.specs.Prelude.{◌≡◌, ◌<◌, ◌≤◌, ◌^◌, ℕ, IfErr, IfOk, OnOk, length, sum};
 ghost use Rattle.ladder_items.specs.Ladder.{Ladder};
@@ -26,7 +26,7 @@ use std::sync::Wait;
 use std::thread::Threads;
 use work_desk::Gate;
 
-/// A run of which nothing was read, given or published yet, with a spare spool and the keys of each rendition.
+/// A run before its first read, with a spare spool and the keys of each rendition.
 fn set_out<'r, S: Source, O: Outlet, R: Wait>(
     rt: &'r R,
     first: First,
@@ -69,7 +69,7 @@ fn set_out<'r, S: Source, O: Outlet, R: Wait>(
     (BetweenRounds { broadcast, books }, spare, keys)
 }
 
-/// Packs, where the run fits.
+/// Packs where the run fits.
 pub fn pack_fitted<S: Source + Drop, O: Outlet + Drop, G: Gate + Sync, R: Threads + Wait + Sync>(
     setup: &Setup<'_, G, R>,
     first: First,
@@ -99,7 +99,7 @@ pub fn pack_fitted<S: Source + Drop, O: Outlet + Drop, G: Gate + Sync, R: Thread
     give_back(broadcast, answer)
 }
 
-/// Reads until there is enough for a first round, and goes on from round to round until all is given.
+/// Reads until there is enough for a first round, then goes from round to round until everything is given.
 fn run<'r, S: Source + Drop, O: Outlet + Drop, G: Gate + Sync, R: Threads + Wait + Sync>(
     setup: &Setup<'_, G, R>,
     keys: &[Keys],

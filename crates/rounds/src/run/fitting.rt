@@ -9,8 +9,8 @@ use limits::{LEAST, MOST_WORKERS};
 use live_board::Publisher;
 use std::alloc::{AllocError, Global};
 
-/// Whether the settings are allowed, there are as many inputs as renditions, 1 to 64 workers, and the publisher shows as many
-/// renditions, of which none has a segment.
+/// Whether the settings are allowed, there are as many inputs as renditions, there are 1 to 64 workers, and the publisher has
+/// that many renditions, none of which has a segment.
 pub fn fits(
     alloc: Global,
     settings: &Settings,
@@ -30,7 +30,7 @@ pub fn fits(
     is_allowed(alloc, settings, inputs)
 }
 
-/// Whether these are the counts of so many renditions, of which none has a segment.
+/// Whether these are the counts of `renditions` renditions, none of which has a segment.
 fn shows_none(counts: &[u64], renditions: usize) -> bool
     ensures { Decides result (counts.now ≡ replicate renditions 0) }
 {

@@ -1,4 +1,4 @@
-//! A whole run: what it begins with, how it reads, how it goes from round to round, and what it answers.
+//! A whole run: what it begins with, how it reads, how it goes from round to round, and its answer.
 
 pub mod between;
 pub mod books;

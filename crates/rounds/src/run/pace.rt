@@ -3,22 +3,22 @@
 ghost use Rattle.std.specs.Prelude.{◌≡◌, min};
 ghost use Rattle.std.specs.Option.{unwrap_or};
 
-/// With how many closed segments, over all renditions, the next round of sealing begins.
+/// How many closed segments, over all renditions, begin the next round.
 #[derive(Clone, Copy)]
 pub struct Pace {
-    /// So many as soon as all of the round before is given.
+    /// How many are enough once all of the round before has been given.
     pub least: usize,
-    /// So many at any time.
+    /// How many are enough at any time.
     pub most: usize,
 }
 
 impl Pace {
-    /// That of so many workers and segments on their way, or the one that is told.
-    pub fn new(workers: usize, queue: usize, told: Option<usize>) -> Pace
-        ensures most { result.most ≡ unwrap_or told (min workers queue) }
+    /// A pace by the batch that is asked for, or else by how many workers there are and how many segments may be outstanding.
+    pub fn new(workers: usize, queue: usize, batch: Option<usize>) -> Pace
+        ensures most { result.most ≡ unwrap_or batch (min workers queue) }
         ensures least { result.least ≡ min result.most workers }
     {
-        let most = told.unwrap_or(workers.min(queue));
+        let most = batch.unwrap_or(workers.min(queue));
         Pace {
             least: most.min(workers),
             most,

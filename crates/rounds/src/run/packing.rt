@@ -20,17 +20,17 @@ use std::sync::Wait;
 use std::thread::Threads;
 use work_desk::Gate;
 
-/// Packs the streams of all inputs, one for each rendition, on many threads: so many workers seal, and the calling thread reads,
-/// gives and publishes.
+/// Packs the streams of all inputs, one for each rendition, on many threads: `workers` threads seal, and the calling thread
+/// reads, gives and publishes.
 ///
-/// For each rendition it puts what `pack_serial` puts, in the same order; between renditions the order may be another. Behind
-/// the four items of each segment and the two of each end it publishes one snapshot. Sources, publisher and outlet come back
-/// with each answer.
+/// For each rendition it gives what `pack_serial` gives, in the same order; between renditions the order may differ. After the
+/// four items of each segment and the two of each end it publishes one snapshot. Sources, publisher and outlet come back with
+/// every answer.
 ///
-/// The publisher shows as many renditions as the settings have, none of which has a segment, and there are 1 to 64 workers;
-/// else Settings is told. A worker asks the gate before it seals a segment: Held is told for one that wasn't let through.
-/// Want of memory, a thread that can't be started among it, a failed put and a held segment stop the run at once. All threads
-/// that were started have ended when it answers.
+/// The publisher must have as many renditions as the settings, none of them with a segment, and there must be 1 to 64 workers;
+/// otherwise the answer is Settings. A worker asks the gate before it seals a segment: the answer is Held if it isn't let
+/// through. Want of memory (a thread that can't be started counts as that), a failed put and a held segment stop the run at
+/// once. Every thread that was started has ended by the time it answers.
 pub fn pack_parallel<S: Source + Drop, O: Outlet + Drop, G: Gate + Sync, R: Threads + Wait + Sync>(
     rt: &R,
     alloc: Global,
@@ -54,9 +54,9 @@ pub fn pack_parallel<S: Source + Drop, O: Outlet + Drop, G: Gate + Sync, R: Thre
     )
 }
 
-/// Packs as `pack_parallel` does, with another limit of reads.
+/// Packs as `pack_parallel` does, with its own limit of reads.
 ///
-/// An input of which `reads` reads gave a byte is read no further: where its end hasn't come by then, ReadLimit is told.
+/// An input is read no further once `reads` reads have returned bytes; if its end hasn't come by then, the answer is ReadLimit.
 pub fn pack_parallel_reads<
     S: Source + Drop,
     O: Outlet + Drop,
@@ -88,13 +88,13 @@ pub fn pack_parallel_reads<
     )
 }
 
-/// Packs as `pack_parallel_reads` does, with rounds of another length, where one is told.
+/// Packs as `pack_parallel_reads` does, with rounds of `batch` segments.
 ///
-/// A round is read until `batch` segments are closed, over all renditions, and one at least, or until there is one for each worker
-/// and all of the round before is given; then they are sealed and given, while the next round is read. Where `batch` is 1, a
-/// segment of a live stream waits for no other one; where it is less than there are workers, some of them have nothing to do in
-/// most rounds. Where it is more, workers wait less often for each other, and more segments are held at a time. Where none is
-/// told, it is the number of workers, or what may be on its way, if that is less. No clause depends on it.
+/// A round is read until `batch` segments are closed over all renditions, and at least one, or until there is one for each
+/// worker and all of the round before has been given; then they are sealed and given while the next round is read. With a batch
+/// of 1, a segment of a live stream waits for no other; with fewer than there are workers, some workers are idle in most rounds;
+/// with more, workers wait less often for each other, and more segments are held at a time. The default is the number of
+/// workers, or how many segments may be outstanding if that is less. No clause depends on it.
 pub fn pack_in_batches<
     S: Source + Drop,
     O: Outlet + Drop,
@@ -150,7 +150,7 @@ pub fn pack_in_batches<
     }
 }
 
-/// What a run begins with, if it fits.
+/// What a run begins with, if the run fits.
 fn begin(
     alloc: Global,
     settings: &Settings,
@@ -168,7 +168,7 @@ fn begin(
     Ok(beginning(alloc, settings, workers)?)
 }
 
-/// Gives all back, where nothing was begun.
+/// Gives everything back where the run isn't begun.
 fn turn_away<S: Source, O: Outlet>(
     fault: PackFault,
     settings: &Settings,

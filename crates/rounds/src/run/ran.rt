@@ -1,4 +1,4 @@
-//! What a run gives back, whatever its answer.
+//! What a run gives back.
 
 ghost use Rattle.std.specs.Prelude.{◌≡◌};
 
@@ -16,7 +16,7 @@ pub struct Ran<S, O> {
     pub answer: Result<Report, PackFault>,
 }
 
-/// Gives back what a run took, with its answer.
+/// Gives back what the run was given, with its answer.
 pub fn give_back<S, O, R: Wait>(
     broadcast: Broadcast<'_, S, O, R>,
     answer: Result<Report, PackFault>,

@@ -1,4 +1,4 @@
-//! Reading: each rendition that goes on has its turns, one read of its source each.
+//! Reading: each rendition that goes on has its turns; a turn is one read of its source.
 
 ghost use Rattle.std.specs.Prelude.{◌≡◌, ◌+◌, ◌<◌, ◌≤◌, [], ℕ, OnErr, OnOk, Some, true, false, length, slice_get};
 ghost use Rattle.ingest.specs.declared.lane.Lane.{Lane};
@@ -13,7 +13,7 @@ use ladder_items::have_stopped;
 use std::alloc::AllocError;
 
 impl<S: Source, O: Outlet> Course<S, O> {
-    /// Gives rendition `r` its turn, if it goes on.
+    /// Gives rendition `r` its turn if it goes on.
     fn read_one(&mut self, r: usize, buffer: &mut [u8]) -> Result<(), AllocError>
         requires some { 0 < length buffer.old }
         requires short { length buffer.old ≤ PIECE }
@@ -32,7 +32,7 @@ impl<S: Source, O: Outlet> Course<S, O> {
         Ok(())
     }
 
-    /// Gives each rendition its turn that goes on.
+    /// Gives each rendition that goes on its turn.
     pub fn read_turn(&mut self, buffer: &mut [u8]) -> Result<(), AllocError>
         requires some { 0 < length buffer.old }
         requires short { length buffer.old ≤ PIECE }
@@ -49,7 +49,7 @@ impl<S: Source, O: Outlet> Course<S, O> {
         Ok(())
     }
 
-    /// Reads until so many plans are closed, or nothing is read any further.
+    /// Reads until `least` plans are closed, or nothing is left to read.
     pub fn read_first(&mut self, least: usize, buffer: &mut [u8]) -> Result<(), AllocError>
         requires some { 0 < length buffer.old }
         requires short { length buffer.old ≤ PIECE }
@@ -64,7 +64,7 @@ impl<S: Source, O: Outlet> Course<S, O> {
         Ok(())
     }
 
-    /// Whether so many plans are closed, one at the least, or nothing is read any further.
+    /// Whether `least` plans are closed, and at least one, or nothing is left to read.
     fn has_closed(&self, least: usize) -> bool
         ensures yes { result ≡ true → HasEnough self.now }
         ensures no { result ≡ false → self.now.turns < self.now.reads }
@@ -81,7 +81,7 @@ impl<S: Source, O: Outlet> Course<S, O> {
         count_closed(&self.lanes) >= least
     }
 
-    /// Whether enough is read for the next round, while so many segments of the one before are still to be given.
+    /// Whether enough is read for the next round, while `awaited` segments of the round before are still to be given.
     pub fn is_enough(&self, pace: Pace, awaited: usize) -> bool
         ensures yes { result ≡ true → HasEnough self.now }
         ensures no { result ≡ false → self.now.turns < self.now.reads }
@@ -93,7 +93,7 @@ impl<S: Source, O: Outlet> Course<S, O> {
     }
 }
 
-/// Whether any plan is closed and not swapped out.
+/// Whether any plan is closed and not yet swapped out.
 pub fn any_closed(lanes: &[Lane]) -> bool
     ensures some { result ≡ true → HasClosed lanes.now }
     ensures none { result ≡ false → (k : ℕ) (lane : Lane) → slice_get lanes.now k ≡ Some lane → lane.intake.filled ≡ [] }
@@ -106,7 +106,7 @@ pub fn any_closed(lanes: &[Lane]) -> bool
     false
 }
 
-/// How many plans are closed and not swapped out.
+/// How many plans are closed and not yet swapped out.
 fn count_closed(lanes: &[Lane]) -> usize {
     let mut count: usize = 0;
     for lane in lanes {

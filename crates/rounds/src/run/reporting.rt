@@ -1,4 +1,4 @@
-//! The answer of a run that has given all: its report, or the fault that stands.
+//! The answer of a run that has given everything: its report, or the fault that stands.
 
 ghost use Rattle.std.specs.Prelude.{◌≡◌, ◌⊎◌, ◌+◌, ◌≤◌, All, IfErr, IfOk, false, length, map, sum};
 ghost use Rattle.ingest.specs.declared.lane.Lane.{Lane};
@@ -13,7 +13,7 @@ use ingest::Lane;
 use ladder_items::{PackFault, Playlists, Report, report_of, standing};
 use std::alloc::{AllocError, Global};
 
-/// The report of a run, in which each rendition came to its good end.
+/// The report of a run in which every input ended well.
 fn report_with(
     alloc: Global,
     lanes: &[Lane],
@@ -43,7 +43,7 @@ fn report_with(
     Ok(report)
 }
 
-/// The report of a run that has given all, or the first standing fault if not each rendition came to its good end.
+/// The report of a run that has given everything, or the first standing fault if not every input ended well.
 pub fn answer_of(
     alloc: Global,
     lanes: &[Lane],

@@ -1,4 +1,4 @@
-//! From round to round, until all is given.
+//! From round to round, until everything is given.
 
 ghost use Rattle.std.specs.Prelude.{◌≡◌, ◌+◌, ◌≤◌, IfErr, IfOk, OnErr, OnOk, length, sum};
 ghost use Rattle.rounds.specs.Courses.{HasEnough, HasGoodEnds, IsAllGiven, IsSomeBetween, NoneClosed, ReadsNone, StaysBetween, StopsBetween};
@@ -40,7 +40,7 @@ fn give_due_ends<'r, S: Source, O: Outlet, R: Wait>(
     (BetweenRounds { broadcast, books }, answer)
 }
 
-/// Swaps the spools of all renditions against the spare ones.
+/// Swaps the spools of all renditions for the spare ones.
 fn swap_spools<'r, S: Source, O: Outlet, R: Wait>(
     alloc: Global,
     between: BetweenRounds<'r, S, O, R>,
@@ -63,9 +63,9 @@ fn swap_spools<'r, S: Source, O: Outlet, R: Wait>(
     (BetweenRounds { broadcast, books }, swapped)
 }
 
-/// Goes on from round to round until all is given.
+/// Goes from round to round until everything is given.
 ///
-/// Each rendition's end is given before the round that begins next where nothing of it is left to give.
+/// Before each round, the ends are given of the renditions that have nothing left to give.
 pub fn run_rounds<'r, S: Source + Drop, O: Outlet + Drop, G: Gate + Sync, R: Threads + Wait + Sync>(
     setup: &Setup<'_, G, R>,
     keys: &[Keys],

@@ -5,7 +5,7 @@ use ladder_items::Settings;
 use live_board::Publisher;
 use std::alloc::Global;
 
-/// How a run is done, from its first round to its last.
+/// What stays the same from a run's first round to its last.
 #[derive(Drop)]
 pub struct Setup<'a, G, R> {
     pub rt: &'a R,
@@ -18,11 +18,11 @@ pub struct Setup<'a, G, R> {
     pub pace: Pace,
 }
 
-/// What a run reads from, puts to and publishes by.
+/// What a run reads from, gives to and publishes with.
 pub struct Endpoints<S, O> {
     pub sources: Vec<S>,
     pub outlet: O,
     pub publisher: Publisher,
-    /// How many reads of an input may give a byte.
+    /// At most how many reads of an input may return bytes.
     pub reads: u64,
 }

@@ -1,4 +1,4 @@
-//! Swapping: the full spools of all renditions are swapped out against spare ones.
+//! Swapping: the full spools of all renditions are swapped for spare ones.
 
 ghost use Rattle.std.specs.Prelude.{◌≡◌, ◌≢◌, ◌<◌, [], ℕ, IfOk, OnErr, OnOk, Some, length, slice_get};
 ghost use Rattle.ingest.specs.declared.lane.Lane.{Lane};
@@ -11,7 +11,7 @@ use item_io::{Outlet, Source};
 use std::alloc::{AllocError, Global};
 
 impl<S: Source, O: Outlet> Course<S, O> {
-    /// Swaps the spools of all renditions, of which nothing waits, against the spare ones.
+    /// Swaps the spools of all renditions, none of which has plans waiting, for the spare ones, and returns the full ones.
     pub fn swap_all(&mut self, alloc: Global, spare: Vec<Spool>) -> Result<Vec<Spool>, AllocError>
         requires each { length spare.items ≡ length self.old.lanes.items }
         ensures ok { IfOk result (λ full. SwapsOut S.input O.output self.old self.new full.items) }
@@ -30,7 +30,7 @@ impl<S: Source, O: Outlet> Course<S, O> {
         Ok(full)
     }
 
-    /// Swaps the spool of rendition `r`, of which nothing waits.
+    /// Swaps the spool of rendition `r`, which has no plans waiting, and returns the full one.
     fn swap_one(&mut self, r: usize, spare: Spool) -> Result<Spool, AllocError>
         requires within { r < length self.old.lanes.items }
         ensures ok { IfOk result (SwapsOne S.input O.output r self.old self.new) }
