@@ -2,8 +2,8 @@
 use Rattle.std.specs.Prelude.{if◌then◌else◌}
 use Rattle.std.specs.Str.{bytes_eq}
 use Rattle.std.proofs.Common.{◌≡◌, ℕ, Bool, true, false, Option, Some, None, List, [], ◌∷◌, ◌++◌, map, refl, sym, ◌∙◌, subst, inl, inr, ◌⊎◌, append_assoc}
-use Rattle.folder.specs.Moves.{Files, Move, Same, Shows, Write, is_hidden, moved, standing, with_file}
-use Rattle.folder.specs.Kills.{KillMayLeave}
+use Rattle.folder.specs.Moves.{Files, Looked, Move, Remove, Rename, Same, Shows, Sync, Write, is_hidden, moved, standing, with_file}
+use Rattle.folder.specs.Kills.{CutOff, KillMayLeave}
 use Rattle.folder.specs.Puts.{MayBePut, Put, placing, staged_with, writing}
 use Rattle.folder.specs.Prefixes.{AreStaged, HasPrefix}
 use Rattle.folder.specs.PowerLoss.{IsTorn, PowerLossMayLeave, disk_behind, synced_each, synced_moves_behind, synced_moves_of, synced_placings}
@@ -90,3 +90,38 @@ loses (p ∷ puts) = lose_step p puts (loses puts)
 
 pub each-loss : (files : Files) (puts : List Put) → MayBePut [] puts → (left : Files) → PowerLossMayLeave files (Same files) (synced_moves_of puts) left → HasPrefix files puts left
 each-loss files puts fit left may = loses puts files (Same files) [] tt tt fit (λ c same n shown. sym (same n)) left may
+
+-- what is on the disk now may be left
+left-now : (now : Files) (disk : Files → Type 0) (moves : List Move) (left : Files) → disk left → PowerLossMayLeave now disk moves left
+left-now now disk [] left there = there
+left-now now disk (m ∷ moves) left there = inl there
+
+-- what processes see may be on the disk
+abbrev MayBeSeen : Files → (Files → Type 0) → Type 0
+MayBeSeen now disk = (c : Files) → Same c now → disk c
+
+seen-behind : (now : Files) (disk : Files → Type 0) (m : Move) → MayBeSeen now disk → MayBeSeen (moved now m) (disk_behind now disk m)
+seen-behind now disk (Write name bytes) seen c same = (now, seen now (λ n. refl), inr (inl same))
+seen-behind now disk (Rename old new) seen c same = (now, seen now (λ n. refl), inr same)
+seen-behind now disk (Remove name) seen c same = (now, seen now (λ n. refl), inr same)
+seen-behind now disk (Looked name there) seen c same = seen c same
+seen-behind now disk Sync seen c same = λ n. sym (same n)
+
+cut-behind : (now : Files) (disk : Files → Type 0) (m : Move) (left : Files) → MayBeSeen now disk → CutOff now m left → disk_behind now disk m left
+cut-behind now disk (Write name bytes) left seen (inl (front, rest, whole, same)) = (now, seen now (λ n. refl), inr (inr (inl (front, same))))
+cut-behind now disk (Write name bytes) left seen (inr same) = (now, seen now (λ n. refl), inr (inr (inr same)))
+cut-behind now disk (Rename old new) left seen cut = absurd cut
+cut-behind now disk (Remove name) left seen cut = absurd cut
+cut-behind now disk (Looked name there) left seen cut = absurd cut
+cut-behind now disk Sync left seen cut = absurd cut
+
+-- a loss of power may leave whatever a kill may
+kill-is-loss : (moves : List Move) (now : Files) (disk : Files → Type 0) (left : Files) → MayBeSeen now disk → KillMayLeave now moves left → PowerLossMayLeave now disk moves left
+kill-is-loss [] now disk left seen may = seen left may
+kill-is-loss (m ∷ moves) now disk left seen (inl same) = inl (seen left same)
+kill-is-loss (m ∷ moves) now disk left seen (inr (inl cut)) = inr (left-now (moved now m) (disk_behind now disk m) moves left (cut-behind now disk m left seen cut))
+kill-is-loss (m ∷ moves) now disk left seen (inr (inr later)) =
+    inr (kill-is-loss moves (moved now m) (disk_behind now disk m) left (seen-behind now disk m seen) later)
+
+pub each-kill-synced : (files : Files) (puts : List Put) → MayBePut [] puts → (left : Files) → KillMayLeave files (synced_moves_of puts) left → HasPrefix files puts left
+each-kill-synced files puts fit left may = each-loss files puts fit left (kill-is-loss (synced_moves_of puts) files (Same files) left (λ c same n. sym (same n)) may)

@@ -1,7 +1,9 @@
 -- A put that failed leaves nothing else than a kill within it.
-use Rattle.std.proofs.Common.{◌≡◌, ℕ, List, [], ◌∷◌, ◌++◌, refl, sym, ap, ◌∙◌, subst, inl, inr, append-nil, append_assoc}
-use Rattle.folder.specs.Moves.{Files, Move, Write, moved, standing}
-use Rattle.folder.specs.Kills.{IsFailedWrite, KillMayLeave}
+use Rattle.std.proofs.Common.{◌≡◌, ℕ, true, false, Some, None, List, [], ◌∷◌, ◌++◌, refl, sym, ap, ◌∙◌, subst, inl, inr, append-nil, append_assoc}
+use Rattle.std.specs.Prelude.{if◌then◌else◌}
+use Rattle.std.specs.Str.{bytes_eq}
+use Rattle.folder.specs.Moves.{Files, Move, Write, moved, standing, with_file}
+use Rattle.folder.specs.Kills.{CutOff, IsFailedWrite, KillMayLeave}
 use Rattle.folder.specs.Puts.{MayBePut, Put, moves_behind, moves_of, placings, staged_after, staged_with, writing}
 use Rattle.folder.specs.Prefixes.{HasPrefix, IsFailedPut}
 use Rattle.folder.proofs.Kills.{each-kill, KillMayLeave-append}
@@ -19,20 +21,35 @@ KillMayLeave-behind : (a : Files) (first second : List Move) (left : Files) → 
 KillMayLeave-behind a [] second left may = may
 KillMayLeave-behind a (m ∷ first) second left may = inr (inr (KillMayLeave-behind (moved a m) first second left may))
 
+written-removed : (a : Files) (name front other : List ℕ) → with_file (with_file a name (Some front)) name None other ≡ with_file a name None other
+written-removed a name front other =
+    elim (bytes_eq name other) as (λ t. (if t then None else (if t then Some front else a other)) ≡ (if t then None else a other)) [ true ↦ refl | false ↦ refl ]
+
+-- a write of a prefix that is cut off is one of all that is cut off
+cut-prefix : (a : Files) (name bytes front rest : List ℕ) (left : Files) → bytes ≡ front ++ rest → CutOff a (Write name front) left → CutOff a (Write name bytes) left
+cut-prefix a name bytes front rest left whole (inl (first, second, is, same)) =
+    inl (first, second ++ rest, whole ∙ ap (λ (l : List ℕ). l ++ rest) is ∙ append_assoc first second rest, same)
+cut-prefix a name bytes front rest left whole (inr none) = inr none
+
 -- what a write that failed may leave, a write that is cut off may
 touch_cut : (a : Files) (name bytes : List ℕ) (more placed : List Move) (left : Files) → IsFailedWrite name bytes more → KillMayLeave a more left → KillMayLeave a (Write name bytes ∷ placed) left
 touch_cut a name bytes more placed left (inl none) may = inl (subst (λ (l : List Move). KillMayLeave a l left) none may)
 touch_cut a name bytes more placed left (inr (inl gone)) may =
     elim (subst (λ (l : List Move). KillMayLeave a l left) gone may) [ inl same ↦ inl same | inr later ↦ elim later [ inl cut ↦ absurd cut | inr same ↦ inr (inl (inr same)) ] ]
-touch_cut a name bytes more placed left (inr (inr (front, rest, whole, wrote))) may =
+touch_cut a name bytes more placed left (inr (inr (front, rest, whole, inl wrote))) may =
+    elim (subst (λ (l : List Move). KillMayLeave a l left) wrote may) [
+      | inl same ↦ inl same
+      | inr later ↦ elim later [ inl cut ↦ inr (inl (cut-prefix a name bytes front rest left whole cut)) | inr same ↦ inr (inl (inl (front, rest, whole, same))) ]
+    ]
+touch_cut a name bytes more placed left (inr (inr (front, rest, whole, inr wrote))) may =
     elim (subst (λ (l : List Move). KillMayLeave a l left) wrote may) [
       | inl same ↦ inl same
       | inr later ↦ elim later [
-        | inl cut ↦ elim cut [
-          | inl began ↦ inr (inl (inl (began.0, began.1 ++ rest, whole ∙ ap (λ (l : List ℕ). l ++ rest) began.2 ∙ append_assoc began.0 began.1 rest, began.3)))
-          | inr none ↦ inr (inl (inr none))
+        | inl cut ↦ inr (inl (cut-prefix a name bytes front rest left whole cut))
+        | inr behind ↦ elim behind [
+          | inl same ↦ inr (inl (inl (front, rest, whole, same)))
+          | inr last ↦ elim last [ inl cut ↦ absurd cut | inr same ↦ inr (inl (inr (λ other. same other ∙ written-removed a name front other))) ]
         ]
-        | inr same ↦ inr (inl (inl (front, rest, whole, same)))
       ]
     ]
 

@@ -17,7 +17,8 @@ abbrev pub KillMayLeave : Files → List Move → Files → Type 0
 KillMayLeave files [] left = Same left files
 KillMayLeave files (m ∷ moves) left = Same left files ⊎ CutOff files m left ⊎ KillMayLeave (moved files m) moves left
 
--- What a write that failed did: nothing, or the file is gone, or a prefix of its bytes was written.
+-- What a write that failed did: nothing, or the file is gone, or a prefix of its bytes was written, and perhaps removed again.
 abbrev pub IsFailedWrite : List ℕ → List ℕ → List Move → Type 0
 IsFailedWrite name bytes more =
-    (more ≡ []) ⊎ (more ≡ Remove name ∷ []) ⊎ ((front : List ℕ) × (rest : List ℕ) × (bytes ≡ front ++ rest) × (more ≡ Write name front ∷ []))
+    (more ≡ []) ⊎ (more ≡ Remove name ∷ [])
+    ⊎ ((front : List ℕ) × (rest : List ℕ) × (bytes ≡ front ++ rest) × ((more ≡ Write name front ∷ []) ⊎ (more ≡ Write name front ∷ Remove name ∷ [])))

@@ -49,8 +49,10 @@ pub fn what_is_left_is_playable()
 {}
 
 /// Where a block is synced before any of it is placed, and each file that is placed before the next one, each loss of
-/// power leaves what a kill may leave.
+/// power leaves what a kill may leave, and so does each kill.
 pub fn each_loss_of_power_leaves_a_prefix()
-    ensures { (files : Files) (puts : List Put) → MayBePut [] puts →
+    ensures power { (files : Files) (puts : List Put) → MayBePut [] puts →
         (left : Files) → PowerLossMayLeave files (Same files) (synced_moves_of puts) left → HasPrefix files puts left }
+    ensures kill { (files : Files) (puts : List Put) → MayBePut [] puts →
+        (left : Files) → KillMayLeave files (synced_moves_of puts) left → HasPrefix files puts left }
 {}

@@ -17,6 +17,7 @@ pub(crate) enum Said<'a> {
     Was(&'a [u8]),
 }
 
+/// Reads in a move what became of the file of a name.
 fn says<'a>(made: &'a MemoryMove, name: &'a [u8]) -> Said<'a>
     ensures { (files : Files) → moved files (memory_move made.now) name.now ≡ said_of files result }
 {
