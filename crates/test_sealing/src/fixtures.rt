@@ -2,11 +2,11 @@
 
 use crate::told::{Name, name};
 use cutter::{Lent, Plan, cut_stream};
-use flow_core::Collector;
-use segment_job::Keys;
 use fixture_standard_stream::{
     FRAME, KEY_FRAME, LAST_FRAME, PAT, PMT, SECOND_KEY_FRAME, SETTINGS, STREAM, filled,
 };
+use flow_core::Collector;
+use segment_job::Keys;
 use std::alloc::{AllocError, Global};
 use std::process::Abort;
 use std::test::Fail;

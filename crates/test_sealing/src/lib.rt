@@ -16,4 +16,6 @@ mod queue;
 #[cfg(test)]
 mod segments;
 #[cfg(test)]
+mod side_by_side;
+#[cfg(test)]
 mod told;

@@ -3,8 +3,8 @@
 use crate::fixtures::{NEW_TABLES, key_of, plans_of, same};
 use aes_cbc::{Key, OpenFault, open, seal};
 use cutter::Plan;
-use segment_job::{KeyFault, Keys, RangeFault, Sealed, open_range, seal_plan, vector};
 use fixture_standard_stream::{KEY_FRAME, STREAM, filled};
+use segment_job::{KeyFault, Keys, RangeFault, Sealed, open_range, seal_plan, vector};
 use std::alloc::{AllocError, Global};
 use std::process::Abort;
 use std::test::Fail;
