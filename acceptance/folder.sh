@@ -14,7 +14,7 @@ check_folder() {
     check 'folder: a file in its place' refuses_all "$here/folder.sh"
     check 'folder: without leave to write' refuses_without_leave
     if mkdir -p "$work/disk" && mount -t tmpfs -o size=64k none "$work/disk" 2>"$work/mounted"; then
-        check 'folder: a disk too small for a segment' refuses_the_segment_alone
+        check 'folder: a disk too small for a segment, and nothing is put behind it' refuses_from_the_segment_on
         check 'folder: a full disk' refuses_on_a_full_disk
         umount "$work/disk"
     else
@@ -73,9 +73,9 @@ refuses_without_leave() {
     return $status
 }
 
-refuses_the_segment_alone() {
-    echo older >"$work/disk/v.7.ts" && puts 'refused put put put' "$work/disk" 100000 && has "$four" "$work/disk" &&
-        [ "$(cat "$work/disk/v.7.ts")" = older ] && rm "$work"/disk/*
+refuses_from_the_segment_on() {
+    echo older >"$work/disk/v.7.ts" && puts 'refused refused refused refused' "$work/disk" 100000 &&
+        has v.7.ts "$work/disk" && [ "$(cat "$work/disk/v.7.ts")" = older ] && rm "$work"/disk/*
 }
 
 # The older files stay as they are, and nothing that was begun stays.

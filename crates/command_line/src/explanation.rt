@@ -7,31 +7,21 @@ use crate::reasons::{
     checking_reason, cipher_reason, key_list_reason, ladder_reason, opening_reason, sealing_reason,
     settings_reason, unopened_reason,
 };
-use crate::settings_reason::{
-    ListedWords, write_outside, write_unlistable, write_unlistable_entries,
+use crate::settings_reason::{write_outside, write_unlistable, write_unlistable_entries};
+use clap::ArgMatches;
+use commands::{
+    DEFAULT_NAME, EntryWords, LadderFault, LadderPackingFault, SettingsFault, cut_entry,
 };
-use commands::{LadderFault, LadderPackingFault, NumberWords, PoolWords, SettingsFault, cut_entry};
 use pipeline::PackFault;
 use std::alloc::{AllocError, Global};
 use std::convert::AsStr;
 use std::fmt;
 
-/// What was asked for, as far as faults speak of it.
+/// The words of a fault, by the options of the command that it comes from.
 #[derive(Clone, Copy, Drop)]
-struct Asked<'b, 'a> {
-    numbers: NumberWords,
-    pool: PoolWords,
-    /// The rendition of `one`.
-    listed: ListedWords<'a>,
-    /// The texts of the ladder's entries; none of `one`.
-    entries: &'b [&'a str],
-}
-
-/// The words of a fault.
-#[derive(Clone, Copy, Drop)]
-struct Explanation<'b, 'a> {
-    fault: &'b Fault,
-    asked: Asked<'b, 'a>,
+struct Explanation<'f, 'b, 'a> {
+    fault: &'f Fault,
+    options: &'b ArgMatches<'a>,
 }
 
 /// The words of a fault, as a line that is indented by two spaces. None where the fault's own text has them already. No key
@@ -48,43 +38,38 @@ pub fn explain<S: AsStr>(
     let Ok(matches) = command.try_get_matches_from_mut(words) else {
         return Ok(None);
     };
-    let Some((_, options)) = matches.subcommand() else {
-        return Ok(None);
-    };
-    let given = packing_words(options);
-    let asked = Asked {
-        numbers: number_words(options),
-        pool: pool_words(options),
-        listed: ListedWords {
-            name: given.name.unwrap_or(commands::DEFAULT_NAME),
-            codecs: given.codecs,
-            size: given.size,
-        },
-        entries: options.get_strs("entries").unwrap_or(&[]),
-    };
-    let explanation = Explanation { fault, asked };
-    Ok(Some(format!(in alloc; "  {explanation}\n")?))
+    match matches.subcommand() {
+        Some((_, options)) => Ok(Some(explained(alloc, options, fault)?)),
+        None => Ok(None),
+    }
 }
 
-impl fmt::Display for Explanation<'_, '_> {
+/// The same, by the options of a command.
+fn explained(alloc: Global, options: &ArgMatches<'_>, fault: &Fault) -> Result<String, AllocError> {
+    format!(in alloc; "  {}\n", Explanation { fault, options })
+}
+
+impl fmt::Display for Explanation<'_, '_, '_> {
     fn fmt<W: fmt::Write>(&self, f: &mut fmt::Formatter<W>) -> fmt::Result {
         match self.fault {
             Fault::Usage(_) | Fault::NoMemory => f.write_str("out of memory"),
-            Fault::Busy => f.write_str("another tshls packs into this folder; nothing was read or written"),
+            Fault::Busy => f.write_str(
+                "another tshls packs into this folder; nothing was read or written",
+            ),
             Fault::NotUtf8 => f.write_str("a word of the command line is not UTF-8"),
             Fault::Cipher(fault) => f.write_str(cipher_reason(*fault)),
             Fault::KeyList(fault) => f.write_str(key_list_reason(*fault)),
-            Fault::Settings(SettingsFault::Settings) => write_settings(f, self.asked),
+            Fault::Settings(SettingsFault::Settings) => write_settings(f, self.options),
             Fault::Settings(fault) => f.write_str(settings_reason(*fault)),
-            Fault::Ladder(LadderFault::BadEntry(n)) => write_bad_entry(f, self.asked, *n),
-            Fault::Ladder(LadderFault::Settings) => write_settings(f, self.asked),
+            Fault::Ladder(LadderFault::BadEntry(n)) => write_bad_entry(f, self.options, *n),
+            Fault::Ladder(LadderFault::Settings) => write_settings(f, self.options),
             Fault::Ladder(fault) => f.write_str(ladder_reason(*fault)),
             Fault::Sealing(fault) => f.write_str(sealing_reason(*fault)),
             Fault::Opening(fault) => f.write_str(opening_reason(*fault)),
             Fault::Unopened(fault) => f.write_str(unopened_reason(*fault)),
-            Fault::Packing(fault) => write_packing(f, self.asked, *fault),
+            Fault::Packing(fault) => write_packing(f, self.options, *fault),
             Fault::LadderPacking(LadderPackingFault::Packing(fault)) => {
-                write_packing(f, self.asked, *fault)
+                write_packing(f, self.options, *fault)
             }
             Fault::LadderPacking(LadderPackingFault::Unwritten) => {
                 f.write_str("all was packed, but standard output can't be written")
@@ -96,27 +81,28 @@ impl fmt::Display for Explanation<'_, '_> {
 }
 
 /// Writes which setting isn't allowed.
-fn write_settings<W: fmt::Write>(f: &mut fmt::Formatter<W>, asked: Asked<'_, '_>) -> fmt::Result {
-    if write_outside(f, asked.numbers, asked.pool)? {
+fn write_settings<W: fmt::Write>(
+    f: &mut fmt::Formatter<W>,
+    options: &ArgMatches<'_>,
+) -> fmt::Result {
+    if write_outside(f, number_words(options), pool_words(options))? {
         return Ok(());
     }
-    if asked.entries.is_empty() {
-        return write_unlistable(f, asked.listed);
+    if let Some(entries) = options.get_strs("entries") {
+        return write_unlistable_entries(f, entries);
     }
-    write_unlistable_entries(f, asked.entries)
+    let given = packing_words(options);
+    let name = given.name.unwrap_or(DEFAULT_NAME);
+    write_unlistable(f, name, given.codecs, given.size)
 }
 
 /// Writes what is wrong with the entry of this number, counted from 1.
 fn write_bad_entry<W: fmt::Write>(
     f: &mut fmt::Formatter<W>,
-    asked: Asked<'_, '_>,
+    options: &ArgMatches<'_>,
     number: usize,
 ) -> fmt::Result {
-    let words = match asked.entries.get(number.wrapping_sub(1)) {
-        Some(text) => cut_entry(text),
-        None => None,
-    };
-    match words {
+    match entry_at(options, number.wrapping_sub(1)) {
         Some(words) => write!(
             f,
             "entry {number}, {}: its size is not WIDTHxHEIGHT, or a key is not 32 hex digits",
@@ -129,15 +115,19 @@ fn write_bad_entry<W: fmt::Write>(
     }
 }
 
+/// The parts of the entry at a place; None where there is none, or where it has fewer.
+fn entry_at<'a>(options: &ArgMatches<'a>, place: usize) -> Option<EntryWords<'a>> {
+    let entries = options.get_strs("entries")?;
+    cut_entry(*entries.get(place)?)
+}
+
 /// Writes which rendition of a ladder is meant, by its entry and its path; nothing of `one`.
 fn write_rendition<W: fmt::Write>(
     f: &mut fmt::Formatter<W>,
-    asked: Asked<'_, '_>,
+    options: &ArgMatches<'_>,
     r: usize,
 ) -> fmt::Result {
-    if let Some(text) = asked.entries.get(r)
-        && let Some(words) = cut_entry(text)
-    {
+    if let Some(words) = entry_at(options, r) {
         return write!(f, "{}, from {}: ", words.name, words.path);
     }
     Ok(())
@@ -146,40 +136,40 @@ fn write_rendition<W: fmt::Write>(
 /// Writes why a run ended.
 fn write_packing<W: fmt::Write>(
     f: &mut fmt::Formatter<W>,
-    asked: Asked<'_, '_>,
+    options: &ArgMatches<'_>,
     fault: PackFault,
 ) -> fmt::Result {
     match fault {
-        PackFault::Settings => write_settings(f, asked),
-        PackFault::Read(r) => write_stream(f, asked, r, "a read failed"),
+        PackFault::Settings => write_settings(f, options),
+        PackFault::Read(r) => write_stream(f, options, r, "a read failed"),
         PackFault::ReadLimit(r) => {
             write_stream(
                 f,
-                asked,
+                options,
                 r,
                 "2^40 reads did not reach the end of the stream",
             )
         }
-        PackFault::NoProgram(r) => write_stream(f, asked, r, NO_PROGRAM),
-        PackFault::NoStart(r) => write_stream(f, asked, r, NO_START),
+        PackFault::NoProgram(r) => write_stream(f, options, r, NO_PROGRAM),
+        PackFault::NoStart(r) => write_stream(f, options, r, NO_START),
         PackFault::Limit(r) => {
             write_stream(
                 f,
-                asked,
+                options,
                 r,
                 "the last segment number, or the range of time, is passed",
             )
         }
         PackFault::LongSegment(r, n) => {
-            write_rendition(f, asked, r)?;
+            write_rendition(f, options, r)?;
             write!(f, "segment {n} {LONG_SEGMENT}")
         }
         PackFault::BigSegment(r, n) => {
-            write_rendition(f, asked, r)?;
+            write_rendition(f, options, r)?;
             write!(f, "segment {n} has more packets than --most")
         }
         PackFault::Held(r, n) => {
-            write_rendition(f, asked, r)?;
+            write_rendition(f, options, r)?;
             write!(f, "segment {n} was held back")
         }
         PackFault::Outlet => f.write_str(OUTLET),
@@ -201,10 +191,10 @@ const OUTLET: &str = "the output can't be written: missing, not writable, closed
 /// Writes a reason that speaks of one rendition's stream.
 fn write_stream<W: fmt::Write>(
     f: &mut fmt::Formatter<W>,
-    asked: Asked<'_, '_>,
+    options: &ArgMatches<'_>,
     r: usize,
     why: &str,
 ) -> fmt::Result {
-    write_rendition(f, asked, r)?;
+    write_rendition(f, options, r)?;
     f.write_str(why)
 }

@@ -1,16 +1,8 @@
 //! Why settings aren't allowed: the option, or the entry of a ladder, that is outside its limits.
-use commands::{EntryWords, NumberWords, PoolWords, Ranged, cut_entry, first_outside};
+use commands::{NumberWords, PoolWords, Ranged, cut_entry, first_outside};
 use limits::{MOST_PIXELS, MOST_RENDITIONS};
 use playlist_text::{is_codecs, is_name};
 use std::fmt;
-
-/// What a rendition is listed by: of `one`, or of an entry.
-#[derive(Clone, Copy, Debug, Drop)]
-pub(crate) struct ListedWords<'a> {
-    pub name: &'a str,
-    pub codecs: &'a str,
-    pub size: &'a str,
-}
 
 /// The option, its range and its unit.
 fn range_of(option: Ranged) -> (&'static str, &'static str) {
@@ -53,16 +45,16 @@ fn is_side(text: &str) -> bool {
 }
 
 /// What a rendition can't be listed by, if there is such a thing.
-fn unlistable(words: ListedWords<'_>) -> Option<&'static str> {
-    if !is_name(words.name) {
+fn unlistable(name: &str, codecs: &str, size: &str) -> Option<&'static str> {
+    if !is_name(name) {
         return Some(
             "the name is not 1 to 64 bytes without control bytes, '/', '.' and ':', or it is 'master'",
         );
     }
-    if !is_codecs(words.codecs) {
+    if !is_codecs(codecs) {
         return Some("the codecs are not 1 to 128 printable ASCII bytes without a quotation mark");
     }
-    match words.size.split_once('x') {
+    match size.split_once('x') {
         Some((width, height)) if is_side(width) && is_side(height) => None,
         _ => Some("a side of the size is outside 1 to 16384 pixels"),
     }
@@ -71,18 +63,11 @@ fn unlistable(words: ListedWords<'_>) -> Option<&'static str> {
 /// Writes why the rendition of `one` can't be listed.
 pub(crate) fn write_unlistable<W: fmt::Write>(
     f: &mut fmt::Formatter<W>,
-    words: ListedWords<'_>,
+    name: &str,
+    codecs: &str,
+    size: &str,
 ) -> fmt::Result {
-    f.write_str(unlistable(words).unwrap_or("an option is outside its range"))
-}
-
-/// The words that an entry is listed by.
-fn listed_words(words: EntryWords<'_>) -> ListedWords<'_> {
-    ListedWords {
-        name: words.name,
-        codecs: words.codecs,
-        size: words.size,
-    }
+    f.write_str(unlistable(name, codecs, size).unwrap_or("an option is outside its range"))
 }
 
 /// Writes why the entries of a ladder can't be listed together.
@@ -98,7 +83,7 @@ pub(crate) fn write_unlistable_entries<W: fmt::Write>(
             continue;
         };
         let number = place as u64 + 1;
-        if let Some(why) = unlistable(listed_words(words)) {
+        if let Some(why) = unlistable(words.name, words.codecs, words.size) {
             return write!(f, "entry {number}: {why}");
         }
         if is_among(words.name, &entries[..place]) {

@@ -4,6 +4,7 @@ pub mod SealedTexts
 pub mod LineRuns
 pub mod LadderEnds
 pub mod LadderFacts
+pub mod FolderRuns
 pub mod TextFacts
 pub mod SegmentFiles
 pub mod SummaryLines

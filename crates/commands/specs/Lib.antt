@@ -2,6 +2,7 @@ pub mod Checking
 pub mod Counts
 pub mod Defaults
 pub mod Entries
+pub mod FolderPacking
 pub mod Hex
 pub mod KeyLists
 pub mod LadderOptions

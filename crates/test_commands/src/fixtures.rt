@@ -3,8 +3,8 @@
 use commands::{
     CipherOptions, CipherWords, NumberWords, PackingWords, read_cipher_options, read_settings,
 };
-use pipeline::Settings;
 use fixture_standard_stream::{KEY_FRAME, STREAM, append_packets, filled};
+use pipeline::Settings;
 use std::alloc::{AllocError, Global};
 use std::io;
 use std::io::{ErrorKind, Read, Write};

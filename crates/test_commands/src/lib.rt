@@ -6,6 +6,8 @@ mod check;
 #[cfg(test)]
 mod fixtures;
 #[cfg(test)]
+mod into_folder;
+#[cfg(test)]
 mod ladder;
 #[cfg(test)]
 mod one;

@@ -3,7 +3,7 @@
 
 mod ladder;
 
-use crate::ladder::pack_into_folder;
+use crate::ladder::pack_ladder;
 use command_line::{Fault, Job, StreamJob, explain, line};
 use commands::{Packed, check, one, open, seal};
 use item_io::ReaderSource;
@@ -95,7 +95,7 @@ fn main(rt: HostRuntime) -> ExitCode {
     let answer = match line(rt.alloc(), words.as_slice()) {
         Ok(Job::Stream(job)) => run(&rt, job),
         Ok(Job::Ladder(job)) => match hold(&rt, job.folder) {
-            Ok(_held) => pack_into_folder(rt, rt.alloc(), &job, &mut rt.stdout()),
+            Ok(_held) => pack_ladder(rt, rt.alloc(), &job, &mut rt.stdout()),
             Err(fault) => Err(fault),
         },
         Err(fault) => Err(fault),

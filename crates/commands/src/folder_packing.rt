@@ -1,0 +1,55 @@
+ghost use Rattle.std.specs.Prelude.{◌≡◌, [], IfOk, IfErr};
+ghost use Rattle.ladder_items.specs.World.{HaveRoom};
+ghost use Rattle.rounds.specs.Shown.{IsPackedShown};
+ghost use Rattle.commands.specs.FolderPacking.{FolderSays, IsPackedInto, LeavesPrefix, folder_run};
+ghost use Rattle.commands.specs.LadderPacking.{LadderSays, WritesSummary};
+
+use crate::ladder_packing::{PackedLadder, pack};
+use crate::pool::Pool;
+use folder::Folder;
+use item_io::{FolderOutlet, READS, Source};
+use live_board::Publisher;
+use pipeline::Settings;
+use std::alloc::Global;
+use std::io::Write;
+use std::sync::Wait;
+use std::thread::Threads;
+
+/// The command `pack` for a folder to which nothing was done before: packs a ladder on many threads and puts its segments
+/// and playlists into files of the folder.
+///
+/// Wherever the process is killed, also after a fault, the folder shows what stood there before with a prefix of a weave
+/// of the renditions over it, whole files alone; and once all is packed, all of the weave is there.
+pub fn pack_into_folder<S: Source + Drop, F: Folder + Drop, W: Write, R: Threads + Wait + Sync>(
+    rt: &R,
+    alloc: Global,
+    sources: Vec<S>,
+    settings: &Settings,
+    pool: Pool,
+    publisher: Publisher,
+    folder: F,
+    output: &mut W,
+) -> PackedLadder<S, FolderOutlet<F>>
+    requires room { HaveRoom S.input READS sources.items }
+    requires fresh { F.made folder ≡ [] }
+    ensures killed { LeavesPrefix settings.now (F.made result.outlet.folder) }
+    ensures there { IfOk result.answer (IsPackedInto
+        (folder_run S.input F.made READS sources.items result.sources.items folder result.outlet)
+        settings.now (F.made result.outlet.folder)) }
+    ensures left { IfErr result.answer (FolderSays
+        (folder_run S.input F.made READS sources.items result.sources.items folder result.outlet)
+        settings.now (F.made result.outlet.folder)) }
+    ensures ok { IfOk result.answer (IsPackedShown
+        (folder_run S.input F.made READS sources.items result.sources.items folder result.outlet)
+        settings.now pool.workers publisher.list result.publisher.list) }
+    ensures written { IfOk result.answer (λ report. WritesSummary settings.now report (W.contents output.old) (W.contents output.new)) }
+    ensures fault { IfErr result.answer (LadderSays
+        (folder_run S.input F.made READS sources.items result.sources.items folder result.outlet)
+        settings.now pool.workers publisher.list result.publisher.list (W.contents output.old) (W.contents output.new)) }
+    ensures board { result.publisher.board ≡ publisher.board }
+{
+    let outlet = FolderOutlet::with_folder(folder, alloc);
+    pack(
+        rt, alloc, sources, settings, pool, publisher, outlet, output,
+    )
+}
