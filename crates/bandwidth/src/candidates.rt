@@ -7,7 +7,7 @@ ghost use Rattle.limits.specs.declared.TheConstants.{MOST_TARGET};
 
 use crate::corners::{add_all, walk_corners};
 use crate::place::{Place, Start};
-use crate::run::{Span, Run};
+use crate::run::{Run, Span};
 use crate::starts::{drop_early, link_all, walk};
 use ghost_list::GhostList;
 use std::alloc::{AllocError, Global};
@@ -67,7 +67,13 @@ impl Candidates {
     /// Moves on to the last span: takes the places from which the spans last half of the target now, and drops those from
     /// which they last longer than one and a half of it. Once none of those is left that are linked, it links all others
     /// that there are.
-    pub fn move_on(&mut self, target: u64, total: Place, _best: Option<Run>, _spans: &GhostList<Span>)
+    pub fn move_on(
+        &mut self,
+        target: u64,
+        total: Place,
+        _best: Option<Run>,
+        _spans: &GhostList<Span>,
+    )
         requires few { length _spans.now.items ≤ 2 ^ 52 }
         requires total { IsPlace _spans.now.items total }
         requires end { total.at ≡ length _spans.now.items }

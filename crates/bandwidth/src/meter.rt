@@ -4,9 +4,9 @@ ghost use Rattle.bandwidth.specs.Steps.{IsSmall};
 ghost use Rattle.limits.specs.declared.TheConstants.{MOST_TARGET};
 
 use crate::best::best_of;
-use crate::place::Place;
-use crate::run::{Span, Run, rate_of};
 use crate::candidates::Candidates;
+use crate::place::Place;
+use crate::run::{Run, Span, rate_of};
 use ghost_list::GhostList;
 use std::alloc::{AllocError, Global};
 use std::marker::Model;

@@ -4,8 +4,8 @@ ghost use Rattle.std.specs.Prelude.{◌≡◌, All, IfOk};
 
 use crate::nowhere::Nowhere;
 use crate::stream::{PACKETS, packet};
-use item_io::ReaderSource;
 use fixture_standard_stream::{SETTINGS, keys};
+use item_io::ReaderSource;
 use pipeline::{Kind, Ran, Rendition, Settings, opening_board, pack_parallel, pack_serial};
 use std::alloc::{AllocError, Global};
 use std::sync::Wait;

@@ -1,9 +1,9 @@
 //! A collector that is asked.
 
 use cutter::{Plan, PlanRef};
+use fixture_standard_stream::{keys, sealed};
 use flow_core::{CollectFault, Collector};
 use segment_job::Sealed;
-use fixture_standard_stream::{keys, sealed};
 use std::alloc::Global;
 
 /// Expects a plan, and again where it comes back. Tells how it went.

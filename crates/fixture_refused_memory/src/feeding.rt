@@ -3,8 +3,8 @@
 ghost use Rattle.std.specs.Prelude.{◌≡◌};
 
 use cutter::{Plan, PlanRef};
-use flow_core::{FeedFault, Flow, Queue};
 use fixture_standard_stream::keys;
+use flow_core::{FeedFault, Flow, Queue};
 use std::alloc::Global;
 use std::marker::Brand;
 use std::sync::ledger::{Blank, Ledger};

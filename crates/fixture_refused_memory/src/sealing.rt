@@ -2,8 +2,8 @@
 
 use crate::sealing_run::{Told, run};
 use cutter::Plan;
-use segment_job::Keys;
 use fixture_standard_stream::{keys, plans};
+use segment_job::Keys;
 use std::alloc::Global;
 use std::sync::Wait;
 use std::thread::Threads;

@@ -1,11 +1,13 @@
 //! What the segments of a playlist unpack to.
 use crate::texts::{MEDIA, SALT, SALTED};
 use aes_cbc::{Key, seal};
+use fixture_standard_stream::{
+    FRAME, KEY_FRAME, LAST_FRAME, PAT, PMT, SECOND_KEY_FRAME, append_packets,
+};
 use hls_check::{
     CheckFault, Checked, Entry, ListFault, Listing, UnpackFault, check, check_listing, unpack,
 };
 use playlist_text::salted_vector;
-use fixture_standard_stream::{FRAME, KEY_FRAME, LAST_FRAME, PAT, PMT, SECOND_KEY_FRAME, append_packets};
 use std::alloc::{AllocError, Global};
 use std::test::Fail;
 

@@ -1,7 +1,7 @@
 //! The settings of runs for tests.
 
-use ladder_items::{Kind, Rendition, Settings};
 use fixture_standard_stream::{SETTINGS, key};
+use ladder_items::{Kind, Rendition, Settings};
 use std::alloc::Global;
 use std::test::Fail;
 

@@ -3,11 +3,11 @@
 ghost use Rattle.std.specs.Prelude.{◌≡◌, All, IfOk};
 
 use crate::fixtures::settings;
+use fixture_standard_stream::{KEY_FRAME, PAT, PMT, append_packets};
 use item_io::{FailingOutlet, FailingReader, Item, READS};
 use ladder_items::{PackFault, Report, Settings};
 use live_board::{Publisher, Snapshot, Viewer, board};
 use rounds::{Ran, pack_in_batches, pack_parallel};
-use fixture_standard_stream::{KEY_FRAME, PAT, PMT, append_packets};
 use std::alloc::{AllocError, Global};
 use std::sync::Wait;
 use std::test::Fail;

@@ -3,8 +3,8 @@
 ghost use Rattle.std.specs.Prelude.{◌≡◌, ◌+◌, vec_len};
 
 use cutter::{Plan, PlanRef};
-use segment_job::Keys;
 use fixture_standard_stream::{keys, plans};
+use segment_job::Keys;
 use std::alloc::{AllocError, Global};
 use std::marker::Brand;
 use std::sync::Wait;
