@@ -32,67 +32,69 @@ fn of_packing(fault: PackFault) -> Fault {
     Fault::LadderPacking(LadderPackingFault::Packing(fault))
 }
 
+/// Options, numbers outside their ranges, and what is said of them.
+const RANGES: [(&str, &str, &str); 12] = [
+    (
+        "--target",
+        "3601",
+        "  --target is outside its range, 1 to 3600 seconds\n",
+    ),
+    (
+        "--segment",
+        "7",
+        "  --segment is outside its range, 1 second to the target\n",
+    ),
+    (
+        "--window",
+        "0",
+        "  --window is outside its range, 1 to 10000 segments\n",
+    ),
+    (
+        "--frame",
+        "900001",
+        "  --frame is outside its range, 1 to 900000 ticks\n",
+    ),
+    (
+        "--gap",
+        "4294967296",
+        "  --gap is outside its range, 1 to 4294967295 ticks\n",
+    ),
+    (
+        "--most",
+        "1000001",
+        "  --most is outside its range, 1 to 1000000 packets\n",
+    ),
+    (
+        "--program",
+        "65536",
+        "  --program is outside its range, 1 to 65535\n",
+    ),
+    (
+        "--workers",
+        "65",
+        "  --workers is outside its range, 1 to 64\n",
+    ),
+    (
+        "--queue",
+        "257",
+        "  --queue is outside its range, 1 to 256 segments\n",
+    ),
+    (
+        "--batch",
+        "0",
+        "  --batch is outside its range, 1 to 256 segments\n",
+    ),
+    (
+        "--period",
+        "0",
+        "  --period is 0: a key seals at least one segment\n",
+    ),
+    ("--salt", "00", "  --salt is not 32 hex digits\n"),
+];
+
 #[test]
 fn numbers_out_of_their_ranges(rt: HostRuntime) -> Result<(), Fail> {
-    let table = [
-        (
-            "--target",
-            "3601",
-            "  --target is outside its range, 1 to 3600 seconds\n",
-        ),
-        (
-            "--segment",
-            "7",
-            "  --segment is outside its range, 1 second to the target\n",
-        ),
-        (
-            "--window",
-            "0",
-            "  --window is outside its range, 1 to 10000 segments\n",
-        ),
-        (
-            "--frame",
-            "900001",
-            "  --frame is outside its range, 1 to 900000 ticks\n",
-        ),
-        (
-            "--gap",
-            "4294967296",
-            "  --gap is outside its range, 1 to 4294967295 ticks\n",
-        ),
-        (
-            "--most",
-            "1000001",
-            "  --most is outside its range, 1 to 1000000 packets\n",
-        ),
-        (
-            "--program",
-            "65536",
-            "  --program is outside its range, 1 to 65535\n",
-        ),
-        (
-            "--workers",
-            "65",
-            "  --workers is outside its range, 1 to 64\n",
-        ),
-        (
-            "--queue",
-            "257",
-            "  --queue is outside its range, 1 to 256 segments\n",
-        ),
-        (
-            "--batch",
-            "0",
-            "  --batch is outside its range, 1 to 256 segments\n",
-        ),
-        (
-            "--period",
-            "0",
-            "  --period is 0: a key seals at least one segment\n",
-        ),
-        ("--salt", "00", "  --salt is not 32 hex digits\n"),
-    ];
-    for (option, value, text) in table {
+    for (option, value, text) in RANGES {
         let words = ["tshls", "pack", "--out", "hls", option, value, LOW];
         assert!(rt;
             is_explained(rt.alloc(), &words, Fault::NotUtf8, text)?,
