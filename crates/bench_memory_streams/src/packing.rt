@@ -6,7 +6,7 @@ use crate::nowhere::Nowhere;
 use crate::stream::{PACKETS, packet};
 use fixture_standard_stream::{SETTINGS, keys};
 use item_io::ReaderSource;
-use pipeline::{Kind, Ran, Rendition, Settings, opening_board, pack_parallel, pack_serial};
+use pipeline::{Gone, Kind, Ran, Rendition, Settings, opening_board, pack_parallel, pack_serial};
 use std::alloc::{AllocError, Global};
 use std::sync::Wait;
 use std::thread::Threads;
@@ -30,6 +30,7 @@ fn settings(alloc: Global) -> Option<Settings> {
         height: 360,
         keys: keys(alloc)?.pop()?,
         salt: None,
+        gone: Gone::nothing(),
     };
     Some(Settings {
         renditions: Vec::from_array(alloc, [rendition]).ok()?,

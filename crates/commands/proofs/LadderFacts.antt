@@ -33,13 +33,16 @@ one-rendition words turns a b one other =
     let period : a.keys.period ≡ b.keys.period = one.period_is ∙ sym other.period_is in
     let salt : a.salt ≡ b.salt = one-some a.salt b.salt (sym one.salt_is ∙ other.salt_is) in
     let held : a.keys.salt ≡ b.keys.salt = one.held_is ∙ salt ∙ sym other.held_is in
+    let first : a.keys.first ≡ b.keys.first = one.is_new.first ∙ sym other.is_new.first in
+    let gone : a.gone ≡ b.gone = one.is_new.gone ∙ sym other.is_new.gone in
     λ i. record {
       name = name i;
       codecs = codecs i;
       width = width i;
       height = height i;
-      keys = record { keys = keys i; period = period i; salt = held i };
+      keys = record { keys = keys i; period = period i; salt = held i; first = first i };
       salt = salt i;
+      gone = gone i;
     }
 
 pub one-list : (words : Entry → Words) (turns : ℕ) (entries : List Entry) (xs ys : List RenditionValue)

@@ -4,7 +4,7 @@ use Rattle.std.specs.Option.{unwrap_or, option_map}
 use Rattle.cutter.specs.declared.settings.CutSettings.{CutSettings}
 use Rattle.ladder_items.specs.declared.settings.Kind.{Kind}
 use Rattle.ladder_items.specs.declared.settings.Kind.TheVariants.{Live, Event}
-use Rattle.ladder_items.specs.Ladder.{Ladder, RenditionValue}
+use Rattle.ladder_items.specs.Ladder.{Ladder, RenditionValue, IsNew}
 use Rattle.commands.specs.declared.numbers.Numbers.{Numbers}
 use Rattle.commands.specs.declared.settings.PackingWords.{PackingWords}
 use Rattle.commands.specs.Defaults.{name_of}
@@ -72,7 +72,7 @@ abbrev pub kind_of : Bool → Kind
 kind_of true = Event
 kind_of false = Live
 
--- a rendition of these words, whose keys take turns by this period and hold its salt
+-- a rendition of these words, whose keys take turns by this period and hold its salt, and of which nothing came before
 pub record IsRenditionOf (words : Words) (turns : ℕ) (made : RenditionValue) : Type 0 where
   pub name_is : made.name ≡ words.name
   pub codecs_are : made.codecs ≡ words.codecs
@@ -81,6 +81,7 @@ pub record IsRenditionOf (words : Words) (turns : ℕ) (made : RenditionValue) :
   pub period_is : made.keys.period ≡ turns
   pub salt_is : chosen_salt words.salt ≡ Some made.salt
   pub held_is : made.keys.salt ≡ made.salt
+  pub is_new : IsNew made
 
 -- the settings of one rendition, cut and listed by these numbers
 pub record IsLadderOf (words : Words) (numbers : Numbers) (made : Ladder) : Type 0 where

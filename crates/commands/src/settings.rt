@@ -12,7 +12,7 @@ use crate::frame_size::{FrameSize, size};
 use crate::key_list::{KeyListFault, are_keys, key_count, read_keys};
 use crate::numbers::{NumberWords, name};
 use limits::MOST_KEYS;
-use pipeline::{Kind, Rendition, Settings};
+use pipeline::{Gone, Kind, Rendition, Settings};
 use segment_job::Keys;
 use std::alloc::{AllocError, AllocFailed, Global};
 use thiserror::Error;
@@ -146,7 +146,7 @@ fn look(words: PackingWords<'_>, period: u64) -> Result<Parts, SettingsFault>
 fn rotation(keys: Vec<[u8; 16]>, period: u64, salt: Option<[u8; 16]>) -> Keys
     requires some { 0 < length keys.items }
     requires turns { TakeTurns keys.items period }
-    ensures { result ≡ record { keys = keys.items; period = period; salt = salt } }
+    ensures { result ≡ record { keys = keys.items; period = period; salt = salt; first = 0 } }
 {
     let made = match salt {
         None => Keys::new(keys, period),
@@ -182,6 +182,7 @@ fn rendition(
         height: parts.size.height,
         keys: rotation(keys, period, parts.salt),
         salt: parts.salt,
+        gone: Gone::nothing(),
     })
 }
 

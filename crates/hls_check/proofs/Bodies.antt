@@ -2,7 +2,8 @@
 use Rattle.std.proofs.Common.{◌≡◌, ℕ, zero, suc, ◌<◌, List, [], ◌∷◌, ◌++◌, length, get_or, map, refl, sym, ap, ◌∙◌, subst, arith}
 use Rattle.aes_cbc.specs.Opening.{Seals}
 use Rattle.playlist_text.specs.MediaLines.{Entry}
-use Rattle.segment_job.specs.Rotation.{KeyRotation, IsRotation, key_index, vector_of}
+use Rattle.playlist_text.specs.Vectors.{salted_vector}
+use Rattle.segment_job.specs.Rotation.{KeyRotation, IsRotation, key_index}
 use Rattle.segment_job.specs.Segments.{SealedSegment, plain, plan_head}
 use Rattle.hls_check.specs.Unpacking.{packed, Unpacks, AllUnpack}
 use Rattle.hls_check.specs.Listed.{Lists, ListEach}
@@ -13,10 +14,11 @@ index-below keys n sound = omega (arith, sound.some)
 
 -- the text of an entry
 text-opens : (keys : KeyRotation) (entry : Entry) (s : SealedSegment) → Lists keys entry s
-    → Seals (get_or keys.keys entry.key []) (vector_of keys entry.number) (plan_head s.plan ++ s.plan.body) s.bytes
+    → Seals (get_or keys.keys entry.key []) (salted_vector keys.salt entry.number) (plan_head s.plan ++ s.plan.body) s.bytes
 text-opens keys entry s lists =
     let key : s.key ≡ get_or keys.keys entry.key [] = ap (λ (x : SealedSegment). x.key) lists.by_keys ∙ ap (λ i. get_or keys.keys i []) (sym lists.key) in
-    let number : s.vector ≡ vector_of keys entry.number = ap (λ (x : SealedSegment). x.vector) lists.by_keys ∙ ap (vector_of keys) (sym lists.number) in
+    let number : s.vector ≡ salted_vector keys.salt entry.number =
+    ap (λ (x : SealedSegment). x.vector) lists.by_keys ∙ ap (salted_vector keys.salt) (sym lists.number) in
     let text : Seals s.key s.vector (plan_head s.plan ++ s.plan.body) s.bytes = lists.is_sealed.opens.text in
     subst (λ v. Seals (get_or keys.keys entry.key []) v (plan_head s.plan ++ s.plan.body) s.bytes) number
     (subst (λ k. Seals k s.vector (plan_head s.plan ++ s.plan.body) s.bytes) key text)

@@ -41,7 +41,7 @@ told-first p ended bounded some =
 abbrev later : Progress → Progress
 later p = with_entry p (next_number p)
 
-later-bounded : (p : Progress) → IsBounded p → next_number p < 2 ^ 32 - 1 → IsBounded (later p)
+later-bounded : (p : Progress) → IsBounded p → next_number p < 2 ^ 33 → IsBounded (later p)
 later-bounded p bounded left = record {
   name = bounded.name;
   utf8 = bounded.utf8;
@@ -61,7 +61,7 @@ later-bounded p bounded left = record {
 abbrev rest_of : Progress → List (List ℕ)
 rest_of p = duration_line p.micros ∷ segment_uri (name_of p) (next_number p) ∷ []
 
-later-first : (p : Progress) → IsBounded p → next_number p < 2 ^ 32 - 1 → AreFirst (listed_lines p ++ (discontinuity_lines p.discontinuity ++ keys_of p ++ rest_of p))
+later-first : (p : Progress) → IsBounded p → next_number p < 2 ^ 33 → AreFirst (listed_lines p ++ (discontinuity_lines p.discontinuity ++ keys_of p ++ rest_of p))
 unfolding entry_lines end_lines
 later-first p bounded left =
     let some : 0 < length (p.entries ++ entry_of p (next_number p) ∷ []) = omega (arith, length-append p.entries (entry_of p (next_number p) ∷ [])) in
@@ -71,7 +71,7 @@ later-first p bounded left =
     ∙ sym (append_assoc (front_of p) (entries_lines (name_of p) p.salt None p.entries) (entry_lines (name_of p) p.salt (last_key p.entries) (entry_of p (next_number p))))
     ) (told-first (later p) false (later-bounded p bounded left) some)
 
-later-broken : (p : Progress) → IsBounded p → next_number p < 2 ^ 32 - 1 → AreFirst ((listed_lines p ++ discontinuity_lines p.discontinuity) ++ (keys_of p ++ rest_of p))
+later-broken : (p : Progress) → IsBounded p → next_number p < 2 ^ 33 → AreFirst ((listed_lines p ++ discontinuity_lines p.discontinuity) ++ (keys_of p ++ rest_of p))
 later-broken p bounded left =
     let disc = discontinuity_lines p.discontinuity in
     subst AreFirst (
@@ -79,11 +79,11 @@ later-broken p bounded left =
     ∙ sym (append_assoc (listed_lines p) disc (keys_of p ++ rest_of p))
     ) (later-first p bounded left)
 
-later-keyed : (p : Progress) → IsBounded p → next_number p < 2 ^ 32 - 1 → AreFirst ((listed_lines p ++ discontinuity_lines p.discontinuity ++ keys_of p) ++ rest_of p)
+later-keyed : (p : Progress) → IsBounded p → next_number p < 2 ^ 33 → AreFirst ((listed_lines p ++ discontinuity_lines p.discontinuity ++ keys_of p) ++ rest_of p)
 later-keyed p bounded left =
     subst AreFirst (sym (append_assoc (listed_lines p ++ discontinuity_lines p.discontinuity) (keys_of p) (rest_of p))) (later-broken p bounded left)
 
-later-timed : (p : Progress) → IsBounded p → next_number p < 2 ^ 32 - 1
+later-timed : (p : Progress) → IsBounded p → next_number p < 2 ^ 33
     → AreFirst ((listed_lines p ++ discontinuity_lines p.discontinuity ++ keys_of p ++ duration_line p.micros ∷ []) ++ segment_uri (name_of p) (next_number p) ∷ [])
 later-timed p bounded left =
     let front = listed_lines p ++ discontinuity_lines p.discontinuity ++ keys_of p in
@@ -92,7 +92,7 @@ later-timed p bounded left =
 -- the lines of the head
 whole-head-first : (p : Progress) → IsBounded p → p.entries ≡ [] → AreFirst (head_of p)
 whole-head-first p bounded none =
-    let left : next_number p < 2 ^ 32 - 1 = omega (arith, bounded.sequence, ap length none) in
+    let left : next_number p < 2 ^ 33 = omega (arith, bounded.sequence, ap length none) in
     let whole = first-of (listed_lines p) (discontinuity_lines p.discontinuity ++ keys_of p ++ rest_of p) (later-first p bounded left) in
     first-of (head_of p) (type_lines p.event) (first-of (front_of p) (entries_lines (name_of p) p.salt None p.entries) whole)
 
@@ -101,7 +101,7 @@ head-first p n bounded none =
     first-of (take n (head_of p)) (drop n (head_of p)) (subst AreFirst (sym (take-append-drop n (head_of p))) (whole-head-first p bounded none))
 
 between-first : (p : Progress) → IsBounded p → AreFirst (listed_lines p)
-between-first p bounded = elim (cases_lt (next_number p) (2 ^ 32 - 1)) [
+between-first p bounded = elim (cases_lt (next_number p) (2 ^ 33)) [
   | inl left ↦ first-of (listed_lines p) (discontinuity_lines p.discontinuity ++ keys_of p ++ rest_of p) (later-first p bounded left)
   | inr none ↦ first-of (listed_lines p) (end_lines false) (told-first p false bounded (omega (arith, bounded.sequence, none)))
 ]

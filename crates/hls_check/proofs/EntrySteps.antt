@@ -45,9 +45,9 @@ pub expect-same : (line : List ℕ) (next : Progress) → expect line line next 
 expect-same line next = if-true (bytes_eq line line) (Some next) None ((bytes_eq-Decides line line).1 refl)
 
 -- a number that is left
-pub left-is : (p : Progress) (n : ℕ) → n ≡ next_number p → n < 2 ^ 32 - 1 → number_left p ≡ Some n
+pub left-is : (p : Progress) (n : ℕ) → n ≡ next_number p → n < 2 ^ 33 → number_left p ≡ Some n
 left-is p n same below =
-    if-true (nat_lt (next_number p) (2 ^ 32 - 1)) (Some (next_number p)) None (lt-ltb (next_number p) (2 ^ 32 - 1) (omega (arith, same, below))) ∙ ap Some (sym same)
+    if-true (nat_lt (next_number p) (2 ^ 33)) (Some (next_number p)) None (lt-ltb (next_number p) (2 ^ 33) (omega (arith, same, below))) ∙ ap Some (sym same)
 
 -- what stands before an entry: no key yet, or this name and salt with this key
 abbrev pub IsBehind : Progress → List ℕ → Option (List ℕ) → Option ℕ → Type 0
@@ -74,7 +74,7 @@ keyed-told p name salt n key line left none named salted found =
     ∙ ap (option_map (with_key p name salt)) found
     )
 
-keyed-once : (p : Progress) (name : List ℕ) (salt : Option (List ℕ)) (n key : ℕ) → IsGood name → IsSalt salt → n < 2 ^ 32 - 1 → key < 4096 → p.name ≡ None → number_left p ≡ Some n
+keyed-once : (p : Progress) (name : List ℕ) (salt : Option (List ℕ)) (n key : ℕ) → IsGood name → IsSalt salt → n < 2 ^ 33 → key < 4096 → p.name ≡ None → number_left p ≡ Some n
     → keyed p (key_line_under name salt n key) ≡ Some (with_key p name salt key)
 keyed-once p name salt n key good sixteen few small none left =
     keyed-told p name salt n key (key_line_under name salt n key) left none (name-found name salt n key good.0 good.1) (salt-found name salt n key sixteen (omega (arith, few)))

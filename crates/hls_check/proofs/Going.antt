@@ -52,9 +52,9 @@ lines_at Ended p = listed_lines p ++ end_lines true
 -- a key that was told is another one, unless there is a salt; and within an entry a number is left
 abbrev pub IsAt : Stage → Progress → Type 0
 IsAt Between p = (last_key p.entries ≡ option_map (λ _. p.key) p.name)
-IsAt Broken p = (last_key p.entries ≡ option_map (λ _. p.key) p.name) × (p.discontinuity ≡ true) × (next_number p < 2 ^ 32 - 1)
-IsAt Keyed p = (is_some p.name ≡ true) × ((is_some p.salt ≡ true) ⊎ (last_key p.entries ≢ Some p.key)) × (next_number p < 2 ^ 32 - 1)
-IsAt Timed p = (is_some p.name ≡ true) × (next_number p < 2 ^ 32 - 1)
+IsAt Broken p = (last_key p.entries ≡ option_map (λ _. p.key) p.name) × (p.discontinuity ≡ true) × (next_number p < 2 ^ 33)
+IsAt Keyed p = (is_some p.name ≡ true) × ((is_some p.salt ≡ true) ⊎ (last_key p.entries ≢ Some p.key)) × (next_number p < 2 ^ 33)
+IsAt Timed p = (is_some p.name ≡ true) × (next_number p < 2 ^ 33)
 IsAt Ended p = (is_some p.name ≡ true) × (0 < length p.entries)
 IsAt _ p = (p.entries ≡ []) × (p.name ≡ None) × (p.micros ≡ 1) × (p.event ≡ false)
 
@@ -64,8 +64,8 @@ pub record AreBounded (n : List ℕ) (t s d : ℕ) (e : Bool) (x : Option (List 
   pub utf8 : IsUtf8 n
   pub some_target : 0 < t
   pub target : t ≤ 3600
-  pub sequence : s < 2 ^ 32 - 1
-  pub discontinuity_sequence : d < 2 ^ 32
+  pub sequence : s < 2 ^ 33
+  pub discontinuity_sequence : d < 2 ^ 33
   pub event : e ≡ true → (s ≡ 0) × (d ≡ 0)
   pub salt : IsSalt x
   pub key : k < 4096

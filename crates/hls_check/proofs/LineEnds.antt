@@ -81,7 +81,7 @@ key-line name salt n key small =
     (decimal-line key (omega (arith, small))))
     (end-line salt n))
 
-segment-line : (name : List ℕ) (n : ℕ) → n < 2 ^ 32 → IsLine (segment_uri name n)
+segment-line : (name : List ℕ) (n : ℕ) → n < 2 ^ 33 → IsLine (segment_uri name n)
 unfolding segment_uri
 segment-line name n small =
     joined (escaped name ++ codes "." ++ decimal n) (codes ".ts")
@@ -99,7 +99,7 @@ and-lines : (xs ys : List (List ℕ)) → All IsLine xs → All IsLine ys → Al
 and-lines xs ys = All-append IsLine xs ys
 
 -- the lines of the head
-head-IsLine : (t s d : ℕ) → t ≤ 3600 → s < 2 ^ 32 → d < 2 ^ 32 → All IsLine (head_lines t s d)
+head-IsLine : (t s d : ℕ) → t ≤ 3600 → s < 2 ^ 33 → d < 2 ^ 33 → All IsLine (head_lines t s d)
 unfolding head_lines
 head-IsLine t s d one two three =
     let disc = discontinuity_sequence_line d ∷ [] in
@@ -161,8 +161,8 @@ unfolding end_lines
 end-IsLine true = and-line (codes "#EXT-X-ENDLIST") [] (written (codes "#EXT-X-ENDLIST") refl) no-lines
 end-IsLine false = no-lines
 
--- the first number is below 2^32
-pub sequence-small : (target n : ℕ) (entries : List Entry) → 0 < length entries → AreListed target n entries → n < 2 ^ 32 - 1
+-- the first number is below 2^33
+pub sequence-small : (target n : ℕ) (entries : List Entry) → 0 < length entries → AreListed target n entries → n < 2 ^ 33
 sequence-small target n [] some listed = absurd (omega (arith, some))
 sequence-small target n (entry ∷ entries) some listed = listed.0.below
 

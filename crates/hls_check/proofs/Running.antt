@@ -26,7 +26,7 @@ headed_with t s d = record fresh { stage = Headed; target = t; sequence = s; dis
 abbrev begun_with : ℕ → ℕ → ℕ → Bool → Progress
 begun_with t s d event = record fresh { stage = Between; target = t; sequence = s; discontinuity_sequence = d; event = event }
 
-head-steps : (t s d : ℕ) (lines : List (List ℕ)) → 0 < t → t ≤ 3600 → s < 2 ^ 32 - 1 → d < 2 ^ 32 → steps fresh (head_lines t s d ++ lines) ≡ steps (headed_with t s d) lines
+head-steps : (t s d : ℕ) (lines : List (List ℕ)) → 0 < t → t ≤ 3600 → s < 2 ^ 33 → d < 2 ^ 33 → steps fresh (head_lines t s d ++ lines) ≡ steps (headed_with t s d) lines
 unfolding head_lines step
 head-steps t s d lines some few first small =
     let one = record fresh { stage = Tagged } in
@@ -43,11 +43,11 @@ head-steps t s d lines some few first small =
     )
     ∙ steps-line three four (sequence_line s) last (
     ap (option_map (λ n. record three { stage = Sequenced; sequence = n }))
-    (number-found sequence_line (2 ^ 32 - 1) s (tagged-apart (codes "#EXT-X-MEDIA-SEQUENCE:") (2 ^ 32 - 1) (omega arith)) first)
+    (number-found sequence_line (2 ^ 33) s (tagged-apart (codes "#EXT-X-MEDIA-SEQUENCE:") (2 ^ 33) (omega arith)) first)
     )
     ∙ steps-line four (headed_with t s d) (discontinuity_sequence_line d) lines (
     ap (option_map (λ n. record four { stage = Headed; discontinuity_sequence = n }))
-    (number-found discontinuity_sequence_line (2 ^ 32) d (tagged-apart (codes "#EXT-X-DISCONTINUITY-SEQUENCE:") (2 ^ 32) (omega arith)) small)
+    (number-found discontinuity_sequence_line (2 ^ 33) d (tagged-apart (codes "#EXT-X-DISCONTINUITY-SEQUENCE:") (2 ^ 33) (omega arith)) small)
     )
 
 -- the line of the type is taken

@@ -199,9 +199,9 @@ goes-targeted : (p q : Progress) (line : List ℕ) → IsSound p → IsAt Target
 unfolding head_lines
 goes-targeted p q line sound at is =
     let next = λ (n : ℕ). record p { stage = Sequenced; sequence = n } in
-    let told = map-some next (number_in sequence_line (2 ^ 32 - 1) line) q is in
+    let told = map-some next (number_in sequence_line (2 ^ 33) line) q is in
     let n = told.0 in
-    let read = numbered sequence_line (2 ^ 32 - 1) n line told.1 in
+    let read = numbered sequence_line (2 ^ 33) n line told.1 in
     subst (Goes (lines_at Targeted p) line) told.2 (
       record {
         bounded = record { name = sound.bounded.name; utf8 = sound.bounded.utf8; some_target = sound.bounded.some_target; target = sound.bounded.target; sequence = read.1; discontinuity_sequence = sound.bounded.discontinuity_sequence; event = λ is. absurd (false≢true (sym at.3 ∙ is)); salt = sound.bounded.salt; key = sound.bounded.key; lasts = sound.bounded.lasts; short = sound.bounded.short; entries = subst (AreListed p.target n) (sym at.0) _ };
@@ -214,9 +214,9 @@ goes-sequenced : (p q : Progress) (line : List ℕ) → IsSound p → IsAt Seque
 unfolding head_lines
 goes-sequenced p q line sound at is =
     let next = λ (n : ℕ). record p { stage = Headed; discontinuity_sequence = n } in
-    let told = map-some next (number_in discontinuity_sequence_line (2 ^ 32) line) q is in
+    let told = map-some next (number_in discontinuity_sequence_line (2 ^ 33) line) q is in
     let n = told.0 in
-    let read = numbered discontinuity_sequence_line (2 ^ 32) n line told.1 in
+    let read = numbered discontinuity_sequence_line (2 ^ 33) n line told.1 in
     subst (Goes (lines_at Sequenced p) line) told.2 (
       record {
         bounded = record { name = sound.bounded.name; utf8 = sound.bounded.utf8; some_target = sound.bounded.some_target; target = sound.bounded.target; sequence = sound.bounded.sequence; discontinuity_sequence = read.1; event = λ is. absurd (false≢true (sym at.3 ∙ is)); salt = sound.bounded.salt; key = sound.bounded.key; lasts = sound.bounded.lasts; short = sound.bounded.short; entries = sound.bounded.entries };
@@ -231,7 +231,7 @@ between-stands p none unnamed = ap last_key none ∙ sym (ap (option_map (λ _. 
 
 -- the line of a key
 with-key-goes : (p : Progress) (name : List ℕ) (salt : Option (List ℕ)) (key : ℕ) (line : List ℕ) → IsBounded p → is_name name ≡ true → IsUtf8 name → IsSalt salt → key < 4096
-    → (is_some salt ≡ true) ⊎ (last_key p.entries ≢ Some key) → next_number p < 2 ^ 32 - 1
+    → (is_some salt ≡ true) ⊎ (last_key p.entries ≢ Some key) → next_number p < 2 ^ 33
     → entries_lines name salt None p.entries ≡ entries_lines (name_of p) p.salt None p.entries → line ≡ key_line_under name salt (next_number p) key
     → Goes (listed_lines p ++ discontinuity_lines p.discontinuity) line (with_key p name salt key)
 with-key-goes p name salt key line bounded good utf8 sixteen small other left same is = (
@@ -240,7 +240,7 @@ with-key-goes p name salt key line bounded good utf8 sixteen small other left sa
       ∙ ap (λ x. (listed_lines p ++ discontinuity_lines p.discontinuity) ++ x ∷ []) (sym is),
 )
 
-keyed-goes-by : (o : Option (List ℕ)) (p q : Progress) (line : List ℕ) → p.name ≡ o → IsBounded p → last_key p.entries ≡ option_map (λ _. p.key) o → next_number p < 2 ^ 32 - 1
+keyed-goes-by : (o : Option (List ℕ)) (p q : Progress) (line : List ℕ) → p.name ≡ o → IsBounded p → last_key p.entries ≡ option_map (λ _. p.key) o → next_number p < 2 ^ 33
     → keyed_by o p (next_number p) line ≡ Some q → Goes (listed_lines p ++ discontinuity_lines p.discontinuity) line q
 keyed-goes-by None p q line known bounded last left is =
     let n = next_number p in
@@ -269,16 +269,16 @@ keyed-goes-by (Some name) p q line known bounded last left is =
     (with-key-goes p name p.salt key line bounded (ap is_name (sym same) ∙ bounded.name) (subst IsUtf8 same bounded.utf8) bounded.salt read.1
     other left (ap (λ x. entries_lines x p.salt None p.entries) (sym same)) read.0)
 
-keyed-goes : (p q : Progress) (line : List ℕ) → IsBounded p → last_key p.entries ≡ option_map (λ _. p.key) p.name → next_number p < 2 ^ 32 - 1
+keyed-goes : (p q : Progress) (line : List ℕ) → IsBounded p → last_key p.entries ≡ option_map (λ _. p.key) p.name → next_number p < 2 ^ 33
     → keyed p line ≡ Some q → Goes (listed_lines p ++ discontinuity_lines p.discontinuity) line q
 unfolding keyed
 keyed-goes p q line bounded last left is =
     let told = then-some (λ n. keyed_by p.name p n line) (number_left p) q is in
-    let may = if-some (nat_lt (next_number p) (2 ^ 32 - 1)) (next_number p) told.0 told.1 in
+    let may = if-some (nat_lt (next_number p) (2 ^ 33)) (next_number p) told.0 told.1 in
     keyed-goes-by p.name p q line refl bounded last left (ap (λ n. keyed_by p.name p n line) may.1 ∙ told.2)
 
 -- the line of a duration
-timed-goes : (p q : Progress) (line : List ℕ) (keys : List (List ℕ)) → IsBounded p → next_number p < 2 ^ 32 - 1
+timed-goes : (p q : Progress) (line : List ℕ) (keys : List (List ℕ)) → IsBounded p → next_number p < 2 ^ 33
     → (is_some p.name ≡ true → keys_of p ≡ keys)
     → timed p line ≡ Some q → Goes (listed_lines p ++ discontinuity_lines p.discontinuity ++ keys) line q
 unfolding timed
@@ -305,7 +305,7 @@ unfolding entry_key_lines key_lines
 same-key p plain last named =
     ap (λ x. entry_key_lines (name_of p) x (last_key p.entries) p.key (next_number p)) plain ∙ key-told (name_of p) p.key p.name (last_key p.entries) last named
 
-keyed_or_timed-goes : (p q : Progress) (line : List ℕ) → IsBounded p → last_key p.entries ≡ option_map (λ _. p.key) p.name → next_number p < 2 ^ 32 - 1
+keyed_or_timed-goes : (p q : Progress) (line : List ℕ) → IsBounded p → last_key p.entries ≡ option_map (λ _. p.key) p.name → next_number p < 2 ^ 33
     → keyed_or_timed p line ≡ Some q → Goes (listed_lines p ++ discontinuity_lines p.discontinuity) line q
 keyed_or_timed-goes p q line bounded last left is = elim (or-some (keyed p line) (if is_some p.salt then None else timed p line) q is) [
   | inl by_key ↦ keyed-goes p q line bounded last left by_key
@@ -330,7 +330,7 @@ goes-between p q line sound at is = elim (if-cases (bytes_eq line (codes "#EXT-X
       )
   | inr more ↦
       let told = then-some (λ n. entered p line) (number_left p) q more.1 in
-      let left = ltb-true (next_number p) (2 ^ 32 - 1) (if-some (nat_lt (next_number p) (2 ^ 32 - 1)) (next_number p) told.0 told.1).0 in
+      let left = ltb-true (next_number p) (2 ^ 33) (if-some (nat_lt (next_number p) (2 ^ 33)) (next_number p) told.0 told.1).0 in
       elim (if-cases (bytes_eq line (codes "#EXT-X-DISCONTINUITY")) _ _ q told.2) [
         | inl broken ↦
             subst (Goes (listed_lines p) line) (same_Some _ q broken.1) (
@@ -404,7 +404,7 @@ goes-keyed p q line sound at is =
     timed-goes p q line (key_line_under (name_of p) p.salt (next_number p) p.key ∷ []) sound.bounded at.2
     (λ _. key-listed (name_of p) p.salt (last_key p.entries) p.key (next_number p) at.1) is
 
-goes-timed-by : (o : Option (List ℕ)) (p q : Progress) (line : List ℕ) → p.name ≡ o → IsBounded p → next_number p < 2 ^ 32 - 1
+goes-timed-by : (o : Option (List ℕ)) (p q : Progress) (line : List ℕ) → p.name ≡ o → IsBounded p → next_number p < 2 ^ 33
     → option_and_then (λ name. expect line (segment_uri name (next_number p)) (with_entry p (next_number p))) o ≡ Some q → Goes (lines_at Timed p) line q
 unfolding entry_lines
 goes-timed-by None p q line known bounded left is = absurd (none-some q is)
@@ -429,8 +429,8 @@ goes-timed : (p q : Progress) (line : List ℕ) → IsSound p → IsAt Timed p �
 unfolding listed
 goes-timed p q line sound at is =
     let told = then-some (λ n. option_and_then (λ name. expect line (segment_uri name n) (with_entry p n)) p.name) (number_left p) q is in
-    let may = if-some (nat_lt (next_number p) (2 ^ 32 - 1)) (next_number p) told.0 told.1 in
-    goes-timed-by p.name p q line refl sound.bounded (ltb-true (next_number p) (2 ^ 32 - 1) may.0)
+    let may = if-some (nat_lt (next_number p) (2 ^ 33)) (next_number p) told.0 told.1 in
+    goes-timed-by p.name p q line refl sound.bounded (ltb-true (next_number p) (2 ^ 33) may.0)
     (ap (λ n. option_and_then (λ name. expect line (segment_uri name n) (with_entry p n)) p.name) may.1 ∙ told.2)
 
 goes : (stage : Stage) (p q : Progress) (line : List ℕ) → IsSound p → IsAt stage p → step_at stage p line ≡ Some q → Goes (lines_at stage p) line q

@@ -7,13 +7,14 @@ use Rattle.playlist_text.specs.Lines.{text_of}
 use Rattle.playlist_text.specs.MediaLines.{Entry, Listing, listing_lines}
 use Rattle.hls_check.specs.declared.list_fault.ListFault.{ListFault}
 use Rattle.hls_check.specs.declared.list_fault.ListFault.TheVariants.{NotProfile, NoMemory}
-use Rattle.limits.specs.declared.TheConstants.{LAST_SEGMENT, MOST_KEYS, MOST_TARGET}
+use Rattle.limits.specs.declared.TheConstants.{MOST_KEYS, MOST_TARGET}
+use Rattle.hls_check.specs.declared.listing.TheConstants.{LAST_LISTED}
 
--- an entry may have this number under this target: its number is below 2^32 - 1, it lasts some time and rounds to at most
+-- an entry may have this number under this target: its number is below 2^33, it lasts some time and rounds to at most
 -- the target, and there are at most 4,096 keys
 pub record IsListed (target n : ℕ) (entry : Entry) : Type 0 where
   pub number : entry.number ≡ n
-  pub below : n < LAST_SEGMENT + 1
+  pub below : n < LAST_LISTED + 1
   pub key : entry.key < MOST_KEYS
   pub lasts : 0 < entry.micros
   pub short : rounded_seconds entry.micros ≤ target
@@ -34,7 +35,7 @@ pub record IsListing (l : Listing) : Type 0 where
   pub utf8 : IsUtf8 l.name
   pub some_target : 0 < l.target
   pub target : l.target ≤ MOST_TARGET
-  pub discontinuity_sequence : l.discontinuity_sequence < 2 ^ 32
+  pub discontinuity_sequence : l.discontinuity_sequence < 2 ^ 33
   pub event : l.event ≡ true → (l.sequence ≡ 0) × (l.discontinuity_sequence ≡ 0)
   pub salt : IsSalt l.salt
   pub some : 0 < length l.entries

@@ -18,6 +18,6 @@ pub use checking::{CheckFault, Checked, check, check_listing};
 pub use fault::UnpackFault;
 pub use laws::{a_text_lists_one_playlist, segments_unpack_to_their_bodies};
 pub use list_fault::ListFault;
-pub use listing::{Entry, Listing};
+pub use listing::{Entry, LAST_LISTED, Listing};
 pub use media_text::read_media;
 pub use unpacking::unpack;

@@ -2,6 +2,9 @@
 
 use std::marker::Model;
 
+/// The last number that a playlist may list: a run begins with any that a segment may have, and goes on by as many again.
+pub const LAST_LISTED: u64 = 0x1_FFFF_FFFF;
+
 /// A segment of a playlist: its number, the index of its key, how long it lasts in microseconds, and whether it is a
 /// discontinuity.
 #[derive(Clone, Copy, Debug, PartialEq, Eq)]

@@ -11,7 +11,7 @@ use crate::reading::Reading;
 use std::alloc::Global;
 
 /// The playlist of which this is the text, byte for byte, within the bounds: a target of 1 to 3,600 s, at least one
-/// entry, numbers that rise by one from the media sequence and are below 2^32 - 1, a discontinuity sequence below 2^32,
+/// entry, numbers that rise by one from the media sequence and are below 2^33, a discontinuity sequence below 2^33,
 /// indexes of keys below 4,096, and durations above 0 that round to at most the target. A playlist of an event (4.3.3.5)
 /// has both sequences at 0.
 ///

@@ -8,10 +8,10 @@ ghost use Rattle.hls_check.specs.State;
 ghost use Rattle.hls_check.specs.State.{step, step_at, fresh, expect, begun, headed, key_in, salt_in, keyed, keyed_or_timed, timed, listed, listing_at, name_in, number_in, number_left, entered, key_begin, listing_at, progress_of, Moves, Tells};
 ghost use Rattle.hls_check.specs.declared.reading.Stage.TheVariants.{Versioned, Targeted, Sequenced};
 
-use crate::listing::{Entry, Listing};
+use crate::listing::{Entry, LAST_LISTED, Listing};
 use crate::numbers::{read_between, read_duration, read_tagged};
 use hex::FromHex;
-use limits::{LAST_SEGMENT, MOST_KEYS, MOST_TARGET};
+use limits::{MOST_KEYS, MOST_TARGET};
 use percent_encoding::{DecodeError, percent_decode};
 use playlist_text::{
     is_name, push_escaped, push_hexadecimal, push_segment_uri, rounded_seconds, salted_vector,
@@ -19,10 +19,10 @@ use playlist_text::{
 use std::alloc::{AllocError, Global};
 
 /// A segment's number is below it.
-const NUMBERS: u64 = LAST_SEGMENT + 1;
+const NUMBERS: u64 = LAST_LISTED + 1;
 
-/// A discontinuity sequence is below 2^32.
-const DISCONTINUITIES: u64 = 1 << 32;
+/// A discontinuity sequence is below it too.
+const DISCONTINUITIES: u64 = 1 << 33;
 
 /// What the line of a key begins with, before the name.
 const KEY_BEGIN: &str = "#EXT-X-KEY:METHOD=AES-128,URI=\"";

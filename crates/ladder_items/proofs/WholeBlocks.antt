@@ -1,11 +1,10 @@
 -- A weave is whole blocks.
-use Rattle.std.proofs.Common.{◌≡◌, ◌∙◌, ℕ, zero, suc, ◌<◌, Bool, true, false, List, [], ◌∷◌, map, length, get_or, None, replicate, refl, sym, subst, arith}
+use Rattle.std.proofs.Common.{◌≡◌, ◌∙◌, ℕ, zero, suc, ◌<◌, Bool, true, false, List, [], ◌∷◌, map, length, get_or, refl, sym, subst, arith}
 use Rattle.std.specs.Prelude.{not}
 use Rattle.std.specs.List.{list_any}
 use Rattle.std.proofs.lemmas.List.{length-replicate}
 use Rattle.playlist_text.specs.Names.{is_name}
 use Rattle.master_playlist.specs.Listed.{Listed}
-use Rattle.master_playlist.specs.Faults.{fault_of}
 use Rattle.item_io.specs.Items.{ItemValue}
 use Rattle.item_io.specs.Blocks.{AreBlocks}
 use Rattle.ladder_items.specs.Ladder.{IsAllowed, Ladder, RenditionValue, no_rendition, rendition_at, unmeasured}

@@ -2,6 +2,7 @@
 use Rattle.std.specs.Prelude.{◌≡◌, ℕ, ◌<◌, false, List, [], ◌∷◌, map, length, None, get_or}
 use Rattle.cutter.specs.Plans.{SegmentPlan}
 use Rattle.cutter.specs.Ordered.{IsPlan}
+use Rattle.media_playlist.specs.Listed.{nothing_gone}
 use Rattle.segment_job.specs.Segments.{SealedSegment}
 use Rattle.item_io.specs.Items.{ItemValue, MasterItem}
 use Rattle.ladder_items.specs.Ladder.{Ladder, rendition_at}
@@ -24,7 +25,7 @@ pub record IsNext (ladder : Ladder) (r : ℕ) (parts : List Part) (shown : List 
   pub plan_is : IsPlan r ladder.cut (count (part_at parts r)) plan
 
 abbrev pub no_shown : Shown
-no_shown = record { name = []; target = 0; window = 0; event = false; salt = None; rows = []; ended = false }
+no_shown = record { name = []; target = 0; window = 0; event = false; salt = None; gone = nothing_gone; rows = []; ended = false }
 
 -- a segment of rendition r, its playlists and the master of what all renditions show
 abbrev pub block_of : Ladder → ℕ → SealedSegment → List Shown → List ItemValue

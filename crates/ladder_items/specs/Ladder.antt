@@ -1,15 +1,18 @@
 -- The renditions of a ladder, and the settings that they share.
 use Rattle.std.specs.Prelude.{◌≡◌, ℕ, ◌*◌, ◌≤◌, Bool, true, false, List, [], map, length, All, Option, Some, None, get_or}
 use Rattle.segment_job.specs.Rotation.{KeyRotation}
+use Rattle.media_playlist.specs.declared.row.Gone.{Gone}
+use Rattle.media_playlist.specs.Gone.{IsSmall}
+use Rattle.media_playlist.specs.Listed.{nothing_gone}
 use Rattle.cutter.specs.declared.settings.CutSettings.{CutSettings}
 use Rattle.ladder_items.specs.declared.settings.Kind.{Kind}
 use Rattle.ladder_items.specs.declared.settings.Kind.TheVariants.{Live, Event}
 use Rattle.master_playlist.specs.Listed.{Listed}
 use Rattle.master_playlist.specs.Faults.{fault_of}
-use Rattle.limits.specs.declared.TheConstants.{TICKS, LEAST, MOST_TARGET, MOST_FRAME, MOST_GAP, MOST_PACKETS, MOST_PROGRAM, MOST_RENDITIONS, MOST_WINDOW, MOST_QUEUE}
+use Rattle.limits.specs.declared.TheConstants.{TICKS, LEAST, MOST_TARGET, MOST_FRAME, MOST_GAP, MOST_PACKETS, MOST_PROGRAM, MOST_RENDITIONS, MOST_WINDOW, MOST_QUEUE, LAST_SEGMENT}
 
--- a rendition: its name and codecs as bytes, its size in pixels, the keys of its segments, and the salt of their
--- vectors
+-- a rendition: its name and codecs as bytes, its size in pixels, the keys of its segments, the salt of their vectors, and
+-- what came before in earlier runs
 pub record RenditionValue : Type 0 where
   pub name : List ℕ
   pub codecs : List ℕ
@@ -17,6 +20,7 @@ pub record RenditionValue : Type 0 where
   pub height : ℕ
   pub keys : KeyRotation
   pub salt : Option (List ℕ)
+  pub gone : Gone
 
 -- all renditions, how their streams are cut, which segments are listed, the least number of segments to list, and how many
 -- segments may be on their way
@@ -28,7 +32,7 @@ pub record Ladder : Type 0 where
   pub queue : ℕ
 
 abbrev pub no_rendition : RenditionValue
-no_rendition = record { name = []; codecs = []; width = 0; height = 0; keys = record { keys = []; period = 0; salt = None }; salt = None }
+no_rendition = record { name = []; codecs = []; width = 0; height = 0; keys = record { keys = []; period = 0; salt = None; first = 0 }; salt = None; gone = nothing_gone }
 
 abbrev pub rendition_at : Ladder → ℕ → RenditionValue
 rendition_at ladder r = get_or ladder.renditions r no_rendition
@@ -74,13 +78,33 @@ pub record IsCutAllowed (cut : CutSettings) : Type 0 where
   pub frame : (LEAST ≤ cut.frame) × (cut.frame ≤ MOST_FRAME)
   pub most : (LEAST ≤ cut.most) × (cut.most ≤ MOST_PACKETS)
 
--- settings within their limits, whose keys hold their salts, whether or not a master playlist can list their renditions
+-- a rendition of which nothing came before
+pub record IsNew (rendition : RenditionValue) : Type 0 where
+  pub first : rendition.keys.first ≡ 0
+  pub gone : rendition.gone ≡ nothing_gone
+
+-- playlists of an event list all segments from the first one on (RFC 8216, 4.3.3.5): nothing is gone that they would number
+abbrev pub HasAll : Kind → Gone → Type 0
+HasAll Live gone = Unit {0}
+HasAll Event gone = (gone.rows ≡ 0) × (gone.discontinuities ≡ 0)
+
+-- A rendition goes on from what came before: its first segment has the next number, and no count is past the last number.
+pub record GoesOn (kind : Kind) (rendition : RenditionValue) : Type 0 where
+  pub first : rendition.keys.first ≡ rendition.gone.rows
+  pub limit : rendition.keys.first ≤ LAST_SEGMENT
+  pub discontinuities : rendition.gone.discontinuities ≤ LAST_SEGMENT
+  pub small : IsSmall rendition.gone
+  pub all : HasAll kind rendition.gone
+
+-- settings within their limits, whose keys hold their salts and whose renditions go on from what came before, whether or not
+-- a master playlist can list them
 pub record IsWithinLimits (ladder : Ladder) : Type 0 where
   pub renditions : (LEAST ≤ length ladder.renditions) × (length ladder.renditions ≤ MOST_RENDITIONS)
   pub cut : IsCutAllowed ladder.cut
   pub window : (LEAST ≤ ladder.window) × (ladder.window ≤ MOST_WINDOW)
   pub queue : (LEAST ≤ ladder.queue) × (ladder.queue ≤ MOST_QUEUE)
   pub salts : All (λ rendition. rendition.keys.salt ≡ rendition.salt) ladder.renditions
+  pub go_on : All (GoesOn ladder.kind) ladder.renditions
 
 -- settings that a run takes: their renditions can be listed besides
 pub record IsAllowed (ladder : Ladder) : Type 0 where

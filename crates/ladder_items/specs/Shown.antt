@@ -3,26 +3,28 @@ use Rattle.std.specs.Prelude.{ℕ, Bool, Option, List, map, length, ◌≡◌, �
 use Rattle.std.specs.List.{flat_map}
 use Rattle.playlist_text.specs.Lines.{text_of}
 use Rattle.media_playlist.specs.declared.row.FrameRow.{FrameRow}
+use Rattle.media_playlist.specs.declared.row.Gone.{Gone}
 use Rattle.media_playlist.specs.Rows.{SegmentRow, is_long}
-use Rattle.media_playlist.specs.Listed.{Pushed, nothing_gone}
+use Rattle.media_playlist.specs.Listed.{Pushed}
 use Rattle.media_playlist.specs.Lines.{media_lines, iframe_lines}
 use Rattle.bandwidth.specs.declared.run.Span.{Span}
 use Rattle.limits.specs.declared.TheConstants.{MOST_PACKETS}
 
 -- a rendition's name, the target duration in seconds, the least number of rows to list, whether all rows of an event are
--- listed, the salt of the vectors, the rows of all its segments, and whether it takes no more
+-- listed, the salt of the vectors, what came before the run, the rows of all its segments, and whether it takes no more
 pub record Shown : Type 0 where
   pub name : List ℕ
   pub target : ℕ
   pub window : ℕ
   pub event : Bool
   pub salt : Option (List ℕ)
+  pub gone : Gone
   pub rows : List SegmentRow
   pub ended : Bool
 
--- as the window of its playlists, before whose rows nothing came
+-- as the window of its playlists
 abbrev pub in_window : Shown → Pushed
-in_window shown = record { name = shown.name; target = shown.target; window = shown.window; event = shown.event; salt = shown.salt; gone = nothing_gone; rows = shown.rows }
+in_window shown = record { name = shown.name; target = shown.target; window = shown.window; event = shown.event; salt = shown.salt; gone = shown.gone; rows = shown.rows }
 
 -- the texts of its playlists, ended or not
 abbrev pub media_text : Shown → Bool → List ℕ

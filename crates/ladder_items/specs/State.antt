@@ -1,7 +1,7 @@
 -- What settings and playlists keep.
 use Rattle.std.specs.Prelude.{◌≡◌, ◌*◌, ◌≤◌, ◌^◌, false, length}
 use Rattle.std.specs.String.{string_bytes}
-use Rattle.media_playlist.specs.Listed.{duration, nothing_gone}
+use Rattle.media_playlist.specs.Listed.{duration}
 use Rattle.ladder_items.specs.declared.settings.Rendition.TheInside.{Inside as RenditionInside}
 use Rattle.ladder_items.specs.declared.settings.Settings.TheInside.{Inside as SettingsInside}
 use Rattle.ladder_items.specs.declared.playlists.Playlists.TheInside.{Inside}
@@ -10,7 +10,7 @@ use Rattle.ladder_items.specs.Shown.{Shown, segment_rates, frame_rates}
 use Rattle.limits.specs.declared.TheConstants.{MOST_PACKETS}
 
 abbrev pub rendition_value : RenditionInside → RenditionValue
-rendition_value r = record { name = string_bytes r.name; codecs = string_bytes r.codecs; width = r.width; height = r.height; keys = r.keys; salt = r.salt }
+rendition_value r = record { name = string_bytes r.name; codecs = string_bytes r.codecs; width = r.width; height = r.height; keys = r.keys; salt = r.salt; gone = r.gone }
 
 abbrev pub ladder : SettingsInside → Ladder
 ladder s = record { renditions = s.renditions.items; cut = s.cut; kind = s.kind; window = s.window; queue = s.queue }
@@ -22,13 +22,13 @@ shown p = record {
   window = p.window.window;
   event = p.window.event;
   salt = p.window.salt;
+  gone = p.window.gone;
   rows = p.window.rows;
   ended = p.ended;
 }
 
--- the run is a first one; until they end, the meters and the sum are those of the rows
+-- until they end, the meters and the sum are those of the rows
 pub record IsTied (p : Inside) : Type 0 where
-  pub gone : p.window.gone ≡ nothing_gone
   pub segments : p.ended ≡ false → p.segments ≡ record { target = p.window.target; spans = segment_rates p.window.rows }
   pub frames : p.ended ≡ false → p.frames ≡ record { target = p.window.target; spans = frame_rates p.window.rows }
   pub micros : p.ended ≡ false → p.micros ≡ duration p.window.rows

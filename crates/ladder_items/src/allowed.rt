@@ -1,19 +1,22 @@
 ghost use Rattle.std.specs.Prelude.{◌≡◌, ◌≤◌, None, map, length, All, Decides, IfOk, MatchResult};
 ghost use Rattle.master_playlist.specs.Faults.{fault_of};
-ghost use Rattle.ladder_items.specs.Ladder.{unmeasured, IsProgram, IsCutAllowed, IsWithinLimits, IsAllowed};
+ghost use Rattle.media_playlist.specs.Gone.{IsSmall};
+ghost use Rattle.ladder_items.specs.Ladder.{unmeasured, IsProgram, IsCutAllowed, HasAll, GoesOn, IsWithinLimits, IsAllowed};
 ghost use Rattle.ladder_items.specs.Ladder;
 
-use crate::settings::{Rendition, Settings};
+use crate::settings::{Kind, Rendition, Settings};
 use cutter::CutSettings;
 use limits::{
-    LEAST, MOST_FRAME, MOST_GAP, MOST_PACKETS, MOST_QUEUE, MOST_RENDITIONS, MOST_TARGET,
-    MOST_WINDOW, TICKS,
+    LAST_SEGMENT, LEAST, MOST_FRAME, MOST_GAP, MOST_PACKETS, MOST_QUEUE, MOST_RENDITIONS,
+    MOST_TARGET, MOST_WINDOW, TICKS,
 };
 use master_playlist::{MasterFault, Variant, master_text};
+use media_playlist::Gone;
+use segment_job::Keys;
 use std::alloc::{AllocError, Global};
 
-/// Whether the settings are within their limits, the keys of each rendition hold its salt, and there are as many inputs as
-/// renditions. Memory is asked for behind these, to see whether a master playlist can list the renditions.
+/// Whether the settings are within their limits, the keys of each rendition hold its salt and begin behind what came before,
+/// and there are as many inputs as renditions. Memory is asked for behind these, to see whether a master playlist can list the renditions.
 pub fn is_allowed(alloc: Global, settings: &Settings, inputs: usize) -> Result<bool, AllocError>
     ensures { MatchResult result
         (λ allowed. Decides allowed (IsAllowed settings.now × (inputs ≡ length settings.now.renditions)))
@@ -22,7 +25,7 @@ pub fn is_allowed(alloc: Global, settings: &Settings, inputs: usize) -> Result<b
     if inputs != settings.renditions.len() || !is_ladder(settings) || !is_cut(settings.cut) {
         return Ok(false);
     }
-    if !hold_their_salts(&settings.renditions) {
+    if !hold_their_salts(&settings.renditions) || !go_on(settings.kind, &settings.renditions) {
         return Ok(false);
     }
     are_listable(alloc, &settings.renditions)
@@ -46,6 +49,37 @@ fn hold_their_salts(renditions: &[Rendition]) -> bool
     renditions
         .iter()
         .all(|rendition| rendition.keys.salt() == rendition.salt)
+}
+
+/// Whether each rendition goes on from what came before.
+fn go_on(kind: Kind, renditions: &[Rendition]) -> bool
+    ensures { Decides result (All (GoesOn kind) renditions.now) }
+{
+    renditions
+        .iter()
+        .all(|rendition| goes_on(kind, &rendition.keys, rendition.gone))
+}
+
+/// Whether keys begin behind what came before.
+fn goes_on(kind: Kind, keys: &Keys, gone: Gone) -> bool
+    ensures { Decides result ((keys.now.first ≡ gone.rows) × (keys.now.first ≤ LAST_SEGMENT)
+        × (gone.discontinuities ≤ LAST_SEGMENT) × IsSmall gone × HasAll kind gone) }
+{
+    keys.number(0) == u128::from(gone.rows)
+        && gone.rows <= LAST_SEGMENT
+        && gone.discontinuities <= LAST_SEGMENT
+        && gone.frames <= 1 << 126
+        && has_all(kind, gone)
+}
+
+/// Whether nothing is gone of an event.
+fn has_all(kind: Kind, gone: Gone) -> bool
+    ensures { Decides result (HasAll kind gone) }
+{
+    match kind {
+        Kind::Live => true,
+        Kind::Event => gone.rows == 0 && gone.discontinuities == 0,
+    }
 }
 
 /// Whether a cutter's settings are within their limits.

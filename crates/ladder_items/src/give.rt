@@ -1,5 +1,6 @@
 ghost use Rattle.std.specs.Prelude.{◌≡◌, ◌+◌, ◌<◌, ◌^◌, [], ℕ, List, false, None, All, map, length, IfOk, IfErr, OnOk, OnErr};
 ghost use Rattle.cutter.specs.Lent.{lent};
+ghost use Rattle.segment_job.specs.Rotation.{number_of};
 ghost use Rattle.segment_job.specs.Segments.{sealed_segment};
 ghost use Rattle.master_playlist.specs.Faults.{fault_of};
 ghost use Rattle.ladder_items.specs.declared.fault.PackFault.TheVariants.{NoMemory};
@@ -149,6 +150,7 @@ fn put_block<O: Outlet>(
     requires each { length playlists.now ≡ length settings.now.renditions }
     requires within { r < length playlists.now }
     requires going { All (λ shown. shown.ended ≡ false) playlists.now }
+    requires number { number_of (rendition_at settings.now r).keys sealed.plan.number < 2 ^ 64 }
     ensures ok { OnOk result (PutAll O.output outlet.old outlet.new (block_of settings.now r sealed.entry playlists.now)) }
     ensures err { OnErr result (PutSome O.output outlet.old outlet.new (block_of settings.now r sealed.entry playlists.now)) }
     ensures fault { IfErr result (λ fault. SaysFailures fault (O.output.failures outlet.old) (O.output.failures outlet.new)) }

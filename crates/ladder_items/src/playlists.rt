@@ -2,6 +2,7 @@ ghost use Rattle.std.specs.Prelude.{◌≡◌, ◌+◌, ◌*◌, ◌<◌, ◌≤
 ghost use Rattle.std.specs.String.{string_bytes};
 ghost use Rattle.bandwidth.specs.Peaks.{peak_of, average_of};
 ghost use Rattle.media_playlist.specs.Listed.{duration, nothing_gone};
+ghost use Rattle.media_playlist.specs.Gone.{IsSmall};
 ghost use Rattle.ladder_items.specs.declared.fault.PackFault.TheVariants.{NoMemory};
 ghost use Rattle.ladder_items.specs.Ladder.{is_event, least_listed};
 ghost use Rattle.ladder_items.specs.Shown.{IsNextRow, IsSmallFrame, frame_rate, segment_rates, frame_rates};
@@ -11,15 +12,15 @@ ghost use Rattle.limits.specs.declared.TheConstants.{MOST_TARGET};
 use crate::fault::PackFault;
 use crate::settings::Kind;
 use bandwidth::{Meter, Peak};
-use media_playlist::{FrameRow, Row, Window};
+use media_playlist::{FrameRow, Gone, Row, Window};
 use std::alloc::{AllocError, Global};
 use std::marker::Model;
 
 /// The playlists of a rendition, and the bit rates of its segments and of its I-frames.
 ///
 /// Clauses see them as the rendition's name, the target duration, the least number of rows to list, whether all rows of an
-/// event are listed, the salt of the vectors, and the rows of all segments. For want of memory they end, and take no more
-/// rows.
+/// event are listed, the salt of the vectors, what came before in earlier runs, and the rows of all segments. For want of
+/// memory they end, and take no more rows.
 #[derive(Drop)]
 pub struct Playlists {
     window: Window,
@@ -59,6 +60,7 @@ impl Playlists {
           window = least_listed kind window;
           event = is_event kind;
           salt = salt;
+          gone = nothing_gone;
           rows = [];
           ended = false;
         }) }
@@ -72,11 +74,22 @@ impl Playlists {
         })
     }
 
+    /// The playlists of a rendition that goes on behind what came before. No row was pushed yet.
+    pub fn behind(self, gone: Gone) -> Playlists
+        requires empty { self.rows ≡ [] }
+        requires small { IsSmall gone }
+        ensures { result ≡ record self { gone = gone } }
+    {
+        let mut playlists = self;
+        playlists.window = playlists.window.behind(gone);
+        playlists
+    }
+
     /// Takes the row of the next segment. For want of memory the playlists end, with the rows from before.
     pub fn push(&mut self, row: Row) -> Result<(), PackFault>
         requires going { self.old.ended ≡ false }
         requires few { length self.old.rows < 2 ^ 32 }
-        requires next { IsNextRow self.old.target (length self.old.rows) row }
+        requires next { IsNextRow self.old.target (self.old.gone.rows + length self.old.rows) row }
         ensures pushed { OnOk result (self.new ≡ record self.old { rows = self.old.rows ++ row ∷ [] }) }
         ensures err { OnErr result (self.new ≡ record self.old { ended = true }) }
         ensures fault { IfErr result (λ fault. fault ≡ NoMemory) }

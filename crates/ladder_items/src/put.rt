@@ -6,6 +6,7 @@ ghost use Rattle.ladder_items.specs.Ladder.{unmeasured};
 ghost use Rattle.ladder_items.specs.Masters.{master_of};
 ghost use Rattle.ladder_items.specs.Putting.{PutAll, PutSome, SaysFailures};
 ghost use Rattle.ladder_items.specs.Items.{segment_of, media_of, frames_of};
+ghost use Rattle.segment_job.specs.Rotation.{number_of};
 
 use crate::fault::PackFault;
 use crate::master::ladder_master;
@@ -35,14 +36,15 @@ pub fn put_segment<O: Outlet>(
     rendition: &Rendition,
     sealed: Sealed<'_>,
 ) -> Result<(), PackFault>
-    requires { O.output.failures outlet.old < 2 ^ 63 }
+    requires failures { O.output.failures outlet.old < 2 ^ 63 }
+    requires number { number_of rendition.now.keys sealed.plan.number < 2 ^ 64 }
     ensures ok { OnOk result (PutAll O.output outlet.old outlet.new (segment_of r rendition.now sealed.entry ∷ [])) }
     ensures err { OnErr result (PutSome O.output outlet.old outlet.new (segment_of r rendition.now sealed.entry ∷ [])) }
     ensures fault { IfErr result (λ fault. SaysFailures fault (O.output.failures outlet.old) (O.output.failures outlet.new)) }
 {
     let name = rendition.name.clone()?;
     let (plan, bytes) = sealed.into_parts();
-    let number = plan.number;
+    let number = rendition.keys.number(plan.number) as u64;
     let item = Item::Segment {
         rendition: r,
         number,

@@ -1,6 +1,7 @@
 ghost use Rattle.std.specs.Prelude.{◌≡◌, ◌+◌, ◌*◌, ◌<◌, ◌≤◌, ◌^◌, All, length, drop, IfOk};
 ghost use Rattle.cutter.specs.Ordered.{IsInside, end_before};
 ghost use Rattle.playlist_text.specs.Numbers;
+ghost use Rattle.segment_job.specs.Rotation.{number_of};
 ghost use Rattle.ladder_items.specs.Rows.{frame_row};
 ghost use Rattle.ladder_items.specs.Rows;
 
@@ -13,6 +14,7 @@ use std::alloc::{AllocError, Global};
 /// The row of a sealed segment in its playlists. Its I-frames lie within its body and its time, which are small.
 #[tactic(auto, unfolding(crate::specs::Rows::row_of))]
 pub fn row_of(alloc: Global, sealed: &Sealed<'_>, keys: &Keys) -> Result<Row, AllocError>
+    requires number { number_of keys.now sealed.now.plan.number < 2 ^ 64 }
     requires short { sealed.now.plan.ticks < 2 ^ 45 }
     requires small { length sealed.now.plan.body < 2 ^ 31 }
     requires inside { All (IsInside (length sealed.now.plan.body) sealed.now.plan.ticks) sealed.now.plan.frames }
@@ -22,11 +24,11 @@ pub fn row_of(alloc: Global, sealed: &Sealed<'_>, keys: &Keys) -> Result<Row, Al
     segment_job::key_and_vector_make_one_segment();
     let plan = sealed.plan();
     Ok(Row {
-        number: plan.number,
+        number: keys.number(plan.number) as u64,
         size: sealed.bytes().len() as u64,
         micros: whole_micros(plan.ticks),
         key: keys.index(plan.number),
-        discontinuity: plan.discontinuity,
+        discontinuity: plan.discontinuity || (plan.number == 0 && keys.number(0) > 0),
         frames: frame_rows(alloc, sealed.head_len(), plan)?,
     })
 }

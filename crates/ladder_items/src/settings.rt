@@ -1,4 +1,5 @@
 use cutter::CutSettings;
+use media_playlist::Gone;
 use segment_job::Keys;
 use std::marker::Model;
 
@@ -12,16 +13,19 @@ pub enum Kind {
 }
 
 /// A rendition of a ladder: its name and codecs (RFC 6381) as a master playlist lists them, its size in pixels, each
-/// side from 1 to 16,384, the keys of its segments, and the salt of their vectors, where there is one.
+/// side from 1 to 16,384, the keys of its segments, the salt of their vectors, where there is one, and what came before in
+/// earlier runs.
 #[derive(Drop)]
 pub struct Rendition {
     pub name: String,
     pub codecs: String,
     pub width: u64,
     pub height: u64,
-    /// They hold the same salt.
+    /// They hold the same salt, and begin behind what came before.
     pub keys: Keys,
     pub salt: Option<[u8; 16]>,
+    /// How many segments, I-frames and discontinuities came before: [`Gone::nothing`] in a first run.
+    pub gone: Gone,
 }
 
 impl Model for Rendition {

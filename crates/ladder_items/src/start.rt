@@ -30,14 +30,15 @@ pub fn first_playlists(alloc: Global, settings: &Settings) -> Result<Vec<Playlis
 {
     let mut playlists = Vec::new(alloc);
     for rendition in &settings.renditions {
-        playlists.push(Playlists::new(
+        let new = Playlists::new(
             alloc,
             &rendition.name,
             settings.cut.target,
             settings.window,
             settings.kind,
             rendition.salt,
-        )?)?;
+        )?;
+        playlists.push(new.behind(rendition.gone))?;
     }
     Ok(playlists)
 }

@@ -87,7 +87,9 @@ are-listed-behind suffice are_long order ladder parts streams front s behind all
     let number : at.plan.number ≡ length before = number-at are_long order at.r ladder.cut (streams at.r) (length before) at.plan found in
     subst (λ (x : SegmentValue). AreFramesListedBehind ladder streams x behind) is (record {
       plan = at.plan;
+      place = at.plan.number;
       plan_is = ap (λ n. slice_get (plans_of at.r ladder.cut (streams at.r)) n) number ∙ found;
+      number_is = refl;
       media = media;
       frames = frames;
       rest = tail;

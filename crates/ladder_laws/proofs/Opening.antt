@@ -14,7 +14,7 @@ use Rattle.cutter.specs.Plans.{SegmentPlan}
 use Rattle.cutter.specs.Ordered.{IsPlan, IsPacketLong}
 use Rattle.cutter.specs.Cuts.{plans}
 use Rattle.playlist_text.specs.Vectors.{salted_vector}
-use Rattle.segment_job.specs.Rotation.{key_of, vector_of}
+use Rattle.segment_job.specs.Rotation.{number_of, key_of, vector_of}
 use Rattle.segment_job.specs.Segments.{plain, sealed_segment}
 use Rattle.playlist_text.specs.Lines.{text_of}
 use Rattle.playlist_text.specs.MediaLines.{Listing, listing_lines}
@@ -33,7 +33,7 @@ use Rattle.ladder_items.specs.Weave.{Event, Row, End, rendition_of, grown, close
 use Rattle.ingest.specs.Sealable.{IsOfBytes}
 use Rattle.ladder_laws.specs.Openings.{AreOfStreams, IsListed, IsListedBehind}
 use Rattle.ladder_items.proofs.Rows.{after_all-append}
-use Rattle.ladder_laws.proofs.Salts.{salt-held}
+use Rattle.ladder_laws.proofs.Salts.{salt-held, begins-behind}
 use Rattle.ladder_laws.proofs.KeyLines.{applies-last}
 use Rattle.ladder_laws.proofs.Together.{segment-at, legal-behind}
 
@@ -84,7 +84,7 @@ lines-are pushed rows row e =
 abbrev pub segment_value : Ladder → ℕ → SegmentPlan → SegmentValue
 segment_value ladder r plan = record {
   rendition = r;
-  number = plan.number;
+  number = number_of (rendition_at ladder r).keys plan.number;
   name = (rendition_at ladder r).name;
   bytes = sealed_text (key_of (rendition_at ladder r).keys plan.number) (vector_of (rendition_at ladder r).keys plan.number) (plain plan);
 }
@@ -107,12 +107,14 @@ is-listed suffice ladder r before plan allowed number of_bytes =
     let j = first pushed in
     let below : j ≤ length rows = last-in-window suffice (is_event ladder.kind) ladder.kind ladder.cut.target ladder.window (rows_of keys (before ++ plan ∷ [])) rows row refl all allowed.within.window.0 in
     let many : length rows ≡ length before = length-map before (λ p. row_of keys (sealed_segment keys p)) in
-    let sequence : 0 + j + length (map entry_of (drop j rows)) ≡ plan.number =
-    omega (arith, below, many, number, length-map (drop j rows) entry_of, length-drop j rows) in
+    let gone = pushed.gone.rows in
+    let behind : keys.first ≡ gone = begins-behind ladder r allowed in
+    let sequence : gone + j + length (map entry_of (drop j rows)) ≡ number_of keys plan.number =
+    omega (arith, behind, below, many, number, length-map (drop j rows) entry_of, length-drop j rows) in
     let bytes : sealed_text (key_of keys plan.number) (vector_of keys plan.number) (plain plan)
-    ≡ sealed_text (key_of keys plan.number) (salted_vector pushed.salt (0 + j + length (map entry_of (drop j rows)))) (plain plan) =
-    ap (λ n. sealed_text (key_of keys plan.number) (vector_of keys n) (plain plan)) (sym sequence)
-    ∙ ap (λ s. sealed_text (key_of keys plan.number) (salted_vector s (0 + j + length (map entry_of (drop j rows)))) (plain plan)) salted in
+    ≡ sealed_text (key_of keys plan.number) (salted_vector pushed.salt (gone + j + length (map entry_of (drop j rows)))) (plain plan) =
+    ap (λ n. sealed_text (key_of keys plan.number) (salted_vector keys.salt n) (plain plan)) (sym sequence)
+    ∙ ap (λ s. sealed_text (key_of keys plan.number) (salted_vector s (gone + j + length (map entry_of (drop j rows)))) (plain plan)) salted in
     let entries : map entry_of (listed pushed) ≡ map entry_of (drop j rows) ++ entry_of row ∷ [] =
     ap (λ l. map entry_of (drop j l)) all ∙ (ap (map entry_of) (drop-append-le j rows (row ∷ []) below) ∙ map-append entry_of (drop j rows) (row ∷ [])) in
     record {
@@ -229,7 +231,9 @@ is-listed-behind suffice are_long order sealed ladder parts streams front s behi
     let number : at.plan.number ≡ length before = number-at are_long order at.r ladder.cut (streams at.r) (length before) at.plan found in
     subst (λ (x : SegmentValue). IsListedBehind ladder streams x behind) is (record {
       plan = at.plan;
+      place = at.plan.number;
       plan_is = ap (λ n. slice_get (plans_of at.r ladder.cut (streams at.r)) n) number ∙ found;
+      number_is = refl;
       media = media;
       rest = tail;
       next = ap (drop 1) at.begins;

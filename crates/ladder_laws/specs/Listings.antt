@@ -1,7 +1,7 @@
 -- The I-frames of a segment in the I-frame playlist behind it, and the segments of a rendition.
 use Rattle.std.specs.Prelude.{◌≡◌, ℕ, Bool, true, false, List, ◌∷◌, ◌++◌, Some, slice_get, filter}
 use Rattle.cutter.specs.Plans.{SegmentPlan}
-use Rattle.segment_job.specs.Rotation.{KeyRotation}
+use Rattle.segment_job.specs.Rotation.{KeyRotation, number_of}
 use Rattle.segment_job.specs.Segments.{sealed_segment}
 use Rattle.playlist_text.specs.Lines.{text_of}
 use Rattle.media_playlist.specs.Lines.{row_frame_lines}
@@ -27,10 +27,13 @@ pub record AreFramesListed (keys : KeyRotation) (plan : SegmentPlan) (s : Segmen
   pub before : List (List ℕ)
   pub text_is : frames.text ≡ text_of (before ++ row_frame_lines s.name keys.salt (row_of keys (sealed_segment keys plan)))
 
--- an I-frame playlist that lists the I-frames of the stream's plan stands behind the media playlist right behind it
+-- an I-frame playlist that lists the I-frames of a plan of the stream stands behind the media playlist right behind it; the
+-- segment's number is that of the plan's place, behind the segments of earlier runs
 pub record AreFramesListedBehind (ladder : Ladder) (streams : ℕ → List ℕ) (s : SegmentValue) (behind : List ItemValue) : Type 0 where
   pub plan : SegmentPlan
-  pub plan_is : slice_get (plans_of s.rendition ladder.cut (streams s.rendition)) s.number ≡ Some plan
+  pub place : ℕ
+  pub plan_is : slice_get (plans_of s.rendition ladder.cut (streams s.rendition)) place ≡ Some plan
+  pub number_is : s.number ≡ number_of (rendition_at ladder s.rendition).keys place
   pub media : PlaylistValue
   pub frames : PlaylistValue
   pub rest : List ItemValue

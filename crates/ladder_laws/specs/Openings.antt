@@ -6,7 +6,7 @@ use Rattle.playlist_text.specs.Uris.{segment_uri}
 use Rattle.ghost_list.specs.Bytes.{AreBytes}
 use Rattle.cutter.specs.Plans.{SegmentPlan}
 use Rattle.playlist_text.specs.Vectors.{salted_vector}
-use Rattle.segment_job.specs.Rotation.{KeyRotation}
+use Rattle.segment_job.specs.Rotation.{KeyRotation, number_of}
 use Rattle.segment_job.specs.Segments.{OpensTo}
 use Rattle.playlist_text.specs.Lines.{text_of}
 use Rattle.playlist_text.specs.MediaLines.{Entry, Listing, key_line_under, duration_line, listing_lines}
@@ -49,10 +49,13 @@ pub record IsListed (keys : KeyRotation) (plan : SegmentPlan) (s : SegmentValue)
   pub sequence_is : listing.sequence + length earlier ≡ s.number
   pub opens : OpensTo (slice_index_or keys.keys entry.key []) (salted_vector listing.salt (listing.sequence + length earlier)) s.bytes plan.tables plan.pat_counter plan.pmt_counter plan.body
 
--- a media playlist that lists the segment of the stream's plan stands right behind it
+-- a media playlist that lists the segment of a plan of the stream stands right behind it; its number is that of the plan's
+-- place, behind the segments of earlier runs
 pub record IsListedBehind (ladder : Ladder) (streams : ℕ → List ℕ) (s : SegmentValue) (behind : List ItemValue) : Type 0 where
   pub plan : SegmentPlan
-  pub plan_is : slice_get (plans_of s.rendition ladder.cut (streams s.rendition)) s.number ≡ Some plan
+  pub place : ℕ
+  pub plan_is : slice_get (plans_of s.rendition ladder.cut (streams s.rendition)) place ≡ Some plan
+  pub number_is : s.number ≡ number_of (rendition_at ladder s.rendition).keys place
   pub media : PlaylistValue
   pub rest : List ItemValue
   pub next : behind ≡ MediaItem media ∷ rest

@@ -11,16 +11,16 @@ use Rattle.cutter.specs.Plans.{SegmentPlan}
 use Rattle.cutter.specs.Ordered.{IsPlan}
 use Rattle.cutter.specs.Segments.{seconds}
 use Rattle.playlist_text.specs.Vectors.{salted_vector}
-use Rattle.segment_job.specs.Rotation.{KeyRotation, IsRotation, key_index, key_of, vector_of}
+use Rattle.segment_job.specs.Rotation.{KeyRotation, IsRotation, number_of, key_index, key_of, vector_of}
 use Rattle.segment_job.specs.Segments.{plain, sealed_segment}
 use Rattle.playlist_text.specs.MediaLines.{Entry, Listing, listing_lines}
 use Rattle.media_playlist.specs.Rows.{SegmentRow}
-use Rattle.media_playlist.specs.Listed.{Pushed, first, first_listed, listed, removed, discontinuity_count, nothing_gone}
+use Rattle.media_playlist.specs.Listed.{Pushed, first, first_listed, listed, removed, discontinuity_count}
 use Rattle.media_playlist.specs.declared.row.Gone.{Gone}
 use Rattle.media_playlist.specs.Lines.{entry_of, unless_empty, listing_of, media_lines}
 use Rattle.ladder_items.specs.declared.settings.Kind.{Kind}
 use Rattle.ladder_items.specs.declared.settings.Kind.TheVariants.{Live, Event}
-use Rattle.ladder_items.specs.Ladder.{is_event, least_listed}
+use Rattle.ladder_items.specs.Ladder.{is_event, least_listed, HasAll}
 use Rattle.ladder_items.specs.Rows.{row_of, rows_of}
 use Rattle.ingest.specs.Sealable.{IsOfBytes}
 use Rattle.hls_check.specs.Unpacking.{packed, entry_at, bytes_at, Unpacks, AllUnpack}
@@ -28,13 +28,13 @@ use Rattle.hls_check.specs.MediaTexts.{AreListed}
 use Rattle.ladder_items.proofs.Elsewhere.{some-at}
 use Rattle.round_trip.proofs.Places.{mapped-at}
 
--- what a window lists before whose rows nothing came
-abbrev pub first_listing : Pushed → Bool → Listing
-first_listing pushed ended = record {
+-- what a window lists
+abbrev pub window_listing : Pushed → Bool → Listing
+window_listing pushed ended = record {
   name = pushed.name;
   target = pushed.target;
-  sequence = first pushed;
-  discontinuity_sequence = discontinuity_count (removed pushed);
+  sequence = pushed.gone.rows + first pushed;
+  discontinuity_sequence = pushed.gone.discontinuities + discontinuity_count (removed pushed);
   event = pushed.event;
   salt = pushed.salt;
   entries = map entry_of (listed pushed);
@@ -45,18 +45,9 @@ unless-some : (rows : List SegmentRow) (lines : List (List ℕ)) → 0 < length 
 unless-some [] lines some = absurd (omega (arith, some))
 unless-some (row ∷ rows) lines some = refl
 
-is-first : (pushed : Pushed) (ended : Bool) → pushed.gone ≡ nothing_gone → listing_of pushed ended ≡ first_listing pushed ended
-unfolding listing_of
-is-first pushed ended gone =
-    let at : pushed.gone.rows + first pushed ≡ first pushed = let none = ap (λ (g : Gone). g.rows) gone in omega (arith, none) in
-    let breaks : pushed.gone.discontinuities + discontinuity_count (removed pushed) ≡ discontinuity_count (removed pushed) =
-    let none = ap (λ (g : Gone). g.discontinuities) gone in omega (arith, none) in
-    rw (at, breaks) refl
-
-pub lines-are : (pushed : Pushed) (ended : Bool) → pushed.gone ≡ nothing_gone → 0 < length pushed.rows → media_lines pushed ended ≡ listing_lines (first_listing pushed ended)
-unfolding media_lines
-lines-are pushed ended gone some =
-    unless-some pushed.rows (listing_lines (listing_of pushed ended)) some ∙ ap listing_lines (is-first pushed ended gone)
+pub lines-are : (pushed : Pushed) (ended : Bool) → 0 < length pushed.rows → media_lines pushed ended ≡ listing_lines (window_listing pushed ended)
+unfolding media_lines listing_of
+lines-are pushed ended some = unless-some pushed.rows (listing_lines (window_listing pushed ended)) some
 
 by-place : (j n window : ℕ) → 1 ≤ window → 0 < n → (0 < j → window ≤ n - j) → j < n
 by-place zero n window one some many = some
@@ -83,6 +74,11 @@ event-begins pushed is =
     let zero_is : first pushed ≡ 0 = ap (λ (event : Bool). if event then 0 else first_listed pushed.target pushed.window pushed.rows) is in
     (zero_is, ap (λ (j : ℕ). discontinuity_count (take j pushed.rows)) zero_is)
 
+-- .. and nothing is gone of an event
+pub has-all : (kind : Kind) (gone : Gone) → HasAll kind gone → is_event kind ≡ true → (gone.rows ≡ 0) × (gone.discontinuities ≡ 0)
+has-all Live gone all is = absurd (false≢true is)
+has-all Event gone all is = all
+
 -- the index of a key is that of one
 turn-below : (keys : KeyRotation) (n : ℕ) → IsRotation keys → key_index keys n < length keys.keys
 turn-below keys n is = let some = is.some in omega (arith, some)
@@ -94,23 +90,25 @@ AreFrom r cut n plans = (i : ℕ) (plan : SegmentPlan) → slice_get plans i ≡
 abbrev pub Rounds : Type 0
 Rounds = (ticks : ℕ) → seconds ticks ≡ ((200 * ticks + 9) / 18 + 500000) / 1000000
 
-pub listed-on : Rounds → (r : ℕ) (cut : CutSettings) (keys : KeyRotation) (n : ℕ) (plans : List SegmentPlan) → IsRotation keys → 0 < cut.frame
-    → AreFrom r cut n plans → AreListed cut.target n (map entry_of (rows_of keys plans))
+pub listed-on : Rounds → (r : ℕ) (cut : CutSettings) (keys : KeyRotation) (n : ℕ) (plans : List SegmentPlan) → IsRotation keys → keys.first ≤ 0xFFFFFFFE → 0 < cut.frame
+    → AreFrom r cut n plans → AreListed cut.target (number_of keys n) (map entry_of (rows_of keys plans))
 unfolding row_of
-listed-on rounds r cut keys n [] rotation frame are = tt
-listed-on rounds r cut keys n (plan ∷ plans) rotation frame are =
+listed-on rounds r cut keys n [] rotation limit frame are = tt
+listed-on rounds r cut keys n (plan ∷ plans) rotation limit frame are =
     let is = are 0 plan refl in
     let lasts = is.lasts frame in
     let turn = turn-below keys plan.number rotation in
-    let few = rotation.few in (
+    let few = rotation.few in
+    let up : number_of keys (n + 1) ≡ number_of keys n + 1 = omega arith in (
       record {
         number = omega (arith, is.number);
-        below = omega (arith, is.below);
+        below = omega (arith, is.below, limit);
         key = omega (arith, turn, few);
         lasts = omega (arith, lasts);
         short = omega (arith, is.short, rounds plan.ticks);
       },
-      listed-on rounds r cut keys (n + 1) plans rotation frame (λ i p at. let next : n + suc i ≡ n + 1 + i = omega arith in subst (λ k. IsPlan r cut k p) next (are (suc i) p at)),
+      subst (λ (m : ℕ). AreListed cut.target m (map entry_of (rows_of keys plans))) up
+          (listed-on rounds r cut keys (n + 1) plans rotation limit frame (λ i p at. let next : n + suc i ≡ n + 1 + i = omega arith in subst (λ k. IsPlan r cut k p) next (are (suc i) p at))),
     )
 
 -- the sealed bytes of a plan's segment

@@ -12,6 +12,7 @@ use Rattle.ghost_list.specs.Bytes.{AreBytes}
 use Rattle.cutter.specs.declared.settings.CutSettings.{CutSettings}
 use Rattle.cutter.specs.Plans.{SegmentPlan}
 use Rattle.cutter.specs.Ordered.{IsPlan}
+use Rattle.segment_job.specs.Rotation.{number_of}
 use Rattle.playlist_text.specs.Names.{is_name}
 use Rattle.playlist_text.specs.Lines.{text_of}
 use Rattle.playlist_text.specs.MediaLines.{Entry}
@@ -23,7 +24,7 @@ use Rattle.master_playlist.specs.declared.fault.MasterFault.{MasterFault}
 use Rattle.master_playlist.specs.declared.fault.MasterFault.TheVariants.{BadName}
 use Rattle.master_playlist.specs.Faults.{fault_of, Stands}
 use Rattle.item_io.specs.Items.{ItemValue, PlaylistValue, MediaItem}
-use Rattle.ladder_items.specs.Ladder.{Ladder, no_rendition, rendition_at, is_event, unmeasured, IsAllowed}
+use Rattle.ladder_items.specs.Ladder.{Ladder, GoesOn, no_rendition, rendition_at, is_event, unmeasured, IsAllowed}
 use Rattle.item_io.specs.FileNames.{segment_file_name, file_name}
 use Rattle.ladder_items.specs.Rows.{row_of, rows_of}
 use Rattle.ladder_items.specs.Shown.{in_window, media_text}
@@ -41,7 +42,7 @@ use Rattle.ladder_laws.proofs.Salts.{salt-held}
 use Rattle.ladder_items.proofs.Elsewhere.{some-at}
 use Rattle.round_trip.proofs.Places.{at-drop, at-front}
 use Rattle.round_trip.proofs.Splitting.{split}
-use Rattle.round_trip.proofs.Listing.{first_listing, lines-are, some-in-window, event-begins, AreFrom, Rounds, listed-on, bytes_of, unpack-all}
+use Rattle.round_trip.proofs.Listing.{window_listing, lines-are, some-in-window, event-begins, has-all, AreFrom, Rounds, listed-on, bytes_of, unpack-all}
 
 -- what the laws say of which this is made
 abbrev pub Suffice : Type 0
@@ -102,7 +103,7 @@ names-of : (ladder : Ladder) (r : ℕ) (plans : List SegmentPlan)
     → map (λ (e : Entry). segment_file_name (rendition_at ladder r).name e.number) (map entry_of (rows_of (rendition_at ladder r).keys plans)) ≡ map file_name (map (segment_item ladder r) plans)
 unfolding row_of
 names-of ladder r [] = refl
-names-of ladder r (plan ∷ plans) = ap (λ l. segment_file_name (rendition_at ladder r).name plan.number ∷ l) (names-of ladder r plans)
+names-of ladder r (plan ∷ plans) = ap (λ l. segment_file_name (rendition_at ladder r).name (number_of (rendition_at ladder r).keys plan.number) ∷ l) (names-of ladder r plans)
 
 -- what holds at a place of all
 all-at : (plans : List SegmentPlan) (i : ℕ) (plan : SegmentPlan) → All IsOfBytes plans → slice_get plans i ≡ Some plan → IsOfBytes plan
@@ -153,7 +154,9 @@ comes-back rounds unfaulted suffice has_parts seen order sealed ladder parts str
     λ i plan here. order r cut stream (j + i) plan (at_all (j + i) plan (at-drop j i given plan here)) in
     let bytes_behind : (i : ℕ) (plan : SegmentPlan) → slice_get (drop j given) i ≡ Some plan → IsOfBytes plan =
     λ i plan here. all-at (plans_of r cut stream) (j + i) plan (sealed r cut stream (of.bytes r within)) (at_all (j + i) plan (at-drop j i given plan here)) in
-    let listing = first_listing pushed at.ended in
+    let listing = window_listing pushed at.ended in
+    let goes : GoesOn ladder.kind rendition = allowed.within.go_on r no_rendition below in
+    let number : number_of keys j ≡ pushed.gone.rows + j = ap (λ (n : ℕ). n + j) goes.first in
     let rows_behind : drop j rows ≡ rows_of keys (drop j given) = drop-map _ j given in
     let entries : map entry_of (drop j rows) ≡ map entry_of (rows_of keys (drop j given)) = ap (map entry_of) rows_behind in
     let few : discontinuity_count (take j rows) ≤ length (take j rows) = count_by-le-length (λ (row : SegmentRow). row.discontinuity) (take j rows) in
@@ -166,16 +169,23 @@ comes-back rounds unfaulted suffice has_parts seen order sealed ladder parts str
         utf8 = is_made.name;
         some_target = omega (arith, allowed.within.cut.target.0);
         target = allowed.within.cut.target.1;
-        discontinuity_sequence = omega (arith, few, length-take-le j rows (omega (arith, j_below)), j_below, long, few-plans r cut given are);
-        event = event-begins pushed;
+        discontinuity_sequence = omega (arith, goes.discontinuities, few, length-take-le j rows (omega (arith, j_below)), j_below, long, few-plans r cut given are);
+        event = λ is.
+            let begins = event-begins pushed is in
+            let all = has-all ladder.kind pushed.gone goes.all is in
+            (omega (arith, begins.0, all.0), omega (arith, begins.1, all.1));
         salt = is_made.salt;
         some = omega (arith, length-map (drop j rows) entry_of, length-drop j rows, j_below);
-        entries = subst (AreListed cut.target j) (sym entries) (listed-on rounds r cut keys j (drop j given) is_made.keys (omega (arith, allowed.within.cut.frame.0)) behind_j);
+        entries = subst (λ (m : ℕ). AreListed cut.target m (map entry_of (drop j rows))) number
+            (subst (AreListed cut.target (number_of keys j)) (sym entries)
+            (listed-on rounds r cut keys j (drop j given) is_made.keys goes.limit (omega (arith, allowed.within.cut.frame.0)) behind_j));
       };
-      text_is = ap (λ (p : PlaylistValue). p.text) same ∙ ap text_of (lines-are pushed at.ended refl (omega (arith, any, long)));
+      text_is = ap (λ (p : PlaylistValue). p.text) same ∙ ap text_of (lines-are pushed at.ended (omega (arith, any, long)));
       name_is = sym (ap (λ (p : PlaylistValue). p.name) same);
       ended_is = sym (ap (λ (p : PlaylistValue). p.ended) same);
       all_before = ap length at.segments_are ∙ (length-map given (segment_item ladder r) ∙ sym count);
+      place = j;
+      sequence_is = sym number;
       names_are = ap (map (λ (e : Entry). segment_file_name rendition.name e.number)) entries
           ∙ (names-of ladder r (drop j given)
           ∙ (ap (map file_name) (sym (drop-map (segment_item ladder r) j given)) ∙ ap (λ l. map file_name (drop j l)) (sym at.segments_are)));

@@ -2,7 +2,7 @@
 use Rattle.std.specs.Prelude.{◌≡◌, ℕ, ◌<◌, List, [], map, length, take, drop}
 use Rattle.std.specs.Str.{IsUtf8}
 use Rattle.cutter.specs.Plans.{SegmentPlan}
-use Rattle.segment_job.specs.Rotation.{IsRotation}
+use Rattle.segment_job.specs.Rotation.{IsRotation, number_of}
 use Rattle.playlist_text.specs.MediaLines.{Listing}
 use Rattle.item_io.specs.Items.{ItemValue, PlaylistValue, SegmentItem, MediaItem, FramesItem, MasterItem}
 use Rattle.item_io.specs.FileNames.{segment_file_name, file_name}
@@ -34,8 +34,9 @@ abbrev pub sealed_of : ℕ → List ItemValue → List (List ℕ)
 sealed_of r items = map sealed_bytes (segments_of r items)
 
 -- The media playlist is the text of a listing of its rendition. The segments that it lists stand before it: of all those of
--- the rendition the last ones, from the playlist's media sequence on. Their files have the names that the playlist's entries
--- ask for, and under the rendition's keys they unpack to the bodies of the same plans of the stream.
+-- the rendition the last ones, from the place on whose number is the playlist's media sequence. Their files have the names
+-- that the playlist's entries ask for, and under the rendition's keys they unpack to the bodies of the same plans of the
+-- stream.
 pub record ComesBack (ladder : Ladder) (streams : ℕ → List ℕ) (front : List ItemValue) (media : PlaylistValue) : Type 0 where
   pub listing : Listing
   pub sound : IsListing listing
@@ -43,7 +44,9 @@ pub record ComesBack (ladder : Ladder) (streams : ℕ → List ℕ) (front : Lis
   pub name_is : listing.name ≡ media.name
   pub ended_is : listing.ended ≡ media.ended
   pub all_before : length (segments_of media.rendition front) ≡ media.count
-  pub names_are : map (λ entry. segment_file_name listing.name entry.number) listing.entries ≡ map file_name (drop listing.sequence (segments_of media.rendition front))
+  pub place : ℕ
+  pub sequence_is : listing.sequence ≡ number_of (rendition_at ladder media.rendition).keys place
+  pub names_are : map (λ entry. segment_file_name listing.name entry.number) listing.entries ≡ map file_name (drop place (segments_of media.rendition front))
   pub plans : List SegmentPlan
-  pub plans_are : plans ≡ drop listing.sequence (take media.count (plans_of media.rendition ladder.cut (streams media.rendition)))
-  pub unpack : AllUnpack (packed listing.salt listing.entries (drop listing.sequence (sealed_of media.rendition front)) (rendition_at ladder media.rendition).keys.keys) (map (λ plan. plan.body) plans)
+  pub plans_are : plans ≡ drop place (take media.count (plans_of media.rendition ladder.cut (streams media.rendition)))
+  pub unpack : AllUnpack (packed listing.salt listing.entries (drop place (sealed_of media.rendition front)) (rendition_at ladder media.rendition).keys.keys) (map (λ plan. plan.body) plans)

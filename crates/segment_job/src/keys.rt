@@ -1,24 +1,26 @@
 //! The keys of a rendition.
 
 ghost use Rattle.std.specs.Prelude.{◌≡◌, ◌<◌, ◌≤◌, ◌↔◌, length, Some, None, IfOk, IsErrOf};
-ghost use Rattle.segment_job.specs.Rotation.{key_index, key_of, vector_of, IsRotation};
+ghost use Rattle.segment_job.specs.Rotation.{number_of, key_index, key_of, vector_of, IsRotation};
+ghost use Rattle.playlist_text.specs.Vectors;
 
 use crate::fault::KeyFault;
 use limits::MOST_KEYS;
-use playlist_text::salted_vector;
 use std::alloc::{AllocError, Global};
 use std::fmt::{self, Debug, Formatter, Write};
 use std::marker::Model;
 
 /// The keys of a rendition, which take turns: each seals as many segments in a row as the period says, and behind the
-/// last one the first has its turn again. With them stands the salt of the rendition's vectors, where it has one.
+/// last one the first has its turn again. With them stand the salt of the rendition's vectors, where it has one, and the
+/// number of the run's first segment: 0, or behind the segments of the runs before.
 ///
-/// Clauses see the list of the keys, of 16 bytes each, the period and the salt.
+/// Clauses see the list of the keys, of 16 bytes each, the period, the salt and that number.
 #[derive(Drop)]
 pub struct Keys {
     keys: Vec<[u8; 16]>,
     period: u64,
     salt: Option<[u8; 16]>,
+    first: u64,
 }
 
 impl Model for Keys {
@@ -26,9 +28,9 @@ impl Model for Keys {
 
     ghost Value = { KeyRotation };
 
-    ghost view = { λ k. record { keys = k.keys.items; period = k.period; salt = k.salt } };
+    ghost view = { λ k. record { keys = k.keys.items; period = k.period; salt = k.salt; first = k.first } };
 
-    ghost invariant = { λ k. IsRotation (record { keys = k.keys.items; period = k.period; salt = k.salt }) };
+    ghost invariant = { λ k. IsRotation (record { keys = k.keys.items; period = k.period; salt = k.salt; first = k.first }) };
 }
 
 impl Debug for Keys {
@@ -49,7 +51,7 @@ impl Keys {
     /// Keys in the order in which they take turns: 1 to 4,096, and a period of at least one segment. A segment's vector is
     /// its number.
     pub fn new(keys: Vec<[u8; 16]>, period: u64) -> Result<Keys, KeyFault>
-        ensures ok { IfOk result (λ made. made ≡ record { keys = keys.items; period = period; salt = None }) }
+        ensures ok { IfOk result (λ made. made ≡ record { keys = keys.items; period = period; salt = None; first = 0 }) }
         ensures no_keys { IsErrOf result KeyFault.NoKeys ↔ (length keys.items ≡ 0) }
         ensures too_many { IsErrOf result KeyFault.TooMany ↔ (MOST_KEYS < length keys.items) }
         ensures zero_period { IsErrOf result KeyFault.ZeroPeriod
@@ -61,7 +63,7 @@ impl Keys {
     /// The same with a salt: a segment's vector is the salt xor its number. So a run that begins at segment 0 again, under
     /// the same keys and a salt that was drawn at random, meets a vector of the run before by chance alone.
     pub fn salted(keys: Vec<[u8; 16]>, period: u64, salt: [u8; 16]) -> Result<Keys, KeyFault>
-        ensures ok { IfOk result (λ made. made ≡ record { keys = keys.items; period = period; salt = Some salt }) }
+        ensures ok { IfOk result (λ made. made ≡ record { keys = keys.items; period = period; salt = Some salt; first = 0 }) }
         ensures no_keys { IsErrOf result KeyFault.NoKeys ↔ (length keys.items ≡ 0) }
         ensures too_many { IsErrOf result KeyFault.TooMany ↔ (MOST_KEYS < length keys.items) }
         ensures zero_period { IsErrOf result KeyFault.ZeroPeriod
@@ -72,7 +74,7 @@ impl Keys {
 
     /// The keys, with a salt where there is one.
     fn with(keys: Vec<[u8; 16]>, period: u64, salt: Option<[u8; 16]>) -> Result<Keys, KeyFault>
-        ensures ok { IfOk result (λ made. made ≡ record { keys = keys.items; period = period; salt = salt }) }
+        ensures ok { IfOk result (λ made. made ≡ record { keys = keys.items; period = period; salt = salt; first = 0 }) }
         ensures no_keys { IsErrOf result KeyFault.NoKeys ↔ (length keys.items ≡ 0) }
         ensures too_many { IsErrOf result KeyFault.TooMany ↔ (MOST_KEYS < length keys.items) }
         ensures zero_period { IsErrOf result KeyFault.ZeroPeriod
@@ -87,31 +89,51 @@ impl Keys {
         if period == 0 {
             return Err(KeyFault::ZeroPeriod);
         }
-        Ok(Keys { keys, period, salt })
+        Ok(Keys {
+            keys,
+            period,
+            salt,
+            first: 0,
+        })
     }
 
-    /// The index of the key of segment `n`, from 0 on.
+    /// The same keys in a run whose first segment has this number. Under one salt no segment of the run then has a key and a
+    /// vector that one of a lesser number had in an earlier run.
+    pub fn behind(self, first: u64) -> Keys
+        ensures { result ≡ record self { first = first } }
+    {
+        Keys { first, ..self }
+    }
+
+    /// The number of segment `n` of the run, which players see: it goes on from run to run.
+    pub fn number(&self, n: u64) -> u128
+        ensures { result ≡ number_of self.now n }
+    {
+        u128::from(self.first) + u128::from(n)
+    }
+
+    /// The index of the key of segment `n` of the run, from 0 on.
     pub fn index(&self, n: u64) -> u64
         ensures value { result ≡ key_index self.now n }
         ensures below { result < length self.now.keys }
         ensures sound { IsRotation self.now }
     {
-        n / self.period % self.keys.len() as u64
+        (self.number(n) / u128::from(self.period) % self.keys.len() as u128) as u64
     }
 
-    /// The bytes of the key of segment `n`.
+    /// The bytes of the key of segment `n` of the run.
     pub fn key(&self, n: u64) -> [u8; 16]
         ensures { result ≡ key_of self.now n }
     {
         self.keys[self.index(n) as usize]
     }
 
-    /// The initialization vector of segment `n`: the salt xor its number, or the number alone where there is no salt (RFC
-    /// 8216, 5.2).
+    /// The initialization vector of segment `n` of the run: the salt xor its number, or the number alone where there is no
+    /// salt (RFC 8216, 5.2).
     pub fn vector(&self, n: u64) -> [u8; 16]
         ensures { result ≡ vector_of self.now n }
     {
-        salted_vector(self.salt, n)
+        vector_under(self.salt, self.number(n))
     }
 
     /// The salt of the vectors, where there is one.
@@ -130,6 +152,17 @@ impl Keys {
             keys,
             period: self.period,
             salt: self.salt,
+            first: self.first,
         })
+    }
+}
+
+/// The vector of a number, salted where there is a salt.
+fn vector_under(salt: Option<[u8; 16]>, number: u128) -> [u8; 16]
+    ensures { result ≡ Vectors.salted_vector salt number }
+{
+    match salt {
+        None => number.to_be_bytes(),
+        Some(salt) => (u128::from_be_bytes(salt) ^ number).to_be_bytes(),
     }
 }

@@ -1,11 +1,12 @@
 //! What the words of the contracts mean.
-ghost use Rattle.std.specs.Prelude.{◌≡◌, ◌≢◌, ◌<◌, ◌≤◌, ◌+◌, ◌*◌, ◌/◌, ◌%◌, ◌^◌, ℕ, List, Option, length, slice_range};
+ghost use Rattle.std.specs.Prelude.{◌≡◌, ◌≢◌, ◌<◌, ◌≤◌, ◌+◌, ◌*◌, ◌/◌, ◌%◌, ◌^◌, ◌∷◌, ℕ, List, Option, Some, length, slice_get, slice_range};
 ghost use Rattle.aes_cbc.specs.Block.{IsBlock};
 ghost use Rattle.aes_cbc.specs.Padding.{padded_text};
 ghost use Rattle.psi_tables.specs.InForce.{InForce};
 ghost use Rattle.psi_tables.specs.Head.{IsSameHead};
 ghost use Rattle.playlist_text.specs.Vectors.{salted_vector};
-ghost use Rattle.segment_job.specs.Rotation.{KeyRotation, IsRotation, key_index, key_of, vector_of};
+ghost use Rattle.segment_job.specs.Rotation.{KeyRotation, IsRotation, number_of, key_index, key_of, vector_of};
+ghost use Rattle.segment_job.specs.Runs.{KeyRun, GoOn};
 ghost use Rattle.segment_job.specs.Segments.{plain, plan_head, sealed_segment, OpensTo, SealedSegment, IsSealed};
 ghost use Rattle.segment_job.specs.Ranges.{widened, range_text};
 
@@ -18,16 +19,25 @@ pub fn two_numbers_have_two_vectors()
         salted_vector salt m ≡ salted_vector salt n → m ≡ n }
 {}
 
-/// No two segments of a rendition are sealed under the same key and vector.
+/// No two segments of a run are sealed under the same key and vector.
 pub fn no_key_and_vector_come_twice()
-    ensures { (r : KeyRotation) (m n : ℕ) → m < 2 ^ 64 → n < 2 ^ 64 → m ≢ n →
+    ensures { (r : KeyRotation) (m n : ℕ) → number_of r m < 2 ^ 64 → number_of r n < 2 ^ 64 → m ≢ n →
         ¬ ((key_of r m ≡ key_of r n) × (vector_of r m ≡ vector_of r n)) }
 {}
 
-/// Keys take turns: the first period of segments is the first key's, and a period behind a segment the next key has its
+/// No two segments of a rendition have the same vector, in all its runs, where each run goes on behind the one before and
+/// all have one salt: so none are sealed under the same key and vector, whatever the keys of the runs are.
+pub fn no_vector_comes_twice_in_all_runs()
+    ensures { (first : KeyRun) (runs : List KeyRun) (i j m n : ℕ) (a b : KeyRun) → GoOn first runs →
+        slice_get (first ∷ runs) i ≡ Some a → slice_get (first ∷ runs) j ≡ Some b → m < a.count → n < b.count →
+        number_of a.keys m < 2 ^ 64 → number_of b.keys n < 2 ^ 64 → vector_of a.keys m ≡ vector_of b.keys n →
+        (i ≡ j) × (m ≡ n) }
+{}
+
+/// Keys take turns: of all numbers the first period is the first key's, and a period behind a segment the next key has its
 /// turn, behind the last one the first.
 pub fn keys_take_turns()
-    ensures first { (r : KeyRotation) (n : ℕ) → n < r.period → key_index r n ≡ 0 }
+    ensures first { (r : KeyRotation) (n : ℕ) → number_of r n < r.period → key_index r n ≡ 0 }
     ensures next { (r : KeyRotation) (n : ℕ) → IsRotation r →
         key_index r (n + r.period) ≡ (key_index r n + 1) % length r.keys }
 {}

@@ -52,15 +52,15 @@ const ENTRIES: [Option<Row>; 3] = [
 const BOUNDS: &str = "#EXTM3U
 #EXT-X-VERSION:4
 #EXT-X-TARGETDURATION:3600
-#EXT-X-MEDIA-SEQUENCE:4294967293
-#EXT-X-DISCONTINUITY-SEQUENCE:4294967295
+#EXT-X-MEDIA-SEQUENCE:8589934590
+#EXT-X-DISCONTINUITY-SEQUENCE:8589934591
 #EXT-X-DISCONTINUITY
 #EXT-X-KEY:METHOD=AES-128,URI=\"hd%201%C3%A9.4095.key\"
 #EXTINF:0.000001,
-hd%201%C3%A9.4294967293.ts
+hd%201%C3%A9.8589934590.ts
 #EXT-X-KEY:METHOD=AES-128,URI=\"hd%201%C3%A9.0.key\"
 #EXTINF:3600.499999,
-hd%201%C3%A9.4294967294.ts
+hd%201%C3%A9.8589934591.ts
 ";
 
 /// A salted text whose first segments are gone.
@@ -92,12 +92,12 @@ const TEXTS: [(&str, &str, Read); 5] = [
         "hd 1é",
         (
             true,
-            (3600, 4_294_967_293, 4_294_967_295),
+            (3600, 8_589_934_590, 8_589_934_591),
             (false, false),
             None,
             [
-                Some((4_294_967_293, 4095, 1, true)),
-                Some((4_294_967_294, 0, 3_600_499_999, false)),
+                Some((8_589_934_590, 4095, 1, true)),
+                Some((8_589_934_591, 0, 3_600_499_999, false)),
                 None,
             ],
         ),

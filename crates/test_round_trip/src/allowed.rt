@@ -1,7 +1,7 @@
 //! Which settings are allowed.
 use crate::run::{CUT, WELL, rendition, run};
 use cutter::CutSettings;
-use pipeline::{Kind, PackFault, Rendition, Settings};
+use pipeline::{Gone, Kind, PackFault, Rendition, Settings};
 use std::alloc::Global;
 use std::test::Fail;
 
@@ -68,6 +68,58 @@ fn alone(
         queue,
     };
     is_allowed(alloc, &settings, 1)
+}
+
+/// Whether a rendition is allowed whose first segment has this number, behind so many segments and discontinuities.
+fn behind(alloc: Global, kind: Kind, first: u64, gone: Gone) -> Result<bool, Fail> {
+    let first_run = rendition(alloc, "v", 1, 1, None)?;
+    let mut renditions = Vec::new(alloc);
+    renditions.push(Rendition {
+        keys: first_run.keys.behind(first),
+        gone,
+        ..first_run
+    })?;
+    let settings = Settings {
+        renditions,
+        cut: CUT,
+        kind,
+        window: 5,
+        queue: 4,
+    };
+    is_allowed(alloc, &settings, 1)
+}
+
+/// The last number that a segment may have in one run.
+const LAST: u64 = 0xFFFF_FFFE;
+
+#[test]
+fn a_run_begins_behind_what_came_before(rt: HostRuntime) -> Result<(), Fail> {
+    let table = [
+        (Kind::Live, 0, 0, 0, true),
+        (Kind::Live, 5, 5, 2, true),
+        (Kind::Live, 0, 0, 2, true),
+        (Kind::Live, 5, 4, 0, false),
+        (Kind::Live, 0, 5, 0, false),
+        (Kind::Live, LAST, LAST, LAST, true),
+        (Kind::Live, LAST + 1, LAST + 1, 0, false),
+        (Kind::Live, 5, 5, LAST + 1, false),
+        (Kind::Event, 0, 0, 0, true),
+        (Kind::Event, 5, 5, 0, false),
+        (Kind::Event, 0, 0, 1, false),
+    ];
+    for (kind, first, rows, discontinuities, allowed) in table {
+        let gone = Gone {
+            rows,
+            frames: 9,
+            discontinuities,
+        };
+        assert_eq!(rt;
+            behind(rt.alloc(), kind, first, gone)?,
+            allowed,
+            "{kind:?} {first} {gone:?}"
+        );
+    }
+    Ok(())
 }
 
 /// How many renditions and how many inputs there are, and whether those are allowed.

@@ -22,6 +22,8 @@ mod many;
 #[cfg(test)]
 mod reads;
 #[cfg(test)]
+mod resumed;
+#[cfg(test)]
 mod run;
 #[cfg(test)]
 mod same;

@@ -6,7 +6,7 @@ use crate::stream::{Change, TWO_SEGMENTS, Video, stream_of};
 use cutter::CutSettings;
 use fixture_standard_stream::SETTINGS;
 use item_io::{FailingOutlet, FailingReader, Item, READS};
-use pipeline::{Kind, PackFault, Rendition, Report, Settings, pack_serial_reads};
+use pipeline::{Gone, Kind, PackFault, Rendition, Report, Settings, pack_serial_reads};
 use segment_job::Keys;
 use std::alloc::{AllocError, Global};
 use std::sync::Wait;
@@ -156,6 +156,7 @@ pub fn rendition(
         height: 360,
         keys: keys_of(alloc, keys, period, salt)?,
         salt,
+        gone: Gone::nothing(),
     })
 }
 

@@ -1,7 +1,7 @@
 //! The settings of runs for tests.
 
 use fixture_standard_stream::{SETTINGS, key};
-use ladder_items::{Kind, Rendition, Settings};
+use ladder_items::{Gone, Kind, Rendition, Settings};
 use std::alloc::Global;
 use std::test::Fail;
 
@@ -14,6 +14,7 @@ pub(crate) fn settings(alloc: Global) -> Result<Settings, Fail> {
         height: 360,
         keys: key(alloc).ok_or("no key")?,
         salt: None,
+        gone: Gone::nothing(),
     })?;
     Ok(Settings {
         renditions,

@@ -116,6 +116,25 @@ fn salted_vectors(rt: HostRuntime) -> Result<(), Fail> {
     Ok(())
 }
 
+#[test]
+fn a_run_goes_on_behind_another(rt: HostRuntime) -> Result<(), Fail> {
+    let keys = turns(rt.alloc(), 1, 2)?.behind(3);
+    let keys = keys.copy()?;
+    for (n, number, index) in [
+        (0, 3, 1),
+        (1, 4, 0),
+        (5, 8, 0),
+        (u64::MAX, (1 << 64) + 2, 1),
+    ] {
+        assert_eq!(rt; (keys.number(n), keys.index(n)), (number, index), "{n}");
+    }
+    same(&rt, "of 255", &keys.vector(255), &vector(258));
+    let salted = salted_key(rt.alloc())?.behind(200);
+    let wanted = b"\xf0\xf1\xf2\xf3\xf4\xf5\xf6\xf7\xf8\xf9\xfa\xfb\xfc\xfd\xff\xff";
+    same(&rt, "of 56 behind 200", &salted.vector(56), wanted);
+    Ok(())
+}
+
 /// The plain text of a segment.
 fn opened(alloc: Global, sealed: &Sealed<'_>) -> Result<Vec<u8>, OpenFault> {
     open(

@@ -1,0 +1,101 @@
+//! Runs that go on behind earlier ones.
+use crate::run::{CUT, WELL, last_frames, last_media, rendition, run_beside};
+use crate::stream::{Change, TWO_SEGMENTS, stream_of};
+use hls_check::check;
+use item_io::Item;
+use pipeline::{Gone, Kind, Rendition, Settings};
+use std::alloc::{AllocError, Global};
+use std::test::Fail;
+
+/// Seven segments came before, of twenty I-frames, three of them discontinuities.
+const GONE: Gone = Gone {
+    rows: 7,
+    frames: 20,
+    discontinuities: 3,
+};
+
+/// One rendition of two keys that take turns of two segments each, behind what came before.
+fn settings(alloc: Global) -> Result<Settings, Fail> {
+    let first = rendition(alloc, "v", 2, 2, None)?;
+    let behind = Rendition {
+        keys: first.keys.behind(GONE.rows),
+        gone: GONE,
+        ..first
+    };
+    let mut renditions = Vec::new(alloc);
+    renditions.push(behind)?;
+    Ok(Settings {
+        renditions,
+        cut: CUT,
+        kind: Kind::Live,
+        window: 5,
+        queue: 4,
+    })
+}
+
+const MEDIA: &str = "#EXTM3U
+#EXT-X-VERSION:4
+#EXT-X-TARGETDURATION:6
+#EXT-X-MEDIA-SEQUENCE:7
+#EXT-X-DISCONTINUITY-SEQUENCE:3
+#EXT-X-DISCONTINUITY
+#EXT-X-KEY:METHOD=AES-128,URI=\"v.1.key\"
+#EXTINF:6.000000,
+v.7.ts
+#EXT-X-KEY:METHOD=AES-128,URI=\"v.0.key\"
+#EXTINF:3.040000,
+v.8.ts
+#EXT-X-ENDLIST
+";
+
+const FRAMES: &str = "#EXTM3U
+#EXT-X-VERSION:4
+#EXT-X-TARGETDURATION:6
+#EXT-X-MEDIA-SEQUENCE:20
+#EXT-X-DISCONTINUITY-SEQUENCE:3
+#EXT-X-I-FRAMES-ONLY
+#EXT-X-DISCONTINUITY
+#EXT-X-KEY:METHOD=AES-128,URI=\"v.1.key\",IV=0x00000000000000000000000000000007
+#EXTINF:6.000000,
+#EXT-X-BYTERANGE:188@376
+v.7.ts
+#EXT-X-KEY:METHOD=AES-128,URI=\"v.0.key\",IV=0x00000000000000000000000000000008
+#EXTINF:3.040000,
+#EXT-X-BYTERANGE:188@376
+v.8.ts
+#EXT-X-ENDLIST
+";
+
+/// Whether the segments among some items have the numbers from this one on, and are those that the text lists, under two
+/// keys.
+fn come_back(alloc: Global, items: &[Item], from: u64, text: &str) -> Result<bool, AllocError> {
+    let mut segments = Vec::new(alloc);
+    let mut next = from;
+    for item in items {
+        if let Item::Segment { number, bytes, .. } = item {
+            if *number != next {
+                return Ok(false);
+            }
+            next = next.saturating_add(1);
+            segments.push(Vec::from_slice(alloc, bytes)?)?;
+        }
+    }
+    match check(alloc, text, &segments, &[[0; 16], [1; 16]]) {
+        Ok(checked) => Ok(checked.segments == segments.len()),
+        Err(_) => Ok(false),
+    }
+}
+
+#[test]
+fn two_segments_behind_seven(rt: HostRuntime) -> Result<(), Fail> {
+    let settings = settings(rt.alloc())?;
+    let stream = stream_of(rt.alloc(), TWO_SEGMENTS, Change::None)?;
+    let ran = run_beside(&rt, rt.alloc(), &[&stream], WELL, &settings, &[2])?;
+    let items = ran.outlet.items();
+    let back = come_back(rt.alloc(), items, 7, MEDIA)?;
+    assert_eq!(rt;
+        (ran.told(), last_media(items), last_frames(items), back),
+        ((None, 10), MEDIA, FRAMES, true)
+    );
+    Ok(())
+}
