@@ -4,5 +4,6 @@ pub mod Kills
 pub mod Rolling
 pub mod PowerLoss
 pub mod Stops
+pub mod Losses
 pub mod Playing
 pub mod Finding

@@ -16,18 +16,18 @@ abbrev pub OnDisk : (Files → Type 0) → Files → Type 0
 OnDisk disk files = (c : Files) → disk c → Shows c files
 
 -- a write of a hidden file, torn or not, isn't seen
-reaches-hidden : (name bytes : List ℕ) (d c : Files) → is_hidden name ≡ true →
+pub reaches-hidden : (name bytes : List ℕ) (d c : Files) → is_hidden name ≡ true →
     Same c d ⊎ Same c (moved d (Write name bytes)) ⊎ IsTorn name d c → Shows c d
 reaches-hidden name bytes d c hidden (inl same) = λ n shown. same n
 reaches-hidden name bytes d c hidden (inr (inl wrote)) = Shows-Same c (with_file d name (Some bytes)) d wrote (Shows-hidden d name (Some bytes) hidden)
 reaches-hidden name bytes d c hidden (inr (inr (inl (torn, is)))) = Shows-Same c (with_file d name (Some torn)) d is (Shows-hidden d name (Some torn) hidden)
 reaches-hidden name bytes d c hidden (inr (inr (inr is))) = Shows-Same c (with_file d name None) d is (Shows-hidden d name None hidden)
 
-Same-with_file : (a b : Files) (name : List ℕ) (bytes : Option (List ℕ)) → Same a b → Same (with_file a name bytes) (with_file b name bytes)
+pub Same-with_file : (a b : Files) (name : List ℕ) (bytes : Option (List ℕ)) → Same a b → Same (with_file a name bytes) (with_file b name bytes)
 Same-with_file a b name bytes same other =
     elim (bytes_eq name other) as (λ t. (if t then bytes else a other) ≡ (if t then bytes else b other)) [ true ↦ refl | false ↦ same other ]
 
-Same-trans : (a b c : Files) → Same a b → Same b c → Same a c
+pub Same-trans : (a b c : Files) → Same a b → Same b c → Same a c
 Same-trans a b c p q name = p name ∙ q name
 
 Same-placed : (a b : Files) (p : Put) → Same a b → Same (moved a (placing p)) (moved b (placing p))
@@ -92,7 +92,7 @@ pub each-loss : (files : Files) (puts : List Put) → MayBePut [] puts → (left
 each-loss files puts fit left may = loses puts files (Same files) [] tt tt fit (λ c same n shown. sym (same n)) left may
 
 -- what is on the disk now may be left
-left-now : (now : Files) (disk : Files → Type 0) (moves : List Move) (left : Files) → disk left → PowerLossMayLeave now disk moves left
+pub left-now : (now : Files) (disk : Files → Type 0) (moves : List Move) (left : Files) → disk left → PowerLossMayLeave now disk moves left
 left-now now disk [] left there = there
 left-now now disk (m ∷ moves) left there = inl there
 
@@ -116,7 +116,7 @@ cut-behind now disk (Looked name there) left seen cut = absurd cut
 cut-behind now disk Sync left seen cut = absurd cut
 
 -- a loss of power may leave whatever a kill may
-kill-is-loss : (moves : List Move) (now : Files) (disk : Files → Type 0) (left : Files) → MayBeSeen now disk → KillMayLeave now moves left → PowerLossMayLeave now disk moves left
+pub kill-is-loss : (moves : List Move) (now : Files) (disk : Files → Type 0) (left : Files) → MayBeSeen now disk → KillMayLeave now moves left → PowerLossMayLeave now disk moves left
 kill-is-loss [] now disk left seen may = seen left may
 kill-is-loss (m ∷ moves) now disk left seen (inl same) = inl (seen left same)
 kill-is-loss (m ∷ moves) now disk left seen (inr (inl cut)) = inr (left-now (moved now m) (disk_behind now disk m) moves left (cut-behind now disk m left seen cut))

@@ -21,7 +21,7 @@ KillMayLeave-behind : (a : Files) (first second : List Move) (left : Files) → 
 KillMayLeave-behind a [] second left may = may
 KillMayLeave-behind a (m ∷ first) second left may = inr (inr (KillMayLeave-behind (moved a m) first second left may))
 
-written-removed : (a : Files) (name front other : List ℕ) → with_file (with_file a name (Some front)) name None other ≡ with_file a name None other
+pub written-removed : (a : Files) (name front other : List ℕ) → with_file (with_file a name (Some front)) name None other ≡ with_file a name None other
 written-removed a name front other =
     elim (bytes_eq name other) as (λ t. (if t then None else (if t then Some front else a other)) ≡ (if t then None else a other)) [ true ↦ refl | false ↦ refl ]
 

@@ -7,6 +7,7 @@ pub mod StagedFiles
 pub mod Rolling
 pub mod Playing
 pub mod PowerLoss
+pub mod Syncing
 pub mod GhostMoves
 pub mod FileFolders
 pub mod MemoryMoves

@@ -22,6 +22,11 @@ abbrev pub PowerLossMayLeave : Files → (Files → Type 0) → List Move → Fi
 PowerLossMayLeave now disk [] left = disk left
 PowerLossMayLeave now disk (m ∷ moves) left = disk left ⊎ PowerLossMayLeave (moved now m) (disk_behind now disk m) moves left
 
+-- What may be on the disk behind all of these moves.
+abbrev pub disk_after : Files → (Files → Type 0) → List Move → Files → Type 0
+disk_after now disk [] left = disk left
+disk_after now disk (m ∷ moves) left = disk_after (moved now m) (disk_behind now disk m) moves left
+
 -- each file is placed, and synced before the next one is
 abbrev pub synced_each : List Put → List Move
 synced_each [] = []

@@ -6,7 +6,7 @@ ghost use Rattle.folder.specs.Puts.{Put, MayBePut, after_puts, moves_of, placing
 ghost use Rattle.folder.specs.Prefixes.{HasPrefix, IsFailedPut};
 ghost use Rattle.folder.specs.Rolling.{AreSeen, rolling_moves};
 ghost use Rattle.folder.specs.Playing.{AreListedInTurn, IsPlayablePrefix, Lists};
-ghost use Rattle.folder.specs.PowerLoss.{PowerLossMayLeave, synced_moves_of};
+ghost use Rattle.folder.specs.PowerLoss.{PowerLossMayLeave, disk_after, synced_moves_of, synced_placings};
 
 /// Wherever the process is killed, the folder holds a prefix of the files that were put, whole; and where some files of a
 /// block are in place, the others stand whole under their part names.
@@ -55,4 +55,22 @@ pub fn each_loss_of_power_leaves_a_prefix()
         (left : Files) → PowerLossMayLeave files (Same files) (synced_moves_of puts) left → HasPrefix files puts left }
     ensures kill { (files : Files) (puts : List Put) → MayBePut [] puts →
         (left : Files) → KillMayLeave files (synced_moves_of puts) left → HasPrefix files puts left }
+{}
+
+/// So it is where a put failed.
+pub fn each_loss_of_power_behind_a_failed_put_leaves_a_prefix()
+    ensures power { (files : Files) (puts : List Put) (next : Put) (more : List Move) → MayBePut [] (puts ++ next ∷ []) →
+        IsFailedPut (synced_placings next.ends (staged_after [] puts) next) next more →
+        (left : Files) → PowerLossMayLeave files (Same files) (synced_moves_of puts ++ more) left → HasPrefix files (puts ++ next ∷ []) left }
+    ensures kill { (files : Files) (puts : List Put) (next : Put) (more : List Move) → MayBePut [] (puts ++ next ∷ []) →
+        IsFailedPut (synced_placings next.ends (staged_after [] puts) next) next more →
+        (left : Files) → KillMayLeave files (synced_moves_of puts ++ more) left → HasPrefix files (puts ++ next ∷ []) left }
+{}
+
+/// Behind the last move of whole blocks that are synced, all files that were put are in place, and on the disk too.
+pub fn all_are_on_the_disk()
+    ensures seen { (files : Files) (puts : List Put) → MayBePut [] puts → staged_after [] puts ≡ [] →
+        Shows (standing files (synced_moves_of puts)) (after_puts files puts) }
+    ensures disk { (files : Files) (puts : List Put) → MayBePut [] puts → staged_after [] puts ≡ [] →
+        (left : Files) → disk_after files (Same files) (synced_moves_of puts) left → Shows left (after_puts files puts) }
 {}
