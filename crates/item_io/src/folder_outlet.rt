@@ -1,4 +1,4 @@
-ghost use Rattle.std.specs.Prelude.{◌≡◌, ◌+◌, ◌<◌, ◌^◌, ◌∷◌, [], true, IsErr, OnOk, OnErr};
+ghost use Rattle.std.specs.Prelude.{◌≡◌, ◌+◌, ◌<◌, ◌^◌, ◌∷◌, [], true, false, IsErr, OnOk, OnErr};
 ghost use Rattle.folder.specs.FileFolders.{file_moves};
 ghost use Rattle.item_io.specs.Items.{item_value};
 ghost use Rattle.item_io.specs.FileNames.{is_named};
@@ -27,11 +27,13 @@ use std::marker::Model;
 /// A put fails where the name of an item's rendition is none, where memory is refused, and where the folder fails. From
 /// there on every put fails, and nothing more is done to the folder.
 ///
-/// The folder isn't synced: what is said here is of what processes see, and not of a machine that loses its power.
+/// Where the folder isn't synced, what is said here is of what processes see, and not of a machine that loses its power. One
+/// that is synced is so before a block is placed, and behind each file of it: then a loss of power leaves no more than a kill.
 #[derive(Drop)]
 pub struct FolderOutlet<F> {
     folder: F,
     alloc: Global,
+    syncs: bool,
     staged: Vec<StagedFile>,
     failures: u64,
 }
@@ -42,13 +44,14 @@ impl<F> Model for FolderOutlet<F> {
 
     ghost Value = { FolderState F };
 
-    ghost view = { λ o. record { folder = o.folder; staged = staged_names o.staged.items; failures = o.failures } };
+    ghost view = { λ o. record { folder = o.folder; syncs = o.syncs; staged = staged_names o.staged.items; failures = o.failures } };
 }
 
 impl<R: Files> FolderOutlet<FileFolder<R>> {
     /// The outlet of the folder at a path, which has to be there.
     pub fn new(files: R, alloc: Global, path: String) -> FolderOutlet<FileFolder<R>>
         ensures made { file_moves result.folder ≡ [] }
+        ensures syncs { result.syncs ≡ false }
         ensures staged { result.staged ≡ [] }
         ensures failures { result.failures ≡ 0 }
     {
@@ -59,14 +62,25 @@ impl<R: Files> FolderOutlet<FileFolder<R>> {
 impl<F: Folder> FolderOutlet<F> {
     /// The outlet of a folder. It holds no item where nothing was done to the folder yet.
     pub fn with_folder(folder: F, alloc: Global) -> FolderOutlet<F>
-        ensures fresh { result ≡ new_outlet folder }
-        ensures folder { result.folder ≡ folder }
-        ensures staged { result.staged ≡ [] }
-        ensures failures { result.failures ≡ 0 }
+        ensures fresh { result ≡ new_outlet false folder }
     {
         FolderOutlet {
             folder,
             alloc,
+            syncs: false,
+            staged: Vec::new(alloc),
+            failures: 0,
+        }
+    }
+
+    /// The same, which syncs the folder: a file stays there once it is in place, also if the machine loses its power.
+    pub fn with_synced_folder(folder: F, alloc: Global) -> FolderOutlet<F>
+        ensures { result ≡ new_outlet true folder }
+    {
+        FolderOutlet {
+            folder,
+            alloc,
+            syncs: true,
             staged: Vec::new(alloc),
             failures: 0,
         }
@@ -82,34 +96,41 @@ impl<F: Folder> FolderOutlet<F> {
 }
 
 impl<F: Folder> Outlet for FolderOutlet<F> {
-    ghost output = { outlet_view (λ o. HoldsFiles (F.made o.folder) o.staged o.failures) (λ o. HoldsFilesUpTo (F.made o.folder)) (λ o. o.failures) };
+    ghost output = { outlet_view (λ o. HoldsFiles o.syncs (F.made o.folder) o.staged o.failures) (λ o. HoldsFilesUpTo o.syncs (F.made o.folder)) (λ o. o.failures) };
 
     fn put(&mut self, item: &Item) -> Result<(), OutletFault>
         requires { self.old.failures < 2 ^ 63 }
         ensures grown { OnOk result (Grows
-            (HoldsFiles (F.made self.old.folder) self.old.staged self.old.failures)
-            (HoldsFiles (F.made self.new.folder) self.new.staged self.new.failures)
+            (HoldsFiles self.old.syncs (F.made self.old.folder) self.old.staged self.old.failures)
+            (HoldsFiles self.new.syncs (F.made self.new.folder) self.new.staged self.new.failures)
             (item_value item.now ∷ [])) }
         ensures ok { OnOk result (self.new.failures ≡ self.old.failures) }
         ensures kept { OnErr result (Grows
-            (HoldsFiles (F.made self.old.folder) self.old.staged self.old.failures)
-            (HoldsFiles (F.made self.new.folder) self.new.staged self.new.failures)
+            (HoldsFiles self.old.syncs (F.made self.old.folder) self.old.staged self.old.failures)
+            (HoldsFiles self.new.syncs (F.made self.new.folder) self.new.staged self.new.failures)
             []) }
         ensures refused { OnErr result (self.old.failures ≡ 0 → BreaksOff
-            (HoldsFiles (F.made self.old.folder) self.old.staged self.old.failures)
-            (HoldsFilesUpTo (F.made self.new.folder))
+            (HoldsFiles self.old.syncs (F.made self.old.folder) self.old.staged self.old.failures)
+            (HoldsFilesUpTo self.new.syncs (F.made self.new.folder))
             []
             (item_value item.now)) }
         ensures failed { OnErr result (self.new.failures ≡ self.old.failures + 1) }
         ensures named { OnOk result (is_named (item_value item.now) ≡ true) }
         ensures stays { 0 < self.old.failures → IsErr result }
+        ensures syncs { self.new.syncs ≡ self.old.syncs }
         ensures untouched { 0 < self.old.failures → self.new.folder ≡ self.old.folder }
     {
         if self.failures > 0 {
             self.failures += 1;
             return Err(OutletFault);
         }
-        match put_file(&mut self.folder, self.alloc, &mut self.staged, item) {
+        match put_file(
+            &mut self.folder,
+            self.alloc,
+            self.syncs,
+            &mut self.staged,
+            item,
+        ) {
             Ok(()) => Ok(()),
             Err(fault) => {
                 self.failures += 1;
