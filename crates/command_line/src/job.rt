@@ -45,6 +45,8 @@ pub enum StreamJob {
 pub struct LadderJob<'a> {
     pub options: LadderOptions<'a>,
     pub folder: &'a str,
+    /// Whether the folder is synced.
+    pub syncs: bool,
 }
 
 /// The job that the words of a command line ask for, the program's name first. No fault of the command line comes
@@ -102,6 +104,7 @@ fn ladder_job<'a>(alloc: Global, options: &ArgMatches<'a>) -> Result<LadderJob<'
     Ok(LadderJob {
         options: ladder,
         folder: options.get_str("out").unwrap_or(""),
+        syncs: options.get_flag("sync"),
     })
 }
 

@@ -8,10 +8,22 @@ use std::alloc::{AllocError, Global};
 pub fn with_ladder<'a>(alloc: Global, command: Command<'a>) -> Result<Command<'a>, AllocError> {
     let out = "The folder that the files are written to, which has to be there";
     let command = command.arg(text(alloc, "out", "DIR", out).required(true))?;
+    let command = with_sync(alloc, command)?;
     let command = with_numbers(alloc, command, &POOL)?;
     let command = with_entries(alloc, command)?;
     let command = with_forms(alloc, command)?;
     with_numbers(alloc, command, &NUMBERS)
+}
+
+/// The command with the option that syncs the folder.
+fn with_sync<'a>(alloc: Global, command: Command<'a>) -> Result<Command<'a>, AllocError> {
+    let sync = Arg::new(alloc, "sync")
+        .long("sync")
+        .action(ArgAction::SetTrue)
+        .help(
+            "Wait until each file is on the disk: a machine that loses its power then keeps all that was listed",
+        );
+    command.arg(sync)
 }
 
 /// The numbers of the threads that seal.

@@ -4,6 +4,7 @@ ghost use Rattle.rounds.specs.Shown.{IsPackedShown};
 ghost use Rattle.commands.specs.FolderPacking.{FolderSays, IsPackedInto, LeavesPrefix, folder_run};
 ghost use Rattle.commands.specs.LadderPacking.{LadderSays, WritesSummary};
 
+use crate::destination::{Destination, outlet_of};
 use crate::ladder_packing::{PackedLadder, pack};
 use crate::pool::Pool;
 use folder::Folder;
@@ -19,7 +20,8 @@ use std::thread::Threads;
 /// and playlists into files of the folder.
 ///
 /// Wherever the process is killed, also after a fault, the folder shows what stood there before with a prefix of a weave
-/// of the renditions over it, whole files alone; and once all is packed, all of the weave is there.
+/// of the renditions over it, whole files alone; and once all is packed, all of the weave is there. A folder that is synced
+/// holds that on the disk too, wherever the machine loses its power.
 pub fn pack_into_folder<S: Source + Drop, F: Folder + Drop, W: Write, R: Threads + Wait + Sync>(
     rt: &R,
     alloc: Global,
@@ -27,28 +29,28 @@ pub fn pack_into_folder<S: Source + Drop, F: Folder + Drop, W: Write, R: Threads
     settings: &Settings,
     pool: Pool,
     publisher: Publisher,
-    folder: F,
+    into: Destination<F>,
     output: &mut W,
 ) -> PackedLadder<S, FolderOutlet<F>>
     requires room { HaveRoom S.input READS sources.items }
-    requires fresh { F.made folder ≡ [] }
-    ensures killed { LeavesPrefix settings.now (F.made result.outlet.folder) }
+    requires fresh { F.made into.folder ≡ [] }
+    ensures killed { LeavesPrefix settings.now into.syncs (F.made result.outlet.folder) }
     ensures there { IfOk result.answer (IsPackedInto
-        (folder_run S.input F.made READS sources.items result.sources.items folder result.outlet)
-        settings.now (F.made result.outlet.folder)) }
+        (folder_run S.input F.made READS sources.items result.sources.items into result.outlet)
+        settings.now into.syncs (F.made result.outlet.folder)) }
     ensures left { IfErr result.answer (FolderSays
-        (folder_run S.input F.made READS sources.items result.sources.items folder result.outlet)
-        settings.now (F.made result.outlet.folder)) }
+        (folder_run S.input F.made READS sources.items result.sources.items into result.outlet)
+        settings.now into.syncs (F.made result.outlet.folder)) }
     ensures ok { IfOk result.answer (IsPackedShown
-        (folder_run S.input F.made READS sources.items result.sources.items folder result.outlet)
+        (folder_run S.input F.made READS sources.items result.sources.items into result.outlet)
         settings.now pool.workers publisher.list result.publisher.list) }
     ensures written { IfOk result.answer (λ report. WritesSummary settings.now report (W.contents output.old) (W.contents output.new)) }
     ensures fault { IfErr result.answer (LadderSays
-        (folder_run S.input F.made READS sources.items result.sources.items folder result.outlet)
+        (folder_run S.input F.made READS sources.items result.sources.items into result.outlet)
         settings.now pool.workers publisher.list result.publisher.list (W.contents output.old) (W.contents output.new)) }
     ensures board { result.publisher.board ≡ publisher.board }
 {
-    let outlet = FolderOutlet::with_folder(folder, alloc);
+    let outlet = outlet_of(into, alloc);
     pack(
         rt, alloc, sources, settings, pool, publisher, outlet, output,
     )

@@ -5,6 +5,7 @@
 mod check_options;
 mod checking;
 mod cipher;
+mod destination;
 mod entry;
 mod files;
 mod folder_packing;
@@ -31,6 +32,7 @@ mod summary_text;
 pub use check_options::{CheckOptions, CheckWords, read_check_options};
 pub use checking::{CheckingFault, check};
 pub use cipher::{CipherFault, CipherOptions, CipherWords, read_cipher_options};
+pub use destination::Destination;
 pub use entry::{EntryWords, cut_entry, entries, first_bad};
 pub use files::{FileFault, FileReader};
 pub use folder_packing::pack_into_folder;

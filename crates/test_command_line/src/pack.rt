@@ -2,11 +2,13 @@ use command_line::{Job, LadderJob, line};
 use std::alloc::{AllocError, Global};
 use std::test::Fail;
 
-/// What a job asks for: its folder, the numbers of its pool and its paths.
+/// What a job asks for: its folder, whether it is synced, the numbers of its pool and its paths.
 fn text_of(alloc: Global, job: &LadderJob<'_>) -> Result<String, AllocError> {
     let pool = job.options.pool;
     let batch = pool.batch.unwrap_or(0);
-    let mut text = format!(in alloc; "{} {} {} {batch}", job.folder, pool.workers, pool.queue)?;
+    let synced = if job.syncs { " synced" } else { "" };
+    let (workers, queue) = (pool.workers, pool.queue);
+    let mut text = format!(in alloc; "{}{synced} {workers} {queue} {batch}", job.folder)?;
     for path in &job.options.paths {
         text.push_str(" ")?;
         text.push_str(path)?;
@@ -48,10 +50,11 @@ const POOL: [&str; 9] = [
 ];
 
 /// Words, and what they ask for or print.
-const LADDERS: [(&[&str], &str); 6] = [
+const LADDERS: [(&[&str], &str); 7] = [
     (&["--out", "hls", V], "hls 4 16 0 a.ts"),
     (&[W, V, "--out", "hls"], "hls 4 16 0 b:c d a.ts"),
     (&POOL, "a 2 3 1 a.ts"),
+    (&["--sync", "--out", "hls", V], "hls synced 4 16 0 a.ts"),
     (&["--out", "hls", V, "w:c:2x1"], "tshls: BadEntry 2\n"),
     (&["--out", "hls", "--salt", "0", V], "tshls: BadVector\n"),
     (&["--out", "hls", "--workers", "0", V], "tshls: Settings\n"),

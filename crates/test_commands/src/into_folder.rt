@@ -1,7 +1,7 @@
 //! Tests of `pack` into a folder: what stands there at the end, and after a move that failed.
 
 use crate::fixtures::{settings, stream_bytes};
-use commands::{PackedLadder, Pool, pack_into_folder};
+use commands::{Destination, PackedLadder, Pool, pack_into_folder};
 use folder::MemoryFolder;
 use item_io::FailingReader;
 use pipeline::opening_board;
@@ -21,7 +21,12 @@ const FILES: [&str; 5] = [
 
 /// The names of those files that stand in a folder after the standard stream was packed into it, and whether the run ended
 /// well. Move `n` of the folder fails, counted from 1: none for 0.
-fn packed<R: Threads + Wait + Sync>(rt: &R, alloc: Global, n: u64) -> Result<(String, bool), Fail> {
+fn packed<R: Threads + Wait + Sync>(
+    rt: &R,
+    alloc: Global,
+    n: u64,
+    syncs: bool,
+) -> Result<(String, bool), Fail> {
     let mut sources = Vec::new(alloc);
     sources.push(FailingReader::new(stream_bytes(alloc)?, 188, 0))?;
     let settings = settings(alloc, "640x360")?;
@@ -31,7 +36,10 @@ fn packed<R: Threads + Wait + Sync>(rt: &R, alloc: Global, n: u64) -> Result<(St
         batch: None,
     };
     let (publisher, _viewers) = opening_board(rt, alloc, 1, 1)?;
-    let folder = MemoryFolder::new(alloc, n);
+    let into = Destination {
+        folder: MemoryFolder::new(alloc, n),
+        syncs,
+    };
     let mut output = Vec::new(alloc);
     let PackedLadder {
         sources: _,
@@ -45,7 +53,7 @@ fn packed<R: Threads + Wait + Sync>(rt: &R, alloc: Global, n: u64) -> Result<(St
         &settings,
         pool,
         publisher,
-        folder,
+        into,
         &mut output,
     );
     publisher.end(rt);
@@ -78,7 +86,33 @@ fn what_stands_in_the_folder(rt: HostRuntime) -> Result<(), Fail> {
         (9, " v.0.ts v.m3u8 v.iframes.m3u8 master.m3u8", false),
     ];
     for (n, names, is_well) in table {
-        let (found, ended_well) = packed(&rt, rt.alloc(), n)?;
+        let (found, ended_well) = packed(&rt, rt.alloc(), n, false)?;
+        assert!(rt;
+            found.as_str() == names && ended_well == is_well,
+            "move {n} fails: {found}"
+        );
+    }
+    Ok(())
+}
+
+#[test]
+fn what_stands_in_a_synced_folder(rt: HostRuntime) -> Result<(), Fail> {
+    // a block of a segment is three writes, a sync, and three renames, each with a sync behind it; a master a write, a sync, a
+    // rename and a sync
+    let table = [
+        (0, " v.0.ts v.1.ts v.m3u8 v.iframes.m3u8 master.m3u8", true),
+        (4, "", false),
+        (5, "", false),
+        (6, " v.0.ts", false),
+        (7, " v.0.ts", false),
+        (8, " v.0.ts v.m3u8", false),
+        (9, " v.0.ts v.m3u8", false),
+        (10, " v.0.ts v.m3u8 v.iframes.m3u8", false),
+        (13, " v.0.ts v.m3u8 v.iframes.m3u8", false),
+        (14, " v.0.ts v.m3u8 v.iframes.m3u8 master.m3u8", false),
+    ];
+    for (n, names, is_well) in table {
+        let (found, ended_well) = packed(&rt, rt.alloc(), n, true)?;
         assert!(rt;
             found.as_str() == names && ended_well == is_well,
             "move {n} fails: {found}"

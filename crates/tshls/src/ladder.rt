@@ -1,9 +1,12 @@
+ghost use Rattle.std.specs.Prelude.{◌≡◌, [], IfOk};
+ghost use Rattle.folder.specs.FileFolders.{file_moves};
+
 use command_line::{Fault, LadderJob};
-use commands::{PackedLadder, pack_into_folder};
+use commands::{Destination, PackedLadder, pack_into_folder};
 use folder::FileFolder;
 use pipeline::opening_board;
 use read_ahead::open_all;
-use std::alloc::Global;
+use std::alloc::{AllocError, Global};
 use std::fs::Files;
 use std::io::Write;
 use std::sync::Wait;
@@ -22,7 +25,7 @@ where
 {
     let settings = &job.options.settings;
     let sources = open_all(rt, alloc, job.options.paths.as_slice())?;
-    let folder = FileFolder::new(rt, alloc, String::from_str(alloc, job.folder)?);
+    let into = destination(rt, alloc, job)?;
     let (publisher, _viewers) = opening_board(&rt, alloc, settings.renditions.len(), 1)?;
     let PackedLadder {
         sources: _,
@@ -36,10 +39,31 @@ where
         settings,
         job.options.pool,
         publisher,
-        folder,
+        into,
         output,
     );
     publisher.end(&rt);
     answer?;
     Ok(())
+}
+
+/// The folder that the files go to, to which nothing was done yet.
+fn destination<R: Copy>(
+    rt: R,
+    alloc: Global,
+    job: &LadderJob<'_>,
+) -> Result<Destination<FileFolder<R>>, AllocError>
+    ensures fresh { IfOk result (λ into. file_moves into.folder ≡ []) }
+    ensures syncs { IfOk result (λ into. into.syncs ≡ job.now.syncs) }
+{
+    let path = String::from_str(alloc, job.folder)?;
+    let folder = if job.syncs {
+        FileFolder::new_synced(rt, alloc, path)
+    } else {
+        FileFolder::new(rt, alloc, path)
+    };
+    Ok(Destination {
+        folder,
+        syncs: job.syncs,
+    })
 }

@@ -3,24 +3,24 @@ use Rattle.commands.proofs.FolderRuns.{leaves-prefix, left-of, there-of}
 use Rattle.commands.proofs.folder_packing.pack_into_folder.Goals as goal
 
 pub returns-clause-ok : goal.returns-clause-ok
-returns-clause-ok g c = rw c.with_folder-outlet.ensures.fresh at c.pack.ensures.ok
+returns-clause-ok g c = rw c.outlet_of-outlet.ensures at c.pack.ensures.ok
 
 pub returns-clause-fault : goal.returns-clause-fault
-returns-clause-fault g c = rw c.with_folder-outlet.ensures.fresh at c.pack.ensures.fault
+returns-clause-fault g c = rw c.outlet_of-outlet.ensures at c.pack.ensures.fault
 
 pub returns-clause-there : goal.returns-clause-there
 returns-clause-there g c =
-    there-of g.S.Source.input g.F.Folder.made c.args.settings.now (2 ^ 40) c.args.sources.items c.pack.result.sources.items c.args.folder c.pack.result.outlet c.requires.fresh
+    there-of g.S.Source.input g.F.Folder.made c.args.settings.now (2 ^ 40) c.args.sources.items c.pack.result.sources.items c.args.into c.pack.result.outlet c.requires.fresh
     c.args.pool.workers c.args.publisher.list c.pack.result.publisher.list c.pack.result.answer
-    (rw c.with_folder-outlet.ensures.fresh at c.pack.ensures.ok) c.pack.ensures.fits
+    (rw c.outlet_of-outlet.ensures at c.pack.ensures.ok) c.pack.ensures.fits
 
 pub returns-clause-left : goal.returns-clause-left
 returns-clause-left g c =
-    left-of g.S.Source.input g.F.Folder.made c.args.settings.now (2 ^ 40) c.args.sources.items c.pack.result.sources.items c.args.folder c.pack.result.outlet c.requires.fresh
+    left-of g.S.Source.input g.F.Folder.made c.args.settings.now (2 ^ 40) c.args.sources.items c.pack.result.sources.items c.args.into c.pack.result.outlet c.requires.fresh
     c.args.pool.workers c.args.publisher.list c.pack.result.publisher.list _ _ c.pack.result.answer
-    (rw c.with_folder-outlet.ensures.fresh at c.pack.ensures.breach) (rw c.with_folder-outlet.ensures.fresh at c.pack.ensures.fault)
+    (rw c.outlet_of-outlet.ensures at c.pack.ensures.breach) (rw c.outlet_of-outlet.ensures at c.pack.ensures.fault)
 
 pub returns-clause-killed : goal.returns-clause-killed
 returns-clause-killed g c =
-    leaves-prefix g.S.Source.input g.F.Folder.made c.args.settings.now (2 ^ 40) c.args.sources.items c.pack.result.sources.items c.args.folder c.pack.result.outlet c.requires.fresh
+    leaves-prefix g.S.Source.input g.F.Folder.made c.args.settings.now (2 ^ 40) c.args.sources.items c.pack.result.sources.items c.args.into c.pack.result.outlet c.requires.fresh
     c.pack.result.answer (returns-clause-there g c) (returns-clause-left g c)
