@@ -376,3 +376,29 @@ fn a_folder_in_memory(rt: HostRuntime) -> Result<(), FolderFault> {
     assert_same(&rt, "removed", folder.has("hd 1.7.ts")?, false);
     Ok(())
 }
+
+#[test]
+fn a_folder_that_is_synced(rt: HostRuntime) -> io::Result<()> {
+    make(&rt, "synced")?;
+    let items = items(rt.alloc())?;
+    let mut outlet = FolderOutlet::with_synced_folder(open(&rt, "synced")?, rt.alloc());
+    assert_same(&rt, "synced", put_all(&mut outlet, &items), 0);
+    assert_bytes(&rt, &rt, "synced/hd 1.7.ts", b"\x00\x47\xAB\xFF")?;
+    let names = "hd 1.7.ts\nhd 1.m3u8\nmaster.m3u8\nv.iframes.m3u8\n";
+    assert_names(&rt, &rt, "synced", names)?;
+    remove(&rt, "synced")
+}
+
+#[test]
+fn a_sync_that_fails_fails_the_put(rt: HostRuntime) -> io::Result<()> {
+    make(&rt, "fails")?;
+    let path = String::from_str(rt.alloc(), "fails")?;
+    let folder = FileFolder::new(&rt, rt.alloc(), path);
+    let mut outlet = FolderOutlet::with_synced_folder(folder, rt.alloc());
+    let items = items(rt.alloc())?;
+    // the third puts its block, of which the sync fails: nothing is in place, and the master isn't put
+    assert_same(&rt, "fails", put_all(&mut outlet, &items), 2);
+    let names = ".hd 1.7.ts.part\n.hd 1.m3u8.part\n.v.iframes.m3u8.part\n";
+    assert_names(&rt, &rt, "fails", names)?;
+    remove(&rt, "fails")
+}

@@ -24,6 +24,8 @@ mod outlet_tests;
 #[cfg(test)]
 mod pushed_tests;
 #[cfg(test)]
+mod retention_tests;
+#[cfg(test)]
 mod source_tests;
 #[cfg(test)]
 mod window_tests;
