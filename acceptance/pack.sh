@@ -18,6 +18,7 @@ check_pack() {
     check_pack_settings
     check_pack_ends
     check_no_threads
+    check_stops
     check_holding
     check_served_ladder
     check_live_ladder
