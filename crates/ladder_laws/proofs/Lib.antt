@@ -4,3 +4,9 @@ pub mod Together
 pub mod KeyLines
 pub mod Opening
 pub mod FrameListing
+pub mod UriLines
+pub mod WholeLines
+pub mod FileUris
+pub mod PlaylistLines
+pub mod Turns
+pub mod Playable

@@ -1,3 +1,5 @@
 pub mod Seen
 pub mod Openings
 pub mod Listings
+pub mod Playlists
+pub mod Playable
