@@ -6,7 +6,7 @@ use commands::{
 };
 use live_board::BoardFault;
 use pipeline::PackFault;
-use read_ahead::OpenFault;
+use read_ahead::InputFault;
 use std::alloc::{AllocError, AllocFailed};
 
 /// Why the program ends without having done its work. It prints as the line that standard error gets.
@@ -31,7 +31,7 @@ pub enum Fault {
     Sealing(SealingFault),
     Opening(OpeningFault),
     /// A stream of a ladder can't be opened.
-    Unopened(OpenFault),
+    Unopened(InputFault),
     Packing(PackFault),
     LadderPacking(LadderPackingFault),
     Checking(CheckingFault),
@@ -168,12 +168,12 @@ impl From<LadderFault> for Fault {
     }
 }
 
-impl From<OpenFault> for Fault {
+impl From<InputFault> for Fault {
     ghost use Rattle.command_line.specs.declared.fault.Fault.TheVariants.{Unopened};
 
     ghost from_gives = { λ why fault. fault ≡ Unopened why };
 
-    fn from(why: OpenFault) -> Fault {
+    fn from(why: InputFault) -> Fault {
         Fault::Unopened(why)
     }
 }

@@ -6,7 +6,7 @@ use commands::{
 };
 use hls_check::{CheckFault, ListFault, UnpackFault};
 use pipeline::PackFault;
-use read_ahead::OpenFault;
+use read_ahead::InputFault;
 use std::fmt;
 
 impl fmt::Display for Fault {
@@ -98,10 +98,10 @@ fn opening_name(fault: OpeningFault) -> &'static str {
     }
 }
 
-fn unopened_name(fault: OpenFault) -> &'static str {
+fn unopened_name(fault: InputFault) -> &'static str {
     match fault {
-        OpenFault::Unread => "Unread",
-        OpenFault::NoMemory => "NoMemory",
+        InputFault::Unread => "Unread",
+        InputFault::NoMemory => "NoMemory",
     }
 }
 

@@ -4,7 +4,7 @@ use commands::{
     SettingsFault,
 };
 use hls_check::{CheckFault, ListFault, UnpackFault};
-use read_ahead::OpenFault;
+use read_ahead::InputFault;
 
 const NO_MEMORY: &str = "out of memory";
 
@@ -82,10 +82,10 @@ pub(crate) fn opening_reason(fault: OpeningFault) -> &'static str {
     }
 }
 
-pub(crate) fn unopened_reason(fault: OpenFault) -> &'static str {
+pub(crate) fn unopened_reason(fault: InputFault) -> &'static str {
     match fault {
-        OpenFault::Unread => "the path of an entry can't be opened; nothing was written",
-        OpenFault::NoMemory => NO_MEMORY,
+        InputFault::Unread => "the path of an entry can't be opened; nothing was written",
+        InputFault::NoMemory => NO_MEMORY,
     }
 }
 

@@ -1,4 +1,5 @@
 pub mod Filling
-pub mod Numbered
-pub mod Overtaking
+pub mod Lists
+pub mod Streams
+pub mod Telling
 pub mod Turns

@@ -1,4 +1,3 @@
-pub mod Blocks
+pub mod Messages
 pub mod Shares
 pub mod Sources
-pub mod Steps

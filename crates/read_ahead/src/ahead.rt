@@ -1,52 +1,97 @@
-ghost use Rattle.std.specs.Prelude.{◌≡◌, None};
+ghost use Rattle.std.specs.Prelude.{◌≡◌};
 ghost use Rattle.item_io.specs.Views.{source_view};
+ghost use Rattle.read_ahead.specs.Sources.{IsSound, rest_of};
 
-use crate::line::Line;
+use crate::incoming::{Incoming, Phase};
+use crate::input::Contents;
 use item_io::{ReadFault, Source};
 use std::marker::Model;
 use std::sync::Wait;
 
 /// A source of what another thread reads ahead. A read waits until a byte lies ready, or the end.
-#[derive(Drop)]
-pub struct Ahead<R> {
+pub struct Ahead<R: Wait, I: Contents> {
     rt: R,
-    line: Line,
+    incoming: Incoming<I>,
     reads: u64,
     failures: u64,
 }
 
-impl<R> Model for Ahead<R> {
-    ghost use Rattle.read_ahead.specs.Sources.{Counts};
+impl<R: Wait, I: Contents> Model for Ahead<R, I> {
+    ghost use Rattle.read_ahead.specs.Sources.{IsSound, Seen, rest_of};
 
-    ghost Value = { Counts };
+    ghost Value = { Seen };
 
-    ghost view = { λ s. record { number = s.line.number; reads = s.reads; failures = s.failures } };
+    ghost view = { λ s. record { left = rest_of I.holds s.incoming; reads = s.reads; failures = s.failures } };
+
+    ghost invariant = { λ s. IsSound I.holds s.incoming };
 }
 
-impl<R: Wait> Ahead<R> {
-    /// The source of what comes on a line.
-    pub fn new(rt: R, line: Line) -> Ahead<R>
-        ensures number { result.number ≡ line.number }
+impl<R: Wait, I: Contents> Ahead<R, I> {
+    /// The source of what comes of an input.
+    pub fn new(rt: R, incoming: Incoming<I>) -> Ahead<R, I>
+        requires { IsSound I.holds incoming }
+        ensures left { result.left ≡ rest_of I.holds incoming }
         ensures reads { result.reads ≡ 0 }
         ensures failures { result.failures ≡ 0 }
     {
         Ahead {
             rt,
-            line,
+            incoming,
             reads: 0,
             failures: 0,
         }
     }
+
+    /// Whether the input is open: false where it can't be opened, none while that isn't known. No clause says which.
+    pub fn is_open(&mut self) -> Option<bool>
+        ensures { self.new ≡ self.old }
+    {
+        if matches!(self.incoming.phase, Phase::Opening) {
+            if self.incoming.consumer.is_empty() {
+                return None;
+            }
+            self.incoming.wait_open(&self.rt);
+        }
+        Some(!matches!(self.incoming.phase, Phase::Failed))
+    }
+
+    /// Whether a read would answer at once. No clause says which.
+    pub fn is_ready(&mut self) -> bool
+        ensures { self.new ≡ self.old }
+    {
+        self.incoming.is_ready()
+    }
+
+    /// No more reads come: what the input still gives is thrown away, so that its writer isn't held up. A read behind this fails,
+    /// once the bytes of the front block are given.
+    pub fn leave(&mut self)
+        ensures { self.new ≡ self.old }
+    {
+        self.incoming.stop();
+        self.incoming.backlogs.leave(&self.rt, self.incoming.number);
+    }
 }
 
-impl<R: Wait> Source for Ahead<R> {
-    ghost input = { source_view (λ s. None) (λ s. s.reads) (λ s. s.failures) };
+impl<R: Wait, I: Contents> Source for Ahead<R, I> {
+    ghost input = { source_view (λ s. s.left) (λ s. s.reads) (λ s. s.failures) };
 
     fn read(&mut self, buffer: &mut [u8]) -> Result<usize, ReadFault> {
-        match self.line.take(&self.rt, buffer) {
-            Ok(0) => Ok(0),
+        let number = self.incoming.number;
+        if self.incoming.backlogs.is_left(&self.rt, number) {
+            self.incoming.stop();
+        }
+        self.incoming.go_on(&self.rt);
+        let share = self
+            .incoming
+            .backlogs
+            .share(&self.rt, number)
+            .min(buffer.len());
+        match self.incoming.give(&self.rt, &mut buffer[..share]) {
             Ok(count) => {
-                self.reads += 1;
+                self.incoming.backlogs.give(&self.rt, number, count);
+                if count > 0 {
+                    self.reads += 1;
+                }
                 Ok(count)
             }
             Err(fault) => {
@@ -54,5 +99,18 @@ impl<R: Wait> Source for Ahead<R> {
                 Err(fault)
             }
         }
+    }
+}
+
+impl<R: Wait + Drop, I: Contents> Drop for Ahead<R, I> {
+    /// No more of the input is given.
+    fn drop(self) {
+        let Ahead {
+            rt,
+            incoming,
+            reads: _,
+            failures: _,
+        } = self;
+        incoming.backlogs.leave(&rt, incoming.number);
     }
 }

@@ -1,74 +1,70 @@
-ghost use Rattle.std.specs.Prelude.{◌≡◌, ◌+◌, ◌≤◌, ◌<◌, ◌^◌, ◌++◌, [], length, OnOk, OnErr};
+//! How much of an input lies ready. What a source gives doesn't rest on it: it bounds how far inputs are read ahead, and tells how
+//! much a read gives.
+ghost use Rattle.std.specs.Prelude.{◌≡◌, ◌+◌, ◌-◌, ◌^◌, min, false, true};
+ghost use Rattle.read_ahead.specs.Shares.{is_full};
 
-use crate::blocks::Blocks;
-use std::alloc::{AllocError, Global};
-use std::marker::Model;
-use std::mem;
-
-/// The bytes that were read and not given yet.
+/// How much of an input was read and not given yet.
 #[derive(Drop)]
 pub struct Backlog {
-    blocks: Blocks,
-    count: usize,
-    alloc: Global,
-}
-
-impl Model for Backlog {
-    ghost use Rattle.std.specs.Prelude.{ℕ, List, ◌≡◌, ◌≤◌, length};
-    ghost use Rattle.read_ahead.specs.Blocks.{waiting};
-
-    ghost Value = { List ℕ };
-
-    ghost view = { λ b. waiting b.blocks };
-
-    ghost invariant = { λ b. (b.count ≡ length (waiting b.blocks)) × (b.blocks.at ≤ length b.blocks.front.items) };
+    pub bytes: usize,
+    /// The blocks that weren't begun.
+    pub blocks: usize,
+    /// How many reads of its source were answered.
+    pub reads: u64,
+    /// No more of it is given: what the input still gives is thrown away.
+    pub left: bool,
 }
 
 impl Backlog {
-    /// None.
-    pub fn new(alloc: Global) -> Backlog
-        ensures { result ≡ [] }
+    /// Of an input that gave nothing yet.
+    pub fn new() -> Backlog
+        ensures { result ≡ record { bytes = 0; blocks = 0; reads = 0; left = false } }
     {
         Backlog {
-            blocks: Blocks::new(alloc),
-            count: 0,
-            alloc,
+            bytes: 0,
+            blocks: 0,
+            reads: 0,
+            left: false,
         }
     }
 
-    /// How many they are.
-    pub fn count(&self) -> usize
-        ensures { result ≡ length self.now }
+    /// Whether a block of so many bytes has to wait.
+    pub fn is_full(&self, room: usize, blocks: usize, count: usize) -> bool
+        ensures { result ≡ is_full room blocks count self.now }
     {
-        self.count
+        if self.left || self.bytes == 0 {
+            return false;
+        }
+        self.blocks >= blocks || self.bytes > room || count > room - self.bytes
     }
 
-    /// Throws all of them away.
-    pub fn clear(&mut self)
-        ensures { self.new ≡ [] }
+    /// A block of so many bytes lies ready.
+    pub fn put(&mut self, count: usize)
+        ensures { self.new ≡ record self.old { bytes = min (self.old.bytes + count) (2 ^ 64 - 1); blocks = min (self.old.blocks + 1) (2 ^ 64 - 1) } }
     {
-        self.blocks = Blocks::new(self.alloc);
-        self.count = 0;
+        self.bytes = self.bytes.saturating_add(count);
+        self.blocks = self.blocks.saturating_add(1);
     }
 
-    /// Takes a block and adds it behind the last.
-    pub fn add(&mut self, block: &mut Vec<u8>) -> Result<(), AllocError>
-        requires { length self.old + length block.old.items < 2 ^ 64 }
-        ensures ok { OnOk result (self.new ≡ self.old ++ block.old.items) }
-        ensures err { OnErr result (self.new ≡ self.old) }
+    /// A block was begun.
+    pub fn begin(&mut self)
+        ensures { self.new ≡ record self.old { blocks = self.old.blocks - 1 } }
     {
-        let count = block.len();
-        self.blocks.add(mem::replace(block, Vec::new(self.alloc)))?;
-        self.count += count;
-        Ok(())
+        self.blocks = self.blocks.saturating_sub(1);
     }
 
-    /// Fills a buffer with the first bytes, and takes them.
-    pub fn fill(&mut self, buffer: &mut [u8])
-        requires { length buffer.old ≤ length self.old }
-        ensures { self.old ≡ buffer.new ++ self.new }
+    /// A read was answered with so many bytes.
+    pub fn give(&mut self, count: usize)
+        ensures { self.new ≡ record self.old { bytes = self.old.bytes - count; reads = min (self.old.reads + 1) (2 ^ 64 - 1) } }
     {
-        self.blocks.fill(self.alloc, buffer);
-        self.count -= buffer.len();
+        self.bytes = self.bytes.saturating_sub(count);
+        self.reads = self.reads.saturating_add(1);
+    }
+
+    /// No more of it is given.
+    pub fn leave(&mut self)
+        ensures { self.new ≡ record self.old { left = true } }
+    {
+        self.left = true;
     }
 }

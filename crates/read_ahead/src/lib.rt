@@ -3,17 +3,21 @@
 
 mod ahead;
 mod backlog;
-mod blocks;
-mod board;
-mod doors;
-mod lane;
+mod backlogs;
+mod incoming;
+mod input;
+mod input_files;
 mod limits;
-mod line;
-mod opening;
+mod message;
 mod reading;
+mod sender;
 mod shares;
+mod starting;
 #[cfg(test)]
 mod tests;
+mod waiting;
 
 pub use ahead::Ahead;
-pub use opening::{OpenFault, open_all};
+pub use input::{Contents, Input, OpenInput};
+pub use input_files::{InputAt, InputFiles};
+pub use starting::{InputFault, open_all, open_paths};

@@ -1,59 +1,114 @@
-ghost use Rattle.std.specs.Prelude.{◌<◌, length, OnOk};
+//! What the thread of an input does.
+ghost use Rattle.std.specs.Prelude.{◌≡◌, ◌<◌, Ok, length, IfOk};
 ghost use Rattle.std.specs.Io.KnownBytes.{IsAtEnd};
+ghost use Rattle.rtrb.specs.Ring.{sent};
+ghost use Rattle.read_ahead.specs.Messages.{Asks, IsOpen, Tells};
+ghost use Rattle.read_ahead.specs.declared.reading.Stop.TheVariants.{AtEnd};
 
+use crate::input::Input;
 use crate::limits::BLOCK;
-use crate::line::Line;
+use crate::message::Message;
+use crate::sender::Sender;
 use item_io::{ReadFault, read_some};
 use std::alloc::{AllocError, Global};
 use std::io::Read;
 use std::sync::Wait;
 
-/// Reads an input to its end, and puts what it gives on its line. Want of memory is a failed read.
-pub fn read_ahead<R: Wait, I: Read + Drop>(rt: &R, alloc: Global, line: &Line, input: I) {
-    let mut input = input;
-    let failed = copy_all(rt, alloc, line, &mut input).is_err();
-    line.close(rt, failed);
+/// Why nothing more is told of an input.
+#[derive(Clone, Copy)]
+pub enum Stop {
+    /// All of it was.
+    AtEnd,
+    /// No more of it is given.
+    Left,
 }
 
-/// Puts all that an input gives on a line, up to its end.
-fn copy_all<R: Wait, I: Read>(
-    rt: &R,
-    alloc: Global,
-    line: &Line,
-    input: &mut I,
-) -> Result<(), ReadFault>
-    ensures { OnOk result (IsAtEnd (I.remaining input.new)) }
+/// Opens an input, and tells all that it gives.
+pub fn open_and_read<R: Wait, I: Input>(rt: &R, alloc: Global, sender: Sender<I>, input: I)
+    requires { Asks (sent sender.producer) input }
 {
-    let Ok(mut buffer) = vec![in alloc; 0; BLOCK] else {
-        return Err(ReadFault);
-    };
-    copy_by(rt, alloc, line, input, &mut buffer)
+    let mut sender = sender;
+    match input.open() {
+        Some(reader) => {
+            sender.send(rt, Message::Opened);
+            read_ahead(rt, alloc, sender, reader);
+        }
+        None => sender.send(rt, Message::Refused),
+    }
 }
 
-/// Puts all that an input gives on a line, by reads into this buffer.
-fn copy_by<R: Wait, I: Read>(
+/// Tells all that an open input gives, and its end or a failure. Want of memory is a failed read. Once no more of it is given, its
+/// bytes are thrown away, so that its writer isn't held up.
+fn read_ahead<R: Wait, I: Input>(rt: &R, alloc: Global, sender: Sender<I>, reader: I::Reader)
+    requires { Tells I.holds (sent sender.producer) (I.Reader.remaining reader) }
+{
+    let mut sender = sender;
+    let mut reader = reader;
+    let Ok(mut buffer) = vec![in alloc; 0; BLOCK] else {
+        return sender.send(rt, Message::Failed);
+    };
+    match copy_by(rt, alloc, &mut sender, &mut reader, &mut buffer) {
+        Ok(Stop::AtEnd) => sender.send(rt, Message::End),
+        Ok(Stop::Left) => {
+            drop(sender);
+            throw_away(rt, &mut reader, &mut buffer);
+        }
+        Err(_) => tell_failure(rt, sender),
+    }
+}
+
+/// Tells that a read failed.
+fn tell_failure<R: Wait, I: Input>(rt: &R, sender: Sender<I>)
+    requires { IsOpen (sent sender.producer) }
+{
+    let mut failed = sender;
+    failed.send(rt, Message::Failed);
+}
+
+/// Tells all that an input gives, up to its end, by reads into this buffer.
+fn copy_by<R: Wait, I: Input>(
     rt: &R,
     alloc: Global,
-    line: &Line,
-    input: &mut I,
+    sender: &mut Sender<I>,
+    reader: &mut I::Reader,
     buffer: &mut [u8],
-) -> Result<(), ReadFault>
-    requires { 0 < length buffer.old }
-    ensures { OnOk result (IsAtEnd (I.remaining input.new)) }
+) -> Result<Stop, ReadFault>
+    requires room { 0 < length buffer.old }
+    requires tells { Tells I.holds (sent sender.old.producer) (I.Reader.remaining reader.old) }
+    ensures told { result ≡ Ok AtEnd → Tells I.holds (sent sender.new.producer) (I.Reader.remaining reader.new) }
+    ensures end { result ≡ Ok AtEnd → IsAtEnd (I.Reader.remaining reader.new) }
+    ensures open { IsOpen (sent sender.new.producer) }
 {
     for _ in rt.forever() {
-        let count = read_some(input, buffer)?;
+        let count = read_some(reader, buffer)?;
         if count == 0 {
-            return Ok(());
+            return Ok(Stop::AtEnd);
         }
-        if put_copy(rt, alloc, line, &buffer[..count]).is_err() {
+        if !sender.wait_for_room(rt, count) {
+            return Ok(Stop::Left);
+        }
+        let Ok(block) = copy_of(alloc, &buffer[..count]) else {
             return Err(ReadFault);
-        }
+        };
+        sender.send(rt, Message::Bytes(block));
     }
     unreachable!()
 }
 
-/// Puts a block of these bytes on a line.
-fn put_copy<R: Wait>(rt: &R, alloc: Global, line: &Line, bytes: &[u8]) -> Result<(), AllocError> {
-    line.put(rt, bytes.to_vec(alloc)?)
+/// A copy of these bytes.
+fn copy_of(alloc: Global, bytes: &[u8]) -> Result<Vec<u8>, AllocError>
+    ensures { IfOk result (λ block. block.items ≡ bytes.now) }
+{
+    bytes.to_vec(alloc)
+}
+
+/// Reads an input to its end or a failure.
+fn throw_away<R: Wait, Q: Read>(rt: &R, reader: &mut Q, buffer: &mut [u8]) {
+    for _ in rt.forever() {
+        match read_some(reader, buffer) {
+            Ok(0) => return,
+            Ok(_) => {}
+            Err(_) => return,
+        }
+    }
 }

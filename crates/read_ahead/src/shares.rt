@@ -1,7 +1,8 @@
-ghost use Rattle.std.specs.Prelude.{◌≡◌, ◌+◌, ◌<◌, ◌^◌, [], max, length};
-ghost use Rattle.read_ahead.specs.Shares.{is_overtaken, parts, turns};
+//! How much a source gives at a read, so that all are done with what lies ready in the same number of turns.
+ghost use Rattle.std.specs.Prelude.{◌≡◌, ◌<◌, max};
+ghost use Rattle.read_ahead.specs.Shares.{is_overtaken, parts, share, turns};
 
-use crate::lane::Lane;
+use crate::backlog::Backlog;
 use item_io::PIECE;
 
 /// So many things in parts of this size: how many parts.
@@ -12,27 +13,35 @@ pub fn parts_of(count: usize, size: usize) -> usize
     count.div_ceil(size)
 }
 
-/// How many turns a source of so many takes counts with.
+/// How many turns a source of so many reads counts with.
 #[tactic(auto, using(crate::proofs::Turns::turns_some))]
-pub fn turns_of(takes: u64, lanes: &[Lane]) -> usize
-    ensures is { result ≡ turns takes lanes.now }
+pub fn turns_of(reads: u64, backlogs: &[Backlog]) -> usize
+    ensures is { result ≡ turns reads backlogs.now }
     ensures some { 0 < result }
 {
     let mut most = 1;
-    for lane in lanes {
-        if lane.takes >= takes {
-            most = most.max(parts_of(lane.ready.count(), PIECE));
+    for backlog in backlogs {
+        if backlog.reads >= reads {
+            most = most.max(parts_of(backlog.bytes, PIECE));
         }
     }
     most
 }
 
-/// Whether a source of so many takes was overtaken.
-pub fn is_overtaken(takes: u64, lanes: &[Lane]) -> bool
-    ensures { result ≡ is_overtaken takes lanes.now }
+/// How many of so many bytes a source gives in one of so many turns.
+pub fn share_of(bytes: usize, turns: usize) -> usize
+    requires { 0 < turns }
+    ensures { result ≡ share bytes turns }
 {
-    for lane in lanes {
-        if lane.takes.saturating_sub(takes) >= 2 {
+    parts_of(bytes, turns).max(1)
+}
+
+/// Whether a source of so many reads was overtaken.
+pub fn is_overtaken(reads: u64, backlogs: &[Backlog]) -> bool
+    ensures { result ≡ is_overtaken reads backlogs.now }
+{
+    for backlog in backlogs {
+        if backlog.reads.saturating_sub(reads) >= 2 {
             return true;
         }
     }

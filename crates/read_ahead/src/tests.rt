@@ -1,4 +1,5 @@
 mod ahead;
 mod fixtures;
+mod leaving;
 mod opening;
 mod shares;

@@ -1,7 +1,7 @@
 use command_line::{Fault, explain, line};
 use commands::LadderPackingFault;
 use pipeline::PackFault;
-use read_ahead::OpenFault;
+use read_ahead::InputFault;
 use std::alloc::{AllocError, Global};
 use std::test::Fail;
 
@@ -189,7 +189,7 @@ fn faults_of_other_commands(rt: HostRuntime) -> Result<(), Fail> {
     let table: [(&[&str], Fault, &str); 4] = [
         (&one, Fault::Packing(PackFault::Settings), name),
         (&seal, Fault::NotUtf8, both),
-        (&pack, Fault::Unopened(OpenFault::Unread), path),
+        (&pack, Fault::Unopened(InputFault::Unread), path),
         (&["tshls"], Fault::NotUtf8, ""),
     ];
     for (words, fault, text) in table {

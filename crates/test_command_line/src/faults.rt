@@ -5,7 +5,7 @@ use commands::{
 };
 use hls_check::{CheckFault, ListFault, UnpackFault};
 use pipeline::PackFault;
-use read_ahead::OpenFault;
+use read_ahead::InputFault;
 use std::alloc::{AllocError, Global};
 use std::test::Fail;
 
@@ -91,8 +91,8 @@ fn of_a_ladder(rt: HostRuntime) -> Result<(), Fail> {
         );
     }
     for (fault, text) in [
-        (OpenFault::Unread, "tshls: Unread\n"),
-        (OpenFault::NoMemory, "tshls: NoMemory\n"),
+        (InputFault::Unread, "tshls: Unread\n"),
+        (InputFault::NoMemory, "tshls: NoMemory\n"),
     ] {
         assert!(rt;
             is_told(rt.alloc(), Fault::from(fault), text, 1)?,

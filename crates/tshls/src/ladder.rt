@@ -5,7 +5,7 @@ use command_line::{Fault, LadderJob};
 use commands::{Destination, PackedLadder, pack_into_folder};
 use folder::FileFolder;
 use pipeline::opening_board;
-use read_ahead::open_all;
+use read_ahead::{InputFiles, open_paths};
 use std::alloc::{AllocError, Global};
 use std::fs::Files;
 use std::io::Write;
@@ -13,18 +13,22 @@ use std::sync::Wait;
 use std::thread::Threads;
 
 /// Packs a ladder of files into a folder. All paths are open before anything is written.
-pub fn pack_ladder<R: Files + Threads + Wait + Copy + Send + Sync + 'static, W: Write>(
+pub fn pack_ladder<
+    R: InputFiles + Files + Threads + Wait + Copy + Send + Sync + Drop + 'static,
+    W: Write,
+>(
     rt: R,
     alloc: Global,
     job: &LadderJob<'_>,
     output: &mut W,
 ) -> Result<(), Fault>
 where
+    R::Reader: Send + 'static,
     R::File: Send + 'static,
     R::Dir: Send + 'static,
 {
     let settings = &job.options.settings;
-    let sources = open_all(rt, alloc, job.options.paths.as_slice())?;
+    let sources = open_paths(rt, alloc, rt, job.options.paths.as_slice())?;
     let into = destination(rt, alloc, job)?;
     let (publisher, _viewers) = opening_board(&rt, alloc, settings.renditions.len(), 1)?;
     let PackedLadder {

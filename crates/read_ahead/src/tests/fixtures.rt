@@ -1,19 +1,42 @@
-ghost use Rattle.std.specs.Prelude.{◌≡◌, IfOk};
+ghost use Rattle.std.specs.Prelude.{◌≡◌, All, IfOk, IfSome};
 
-use crate::line::{Line, Shared};
+use crate::input::{Contents, OpenInput};
+use crate::{Ahead, open_all};
 use item_io::Source;
 use std::alloc::{AllocError, Global};
 use std::io;
 use std::io::{ErrorKind, Read};
+use std::sync::{Arc, Condvar, Mutex, Wait};
+use std::thread::Threads;
 
-/// A line for each of so many inputs, of which `room` bytes lie ready at the most.
-pub(super) fn new_lines(alloc: Global, count: usize, room: usize) -> Result<Vec<Line>, AllocError> {
-    let shared = Shared::new(alloc, count, room)?;
-    let mut lines = Vec::with_capacity(alloc, count)?;
-    for number in 0..count {
-        lines.push(Line::new(&shared, number)?)?;
+/// Something that one thread waits for and another one brings.
+#[derive(Drop)]
+pub(super) struct Event {
+    came: Mutex<bool>,
+    changed: Condvar,
+}
+
+impl Event {
+    pub(super) fn new(alloc: Global) -> Result<Arc<Event, Global>, AllocError> {
+        Ok(Arc::new(
+            alloc,
+            Event {
+                came: Mutex::new(false),
+                changed: Condvar::new(),
+            },
+        )?)
     }
-    Ok(lines)
+
+    pub(super) fn bring<R: Wait>(&self, rt: &R) {
+        *self.came.lock(rt) = true;
+        self.changed.notify_all();
+    }
+
+    pub(super) fn wait<R: Wait>(&self, rt: &R) {
+        let _ = self
+            .changed
+            .wait_while(rt, self.came.lock(rt), |came| !*came);
+    }
 }
 
 /// A reader in memory.
@@ -28,6 +51,18 @@ pub(super) struct Pattern {
     /// Whether each other read is interrupted.
     pub falters: bool,
     pub faltered: bool,
+}
+
+/// So many bytes, in reads of so many.
+pub(super) fn pattern_of(len: usize, piece: usize) -> Pattern {
+    Pattern {
+        at: 0,
+        len,
+        piece,
+        fails: false,
+        falters: false,
+        faltered: false,
+    }
 }
 
 /// Byte `at` of what it gives.
@@ -57,6 +92,89 @@ impl Read for Pattern {
         self.at = next;
         Ok(count)
     }
+}
+
+/// A reader that waits before its first byte, and tells when it came to its end.
+pub(super) struct Held<R: Wait> {
+    pub rt: R,
+    pub reader: Pattern,
+    pub until: Option<Arc<Event, Global>>,
+    pub ended: Arc<Event, Global>,
+}
+
+impl<R: Wait + Drop> Drop for Held<R> {
+    fn drop(self) {
+        let Held {
+            rt: _,
+            reader: _,
+            until: _,
+            ended: _,
+        } = self;
+    }
+}
+
+impl<R: Wait> Read for Held<R> {
+    fn read(&mut self, buf: &mut [u8]) -> io::Result<usize> {
+        if let Some(until) = &self.until {
+            until.wait(&self.rt);
+        }
+        let count = self.reader.read(buf)?;
+        if count == 0 {
+            self.ended.bring(&self.rt);
+        }
+        Ok(count)
+    }
+}
+
+/// The source of one reader.
+pub(super) fn source_of<
+    R: Threads + Wait + Copy + Send + Drop + 'static,
+    Q: Read + Drop + Send + 'static,
+>(rt: R, alloc: Global, reader: Q) -> Result<Option<Ahead<R, OpenInput<Q>>>, AllocError>
+    ensures { IfOk result (λ some. IfSome some (λ source. (source.reads ≡ 0) × (source.failures ≡ 0))) }
+{
+    let mut inputs = Vec::new(alloc);
+    inputs.push(OpenInput { reader })?;
+    match open_all(rt, alloc, inputs) {
+        Ok(mut sources) => Ok(sources.pop()),
+        Err(_) => Err(AllocError),
+    }
+}
+
+/// The sources of two readers.
+pub(super) fn sources_of<
+    R: Threads + Wait + Copy + Send + Drop + 'static,
+    Q: Read + Drop + Send + 'static,
+>(
+    rt: R,
+    alloc: Global,
+    first: Q,
+    second: Q,
+) -> Result<Option<(Ahead<R, OpenInput<Q>>, Ahead<R, OpenInput<Q>>)>, AllocError>
+    ensures { IfOk result (λ some. IfSome some (λ two. (two.0.reads ≡ 0) × (two.0.failures ≡ 0) × (two.1.reads ≡ 0) × (two.1.failures ≡ 0))) }
+{
+    let mut inputs = Vec::new(alloc);
+    inputs.push(OpenInput { reader: first })?;
+    inputs.push(OpenInput { reader: second })?;
+    let Ok(mut sources) = open_all(rt, alloc, inputs) else {
+        return Err(AllocError);
+    };
+    let Some(second) = pop_unread(&mut sources) else {
+        return Ok(None);
+    };
+    let Some(first) = pop_unread(&mut sources) else {
+        return Ok(None);
+    };
+    Ok(Some((first, second)))
+}
+
+/// The last of some sources that weren't read.
+fn pop_unread<R: Wait, I: Contents>(sources: &mut Vec<Ahead<R, I>>) -> Option<Ahead<R, I>>
+    requires { All (λ source. (source.reads ≡ 0) × (source.failures ≡ 0)) sources.old.items }
+    ensures rest { All (λ source. (source.reads ≡ 0) × (source.failures ≡ 0)) sources.new.items }
+    ensures last { IfSome result (λ source. (source.reads ≡ 0) × (source.failures ≡ 0)) }
+{
+    sources.pop()
 }
 
 /// What a source gave.

@@ -1,26 +1,36 @@
-use super::fixtures::new_lines;
-use crate::line::Line;
+use crate::backlog::Backlog;
+use crate::backlogs::Backlogs;
 use item_io::PIECE;
 use std::alloc::{AllocError, Global};
-use std::sync::Wait;
+use std::sync::{Arc, Wait};
 use std::test::Fail;
 
-/// Lines on which so many bytes lie ready, and no more come.
-fn lines_of(rt: &impl Wait, alloc: Global, ready: &[usize]) -> Result<Vec<Line>, AllocError> {
-    let lines = new_lines(alloc, ready.len(), 0)?;
-    for (line, count) in lines.iter().zip(ready) {
-        line.put(rt, vec![in alloc; 0x47; *count]?)?;
-        line.close(rt, false);
+/// Backlogs of so many bytes.
+fn backlogs_of(
+    rt: &impl Wait,
+    alloc: Global,
+    ready: &[usize],
+) -> Result<Arc<Backlogs, Global>, AllocError> {
+    let backlogs = Backlogs::new(alloc, ready.len())?;
+    for number in 0..ready.len() {
+        backlogs.put(rt, number, ready[number]);
     }
-    Ok(lines)
+    Ok(backlogs)
 }
 
-/// How many bytes each line gives in a turn.
-fn turn(rt: &impl Wait, alloc: Global, lines: &[Line]) -> Result<Vec<usize>, AllocError> {
-    let mut buffer = [0; PIECE];
+/// How many bytes each source gives in a turn.
+fn turn(
+    rt: &impl Wait,
+    alloc: Global,
+    backlogs: &Backlogs,
+    ready: &mut [usize],
+) -> Result<Vec<usize>, AllocError> {
     let mut given = Vec::new(alloc);
-    for line in lines {
-        given.push(line.take(rt, &mut buffer).unwrap_or(usize::MAX))?;
+    for number in 0..ready.len() {
+        let count = backlogs.share(rt, number).min(PIECE).min(ready[number]);
+        backlogs.give(rt, number, count);
+        ready[number] = ready[number].saturating_sub(count);
+        given.push(count)?;
     }
     Ok(given)
 }
@@ -36,26 +46,46 @@ fn backlogs_shrink_together(rt: HostRuntime) -> Result<(), Fail> {
         ([1_880_000, 0], [18_800, 0], 100),
         ([0, 60], [0, 60], 1),
     ] {
-        let lines = lines_of(&rt, rt.alloc(), &ready)?;
-        let given = turn(&rt, rt.alloc(), &lines)?;
+        let mut ready = ready;
+        let backlogs = backlogs_of(&rt, rt.alloc(), &ready)?;
+        let given = turn(&rt, rt.alloc(), &backlogs, &mut ready)?;
         assert_eq!(rt; given.as_slice(), first.as_slice(), "{ready:?}");
         for _ in 1..turns {
-            turn(&rt, rt.alloc(), &lines)?;
+            turn(&rt, rt.alloc(), &backlogs, &mut ready)?;
         }
-        let given = turn(&rt, rt.alloc(), &lines)?;
-        assert_eq!(rt; given.as_slice(), [0, 0].as_slice(), "{ready:?}");
+        assert_eq!(rt; ready, [0, 0]);
     }
     Ok(())
 }
 
 #[test]
-fn a_line_that_is_read_no_more_holds_up_none(rt: HostRuntime) -> Result<(), Fail> {
-    let lines = lines_of(&rt, rt.alloc(), &[1000, 1_880_000])?;
-    let mut buffer = [0; PIECE];
-    for line in lines.iter().take(1) {
-        for want in [10, 990, 0] {
-            assert_eq!(rt; line.take(&rt, &mut buffer).ok(), Some(want));
-        }
+fn one_that_is_read_no_more_holds_up_none(rt: HostRuntime) -> Result<(), Fail> {
+    let backlogs = backlogs_of(&rt, rt.alloc(), &[1000, 1_880_000])?;
+    for want in [10, 990] {
+        assert_eq!(rt; backlogs.share(&rt, 0), want);
+        backlogs.give(&rt, 0, want);
+    }
+    assert!(rt; !backlogs.is_left(&rt, 0));
+    assert!(rt; backlogs.is_left(&rt, 1));
+    Ok(())
+}
+
+#[test]
+fn a_block_waits_for_room(rt: HostRuntime) -> Result<(), Fail> {
+    for (bytes, blocks, count, full) in [
+        (0, 0, 5000, false),
+        (10, 1, 90, false),
+        (10, 1, 91, true),
+        (10, 4, 1, true),
+        (200, 1, 1, true),
+    ] {
+        let backlog = Backlog {
+            bytes,
+            blocks,
+            reads: 0,
+            left: false,
+        };
+        assert_eq!(rt; backlog.is_full(100, 4, count), full, "{bytes}, {count}");
     }
     Ok(())
 }

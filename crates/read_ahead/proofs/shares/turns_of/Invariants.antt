@@ -2,8 +2,8 @@ use Rattle.std.proofs.Common.{◌≡◌, ◌<◌, max, drop}
 use Rattle.read_ahead.specs.Shares.{turns}
 use Rattle.read_ahead.proofs.shares.turns_of.Given as goal
 
-abbrev pub invariant-loop-lane : goal.invariant-loop-lane
-invariant-loop-lane l = record {
-  is : max l.most (turns l.takes (drop l.lane-index l.lanes)) ≡ turns l.takes l.lanes;
+abbrev pub invariant-loop-backlog : goal.invariant-loop-backlog
+invariant-loop-backlog l = record {
+  is : max l.most (turns l.reads (drop l.backlog-index l.backlogs)) ≡ turns l.reads l.backlogs;
   some : 0 < l.most;
 }

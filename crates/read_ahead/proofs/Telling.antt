@@ -1,0 +1,88 @@
+-- What a thread told of an input, and what is left of it.
+use Rattle.std.proofs.Common.{◌≡◌, ◌<◌, not, ◌++◌, ◌∷◌, [], ℕ, List, length, drop, true, false, Option, arith, sym, ap, ◌∙◌, append_assoc, append-nil, refl, subst, ap₂, Vec, Global}
+use Rattle.std.proofs.lemmas.List.{length-append}
+use Rattle.std.proofs.lemmas.Bool.{and_from, and_parts}
+use Rattle.std.specs.Io.KnownBytes.{Consumes, IsAtEnd, prepend_known}
+use Rattle.std.specs.Option.{option_map}
+use Rattle.read_ahead.specs.declared.message.Message.{Message}
+use Rattle.read_ahead.specs.declared.message.Message.TheVariants.{Opened, Bytes, End}
+use Rattle.read_ahead.specs.Messages.{bytes_of, is_last, joined, goes_on, held, untold, Asks, IsOpen, Tells, MayTell, MayFollow}
+use Rattle.read_ahead.proofs.Streams.{consumes_none, consumes_on, begins, whole, left_front, none_left, prepend_nil, drop_used}
+
+module _ {I : Type 0} where
+  pub joined_snoc : (told : List (Message I)) (x : Message I) → joined (told ++ x ∷ []) ≡ joined told ++ bytes_of x
+  joined_snoc [] x = append-nil (bytes_of x)
+  joined_snoc (y ∷ told) x =
+      ap (λ (bs : List ℕ). bytes_of y ++ bs) (joined_snoc told x) ∙ sym (append_assoc (bytes_of y) (joined told) (bytes_of x))
+
+  pub goes_on_snoc : (told : List (Message I)) (x : Message I) → goes_on told ≡ true → is_last x ≡ false → goes_on (told ++ x ∷ []) ≡ true
+  goes_on_snoc [] x on more = and_from (not (is_last x)) true (ap not more) refl
+  goes_on_snoc (y ∷ told) x on more = let both = and_parts (not (is_last y)) (goes_on told) on in and_from (not (is_last y)) (goes_on (told ++ x ∷ [])) both.0 (goes_on_snoc told x both.1 more)
+
+  pub held_snoc : (holds : I → Option (List ℕ)) → (told : List (Message I)) (x : Message I) → 0 < length told → held holds (told ++ x ∷ []) ≡ held holds told
+  held_snoc holds [] x some = absurd (omega arith)
+  held_snoc holds (y ∷ told) x some = refl
+
+  pub open_snoc : (told : List (Message I)) (x : Message I) → 0 < length told → goes_on told ≡ true → is_last x ≡ false → IsOpen (told ++ x ∷ [])
+  open_snoc told x some on more = record {
+    some = omega (arith, length-append told (x ∷ []));
+    going = goes_on_snoc told x on more;
+  }
+
+  -- an input that was asked for is open, and nothing of it was told
+  pub tells_first : (holds : I → Option (List ℕ)) → (told : List (Message I)) (input : I) (rest : Option (List ℕ)) → Asks told input → rest ≡ holds input → Tells holds (told ++ Opened ∷ []) rest
+  tells_first holds told input rest asks is = let some : 0 < length told = omega (arith, asks.one) in record {
+    opened = open_snoc told Opened some asks.going refl;
+    all = rw (held_snoc holds told Opened some, joined_snoc told Opened, asks.none, asks.same holds, is) (consumes_none (holds input));
+  }
+
+  -- what was told, and a read's bytes behind it
+  pub tells_more : (holds : I → Option (List ℕ)) → (told : List (Message I)) (x : Message I) (old new : Option (List ℕ)) → Tells holds told old → is_last x ≡ false → Consumes old new (bytes_of x) → Tells holds (told ++ x ∷ []) new
+  tells_more holds told x old new t more gave = let some : 0 < length told = omega (arith, t.opened.some) in record {
+    opened = open_snoc told x some t.opened.going more;
+    all = rw (held_snoc holds told x some, joined_snoc told x) (consumes_on (held holds told) old new (joined told) (bytes_of x) t.all gave);
+  }
+
+  -- the next block of what is told may follow
+  pub may_tell : (holds : I → Option (List ℕ)) → (told : List (Message I)) (block : List ℕ) (old new : Option (List ℕ)) → Tells holds told old → 0 < length block → Consumes old new block → MayTell holds told block
+  may_tell holds told block old new t some gave = record {
+    opened = t.opened;
+    some = some;
+    next = begins (held holds told) new (joined told ++ block) (consumes_on (held holds told) old new (joined told) block t.all gave);
+  }
+
+  pub may_end : (holds : I → Option (List ℕ)) → (told : List (Message I)) (rest : Option (List ℕ)) → Tells holds told rest → IsAtEnd rest → MayFollow holds told End
+  may_end holds told rest t end = record { opened = t.opened; all = whole (held holds told) rest (joined told) t.all end }
+
+  -- a block that was told is next of what was left
+  untold_bytes : (holds : I → Option (List ℕ)) → (told : List (Message I)) (block : Vec ℕ Global) → MayTell holds told block.items → prepend_known block.items (untold holds (told ++ Bytes block ∷ [])) ≡ untold holds told
+  untold_bytes holds told block may =
+      ap₂ (λ (start : Option (List ℕ)) (bs : List ℕ). prepend_known block.items (option_map (λ (zs : List ℕ). drop (length bs) zs) start)) (held_snoc holds told (Bytes block) (omega (arith, may.opened.some))) (joined_snoc told (Bytes block))
+      ∙ left_front (held holds told) (joined told) block.items may.next
+
+  -- what has no bytes leaves as much
+  untold_plain : (holds : I → Option (List ℕ)) → (told : List (Message I)) (x : Message I) → 0 < length told → bytes_of x ≡ [] → untold holds (told ++ x ∷ []) ≡ untold holds told
+  untold_plain holds told x some none =
+      ap₂ (λ (start : Option (List ℕ)) (bs : List ℕ). option_map (λ (zs : List ℕ). drop (length bs) zs) start) (held_snoc holds told x some) (joined_snoc told x ∙ ap (λ (bs : List ℕ). joined told ++ bs) none ∙ append-nil (joined told))
+
+  -- at the end nothing is left
+  untold_end : (holds : I → Option (List ℕ)) → (told : List (Message I)) → MayFollow holds told End → IsAtEnd (untold holds (told ++ End ∷ []))
+  untold_end holds told may = subst IsAtEnd (sym (untold_plain holds told End (omega (arith, may.opened.some)) refl)) (none_left (held holds told) (joined told) may.all)
+
+  -- behind a block that was used up, the next one: as much is left
+  pub next_block : (holds : I → Option (List ℕ)) → (told more : List (Message I)) (front : List ℕ) (at : ℕ) (block : Vec ℕ Global) → more ≡ told ++ Bytes block ∷ [] → MayTell holds told block.items → at ≡ length front → prepend_known block.items (untold holds more) ≡ prepend_known (drop at front) (untold holds told)
+  next_block holds told more front at block order may used =
+      ap (λ (l : List (Message I)). prepend_known block.items (untold holds l)) order
+      ∙ untold_bytes holds told block may
+      ∙ sym (prepend_nil (untold holds told))
+      ∙ ap (λ (l : List ℕ). prepend_known l (untold holds told)) (sym (drop_used at front used))
+
+  -- what has no bytes leaves as much
+  pub next_plain : (holds : I → Option (List ℕ)) → (told more : List (Message I)) (x : Message I) (rest : List ℕ) → more ≡ told ++ x ∷ [] → 0 < length told → bytes_of x ≡ [] → prepend_known rest (untold holds more) ≡ prepend_known rest (untold holds told)
+  next_plain holds told more x rest order some none = ap (prepend_known rest) (ap (untold holds) order ∙ untold_plain holds told x some none)
+
+  pub next_end : (holds : I → Option (List ℕ)) → (told more : List (Message I)) → more ≡ told ++ End ∷ [] → MayFollow holds told End → IsAtEnd (untold holds more)
+  next_end holds told more order may = subst (λ (l : List (Message I)). IsAtEnd (untold holds l)) (sym order) (untold_end holds told may)
+
+  pub some_more : (told more : List (Message I)) (x : Message I) → more ≡ told ++ x ∷ [] → 0 < length more
+  some_more told more x order = omega (arith, ap length order, length-append told (x ∷ []))

@@ -1,0 +1,17 @@
+use Rattle.std.proofs.Common.{length, take, ◌-◌, ◌≡◌, ◌≢◌, ◌<◌, ◌≤◌}
+use Rattle.std.specs.Io.KnownBytes.{Consumes}
+use Rattle.read_ahead.specs.Sources.{IsSound, rest_of}
+use Rattle.read_ahead.specs.declared.incoming.Phase.TheVariants.{Opening}
+use Rattle.read_ahead.proofs.incoming.Incoming.fill.Given as goal
+
+abbrev pub invariant-loop-given : goal.invariant-loop-given
+invariant-loop-given g l = record {
+  sound : IsSound g.I.Contents.holds l.self;
+  phase : l.self.phase ≢ Opening;
+  within : l.given ≤ length l.initial.buffer;
+  first : l.given ≡ 0 → l.self.at < length l.self.front.items;
+  gave : Consumes (rest_of g.I.Contents.holds l.initial.self) (rest_of g.I.Contents.holds l.self) (take l.given l.buffer);
+}
+
+abbrev pub decreases-loop-given : goal.decreases-loop-given
+decreases-loop-given g l = length l.initial.buffer - l.given

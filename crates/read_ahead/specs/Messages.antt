@@ -1,0 +1,90 @@
+-- What the thread that reads an input tells, message by message.
+use Rattle.std.specs.Prelude.{◌≡◌, ℕ, ◌<◌, List, [], ◌∷◌, ◌++◌, length, take, drop, Bool, true, false, not, ◌&&◌, Option, None, IfSome}
+use Rattle.std.specs.Option.{option_map}
+use Rattle.std.specs.Io.KnownBytes.{Consumes}
+use Rattle.read_ahead.specs.declared.message.Message.{Message}
+use Rattle.read_ahead.specs.declared.message.Message.TheVariants.{Asked, Opened, Bytes, End, Failed, Refused}
+
+module _ {I : Type 0} where
+  abbrev pub bytes_of : Message I → List ℕ
+  bytes_of (Asked s) = []
+  bytes_of Opened = []
+  bytes_of (Bytes block) = block.items
+  bytes_of End = []
+  bytes_of Failed = []
+  bytes_of Refused = []
+
+  -- nothing is told behind it
+  abbrev pub is_last : Message I → Bool
+  is_last (Asked s) = false
+  is_last Opened = false
+  is_last (Bytes block) = false
+  is_last End = true
+  is_last Failed = true
+  is_last Refused = true
+
+  -- what the input holds that is asked for; holds: what each does
+  abbrev pub held_by : (I → Option (List ℕ)) → Message I → Option (List ℕ)
+  held_by holds (Asked s) = holds s.value
+  held_by holds Opened = None
+  held_by holds (Bytes block) = None
+  held_by holds End = None
+  held_by holds Failed = None
+  held_by holds Refused = None
+
+  -- the blocks, joined
+  abbrev pub joined : List (Message I) → List ℕ
+  joined [] = []
+  joined (message ∷ more) = bytes_of message ++ joined more
+
+  -- no end was told, no failure and no refusal
+  abbrev pub goes_on : List (Message I) → Bool
+  goes_on [] = true
+  goes_on (message ∷ more) = not (is_last message) && goes_on more
+
+  -- all bytes of the input that was asked for, where it tells them
+  abbrev pub held : (I → Option (List ℕ)) → List (Message I) → Option (List ℕ)
+  held holds [] = None
+  held holds (message ∷ more) = held_by holds message
+
+  -- those of them that weren't told yet
+  abbrev pub untold : (I → Option (List ℕ)) → List (Message I) → Option (List ℕ)
+  untold holds told = option_map (λ xs. drop (length (joined told)) xs) (held holds told)
+
+  -- this input was asked for, and nothing else was told
+  pub record Asks (told : List (Message I)) (input : I) : Type 0 where
+    pub one : length told ≡ 1
+    pub none : joined told ≡ []
+    pub going : goes_on told ≡ true
+    pub same : (holds : I → Option (List ℕ)) → held holds told ≡ holds input
+
+  -- an input that was opened, and of which more may be told
+  pub record IsOpen (told : List (Message I)) : Type 0 where
+    pub some : 1 < length told
+    pub going : goes_on told ≡ true
+
+  -- the end may be told: all that the input holds was told
+  pub record MayEnd (holds : I → Option (List ℕ)) (before : List (Message I)) : Type 0 where
+    pub opened : IsOpen before
+    pub all : IfSome (held holds before) (λ xs. xs ≡ joined before)
+
+  -- a block may be told: with those before it, it begins what the input holds
+  pub record MayTell (holds : I → Option (List ℕ)) (before : List (Message I)) (block : List ℕ) : Type 0 where
+    pub opened : IsOpen before
+    pub some : 0 < length block
+    pub next : IfSome (held holds before) (λ xs. take (length (joined before ++ block)) xs ≡ joined before ++ block)
+
+  -- An input is asked for first, then it's opened or refused. The blocks, joined, begin what it holds. The end is told only where
+  -- they are all, and nothing is told behind the end, a failure or a refusal.
+  abbrev pub MayFollow : (I → Option (List ℕ)) → List (Message I) → Message I → Type 0
+  MayFollow holds before (Asked s) = before ≡ []
+  MayFollow holds before Opened = length before ≡ 1
+  MayFollow holds before (Bytes block) = MayTell holds before block.items
+  MayFollow holds before End = MayEnd holds before
+  MayFollow holds before Failed = IsOpen before
+  MayFollow holds before Refused = length before ≡ 1
+
+  -- all that a reader gave since it was opened was told
+  pub record Tells (holds : I → Option (List ℕ)) (told : List (Message I)) (rest : Option (List ℕ)) : Type 0 where
+    pub opened : IsOpen told
+    pub all : Consumes (held holds told) rest (joined told)

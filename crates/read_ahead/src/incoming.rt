@@ -1,0 +1,233 @@
+//! What comes of an input: the bytes that its thread told, in the order in which it told them.
+ghost use Rattle.std.specs.Prelude.{◌≡◌, ◌≢◌, ◌+◌, ◌-◌, ◌≤◌, ◌<◌, [], ◌∷◌, ◌++◌, ◌⊎◌, true, false, length, take, drop, min, IfOk, OnErr};
+ghost use Rattle.std.specs.Io.KnownBytes.{Consumes, IsAtEnd, Keeps};
+ghost use Rattle.rtrb.specs.Ring.{received};
+ghost use Rattle.read_ahead.specs.Messages.{MayFollow};
+ghost use Rattle.read_ahead.specs.Sources.{IsSound, rest_of};
+ghost use Rattle.read_ahead.specs.declared.incoming.Phase.TheVariants.{Opening, Going, Ended, Failed};
+
+use crate::backlogs::Backlogs;
+use crate::input::Contents;
+use crate::message::{InOrder, Message};
+use item_io::ReadFault;
+use rtrb::Consumer;
+use std::alloc::Global;
+use std::sync::{Arc, Wait};
+
+/// What is known of an input.
+#[derive(Clone, Copy, PartialEq, Eq)]
+pub enum Phase {
+    /// It's being opened.
+    Opening,
+    /// It's open, and more comes.
+    Going,
+    /// Its end was told.
+    Ended,
+    /// It can't be opened, a read failed, or no more of it is given.
+    Failed,
+}
+
+/// The end of a source that gives the bytes of an input.
+#[derive(Drop)]
+pub struct Incoming<I: Contents> {
+    pub consumer: Consumer<Message<I>, Global, InOrder<I>>,
+    pub backlogs: Arc<Backlogs, Global>,
+    /// The number of the input.
+    pub number: usize,
+    /// The block that bytes are taken of, from the byte `at` on.
+    pub front: Vec<u8>,
+    pub at: usize,
+    pub phase: Phase,
+}
+
+impl<I: Contents> Incoming<I> {
+    /// Whether the next message is needed before a byte can be given.
+    pub fn is_used_up(&self) -> bool
+        requires { IsSound I.holds self.now }
+        ensures yes { result ≡ true → (self.now.at ≡ length self.now.front.items) × (self.now.phase ≡ Going) }
+        ensures no { result ≡ false → (self.now.at < length self.now.front.items) ⊎ (self.now.phase ≢ Going) }
+    {
+        self.at >= self.front.len() && matches!(self.phase, Phase::Going)
+    }
+
+    /// Whether a read would answer at once.
+    pub fn is_ready(&mut self) -> bool
+        requires { IsSound I.holds self.old }
+        ensures sound { IsSound I.holds self.new }
+        ensures same { rest_of I.holds self.new ≡ rest_of I.holds self.old }
+    {
+        self.at < self.front.len()
+            || matches!(self.phase, Phase::Ended | Phase::Failed)
+            || !self.consumer.is_empty()
+    }
+
+    /// No more is given behind the front block.
+    pub fn stop(&mut self)
+        requires { IsSound I.holds self.old }
+        ensures sound { IsSound I.holds self.new }
+        ensures same { rest_of I.holds self.new ≡ rest_of I.holds self.old }
+        ensures phase { self.new.phase ≢ Opening }
+    {
+        if !matches!(self.phase, Phase::Ended) {
+            self.phase = Phase::Failed;
+        }
+    }
+
+    /// Waits until the input is open, or can't be opened.
+    pub fn wait_open<R: Wait>(&mut self, rt: &R)
+        requires sound { IsSound I.holds self.old }
+        requires opening { self.old.phase ≡ Opening }
+        ensures sound { IsSound I.holds self.new }
+        ensures same { rest_of I.holds self.new ≡ rest_of I.holds self.old }
+        ensures phase { self.new.phase ≢ Opening }
+    {
+        match wait_message(rt, &self.backlogs, &mut self.consumer) {
+            Message::Opened => self.phase = Phase::Going,
+            Message::Refused => self.phase = Phase::Failed,
+            Message::Asked(_) => self.phase = Phase::Failed,
+            Message::Bytes(_) => self.phase = Phase::Failed,
+            Message::End => self.phase = Phase::Failed,
+            Message::Failed => self.phase = Phase::Failed,
+        }
+    }
+
+    /// Waits for what is told next, and takes it.
+    fn wait_next<R: Wait>(&mut self, rt: &R)
+        requires sound { IsSound I.holds self.old }
+        requires used { self.old.at ≡ length self.old.front.items }
+        requires going { self.old.phase ≡ Going }
+        ensures sound { IsSound I.holds self.new }
+        ensures same { rest_of I.holds self.new ≡ rest_of I.holds self.old }
+        ensures some { (self.new.at < length self.new.front.items) ⊎ (self.new.phase ≢ Going) }
+        ensures phase { self.new.phase ≢ Opening }
+    {
+        match wait_message(rt, &self.backlogs, &mut self.consumer) {
+            Message::Bytes(block) => {
+                self.front = block;
+                self.at = 0;
+                self.backlogs.begin(rt, self.number);
+            }
+            Message::End => self.phase = Phase::Ended,
+            Message::Failed => self.phase = Phase::Failed,
+            Message::Refused => self.phase = Phase::Failed,
+            Message::Opened => self.phase = Phase::Failed,
+            Message::Asked(_) => self.phase = Phase::Failed,
+        }
+    }
+
+    /// Waits until a byte can be given, or none comes any more.
+    pub fn go_on<R: Wait>(&mut self, rt: &R)
+        requires { IsSound I.holds self.old }
+        ensures sound { IsSound I.holds self.new }
+        ensures same { rest_of I.holds self.new ≡ rest_of I.holds self.old }
+        ensures some { (self.new.at < length self.new.front.items) ⊎ (self.new.phase ≢ Going) }
+        ensures phase { self.new.phase ≢ Opening }
+    {
+        if matches!(self.phase, Phase::Opening) {
+            self.wait_open(rt);
+        }
+        if self.is_used_up() {
+            self.wait_next(rt);
+        }
+    }
+
+    /// Takes bytes of the front block, and answers how many.
+    fn take_front(&mut self, buffer: &mut [u8]) -> usize
+        requires sound { IsSound I.holds self.old }
+        requires phase { self.old.phase ≢ Opening }
+        ensures sound { IsSound I.holds self.new }
+        ensures phase { self.new.phase ≢ Opening }
+        ensures within { result ≤ length buffer.old }
+        ensures some { self.old.at < length self.old.front.items → 0 < length buffer.old → 0 < result }
+        ensures gave { Consumes (rest_of I.holds self.old) (rest_of I.holds self.new) (take result buffer.new) }
+    {
+        let count = copy_some(&self.front, self.at, buffer);
+        self.at += count;
+        count
+    }
+
+    /// Takes bytes of the front block, and goes on to the next one if the front is used up and it lies ready. Answers how many.
+    fn take_some<R: Wait>(&mut self, rt: &R, buffer: &mut [u8]) -> usize
+        requires sound { IsSound I.holds self.old }
+        requires phase { self.old.phase ≢ Opening }
+        ensures sound { IsSound I.holds self.new }
+        ensures phase { self.new.phase ≢ Opening }
+        ensures within { result ≤ length buffer.old }
+        ensures some { self.old.at < length self.old.front.items → 0 < length buffer.old → 0 < result }
+        ensures gave { Consumes (rest_of I.holds self.old) (rest_of I.holds self.new) (take result buffer.new) }
+    {
+        let count = self.take_front(buffer);
+        if self.is_used_up() && !self.consumer.is_empty() {
+            self.wait_next(rt);
+        }
+        count
+    }
+
+    /// Fills a buffer as far as bytes lie ready, and answers how many they are; where none do, the end or the failure.
+    pub fn give<R: Wait>(&mut self, rt: &R, buffer: &mut [u8]) -> Result<usize, ReadFault>
+        requires sound { IsSound I.holds self.old }
+        requires phase { self.old.phase ≢ Opening }
+        requires some { (self.old.at < length self.old.front.items) ⊎ (self.old.phase ≢ Going) }
+        ensures sound { IsSound I.holds self.new }
+        ensures within { IfOk result (λ count. count ≤ length buffer.new) }
+        ensures gave { IfOk result (λ count. Consumes (rest_of I.holds self.old) (rest_of I.holds self.new) (take count buffer.new)) }
+        ensures end { IfOk result (λ count. count ≡ 0 → 0 < length buffer.new → IsAtEnd (rest_of I.holds self.new)) }
+        ensures kept { OnErr result (Keeps (rest_of I.holds self.old) (rest_of I.holds self.new)) }
+    {
+        if self.at < self.front.len() {
+            return Ok(self.fill(rt, buffer));
+        }
+        if matches!(self.phase, Phase::Ended) {
+            return Ok(0);
+        }
+        Err(ReadFault)
+    }
+
+    /// Fills a buffer as far as bytes lie ready, of which there are some, and answers how many they are.
+    fn fill<R: Wait>(&mut self, rt: &R, buffer: &mut [u8]) -> usize
+        requires sound { IsSound I.holds self.old }
+        requires phase { self.old.phase ≢ Opening }
+        requires some { self.old.at < length self.old.front.items }
+        ensures sound { IsSound I.holds self.new }
+        ensures within { result ≤ length buffer.new }
+        ensures some { 0 < length buffer.new → 0 < result }
+        ensures gave { Consumes (rest_of I.holds self.old) (rest_of I.holds self.new) (take result buffer.new) }
+    {
+        let mut given = 0;
+        while given < buffer.len() && self.at < self.front.len() {
+            given += self.take_some(rt, &mut buffer[given..]);
+        }
+        given
+    }
+}
+
+/// Copies bytes from `at` on to the buffer's front, and answers how many.
+fn copy_some(bytes: &[u8], at: usize, buffer: &mut [u8]) -> usize
+    requires { at ≤ length bytes.now }
+    ensures many { result ≡ min (length buffer.old) (length bytes.now - at) }
+    ensures copied { take result buffer.new ≡ take result (drop at bytes.now) }
+{
+    let (_, rest) = bytes.split_at(at);
+    let count = buffer.len().min(rest.len());
+    buffer[..count].copy_from_slice(&rest[..count]);
+    count
+}
+
+/// Waits for what is told next.
+fn wait_message<R: Wait, I: Contents>(
+    rt: &R,
+    backlogs: &Backlogs,
+    consumer: &mut Consumer<Message<I>, Global, InOrder<I>>,
+) -> Message<I>
+    ensures order { received consumer.new ≡ received consumer.old ++ result ∷ [] }
+    ensures allowed { MayFollow I.holds (received consumer.old) result }
+{
+    for _ in rt.forever() {
+        let seen = backlogs.news(rt);
+        if let Ok(message) = consumer.pop() {
+            return message;
+        }
+        backlogs.wait_past(rt, seen);
+    }
+    unreachable!()
+}

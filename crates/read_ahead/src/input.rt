@@ -1,0 +1,39 @@
+//! Inputs before they are open.
+ghost use Rattle.std.specs.Prelude.{◌≡◌, ℕ, List, Option, IfSome};
+
+use std::io::Read;
+
+/// What has bytes.
+pub trait Contents {
+    /// The bytes that it has, where it tells them.
+    ghost holds: { Self → Option (List ℕ) };
+}
+
+/// An input that isn't open yet.
+pub trait Input: Contents {
+    /// What reads it once it's open.
+    type Reader: Read + Drop;
+
+    /// Opens it; None where it can't be opened. Of a FIFO it waits for a writer.
+    fn open(self) -> Option<Self::Reader>
+        ensures { IfSome result (λ reader. Self.Reader.remaining reader ≡ Self.holds self) };
+}
+
+/// A reader, as an input that is open as soon as it's asked for.
+#[derive(Drop)]
+pub struct OpenInput<I> {
+    pub reader: I,
+}
+
+impl<I: Read> Contents for OpenInput<I> {
+    ghost holds = { λ input. I.remaining input.reader };
+}
+
+impl<I: Read + Drop> Input for OpenInput<I> {
+    type Reader = I;
+
+    fn open(self) -> Option<I> {
+        let OpenInput { reader } = self;
+        Some(reader)
+    }
+}

@@ -1,0 +1,70 @@
+//! Inputs by their paths.
+ghost use Rattle.std.specs.Prelude.{◌≡◌, ℕ, List, Option, None, IfSome, IfOk, map};
+ghost use Rattle.std.specs.String.{string_bytes};
+
+use crate::input::{Contents, Input};
+use std::alloc::{AllocError, Global};
+use std::fs::File;
+use std::io::Read;
+
+/// What opens inputs by their paths.
+pub trait InputFiles {
+    /// What reads an input once it's open.
+    type Reader: Read + Drop;
+
+    /// The bytes that the input at a path has, where they are told.
+    ghost holds: { Self → List ℕ → Option (List ℕ) };
+
+    /// Opens the input at a path; None where it can't be opened. Of a FIFO it waits for a writer.
+    fn open(&self, path: &str) -> Option<Self::Reader>
+        ensures { IfSome result (λ reader. Self.Reader.remaining reader ≡ holds self.now path.now) };
+}
+
+/// The files of the system. What they hold is the system's, so nothing is claimed of it.
+impl InputFiles for HostRuntime {
+    type Reader = File;
+
+    ghost holds = { λ _ _. None };
+
+    fn open(&self, path: &str) -> Option<File> {
+        File::open(self, path).ok()
+    }
+}
+
+/// The input at a path.
+#[derive(Drop)]
+pub struct InputAt<F> {
+    files: F,
+    path: String,
+}
+
+impl<F: InputFiles> Contents for InputAt<F> {
+    ghost use Rattle.std.specs.String.{string_bytes};
+
+    ghost holds = { λ input. F.holds input.files (string_bytes input.path) };
+}
+
+impl<F: InputFiles + Drop> Input for InputAt<F> {
+    type Reader = F::Reader;
+
+    fn open(self) -> Option<F::Reader> {
+        let InputAt { files, path } = self;
+        files.open(path.as_str())
+    }
+}
+
+/// The inputs at some paths.
+pub fn inputs_at<F: InputFiles + Copy>(
+    alloc: Global,
+    files: F,
+    paths: &[&str],
+) -> Result<Vec<InputAt<F>>, AllocError>
+    ensures { IfOk result (λ inputs. map (λ input. F.holds input.files (string_bytes input.path)) inputs.items ≡ map (λ path. F.holds files path.now) paths.now) }
+{
+    let mut inputs = Vec::with_capacity(alloc, paths.len())?;
+    for path in paths {
+        let path = String::from_str(alloc, path)?;
+        inputs.push(InputAt { files, path })?;
+    }
+    Ok(inputs)
+}

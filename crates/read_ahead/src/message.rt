@@ -1,0 +1,32 @@
+use crate::input::Contents;
+use rtrb::Protocol;
+use std::marker::PhantomData;
+use std::snapshot::Snapshot;
+
+/// What the thread that reads an input tells the source that gives its bytes.
+#[derive(Drop)]
+pub enum Message<I> {
+    /// The thread is started. For proofs: the input that it's to open.
+    Asked(Snapshot<I>),
+    /// The input is open.
+    Opened,
+    /// Its next bytes.
+    Bytes(Vec<u8>),
+    /// Its end.
+    End,
+    /// A read failed.
+    Failed,
+    /// It can't be opened.
+    Refused,
+}
+
+/// The order of messages: the blocks, joined, begin the bytes that the input has, and the end is told only where they are all.
+pub struct InOrder<I> {
+    of: PhantomData<I>,
+}
+
+impl<I: Contents> Protocol<Message<I>> for InOrder<I> {
+    ghost use Rattle.read_ahead.specs.Messages.{MayFollow};
+
+    ghost allows = { MayFollow I.holds };
+}

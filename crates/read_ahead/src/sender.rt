@@ -1,0 +1,70 @@
+ghost use Rattle.std.specs.Prelude.{◌≡◌, [], ◌∷◌, ◌++◌};
+ghost use Rattle.rtrb.specs.Ring.{sent};
+ghost use Rattle.read_ahead.specs.Messages.{MayFollow};
+
+use crate::backlogs::Backlogs;
+use crate::input::Contents;
+use crate::message::{InOrder, Message};
+use rtrb::{Producer, PushError};
+use std::alloc::Global;
+use std::sync::{Arc, Wait};
+use std::thread;
+
+/// The end of a thread that reads an input. `sent` of its producer is what was told.
+#[derive(Drop)]
+pub struct Sender<I: Contents> {
+    pub producer: Producer<Message<I>, Global, InOrder<I>>,
+    pub backlogs: Arc<Backlogs, Global>,
+    pub number: usize,
+}
+
+impl<I: Contents> Sender<I> {
+    /// The end by which the input of this number is told.
+    pub fn new(
+        producer: Producer<Message<I>, Global, InOrder<I>>,
+        backlogs: Arc<Backlogs, Global>,
+        number: usize,
+    ) -> Sender<I>
+        ensures { sent result.producer ≡ sent producer }
+    {
+        Sender {
+            producer,
+            backlogs,
+            number,
+        }
+    }
+
+    /// Tells something more, once there is a slot for it.
+    pub fn send<R: Wait>(&mut self, rt: &R, message: Message<I>)
+        requires { MayFollow I.holds (sent self.old.producer) message }
+        ensures { sent self.new.producer ≡ sent self.old.producer ++ message ∷ [] }
+    {
+        push(rt, &mut self.producer, message);
+        self.backlogs.tell(rt);
+    }
+
+    /// Waits until there is room for a block of so many bytes. False where no more of the input is given.
+    pub fn wait_for_room<R: Wait>(&self, rt: &R, count: usize) -> bool {
+        self.backlogs.put(rt, self.number, count)
+    }
+}
+
+/// Pushes a message, once there is a slot for it. No more blocks lie ready than there are slots.
+fn push<R: Wait, I: Contents>(
+    rt: &R,
+    producer: &mut Producer<Message<I>, Global, InOrder<I>>,
+    message: Message<I>,
+)
+    requires { MayFollow I.holds (sent producer.old) message }
+    ensures { sent producer.new ≡ sent producer.old ++ message ∷ [] }
+{
+    let mut message = message;
+    for _ in rt.forever() {
+        match producer.push(message) {
+            Ok(()) => return,
+            Err(PushError::Full(back)) => message = back,
+        }
+        thread::yield_now();
+    }
+    unreachable!()
+}

@@ -1,0 +1,149 @@
+//! A thread for each input, and the sources of what they read.
+ghost use Rattle.std.specs.Prelude.{◌≡◌, [], All, map, length, IfOk};
+ghost use Rattle.std.specs.String.{string_bytes};
+ghost use Rattle.rtrb.specs.Ring.{received, sent};
+ghost use Rattle.read_ahead.specs.Messages.{Asks};
+ghost use Rattle.read_ahead.specs.declared.starting.InputFault.TheVariants.{NoMemory};
+
+use crate::ahead::Ahead;
+use crate::backlogs::Backlogs;
+use crate::incoming::{Incoming, Phase};
+use crate::input::{Contents, Input};
+use crate::input_files::{InputAt, InputFiles, inputs_at};
+use crate::limits::SLOTS;
+use crate::message::{InOrder, Message};
+use crate::reading::open_and_read;
+use crate::sender::Sender;
+use crate::waiting::wait_open;
+use rtrb::{Producer, RingBuffer};
+use std::alloc::{AllocError, Global};
+use std::snapshot::Snapshot;
+use std::sync::{Arc, Wait};
+use std::thread;
+use std::thread::Threads;
+use thiserror::Error;
+
+/// Why inputs can't be read ahead.
+#[derive(Clone, Copy, Debug, PartialEq, Eq, Error)]
+pub enum InputFault {
+    /// One of them can't be opened.
+    #[error("an input can't be opened")]
+    Unread,
+    /// Memory, or a thread, is refused.
+    #[error("out of memory")]
+    NoMemory,
+}
+
+impl From<AllocError> for InputFault {
+    ghost from_gives = { λ _ fault. fault ≡ NoMemory };
+
+    fn from(_: AllocError) -> InputFault {
+        InputFault::NoMemory
+    }
+}
+
+/// Opens the input at each path in a thread of its own, which then reads it ahead, and waits until all are open. Where one
+/// can't be opened, others may wait for their writers as long as the program runs.
+pub fn open_paths<
+    R: Threads + Wait + Copy + Send + Drop + 'static,
+    F: InputFiles + Copy + Send + Drop + 'static,
+>(rt: R, alloc: Global, files: F, paths: &[&str]) -> Result<Vec<Ahead<R, InputAt<F>>>, InputFault>
+where
+    F::Reader: Send + 'static,
+    ensures left { IfOk result (λ sources. map (λ source. source.left) sources.items ≡ map (λ path. F.holds files path.now) paths.now) }
+    ensures unread { IfOk result (λ sources. All (λ source. (source.reads ≡ 0) × (source.failures ≡ 0)) sources.items) }
+{
+    open_all(rt, alloc, inputs_at(alloc, files, paths)?)
+}
+
+/// Opens each input in a thread of its own, which then reads it ahead, and waits until all are open.
+pub fn open_all<R: Threads + Wait + Copy + Send + Drop + 'static, I: Input + Drop + Send + 'static>(
+    rt: R,
+    alloc: Global,
+    inputs: Vec<I>,
+) -> Result<Vec<Ahead<R, I>>, InputFault>
+where
+    I::Reader: Send + 'static,
+    ensures left { IfOk result (λ sources. map (λ source. source.left) sources.items ≡ map I.holds inputs.items) }
+    ensures unread { IfOk result (λ sources. All (λ source. (source.reads ≡ 0) × (source.failures ≡ 0)) sources.items) }
+{
+    let backlogs = Backlogs::new(alloc, inputs.len())?;
+    let mut sources = start_all(rt, alloc, &backlogs, inputs)?;
+    if wait_open(&rt, &backlogs, &mut sources) {
+        Ok(sources)
+    } else {
+        Err(InputFault::Unread)
+    }
+}
+
+/// Starts a thread for each input, and answers their sources.
+fn start_all<R: Threads + Wait + Copy + Send + Drop + 'static, I: Input + Drop + Send + 'static>(
+    rt: R,
+    alloc: Global,
+    backlogs: &Arc<Backlogs, Global>,
+    inputs: Vec<I>,
+) -> Result<Vec<Ahead<R, I>>, AllocError>
+where
+    I::Reader: Send + 'static,
+    ensures left { IfOk result (λ sources. map (λ source. source.left) sources.items ≡ map I.holds inputs.items) }
+    ensures unread { IfOk result (λ sources. All (λ source. (source.reads ≡ 0) × (source.failures ≡ 0)) sources.items) }
+{
+    let mut sources = Vec::with_capacity(alloc, inputs.len())?;
+    for input in inputs {
+        let number = sources.len();
+        sources.push(start(rt, alloc, backlogs, number, input)?)?;
+    }
+    Ok(sources)
+}
+
+/// Starts a thread that opens an input and reads it ahead, and answers its source.
+fn start<R: Threads + Wait + Copy + Send + 'static, I: Input + Drop + Send + 'static>(
+    rt: R,
+    alloc: Global,
+    backlogs: &Arc<Backlogs, Global>,
+    number: usize,
+    input: I,
+) -> Result<Ahead<R, I>, AllocError>
+where
+    I::Reader: Send + 'static,
+    ensures left { IfOk result (λ source. source.left ≡ I.holds input) }
+    ensures reads { IfOk result (λ source. source.reads ≡ 0) }
+    ensures failures { IfOk result (λ source. source.failures ≡ 0) }
+{
+    let (mut producer, mut consumer) = RingBuffer::with_protocol::<Global, InOrder<I>>(
+        alloc, SLOTS,
+    )?;
+    producer.push_reserved(Message::Asked(Snapshot::of(&input)));
+    consumer.slots_beside(&mut producer);
+    let _ = consumer.pop_known();
+    let theirs = Arc::try_clone(backlogs)?;
+    thread::spawn(
+        &rt,
+        move ||
+            requires { Asks (sent producer) input }
+        { run(&rt, alloc, producer, theirs, number, input) },
+    )?;
+    let incoming = Incoming {
+        consumer,
+        backlogs: Arc::try_clone(backlogs)?,
+        number,
+        front: Vec::new(alloc),
+        at: 0,
+        phase: Phase::Opening,
+    };
+    Ok(Ahead::new(rt, incoming))
+}
+
+/// What the thread of an input does.
+fn run<R: Wait, I: Input>(
+    rt: &R,
+    alloc: Global,
+    producer: Producer<Message<I>, Global, InOrder<I>>,
+    backlogs: Arc<Backlogs, Global>,
+    number: usize,
+    input: I,
+)
+    requires { Asks (sent producer) input }
+{
+    open_and_read(rt, alloc, Sender::new(producer, backlogs, number), input);
+}

@@ -1,0 +1,99 @@
+use super::fixtures::{Event, Given, Held, drain, pattern_of, source_of, sources_of};
+use item_io::Source;
+use std::alloc::Global;
+use std::sync::{Arc, Wait};
+use std::test::Fail;
+
+/// What a reader of so many bytes gives.
+const WHOLE: Given = Given {
+    count: 40 << 20,
+    wrong: 0,
+    failed: false,
+};
+
+/// A reader of more than what is read ahead at the most, which tells when all of it was read.
+fn long<R: Wait + Drop>(rt: R, ended: &Arc<Event, Global>) -> Result<Held<R>, Fail> {
+    Ok(Held {
+        rt,
+        reader: pattern_of(40 << 20, 65_536),
+        until: None,
+        ended: Arc::try_clone(ended)?,
+    })
+}
+
+#[test]
+fn what_was_left_is_read_to_its_end(rt: HostRuntime) -> Result<(), Fail> {
+    let ended = Event::new(rt.alloc())?;
+    let mut buffer = [0; 100];
+    let mut counts = Vec::new(rt.alloc());
+    if let Some(mut source) = source_of(rt, rt.alloc(), long(rt, &ended)?)? {
+        counts.push(source.read(&mut buffer).ok())?;
+        source.leave();
+        ended.wait(&rt);
+    }
+    assert_eq!(rt; counts.as_slice(), [Some(100)].as_slice());
+    Ok(())
+}
+
+#[test]
+fn what_was_dropped_is_read_to_its_end(rt: HostRuntime) -> Result<(), Fail> {
+    let ended = Event::new(rt.alloc())?;
+    if let Some(source) = source_of(rt, rt.alloc(), long(rt, &ended)?)? {
+        drop(source);
+        ended.wait(&rt);
+    }
+    Ok(())
+}
+
+#[test]
+fn one_that_is_never_read_is_read_to_its_end(rt: HostRuntime) -> Result<(), Fail> {
+    let ended = Event::new(rt.alloc())?;
+    let (first, second) = (long(rt, &ended)?, long(rt, &ended)?);
+    if let Some((mut first, mut second)) = sources_of(rt, rt.alloc(), first, second)? {
+        let given = drain(rt.alloc(), &mut second, 18_800)?;
+        assert_eq!(rt; given, WHOLE);
+        ended.wait(&rt);
+        assert!(rt; first.read(&mut [0; 100]).is_err());
+    }
+    Ok(())
+}
+
+#[test]
+fn one_that_is_read_no_more_is_read_to_its_end(rt: HostRuntime) -> Result<(), Fail> {
+    let ended = Event::new(rt.alloc())?;
+    let (first, second) = (long(rt, &ended)?, long(rt, &ended)?);
+    if let Some((mut first, mut second)) = sources_of(rt, rt.alloc(), first, second)? {
+        assert_eq!(rt; first.read(&mut [0; 100]).ok(), Some(100));
+        let given = drain(rt.alloc(), &mut second, 18_800)?;
+        assert_eq!(rt; given, WHOLE);
+        ended.wait(&rt);
+    }
+    Ok(())
+}
+
+#[test]
+fn a_silent_input_holds_up_no_other(rt: HostRuntime) -> Result<(), Fail> {
+    let ended = Event::new(rt.alloc())?;
+    let until = Event::new(rt.alloc())?;
+    let silent = Held {
+        rt,
+        reader: pattern_of(5, 5),
+        until: Some(Arc::try_clone(&until)?),
+        ended: Arc::try_clone(&ended)?,
+    };
+    let other = Held {
+        rt,
+        reader: pattern_of(9, 9),
+        until: None,
+        ended: Arc::try_clone(&ended)?,
+    };
+    if let Some((mut first, mut second)) = sources_of(rt, rt.alloc(), silent, other)? {
+        assert_eq!(rt; second.read(&mut [0; 100]).ok(), Some(9));
+        assert!(rt; !first.is_ready());
+        until.bring(&rt);
+        let given = drain(rt.alloc(), &mut first, 100)?;
+        assert_eq!(rt; (given.count, given.wrong, given.failed), (5, 0, false));
+        assert!(rt; first.is_ready());
+    }
+    Ok(())
+}
