@@ -18,15 +18,19 @@ use Rattle.ladder_items.specs.declared.fault.PackFault.TheVariants.{Settings, Re
 use Rattle.ladder_items.specs.Faults.{Says, Sayings}
 use Rattle.ladder_items.specs.declared.report.Report.{Report}
 use Rattle.ladder_items.specs.Ladder.{IsAllowed, Ladder}
-use Rattle.ladder_items.specs.Weave.{AreLegal, after_all, blocks, none_of}
+use Rattle.ladder_items.specs.Items.{Part}
+use Rattle.ladder_items.specs.Weave.{AreLegal, Weaves, after_all, blocks, none_of}
 use Rattle.ladder_items.specs.Putting.{PutAll, PutSome}
 use Rattle.ladder_items.specs.Packed.{HasHalted, IsCutShort, IsPacked}
 use Rattle.ladder_items.proofs.Endings.{says-as}
 use Rattle.ladder_items.proofs.WholeBlocks.{weaves-whole}
+use Rattle.ladder_laws.specs.Playlists.{HasByteNames}
+use Rattle.ladder_laws.specs.Playable.{StaysPlayable}
+use Rattle.ladder_laws.proofs.Playable.{nothing-playable, stays-playable}
 use Rattle.live_board.specs.Counts.{counts_shown}
 use Rattle.rounds.specs.Shown.{Fits, IsPackedShown, of_shown}
 use Rattle.commands.specs.LadderPacking.{LadderSays, TurnsAway}
-use Rattle.commands.specs.FolderPacking.{AreAllThere, FolderSays, IsCutShortInto, IsHaltedInto, IsPackedInto, LeavesPrefix, folder_run, folder_view, of_folder}
+use Rattle.commands.specs.FolderPacking.{AreAllThere, FolderSays, IsCutShortInto, IsHaltedInto, IsPackedInto, LeavesPlayable, LeavesPrefix, folder_run, folder_view, of_folder}
 use Rattle.commands.specs.declared.destination.Destination.{Destination}
 use Rattle.commands.specs.declared.ladder_packing.LadderPackingFault.{LadderPackingFault}
 use Rattle.commands.specs.declared.ladder_packing.LadderPackingFault.TheVariants.{Packing, Unwritten, NoMemory}
@@ -100,7 +104,7 @@ module _ {X F : Type 0} (input : SourceView X) (made : F → List Move) (ladder 
   packed-into : (report : Report) → IsAllowed ladder → IsPacked (folder_run input made most before now d y) ladder report → IsPackedInto (folder_run input made most before now d y) ladder d.syncs (made y.folder) report
   packed-into report allowed p =
       let whole = weaves-whole ladder p.parts p.items allowed p.weave in
-      record { packed = p; there = all-left p.items whole p.puts }
+      record { allowed = allowed; packed = p; there = all-left p.items whole p.puts }
 
   halted-into : (r : ℕ) (stop : Option Stop) → HasHalted (folder_run input made most before now d y) ladder r stop → IsHaltedInto (folder_run input made most before now d y) ladder d.syncs (made y.folder) r stop
   halted-into r stop h =
@@ -125,36 +129,50 @@ module _ {X F : Type 0} (input : SourceView X) (made : F → List Move) (ladder 
   folder-says workers old new held held_then Unwritten fits says = (says.report, packed-into says.report fits.0 says.packed.packed)
   folder-says workers old new held held_then NoMemory fits says = (says.report, packed-into says.report fits.0 says.packed.packed)
 
-  prefix-of-packed : (report : Report) → IsPackedInto (folder_run input made most before now d y) ladder d.syncs (made y.folder) report → LeavesPrefix ladder d.syncs (made y.folder)
-  prefix-of-packed report p = record { parts = p.packed.parts; items = p.packed.items; weave = p.packed.weave; killed = p.there.killed; lost = p.there.lost }
+  -- what each kill leaves of a weave can be played
+  playable-of : HasByteNames ladder → (p : LeavesPrefix ladder d.syncs (made y.folder)) → (p.items ≡ []) ⊎ IsAllowed ladder → LeavesPlayable ladder d.syncs (made y.folder)
+  playable-of bytes p (inl none) = record {
+    leaves = p;
+    playable = subst (λ (l : List ItemValue). StaysPlayable (made y.folder) l) (sym none)
+        (nothing-playable (made y.folder) (subst (λ (l : List ItemValue). EachKillLeaves (made y.folder) l) none p.killed));
+  }
+  playable-of bytes p (inr allowed) = record { leaves = p; playable = stays-playable ladder p.parts p.items (made y.folder) allowed bytes p.weave p.killed }
+
+  playable-of-packed : HasByteNames ladder → (report : Report) → IsPackedInto (folder_run input made most before now d y) ladder d.syncs (made y.folder) report → LeavesPlayable ladder d.syncs (made y.folder)
+  playable-of-packed bytes report p =
+      playable-of bytes (record { parts = p.packed.parts; items = p.packed.items; weave = p.packed.weave; killed = p.there.killed; lost = p.there.lost }) (inr p.allowed)
 
   -- nothing was given
-  prefix-of-none : made y.folder ≡ [] → LeavesPrefix ladder d.syncs (made y.folder)
+  playable-of-none : HasByteNames ladder → made y.folder ≡ [] → LeavesPlayable ladder d.syncs (made y.folder)
   unfolding AreLegal after_all blocks
-  prefix-of-none none = record {
-    parts = none_of ladder;
-    items = [];
-    weave = record { events = []; legal = tt; parts_are = refl; items_are = refl };
-    killed = subst (λ (l : List Move). EachKillLeaves l []) (sym none) (λ files left same. nothing_more files [] left (λ name shown. same name));
-    lost = λ _. subst (λ (l : List Move). EachLossOfPowerLeaves l []) (sym none) (λ files left same. nothing_more files [] left (λ name shown. sym (same name)));
-  }
+  playable-of-none bytes none = playable-of bytes
+      (record {
+        parts = none_of ladder;
+        items = [];
+        weave = record { events = []; legal = tt; parts_are = refl; items_are = refl };
+        killed = subst (λ (l : List Move). EachKillLeaves l []) (sym none) (λ files left same. nothing_more files [] left (λ name shown. same name));
+        lost = λ _. subst (λ (l : List Move). EachLossOfPowerLeaves l []) (sym none) (λ files left same. nothing_more files [] left (λ name shown. sym (same name)));
+      })
+      (inl refl)
 
-  prefix-of-halted : (r : ℕ) (stop : Option Stop) → IsHaltedInto (folder_run input made most before now d y) ladder d.syncs (made y.folder) r stop → LeavesPrefix ladder d.syncs (made y.folder)
-  prefix-of-halted r stop h = record { parts = h.halted.parts; items = h.halted.items; weave = h.halted.weave; killed = h.there.killed; lost = h.there.lost }
+  playable-of-halted : HasByteNames ladder → (r : ℕ) (stop : Option Stop) → IsHaltedInto (folder_run input made most before now d y) ladder d.syncs (made y.folder) r stop → LeavesPlayable ladder d.syncs (made y.folder)
+  playable-of-halted bytes r stop h =
+      playable-of bytes (record { parts = h.halted.parts; items = h.halted.items; weave = h.halted.weave; killed = h.there.killed; lost = h.there.lost }) (inr h.halted.allowed)
 
-  prefix-of-cut : IsCutShortInto (folder_run input made most before now d y) ladder d.syncs (made y.folder) → LeavesPrefix ladder d.syncs (made y.folder)
-  prefix-of-cut c = record { parts = c.cut.parts; items = c.cut.items; weave = c.cut.weave; killed = c.killed; lost = c.lost }
+  playable-of-cut : HasByteNames ladder → IsCutShortInto (folder_run input made most before now d y) ladder d.syncs (made y.folder) → LeavesPlayable ladder d.syncs (made y.folder)
+  playable-of-cut bytes c =
+      playable-of bytes (record { parts = c.cut.parts; items = c.cut.items; weave = c.cut.weave; killed = c.killed; lost = c.lost }) c.cut.allowed
 
-  prefix-of-fault : (fault : LadderPackingFault) → FolderSays (folder_run input made most before now d y) ladder d.syncs (made y.folder) fault → LeavesPrefix ladder d.syncs (made y.folder)
-  prefix-of-fault (Packing fault) says =
-      says-any (of_folder (folder_run input made most before now d y) ladder d.syncs (made y.folder)) (LeavesPrefix ladder d.syncs (made y.folder)) prefix-of-none prefix-of-halted prefix-of-cut prefix-of-cut (λ r n. prefix-of-cut) fault says
-  prefix-of-fault Unwritten says = prefix-of-packed says.0 says.1
-  prefix-of-fault NoMemory says = prefix-of-packed says.0 says.1
+  playable-of-fault : HasByteNames ladder → (fault : LadderPackingFault) → FolderSays (folder_run input made most before now d y) ladder d.syncs (made y.folder) fault → LeavesPlayable ladder d.syncs (made y.folder)
+  playable-of-fault bytes (Packing fault) says =
+      says-any (of_folder (folder_run input made most before now d y) ladder d.syncs (made y.folder)) (LeavesPlayable ladder d.syncs (made y.folder)) (playable-of-none bytes) (playable-of-halted bytes) (playable-of-cut bytes) (playable-of-cut bytes) (λ r n. playable-of-cut bytes) fault says
+  playable-of-fault bytes Unwritten says = playable-of-packed bytes says.0 says.1
+  playable-of-fault bytes NoMemory says = playable-of-packed bytes says.0 says.1
 
   -- whatever the answer
-  pub leaves-prefix : (answer : Result Report LadderPackingFault) → IfOk answer (IsPackedInto (folder_run input made most before now d y) ladder d.syncs (made y.folder)) → IfErr answer (FolderSays (folder_run input made most before now d y) ladder d.syncs (made y.folder)) → LeavesPrefix ladder d.syncs (made y.folder)
-  leaves-prefix (Ok report) packed says = prefix-of-packed report packed
-  leaves-prefix (Err fault) packed says = prefix-of-fault fault says
+  pub leaves-playable : HasByteNames ladder → (answer : Result Report LadderPackingFault) → IfOk answer (IsPackedInto (folder_run input made most before now d y) ladder d.syncs (made y.folder)) → IfErr answer (FolderSays (folder_run input made most before now d y) ladder d.syncs (made y.folder)) → LeavesPlayable ladder d.syncs (made y.folder)
+  leaves-playable bytes (Ok report) packed says = playable-of-packed bytes report packed
+  leaves-playable bytes (Err fault) packed says = playable-of-fault bytes fault says
 
   pub there-of : (workers : ℕ) (old new : List SnapshotFacts) (answer : Result Report LadderPackingFault) → IfOk answer (IsPackedShown (folder_run input made most before now d y) ladder workers old new) →
       OnOk answer (Fits ladder (length before) workers (counts_shown old)) → IfOk answer (IsPackedInto (folder_run input made most before now d y) ladder d.syncs (made y.folder))

@@ -7,12 +7,13 @@ use Rattle.item_io.specs.FolderMoves.{FolderState, HoldsFiles, HoldsFilesUpTo, n
 use Rattle.item_io.specs.Leaving.{EachKillLeaves, EachLossOfPowerLeaves, LeaveAll, LeaveAllOnDisk}
 use Rattle.ingest.specs.declared.lane.Stop.{Stop}
 use Rattle.ladder_items.specs.declared.report.Report.{Report}
-use Rattle.ladder_items.specs.Ladder.{Ladder}
+use Rattle.ladder_items.specs.Ladder.{IsAllowed, Ladder}
 use Rattle.ladder_items.specs.Items.{Part}
 use Rattle.ladder_items.specs.Weave.{Weaves}
 use Rattle.ladder_items.specs.Runs.{Run, run_of}
 use Rattle.ladder_items.specs.Faults.{Sayings, Says}
 use Rattle.ladder_items.specs.Packed.{HasHalted, IsCutShort, IsPacked}
+use Rattle.ladder_laws.specs.Playable.{StaysPlayable}
 use Rattle.commands.specs.declared.destination.Destination.{Destination}
 use Rattle.commands.specs.declared.ladder_packing.LadderPackingFault.{LadderPackingFault}
 use Rattle.commands.specs.declared.ladder_packing.LadderPackingFault.TheVariants.{Packing, Unwritten, NoMemory}
@@ -34,6 +35,11 @@ pub record LeavesPrefix (ladder : Ladder) (syncs : Bool) (made : List Move) : Ty
   pub killed : EachKillLeaves made items
   pub lost : syncs ≡ true → EachLossOfPowerLeaves made items
 
+-- So it does, and what it leaves can be played: each file that a playlist in place lists is in place too, whole.
+pub record LeavesPlayable (ladder : Ladder) (syncs : Bool) (made : List Move) : Type 0 where
+  pub leaves : LeavesPrefix ladder syncs made
+  pub playable : StaysPlayable made leaves.items
+
 -- what is left of all items, which are in the folder
 pub record AreAllThere (syncs : Bool) (made : List Move) (items : List ItemValue) : Type 0 where
   pub killed : EachKillLeaves made items
@@ -43,6 +49,7 @@ pub record AreAllThere (syncs : Bool) (made : List Move) (items : List ItemValue
 
 -- The run ended well, and all of its items are in the folder.
 pub record IsPackedInto {X Y : Type 0} (run : Run X Y) (ladder : Ladder) (syncs : Bool) (made : List Move) (report : Report) : Type 0 where
+  pub allowed : IsAllowed ladder
   pub packed : IsPacked run ladder report
   pub there : AreAllThere syncs made packed.items
 

@@ -1,7 +1,7 @@
 ghost use Rattle.std.specs.Prelude.{◌≡◌, [], IfOk, IfErr};
 ghost use Rattle.ladder_items.specs.World.{HaveRoom};
 ghost use Rattle.rounds.specs.Shown.{IsPackedShown};
-ghost use Rattle.commands.specs.FolderPacking.{FolderSays, IsPackedInto, LeavesPrefix, folder_run};
+ghost use Rattle.commands.specs.FolderPacking.{FolderSays, IsPackedInto, LeavesPlayable, LeavesPrefix, folder_run};
 ghost use Rattle.commands.specs.LadderPacking.{LadderSays, WritesSummary};
 
 use crate::destination::{Destination, outlet_of};
@@ -9,6 +9,7 @@ use crate::ladder_packing::{PackedLadder, pack};
 use crate::pool::Pool;
 use folder::Folder;
 use item_io::{FolderOutlet, READS, Source};
+use ladder_laws::names_are_bytes;
 use live_board::Publisher;
 use pipeline::Settings;
 use std::alloc::Global;
@@ -21,7 +22,8 @@ use std::thread::Threads;
 ///
 /// Wherever the process is killed, also after a fault, the folder shows what stood there before with a prefix of a weave
 /// of the renditions over it, whole files alone; and once all is packed, all of the weave is there. A folder that is synced
-/// holds that on the disk too, wherever the machine loses its power.
+/// holds that on the disk too, wherever the machine loses its power. What the folder shows can be played at each moment: each
+/// file that a playlist in place lists is in place too, whole, where the folder had no file of these names before.
 pub fn pack_into_folder<S: Source + Drop, F: Folder + Drop, W: Write, R: Threads + Wait + Sync>(
     rt: &R,
     alloc: Global,
@@ -35,6 +37,7 @@ pub fn pack_into_folder<S: Source + Drop, F: Folder + Drop, W: Write, R: Threads
     requires room { HaveRoom S.input READS sources.items }
     requires fresh { F.made into.folder ≡ [] }
     ensures killed { LeavesPrefix settings.now into.syncs (F.made result.outlet.folder) }
+    ensures playable { LeavesPlayable settings.now into.syncs (F.made result.outlet.folder) }
     ensures there { IfOk result.answer (IsPackedInto
         (folder_run S.input F.made READS sources.items result.sources.items into result.outlet)
         settings.now into.syncs (F.made result.outlet.folder)) }
@@ -50,6 +53,7 @@ pub fn pack_into_folder<S: Source + Drop, F: Folder + Drop, W: Write, R: Threads
         settings.now pool.workers publisher.list result.publisher.list (W.contents output.old) (W.contents output.new)) }
     ensures board { result.publisher.board ≡ publisher.board }
 {
+    names_are_bytes(settings);
     let outlet = outlet_of(into, alloc);
     pack(
         rt, alloc, sources, settings, pool, publisher, outlet, output,

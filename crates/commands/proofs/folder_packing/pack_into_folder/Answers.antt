@@ -1,5 +1,5 @@
 use Rattle.std.proofs.Common.{◌^◌}
-use Rattle.commands.proofs.FolderRuns.{leaves-prefix, left-of, there-of}
+use Rattle.commands.proofs.FolderRuns.{leaves-playable, left-of, there-of}
 use Rattle.commands.proofs.folder_packing.pack_into_folder.Goals as goal
 
 pub returns-clause-ok : goal.returns-clause-ok
@@ -20,7 +20,10 @@ returns-clause-left g c =
     c.args.pool.workers c.args.publisher.list c.pack.result.publisher.list _ _ c.pack.result.answer
     (rw c.outlet_of-outlet.ensures at c.pack.ensures.breach) (rw c.outlet_of-outlet.ensures at c.pack.ensures.fault)
 
+pub returns-clause-playable : goal.returns-clause-playable
+returns-clause-playable g c =
+    leaves-playable g.S.Source.input g.F.Folder.made c.args.settings.now (2 ^ 40) c.args.sources.items c.pack.result.sources.items c.args.into c.pack.result.outlet c.requires.fresh
+    c.names_are_bytes.ensures c.pack.result.answer (returns-clause-there g c) (returns-clause-left g c)
+
 pub returns-clause-killed : goal.returns-clause-killed
-returns-clause-killed g c =
-    leaves-prefix g.S.Source.input g.F.Folder.made c.args.settings.now (2 ^ 40) c.args.sources.items c.pack.result.sources.items c.args.into c.pack.result.outlet c.requires.fresh
-    c.pack.result.answer (returns-clause-there g c) (returns-clause-left g c)
+returns-clause-killed g c = (returns-clause-playable g c).leaves
