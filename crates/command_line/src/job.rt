@@ -1,6 +1,9 @@
 //! The command line: which command it asks for, with its options as values.
-ghost use Rattle.std.specs.Prelude.{IfErr};
+ghost use Rattle.std.specs.Prelude.{◌≡◌, codes, false, IfErr, IfOk};
+ghost use Rattle.clap.specs.Words.{app_of};
+ghost use Rattle.clap.specs.declared.builder.command.Command.TheViews.{out-Command};
 ghost use Rattle.command_line.specs.Faults.{IsOfCommandLine};
+ghost use Rattle.command_line.specs.Options.{GetsCommand, check_options, cipher_options, command_of, ladder_options, stream_options, tshls};
 
 use crate::fault::Fault;
 use crate::help;
@@ -8,12 +11,14 @@ use crate::options::{
     check_words, cipher_words, number_words, packing_words, with_check_options,
     with_cipher_options, with_stream,
 };
-use crate::pack_options::{entry_words, pool_words, with_ladder};
+use crate::pack_options::{
+    entry_words, folder_word, ladder_words, pool_words, sync_word, with_ladder,
+};
 use clap::error::ErrorKind;
 use clap::{ArgMatches, Command};
 use commands::{
-    CheckOptions, CipherOptions, LadderOptions, LadderWords, read_check_options,
-    read_cipher_options, read_ladder_options, read_settings,
+    CheckOptions, CipherOptions, LadderOptions, read_check_options, read_cipher_options,
+    read_ladder_options, read_settings,
 };
 use pipeline::Settings;
 use std::alloc::{AllocError, Global};
@@ -95,21 +100,19 @@ fn ladder_job<'a>(alloc: Global, options: &ArgMatches<'a>) -> Result<LadderJob<'
     ensures { IfErr result IsOfCommandLine }
 {
     let entries = entry_words(alloc, options)?;
-    let words = LadderWords {
-        entries: &entries,
-        salt: options.get_str("salt"),
-        event: options.get_flag("event"),
-    };
+    let words = ladder_words(options, &entries);
     let ladder = read_ladder_options(alloc, words, number_words(options), pool_words(options))?;
     Ok(LadderJob {
         options: ladder,
-        folder: options.get_str("out").unwrap_or(""),
-        syncs: options.get_flag("sync"),
+        folder: folder_word(options),
+        syncs: sync_word(options),
     })
 }
 
 /// The program with its command `seal`.
-fn with_seal<'a>(alloc: Global, program: Command<'a>) -> Result<Command<'a>, AllocError> {
+fn with_seal<'a>(alloc: Global, program: Command<'a>) -> Result<Command<'a>, AllocError>
+    ensures { IfOk result (λ made. GetsCommand program.entry (command_of (codes "seal") cipher_options) made) }
+{
     let seal = Command::new(alloc, "seal")
         .about("Read a transport stream, and print its packets, sealed, as one line of hex digits")
         .after_help(help::SEAL);
@@ -117,7 +120,9 @@ fn with_seal<'a>(alloc: Global, program: Command<'a>) -> Result<Command<'a>, All
 }
 
 /// The program with its command `open`.
-fn with_open<'a>(alloc: Global, program: Command<'a>) -> Result<Command<'a>, AllocError> {
+fn with_open<'a>(alloc: Global, program: Command<'a>) -> Result<Command<'a>, AllocError>
+    ensures { IfOk result (λ made. GetsCommand program.entry (command_of (codes "open") cipher_options) made) }
+{
     let open = Command::new(alloc, "open")
         .about("Read what seal prints, and print what was sealed, as one line of hex digits")
         .after_help(help::OPEN);
@@ -125,7 +130,9 @@ fn with_open<'a>(alloc: Global, program: Command<'a>) -> Result<Command<'a>, All
 }
 
 /// The program with its command `one`.
-fn with_one<'a>(alloc: Global, program: Command<'a>) -> Result<Command<'a>, AllocError> {
+fn with_one<'a>(alloc: Global, program: Command<'a>) -> Result<Command<'a>, AllocError>
+    ensures { IfOk result (λ made. GetsCommand program.entry (command_of (codes "one") stream_options) made) }
+{
     let one = Command::new(alloc, "one")
         .about(
             "Read a transport stream, and print its segments, sealed, and its playlists as lines",
@@ -135,7 +142,9 @@ fn with_one<'a>(alloc: Global, program: Command<'a>) -> Result<Command<'a>, Allo
 }
 
 /// The program with its command `pack`.
-fn with_pack<'a>(alloc: Global, program: Command<'a>) -> Result<Command<'a>, AllocError> {
+fn with_pack<'a>(alloc: Global, program: Command<'a>) -> Result<Command<'a>, AllocError>
+    ensures { IfOk result (λ made. GetsCommand program.entry (command_of (codes "pack") ladder_options) made) }
+{
     let pack = Command::new(alloc, "pack")
         .about(
             "Read the transport streams of a ladder, and write its segments, sealed, and its playlists as files of a folder",
@@ -145,7 +154,9 @@ fn with_pack<'a>(alloc: Global, program: Command<'a>) -> Result<Command<'a>, All
 }
 
 /// The program with its command `check`.
-fn with_check<'a>(alloc: Global, program: Command<'a>) -> Result<Command<'a>, AllocError> {
+fn with_check<'a>(alloc: Global, program: Command<'a>) -> Result<Command<'a>, AllocError>
+    ensures { IfOk result (λ made. GetsCommand program.entry (command_of (codes "check") check_options) made) }
+{
     let check = Command::new(alloc, "check")
         .about(
             "Read a media playlist and the segments beside it, and print how many bytes they unpack to",
@@ -155,7 +166,10 @@ fn with_check<'a>(alloc: Global, program: Command<'a>) -> Result<Command<'a>, Al
 }
 
 /// The program, with its commands in the order in which help shows them.
-pub(crate) fn program<'a>(alloc: Global) -> Result<Command<'a>, AllocError> {
+pub(crate) fn program<'a>(alloc: Global) -> Result<Command<'a>, AllocError>
+    ensures app { IfOk result (λ made. app_of made ≡ tshls) }
+    ensures globals { IfOk result (λ made. (out-Command made).has_globals ≡ false) }
+{
     let program = Command::new(alloc, "tshls")
         .about("MPEG-2 transport streams to encrypted HLS")
         .version(help::VERSION)

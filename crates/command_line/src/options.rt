@@ -1,4 +1,9 @@
 //! The options of each command: how help shows them, and the words that were given.
+ghost use Rattle.std.specs.Prelude.{◌≡◌, codes, false, map, option_map, IfOk};
+ghost use Rattle.clap.specs.Words.{first_value, found_of, rule_of};
+ghost use Rattle.command_line.specs.Options.{GetsOptions, check_options, cipher_options, form_options, number_option, numbered, rendition_options, stream_options, text_option};
+ghost use Rattle.command_line.specs.Words.{IsFlagOf, IsGivenNumber, IsNumberOf, given_text, is_given, text_of};
+
 use clap::parser::ValueSource;
 use clap::{Arg, ArgAction, ArgMatches, Command};
 use commands::{CheckWords, CipherWords, NumberWords, PackingWords};
@@ -8,7 +13,9 @@ use std::alloc::{AllocError, Global};
 pub fn with_cipher_options<'a>(
     alloc: Global,
     command: Command<'a>,
-) -> Result<Command<'a>, AllocError> {
+) -> Result<Command<'a>, AllocError>
+    ensures { IfOk result (λ made. GetsOptions command.entry cipher_options made) }
+{
     let seq = "The segment's number, which gives the vector";
     let command = command
         .arg(text(alloc, "key", "HEX", "The key: 32 hex digits").required(true))?
@@ -17,23 +24,31 @@ pub fn with_cipher_options<'a>(
 }
 
 /// The words of a key and a vector.
-pub fn cipher_words<'a>(options: &ArgMatches<'a>) -> CipherWords<'a> {
+pub fn cipher_words<'a>(options: &ArgMatches<'a>) -> CipherWords<'a>
+    ensures key { result.key.now ≡ text_of (found_of options.now) (codes "key") }
+    ensures seq { IsNumberOf (found_of options.now) (codes "seq") result.seq }
+    ensures iv { option_map (λ t. t.now) result.iv ≡ first_value (found_of options.now) (codes "iv") }
+{
     CipherWords {
-        key: options.get_str("key").unwrap_or(""),
-        seq: options.get_one::<u64>("seq"),
+        key: needed_text(options, "key"),
+        seq: number_of(options, "seq"),
         iv: options.get_str("iv"),
     }
 }
 
 /// The command with the options of a stream of one rendition.
-pub fn with_stream<'a>(alloc: Global, command: Command<'a>) -> Result<Command<'a>, AllocError> {
+pub fn with_stream<'a>(alloc: Global, command: Command<'a>) -> Result<Command<'a>, AllocError>
+    ensures { IfOk result (λ made. GetsOptions command.entry stream_options made) }
+{
     let command = with_rendition(alloc, command)?;
     let command = with_forms(alloc, command)?;
     with_numbers(alloc, command, &NUMBERS)
 }
 
 /// The command with the options of one rendition.
-fn with_rendition<'a>(alloc: Global, command: Command<'a>) -> Result<Command<'a>, AllocError> {
+fn with_rendition<'a>(alloc: Global, command: Command<'a>) -> Result<Command<'a>, AllocError>
+    ensures { IfOk result (λ made. GetsOptions command.entry rendition_options made) }
+{
     let codecs = "The codecs, as a master playlist lists them";
     let size = "The width and the height of the pictures, 1 to 16384 pixels each";
     let keys = "The keys, 32 hex digits each, 1 to 4096 of them";
@@ -46,7 +61,9 @@ fn with_rendition<'a>(alloc: Global, command: Command<'a>) -> Result<Command<'a>
 }
 
 /// The command with the options of vectors, and of which segments are listed.
-pub fn with_forms<'a>(alloc: Global, command: Command<'a>) -> Result<Command<'a>, AllocError> {
+pub fn with_forms<'a>(alloc: Global, command: Command<'a>) -> Result<Command<'a>, AllocError>
+    ensures { IfOk result (λ made. GetsOptions command.entry form_options made) }
+{
     let salt =
         "A salt of the segments' vectors, 32 hex digits: each is then the salt xor the number, and is listed";
     let command = command.arg(text(alloc, "salt", "HEX", salt))?;
@@ -58,16 +75,23 @@ pub fn with_forms<'a>(alloc: Global, command: Command<'a>) -> Result<Command<'a>
 }
 
 /// The words of a rendition.
-pub fn packing_words<'a>(options: &ArgMatches<'a>) -> PackingWords<'a> {
+pub fn packing_words<'a>(options: &ArgMatches<'a>) -> PackingWords<'a>
+    ensures name { option_map (λ t. t.now) result.name ≡ given_text (found_of options.now) (codes "name") }
+    ensures codecs { result.codecs.now ≡ text_of (found_of options.now) (codes "codecs") }
+    ensures size { result.size.now ≡ text_of (found_of options.now) (codes "size") }
+    ensures keys { result.keys.now ≡ text_of (found_of options.now) (codes "keys") }
+    ensures salt { option_map (λ t. t.now) result.salt ≡ first_value (found_of options.now) (codes "salt") }
+    ensures event { IsFlagOf (found_of options.now) (codes "event") result.event }
+{
     PackingWords {
         name: if is_given(options, "name") {
             options.get_str("name")
         } else {
             None
         },
-        codecs: options.get_str("codecs").unwrap_or(""),
-        size: options.get_str("size").unwrap_or(""),
-        keys: options.get_str("keys").unwrap_or(""),
+        codecs: needed_text(options, "codecs"),
+        size: needed_text(options, "size"),
+        keys: needed_text(options, "keys"),
         salt: options.get_str("salt"),
         event: options.get_flag("event"),
     }
@@ -133,25 +157,45 @@ pub(crate) const NUMBERS: [NumberOption; 8] = [
     ),
 ];
 
+/// An option whose value is a number, as a table tells it.
+fn number_from<'a>(alloc: Global, option: NumberOption) -> Arg<'a>
+    ensures rule { rule_of result ≡ numbered option.entry }
+    ensures alone { result.global ≡ false }
+{
+    let (name, value, help, default) = option;
+    let arg = number(alloc, name, value, help);
+    match default {
+        Some(default) => arg.default_value(default),
+        None => arg,
+    }
+}
+
 /// The command with options whose values are numbers.
 pub(crate) fn with_numbers<'a>(
     alloc: Global,
     command: Command<'a>,
     numbers: &[NumberOption],
-) -> Result<Command<'a>, AllocError> {
+) -> Result<Command<'a>, AllocError>
+    ensures { IfOk result (λ made. GetsOptions command.entry (map numbered numbers.now) made) }
+{
     let mut command = command;
-    for &(name, value, help, default) in numbers {
-        let mut option = number(alloc, name, value, help);
-        if let Some(default) = default {
-            option = option.default_value(default);
-        }
-        command = command.arg(option)?;
+    for &option in numbers {
+        command = command.arg(number_from(alloc, option))?;
     }
     Ok(command)
 }
 
 /// The numbers that were given.
-pub fn number_words(options: &ArgMatches<'_>) -> NumberWords {
+pub fn number_words(options: &ArgMatches<'_>) -> NumberWords
+    ensures target { IsGivenNumber (found_of options.now) (codes "target") result.target }
+    ensures segment { IsGivenNumber (found_of options.now) (codes "segment") result.segment }
+    ensures window { IsGivenNumber (found_of options.now) (codes "window") result.window }
+    ensures frame { IsGivenNumber (found_of options.now) (codes "frame") result.frame }
+    ensures gap { IsGivenNumber (found_of options.now) (codes "gap") result.gap }
+    ensures most { IsGivenNumber (found_of options.now) (codes "most") result.most }
+    ensures period { IsGivenNumber (found_of options.now) (codes "period") result.period }
+    ensures program { IsGivenNumber (found_of options.now) (codes "program") result.program }
+{
     NumberWords {
         target: given_number(options, "target"),
         segment: given_number(options, "segment"),
@@ -168,7 +212,9 @@ pub fn number_words(options: &ArgMatches<'_>) -> NumberWords {
 pub fn with_check_options<'a>(
     alloc: Global,
     command: Command<'a>,
-) -> Result<Command<'a>, AllocError> {
+) -> Result<Command<'a>, AllocError>
+    ensures { IfOk result (λ made. GetsOptions command.entry check_options made) }
+{
     let keys = "The keys of the rendition, 32 hex digits each";
     let command = command.arg(text(alloc, "keys", "KEY[+KEY..]", keys).required(true))?;
     let playlist = Arg::new(alloc, "playlist")
@@ -179,15 +225,21 @@ pub fn with_check_options<'a>(
 }
 
 /// The words of `check`.
-pub fn check_words<'a>(options: &ArgMatches<'a>) -> CheckWords<'a> {
+pub fn check_words<'a>(options: &ArgMatches<'a>) -> CheckWords<'a>
+    ensures keys { result.keys.now ≡ text_of (found_of options.now) (codes "keys") }
+    ensures playlist { result.playlist.now ≡ text_of (found_of options.now) (codes "playlist") }
+{
     CheckWords {
-        keys: options.get_str("keys").unwrap_or(""),
-        playlist: options.get_str("playlist").unwrap_or(""),
+        keys: needed_text(options, "keys"),
+        playlist: needed_text(options, "playlist"),
     }
 }
 
 /// An option of this name.
-pub(crate) fn text<'a>(alloc: Global, name: &'a str, value: &'a str, help: &'a str) -> Arg<'a> {
+pub(crate) fn text<'a>(alloc: Global, name: &'a str, value: &'a str, help: &'a str) -> Arg<'a>
+    ensures rule { rule_of result ≡ text_option name.entry.now }
+    ensures alone { result.global ≡ false }
+{
     Arg::new(alloc, name)
         .long(name)
         .value_name(value)
@@ -195,19 +247,40 @@ pub(crate) fn text<'a>(alloc: Global, name: &'a str, value: &'a str, help: &'a s
 }
 
 /// An option of this name, whose value is a u64.
-pub(crate) fn number<'a>(alloc: Global, name: &'a str, value: &'a str, help: &'a str) -> Arg<'a> {
+pub(crate) fn number<'a>(alloc: Global, name: &'a str, value: &'a str, help: &'a str) -> Arg<'a>
+    ensures rule { rule_of result ≡ number_option name.entry.now }
+    ensures alone { result.global ≡ false }
+{
     text(alloc, name, value, help).value_parser(clap::value_parser!(u64))
 }
 
+/// The text of an option that has to be given.
+pub(crate) fn needed_text<'a>(options: &ArgMatches<'a>, name: &str) -> &'a str
+    ensures { result.now ≡ text_of (found_of options.now) name.now }
+{
+    options.get_str(name).unwrap_or("")
+}
+
+/// The number of an option.
+fn number_of(options: &ArgMatches<'_>, name: &str) -> Option<u64>
+    ensures { IsNumberOf (found_of options.now) name.now result }
+{
+    options.get_one::<u64>(name)
+}
+
 /// Whether an option was given. The defaults here are only shown.
-fn is_given(options: &ArgMatches<'_>, name: &str) -> bool {
+fn is_given(options: &ArgMatches<'_>, name: &str) -> bool
+    ensures { result ≡ is_given (found_of options.now) name.now }
+{
     matches!(options.value_source(name), Some(ValueSource::CommandLine))
 }
 
 /// The number of an option that was given.
-pub(crate) fn given_number(options: &ArgMatches<'_>, name: &str) -> Option<u64> {
+pub(crate) fn given_number(options: &ArgMatches<'_>, name: &str) -> Option<u64>
+    ensures { IsGivenNumber (found_of options.now) name.now result }
+{
     if is_given(options, name) {
-        options.get_one::<u64>(name)
+        number_of(options, name)
     } else {
         None
     }

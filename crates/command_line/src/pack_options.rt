@@ -1,11 +1,20 @@
 //! The options of `pack`: how help shows them, and the words that were given.
-use crate::options::{NUMBERS, NumberOption, given_number, text, with_forms, with_numbers};
+ghost use Rattle.std.specs.Prelude.{◌≡◌, ◌∷◌, [], codes, map, option_map, IfOk};
+ghost use Rattle.clap.specs.Words.{first_value, found_of};
+ghost use Rattle.command_line.specs.Options.{GetsOptions, entries, flag, ladder_options};
+ghost use Rattle.command_line.specs.Words.{IsFlagOf, IsGivenNumber, text_of, texts_of};
+
+use crate::options::{
+    NUMBERS, NumberOption, given_number, needed_text, text, with_forms, with_numbers,
+};
 use clap::{Arg, ArgAction, ArgMatches, Command};
-use commands::PoolWords;
+use commands::{LadderWords, PoolWords};
 use std::alloc::{AllocError, Global};
 
 /// The command with the options of a ladder and of the threads that seal it, with its entries, and with the numbers of a packager.
-pub fn with_ladder<'a>(alloc: Global, command: Command<'a>) -> Result<Command<'a>, AllocError> {
+pub fn with_ladder<'a>(alloc: Global, command: Command<'a>) -> Result<Command<'a>, AllocError>
+    ensures { IfOk result (λ made. GetsOptions command.entry ladder_options made) }
+{
     let out = "The folder that the files are written to, which has to be there";
     let command = command.arg(text(alloc, "out", "DIR", out).required(true))?;
     let command = with_sync(alloc, command)?;
@@ -16,7 +25,9 @@ pub fn with_ladder<'a>(alloc: Global, command: Command<'a>) -> Result<Command<'a
 }
 
 /// The command with the option that syncs the folder.
-fn with_sync<'a>(alloc: Global, command: Command<'a>) -> Result<Command<'a>, AllocError> {
+fn with_sync<'a>(alloc: Global, command: Command<'a>) -> Result<Command<'a>, AllocError>
+    ensures { IfOk result (λ made. GetsOptions command.entry (flag (codes "sync") ∷ []) made) }
+{
     let sync = Arg::new(alloc, "sync")
         .long("sync")
         .action(ArgAction::SetTrue)
@@ -49,7 +60,9 @@ const POOL: [NumberOption; 3] = [
 ];
 
 /// The command with the entries of a ladder.
-fn with_entries<'a>(alloc: Global, command: Command<'a>) -> Result<Command<'a>, AllocError> {
+fn with_entries<'a>(alloc: Global, command: Command<'a>) -> Result<Command<'a>, AllocError>
+    ensures { IfOk result (λ made. GetsOptions command.entry (entries ∷ []) made) }
+{
     let entry =
         "A rendition: its name, codecs, size, keys and the path of its stream, with a colon between";
     let entries = Arg::new(alloc, "entries")
@@ -62,10 +75,9 @@ fn with_entries<'a>(alloc: Global, command: Command<'a>) -> Result<Command<'a>, 
 }
 
 /// The texts of a ladder's renditions.
-pub fn entry_words<'a>(
-    alloc: Global,
-    options: &ArgMatches<'a>,
-) -> Result<Vec<&'a str>, AllocError> {
+pub fn entry_words<'a>(alloc: Global, options: &ArgMatches<'a>) -> Result<Vec<&'a str>, AllocError>
+    ensures { IfOk result (λ texts. map (λ t. t.now) texts.items ≡ texts_of (found_of options.now) (codes "entries")) }
+{
     let mut entries = Vec::new(alloc);
     if let Some(texts) = options.get_strs("entries") {
         entries.extend_from_slice(texts)?;
@@ -73,8 +85,39 @@ pub fn entry_words<'a>(
     Ok(entries)
 }
 
+/// The words of a ladder of these entries.
+pub fn ladder_words<'b, 'a>(options: &ArgMatches<'a>, entries: &'b [&'a str]) -> LadderWords<'b, 'a>
+    ensures entries { result.entries.now ≡ entries.now }
+    ensures salt { option_map (λ t. t.now) result.salt ≡ first_value (found_of options.now) (codes "salt") }
+    ensures event { IsFlagOf (found_of options.now) (codes "event") result.event }
+{
+    LadderWords {
+        entries,
+        salt: options.get_str("salt"),
+        event: options.get_flag("event"),
+    }
+}
+
+/// The folder that a ladder goes to.
+pub fn folder_word<'a>(options: &ArgMatches<'a>) -> &'a str
+    ensures { result.now ≡ text_of (found_of options.now) (codes "out") }
+{
+    needed_text(options, "out")
+}
+
+/// Whether the folder is synced.
+pub fn sync_word(options: &ArgMatches<'_>) -> bool
+    ensures { IsFlagOf (found_of options.now) (codes "sync") result }
+{
+    options.get_flag("sync")
+}
+
 /// The numbers of the threads that seal, as they were given.
-pub fn pool_words(options: &ArgMatches<'_>) -> PoolWords {
+pub fn pool_words(options: &ArgMatches<'_>) -> PoolWords
+    ensures workers { IsGivenNumber (found_of options.now) (codes "workers") result.workers }
+    ensures queue { IsGivenNumber (found_of options.now) (codes "queue") result.queue }
+    ensures batch { IsGivenNumber (found_of options.now) (codes "batch") result.batch }
+{
     PoolWords {
         workers: given_number(options, "workers"),
         queue: given_number(options, "queue"),

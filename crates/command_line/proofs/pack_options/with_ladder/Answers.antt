@@ -1,0 +1,21 @@
+use Rattle.std.proofs.Common.{◌≡◌, ◌∙◌, ap, ◌∷◌, [], ◌++◌, codes, false, List}
+use Rattle.std.proofs.lemmas.Result.{IfOk-weaker}
+use Rattle.clap.specs.declared.builder.arg.Arg.{Arg}
+use Rattle.clap.specs.Words.{Rule, rule_of}
+use Rattle.command_line.specs.Options.{entries, flag, form_options, needed, packing_options, pool_options, text_option}
+use Rattle.command_line.proofs.Adding.{gets-both, gets-more, gets-none}
+use Rattle.command_line.proofs.pack_options.with_ladder.Goals as goal
+
+pub returns : goal.returns
+returns c =
+    let command = c.args.command in
+    let out : rule_of c.required.result ≡ needed (text_option (codes "out")) = ap rule_of c.required.ensures ∙ ap needed c.text.ensures.rule in
+    let alone : c.required.result.global ≡ false = ap (λ (a : Arg). a.global) c.required.ensures ∙ c.text.ensures.alone in
+    let folder : List Rule = needed (text_option (codes "out")) ∷ [] in
+    let synced : List Rule = needed (text_option (codes "out")) ∷ flag (codes "sync") ∷ [] in
+    let first = gets-more command _ _ _ _ _ (gets-none command) c.in_ok-command.ensures alone out in
+    let second = gets-both command _ _ folder (flag (codes "sync") ∷ []) first c.in_ok-command-2.ensures in
+    let pool = gets-both command _ _ synced pool_options second c.in_ok-command-3.ensures in
+    let entered = gets-both command _ _ (synced ++ pool_options) (entries ∷ []) pool c.in_ok-command-4.ensures in
+    let formed = gets-both command _ _ (synced ++ pool_options ++ entries ∷ []) form_options entered c.in_ok-command-5.ensures in
+    IfOk-weaker c.with_numbers-2.result _ _ (λ made gets. gets-both command _ made (synced ++ pool_options ++ entries ∷ form_options) packing_options formed gets) c.with_numbers-2.ensures
