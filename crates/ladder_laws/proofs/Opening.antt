@@ -17,9 +17,9 @@ use Rattle.playlist_text.specs.Vectors.{salted_vector}
 use Rattle.segment_job.specs.Rotation.{number_of, key_of, vector_of}
 use Rattle.segment_job.specs.Segments.{plain, sealed_segment}
 use Rattle.playlist_text.specs.Lines.{text_of}
-use Rattle.playlist_text.specs.MediaLines.{Listing, listing_lines}
+use Rattle.playlist_text.specs.MediaLines.{listing_lines}
 use Rattle.media_playlist.specs.Rows.{SegmentRow}
-use Rattle.media_playlist.specs.Listed.{Pushed, first, first_listed, listed, removed, discontinuity_count}
+use Rattle.media_playlist.specs.Listed.{Pushed, first, first_listed, listed}
 use Rattle.media_playlist.specs.Lines.{entry_of, listing_of, unless_empty, media_lines}
 use Rattle.item_io.specs.Items.{ItemValue, SegmentValue, PlaylistValue, SegmentItem, MediaItem}
 use Rattle.ladder_items.specs.declared.settings.Kind.{Kind}

@@ -1,5 +1,5 @@
 -- How a player opens a segment: by what the media playlist right behind it lists.
-use Rattle.std.specs.Prelude.{◌≡◌, ℕ, ◌+◌, ◌<◌, Bool, false, nat_eq, codes, All, List, [], ◌∷◌, ◌++◌, length, slice_index_or, Option, Some, None, slice_get}
+use Rattle.std.specs.Prelude.{◌≡◌, ℕ, ◌+◌, ◌<◌, Bool, false, nat_eq, codes, All, List, [], ◌∷◌, ◌++◌, length, slice_index_or, Option, Some, slice_get}
 use Rattle.std.specs.List.{starts_with}
 use Rattle.ghost_list.specs.Lists.{IsBeginning}
 use Rattle.playlist_text.specs.Uris.{segment_uri}

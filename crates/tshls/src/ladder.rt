@@ -16,12 +16,7 @@ use std::thread::Threads;
 pub fn pack_ladder<
     R: InputFiles + Files + Threads + Wait + Copy + Send + Sync + Drop + 'static,
     W: Write,
->(
-    rt: R,
-    alloc: Global,
-    job: &LadderJob<'_>,
-    output: &mut W,
-) -> Result<(), Fault>
+>(rt: R, alloc: Global, job: &LadderJob<'_>, output: &mut W) -> Result<(), Fault>
 where
     R::Reader: Send + 'static,
     R::File: Send + 'static,
