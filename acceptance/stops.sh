@@ -11,7 +11,7 @@ check_stops() {
 # plays_after_each_kill [OPTION]: killed at the first call, then the second, up to a run that ends.
 plays_after_each_kill() {
     local number status folder=$work/stopped
-    echo "$key" | xxd -r -p >"$work/v.0.key"
+    python3 -c 'import sys; sys.stdout.buffer.write(bytes.fromhex(sys.argv[1]))' "$key" >"$work/v.0.key"
     rm -f "$work/was_played"
     for ((number = 1; number <= 400; number++)); do
         rm -rf "$folder" && mkdir "$folder" && cp "$work/v.0.key" "$folder"
