@@ -5,7 +5,7 @@ check_stops() {
     cc -Wall -shared -fPIC -o "$work/stop_at_call.so" "$here/stop_at_call.c" -ldl || return
     check 'pack: killed at each call on its folder, what is listed plays' plays_after_each_kill
     check 'pack: the same with --sync' plays_after_each_kill --sync
-    check 'pack: 60 random ladders, killed, on a full disk or without their folder' stops_random_ladders 60
+    check 'pack: 300 random ladders, killed, on a full disk or without their folder' stops_random_ladders 300
 }
 
 # plays_after_each_kill [OPTION]: killed at the first call, then the second, up to a run that ends.
