@@ -55,6 +55,22 @@ fn sixteen_workers_seal_each_plan_once(rt: HostRuntime) -> Result<(), Fail> {
     Ok(())
 }
 
+/// One worker before a long queue seals its plans four at a time.
+#[test]
+fn one_worker_seals_a_long_queue(rt: HostRuntime) -> Result<(), Fail> {
+    let job = Job {
+        queue: 16,
+        workers: 1,
+        plans: 103,
+        half: false,
+        stops: false,
+        gate: &FreeGate,
+    };
+    let told = run(&rt, rt.alloc(), &job, TIMES, sealed(103))?;
+    assert_eq!(rt; told, sealed(103));
+    Ok(())
+}
+
 /// A gate that holds one segment back.
 #[derive(Drop)]
 struct AllBut(u64);
@@ -83,6 +99,28 @@ fn a_run_goes_on_behind_a_segment_that_is_held(rt: HostRuntime) -> Result<(), Fa
         sealed: 2,
         held: 1,
         ..sealed(3)
+    };
+    let told = run(&rt, rt.alloc(), &job, TIMES, wanted)?;
+    assert_eq!(rt; told, wanted);
+    Ok(())
+}
+
+/// A segment that is held back or refused among those that are sealed side by side is told for itself.
+#[test]
+fn one_of_four_that_is_held_or_refused_leaves_the_others(rt: HostRuntime) -> Result<(), Fail> {
+    let job = Job {
+        queue: 8,
+        workers: 1,
+        plans: 8,
+        half: true,
+        stops: false,
+        gate: &AllBut(2),
+    };
+    let wanted = Told {
+        sealed: 3,
+        refused: 4,
+        held: 1,
+        ..sealed(8)
     };
     let told = run(&rt, rt.alloc(), &job, TIMES, wanted)?;
     assert_eq!(rt; told, wanted);

@@ -6,10 +6,11 @@ ghost use Rattle.flow_core.specs.Queues.{IsOwnOutcome};
 ghost use Rattle.work_desk.specs.Waiting.{GivesBack};
 
 use crate::pass::Pass;
-use crate::steps::{claim, deliver, take, take_awaited, taker_waits, workers_wait};
+use crate::steps::{claim, claim_more, deliver, take, take_awaited, taker_waits, workers_wait};
 use cutter::PlanRef;
 use flow_core::{Claim, FeedFault, Outcome, Piece, Queue};
 use std::alloc::{AllocError, Global};
+use std::sync::atomic::{AtomicUsize, Ordering};
 use std::sync::ledger::{Blank, Ledger, Share};
 use std::sync::{Condvar, Mutex, Wait};
 
@@ -21,6 +22,8 @@ pub struct Desk<'s, L: Ledger, M: Ledger> {
     fed: Condvar,
     /// Something is done, or given up.
     done: Condvar,
+    /// How many workers have no plan, those that haven't begun among them. It only guides [`Desk::claim_more`].
+    idle: AtomicUsize,
 }
 
 /// A desk that was opened, and who may use it.
@@ -78,6 +81,7 @@ impl<'s, L: Ledger, M: Ledger> Desk<'s, L, M> {
                 queue: Mutex::new(Queue::new(alloc, queue, claims, takes)),
                 fed: Condvar::new(),
                 done: Condvar::new(),
+                idle: AtomicUsize::new(workers),
             },
             workers: workers_passes,
             taker: Pass::new(workers, share),
@@ -101,9 +105,26 @@ impl<'s, L: Ledger, M: Ledger> Desk<'s, L, M> {
         ensures uncounted { IfNone result (pass.new.count ≡ pass.old.count) }
         ensures number { pass.new.number ≡ pass.old.number }
     {
+        if pass.count > 0 {
+            self.idle.fetch_add(1, Ordering::SeqCst);
+        }
         let locked = self.queue.lock(rt);
         let mut queue = self.fed.wait_while(rt, locked, |queue| workers_wait(queue));
+        self.idle.fetch_sub(1, Ordering::SeqCst);
         claim(&mut queue, pass)
+    }
+
+    /// Claims one more plan, the one that waits the longest, if more plans wait than workers are idle. It waits for the lock
+    /// alone. So a worker that has a plan takes another beside it only where nobody else is free to.
+    pub fn claim_more<R: Wait>(&self, rt: &R, pass: &mut Pass<L>) -> Option<Claim<'s>>
+        ensures worker { IfSome result (λ claim. claim.worker ≡ pass.old.number) }
+        ensures counted { IfSome result (λ _. pass.new.count ≡ pass.old.count + 1) }
+        ensures uncounted { IfNone result (pass.new.count ≡ pass.old.count) }
+        ensures number { pass.new.number ≡ pass.old.number }
+    {
+        let mut queue = self.queue.lock(rt);
+        let idle = self.idle.load(Ordering::SeqCst);
+        claim_more(&mut queue, idle, pass)
     }
 
     /// Something became of a claimed plan, which was sealed if it is a segment of its own. Where nobody has that claim at

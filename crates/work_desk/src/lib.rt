@@ -10,6 +10,7 @@
 mod desk;
 mod gate;
 mod pass;
+mod sealing;
 mod steps;
 mod worker;
 

@@ -1,6 +1,6 @@
 //! What the calls of a desk do to its queue, under the lock.
 
-ghost use Rattle.std.specs.Prelude.{◌≡◌, ◌+◌, ◌∷◌, [], IfSome, IfNone, true, Decides};
+ghost use Rattle.std.specs.Prelude.{◌≡◌, ◌+◌, ◌<◌, ◌≤◌, ◌∷◌, [], IfSome, IfNone, true, length, Decides};
 ghost use Rattle.flow_core.specs.Lists.{In};
 ghost use Rattle.flow_core.specs.Queues.{outstanding, IsOwnOutcome};
 ghost use Rattle.flow_core.specs.Steps.{Claims, Delivers, Gives, IsFirst};
@@ -51,6 +51,26 @@ pub fn claim<'s, L: Ledger, M: Ledger>(
     let claim = queue.claim(*number, share)?;
     *count += 1;
     Some(claim)
+}
+
+/// Claims the plan that waits the longest where more wait than so many workers are idle; none elsewhere.
+pub fn claim_more<'s, L: Ledger, M: Ledger>(
+    queue: &mut Queue<'s, L, M>,
+    idle: usize,
+    pass: &mut Pass<L>,
+) -> Option<Claim<'s>>
+    ensures some { IfSome result (λ claim. Claims queue.old claim queue.new) }
+    ensures first { IfSome result (λ claim. (claim.worker ≡ pass.old.number) × (queue.old.waiting ≡ claim.plan ∷ queue.new.waiting)) }
+    ensures more { IfSome result (λ _. idle < length queue.old.waiting) }
+    ensures none { IfNone result ((queue.new ≡ queue.old) × (length queue.old.waiting ≤ idle)) }
+    ensures counted { IfSome result (λ _. pass.new.count ≡ pass.old.count + 1) }
+    ensures uncounted { IfNone result (pass.new.count ≡ pass.old.count) }
+    ensures number { pass.new.number ≡ pass.old.number }
+{
+    if queue.waiting() <= idle {
+        return None;
+    }
+    claim(queue, pass)
 }
 
 /// Something became of a claimed plan. Nothing changes where nobody has that claim.

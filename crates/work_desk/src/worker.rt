@@ -1,22 +1,24 @@
 //! A worker's run.
 
-ghost use Rattle.std.specs.Prelude.{◌≡◌};
-ghost use Rattle.cutter.specs.Lent.{lent};
+ghost use Rattle.std.specs.Prelude.{◌≡◌, IfSome};
 ghost use Rattle.flow_core.specs.Queues.{IsOwnOutcome};
-ghost use Rattle.work_desk.specs.Works.{IsWork};
+ghost use Rattle.work_desk.specs.Works.{IsBegun};
 
 use crate::desk::Desk;
 use crate::gate::Gate;
 use crate::pass::{Pass, Tally};
-use cutter::PlanRef;
-use flow_core::Outcome;
-use segment_job::{Keys, seal_plan};
+use crate::sealing::{Begun, Means, Worked, finish_four, finish_one, finish_two};
+use flow_core::Claim;
+use segment_job::Keys;
 use std::alloc::Global;
 use std::sync::Wait;
 use std::sync::ledger::Ledger;
 
 /// A worker's whole run: it claims, seals and delivers until no more plans are fed and none waits. The keys are those of
 /// each rendition, by its number.
+///
+/// Where more plans wait than workers are idle, it claims up to three more beside the one that it has, and seals them
+/// together, which takes less time than one by one. Each is claimed, asked about, counted and delivered for itself.
 ///
 /// The gate is asked when a plan was claimed, before it is sealed: what it doesn't let through is Held. Refused is a
 /// plan that there was no memory to seal, or of a rendition that has no keys; which, no clause says.
@@ -31,43 +33,121 @@ pub fn work<'s, L: Ledger, M: Ledger, G: Gate, R: Wait>(
     ensures { result.worker ≡ pass.number }
 {
     let mut pass = pass;
+    let means = Means { alloc, keys, gate };
     for _ in rt.forever() {
-        let Some(claim) = desk.claim(rt, &mut pass) else {
+        let Some(batch) = begin_some(rt, desk, &mut pass, &means) else {
             break;
         };
-        let outcome = work_on(alloc, claim.plan(), keys, gate);
-        desk.deliver(rt, claim, outcome);
+        finish_all(rt, desk, batch);
     }
     pass.tally()
 }
 
-/// What becomes of a plan.
-fn work_on<'s, G: Gate>(alloc: Global, plan: PlanRef<'s>, keys: &[Keys], gate: &G) -> Outcome<'s>
-    ensures own { IsOwnOutcome (lent plan.entry) result }
-    ensures work { IsWork (G.lets gate.now) (G.stops gate.now) keys.now (lent plan.entry) result }
-{
-    if !gate.pass(plan.rendition, plan.number) {
-        return Outcome::Held;
-    }
-    seal_passed(alloc, plan, keys, gate)
+/// Claimed plans whose segments are sealed side by side.
+#[derive(Drop)]
+struct Batch<'s> {
+    first: Option<Begun<'s>>,
+    second: Option<Begun<'s>>,
+    third: Option<Begun<'s>>,
+    fourth: Option<Begun<'s>>,
 }
 
-/// Seals a plan that the gate let through.
-fn seal_passed<'s, G: Gate>(
-    alloc: Global,
-    plan: PlanRef<'s>,
-    keys: &[Keys],
-    gate: &G,
-) -> Outcome<'s>
-    requires { G.lets gate.now plan.rendition plan.number }
-    ensures own { IsOwnOutcome (lent plan.entry) result }
-    ensures work { IsWork (G.lets gate.now) (G.stops gate.now) keys.now (lent plan.entry) result }
+/// Claims a plan, and up to three more where more wait than workers are idle, and makes their segments ready. None where no
+/// more plans are fed and none waits.
+fn begin_some<'s, L: Ledger, M: Ledger, G: Gate, R: Wait>(
+    rt: &R,
+    desk: &Desk<'s, L, M>,
+    pass: &mut Pass<L>,
+    means: &Means<'_, G>,
+) -> Option<Batch<'s>>
+    ensures number { pass.new.number ≡ pass.old.number }
 {
-    let Some(own) = keys.get(plan.rendition) else {
-        return Outcome::Refused;
+    let claim = desk.claim(rt, pass)?;
+    let mut batch = Batch {
+        first: begin(rt, desk, means, claim),
+        second: None,
+        third: None,
+        fourth: None,
     };
-    match seal_plan(alloc, plan, own) {
-        Ok(sealed) => Outcome::Sealed(sealed),
-        Err(_) => Outcome::Refused,
+    let Some(claim) = desk.claim_more(rt, pass) else {
+        return Some(batch);
+    };
+    batch.second = begin(rt, desk, means, claim);
+    let Some(claim) = desk.claim_more(rt, pass) else {
+        return Some(batch);
+    };
+    batch.third = begin(rt, desk, means, claim);
+    let Some(claim) = desk.claim_more(rt, pass) else {
+        return Some(batch);
+    };
+    batch.fourth = begin(rt, desk, means, claim);
+    Some(batch)
+}
+
+/// Makes the segment of a claimed plan ready. What can't be sealed is delivered at once.
+fn begin<'s, L: Ledger, M: Ledger, G: Gate, R: Wait>(
+    rt: &R,
+    desk: &Desk<'s, L, M>,
+    means: &Means<'_, G>,
+    claim: Claim<'s>,
+) -> Option<Begun<'s>>
+    ensures claim { IfSome result (λ begun. begun.claim ≡ claim.entry) }
+    ensures begun { IfSome result (λ begun. IsBegun (G.lets means.now.gate.now) means.now.keys.now claim.entry.plan begun.segment) }
+{
+    match means.begin(claim) {
+        Ok(begun) => Some(begun),
+        Err(worked) => {
+            hand_in(rt, desk, worked);
+            None
+        }
     }
+}
+
+/// Seals what was begun, side by side, and delivers it.
+fn finish_all<'s, L: Ledger, M: Ledger, R: Wait>(rt: &R, desk: &Desk<'s, L, M>, batch: Batch<'s>) {
+    let Batch {
+        first,
+        second,
+        third,
+        fourth,
+    } = batch;
+    match (first, second, third, fourth) {
+        (Some(first), Some(second), Some(third), Some(fourth)) => {
+            let (one, two, three, four) = finish_four(first, second, third, fourth);
+            hand_in(rt, desk, one);
+            hand_in(rt, desk, two);
+            hand_in(rt, desk, three);
+            hand_in(rt, desk, four);
+        }
+        (first, second, third, fourth) => {
+            finish_pair(rt, desk, first, second);
+            finish_pair(rt, desk, third, fourth);
+        }
+    }
+}
+
+/// Seals what was begun of two, side by side where both were, and delivers it.
+fn finish_pair<'s, L: Ledger, M: Ledger, R: Wait>(
+    rt: &R,
+    desk: &Desk<'s, L, M>,
+    first: Option<Begun<'s>>,
+    second: Option<Begun<'s>>,
+) {
+    match (first, second) {
+        (Some(first), Some(second)) => {
+            let (one, two) = finish_two(first, second);
+            hand_in(rt, desk, one);
+            hand_in(rt, desk, two);
+        }
+        (Some(alone), None) | (None, Some(alone)) => hand_in(rt, desk, finish_one(alone)),
+        (None, None) => {}
+    }
+}
+
+/// Delivers what became of a claimed plan.
+fn hand_in<'s, L: Ledger, M: Ledger, R: Wait>(rt: &R, desk: &Desk<'s, L, M>, worked: Worked<'s>)
+    requires { IsOwnOutcome worked.claim.plan worked.outcome }
+{
+    let Worked { claim, outcome } = worked;
+    desk.deliver(rt, claim, outcome);
 }

@@ -1,0 +1,149 @@
+//! What becomes of the plans that a worker claimed.
+
+ghost use Rattle.std.specs.Prelude.{◌≡◌, IfOk, IfErr};
+ghost use Rattle.segment_job.specs.Segments.{sealed_from};
+ghost use Rattle.flow_core.specs.declared.piece.Outcome.TheVariants.{Sealed as IsSealed};
+ghost use Rattle.flow_core.specs.Queues.{IsOwnOutcome};
+ghost use Rattle.work_desk.specs.Works.{IsBegun, IsTurnedAway};
+
+use crate::gate::Gate;
+use flow_core::{Claim, Outcome};
+use segment_job::{Keys, Unsealed, seal_four, seal_two};
+use std::alloc::Global;
+
+/// A claimed plan whose segment is to be sealed.
+#[derive(Drop)]
+pub(crate) struct Begun<'s> {
+    pub claim: Claim<'s>,
+    pub segment: Unsealed<'s>,
+    pub ghost own: { segment.plan ≡ claim.plan },
+}
+
+/// A claimed plan, and what became of it.
+#[derive(Drop)]
+pub(crate) struct Worked<'s> {
+    pub claim: Claim<'s>,
+    pub outcome: Outcome<'s>,
+}
+
+/// What a worker has to seal with: the keys of each rendition, by its number, and the gate that it asks.
+#[derive(Drop)]
+pub(crate) struct Means<'k, G> {
+    pub alloc: Global,
+    pub keys: &'k [Keys],
+    pub gate: &'k G,
+}
+
+impl<'k, G: Gate> Means<'k, G> {
+    /// Asks the gate about a claimed plan, and makes its segment ready to be sealed. What the gate doesn't let through is
+    /// Held; Refused is a plan that there is no memory to seal, or of a rendition that has no keys.
+    pub(crate) fn begin<'s>(&self, claim: Claim<'s>) -> Result<Begun<'s>, Worked<'s>>
+        ensures claim { IfOk result (λ begun. begun.claim ≡ claim.entry) }
+        ensures begun { IfOk result (λ begun. IsBegun (G.lets self.now.gate.now) self.now.keys.now claim.entry.plan begun.segment) }
+        ensures same { IfErr result (λ worked. worked.claim ≡ claim.entry) }
+        ensures own { IfErr result (λ worked. IsOwnOutcome claim.entry.plan worked.outcome) }
+        ensures away { IfErr result (λ worked. IsTurnedAway (G.lets self.now.gate.now) (G.stops self.now.gate.now) claim.entry.plan worked.outcome) }
+    {
+        let plan = claim.plan();
+        if !self.gate.pass(plan.rendition, plan.number) {
+            return Err(Worked {
+                claim,
+                outcome: Outcome::Held,
+            });
+        }
+        let Some(own) = self.keys.get(plan.rendition) else {
+            return Err(Worked {
+                claim,
+                outcome: Outcome::Refused,
+            });
+        };
+        match Unsealed::of(self.alloc, plan, own) {
+            Ok(segment) => Ok(Begun { claim, segment }),
+            Err(_) => Err(Worked {
+                claim,
+                outcome: Outcome::Refused,
+            }),
+        }
+    }
+}
+
+/// Seals the segment of a claimed plan.
+pub(crate) fn finish_one<'s>(begun: Begun<'s>) -> Worked<'s>
+    ensures claim { result.claim ≡ begun.entry.claim }
+    ensures sealed { result.outcome ≡ IsSealed (sealed_from begun.entry.segment) }
+    ensures own { IsOwnOutcome begun.entry.claim.plan result.outcome }
+{
+    let Begun { claim, segment } = begun;
+    Worked {
+        claim,
+        outcome: Outcome::Sealed(segment.seal()),
+    }
+}
+
+/// Seals the segments of two claimed plans side by side.
+pub(crate) fn finish_two<'s>(first: Begun<'s>, second: Begun<'s>) -> (Worked<'s>, Worked<'s>)
+    ensures first_claim { result.0.claim ≡ first.entry.claim }
+    ensures first { result.0.outcome ≡ IsSealed (sealed_from first.entry.segment) }
+    ensures first_own { IsOwnOutcome first.entry.claim.plan result.0.outcome }
+    ensures second_claim { result.1.claim ≡ second.entry.claim }
+    ensures second { result.1.outcome ≡ IsSealed (sealed_from second.entry.segment) }
+    ensures second_own { IsOwnOutcome second.entry.claim.plan result.1.outcome }
+{
+    let (one, two) = seal_two(first.segment, second.segment);
+    (
+        Worked {
+            claim: first.claim,
+            outcome: Outcome::Sealed(one),
+        },
+        Worked {
+            claim: second.claim,
+            outcome: Outcome::Sealed(two),
+        },
+    )
+}
+
+/// Seals the segments of four claimed plans side by side.
+pub(crate) fn finish_four<'s>(
+    first: Begun<'s>,
+    second: Begun<'s>,
+    third: Begun<'s>,
+    fourth: Begun<'s>,
+) -> (Worked<'s>, Worked<'s>, Worked<'s>, Worked<'s>)
+    ensures first_claim { result.0.claim ≡ first.entry.claim }
+    ensures first { result.0.outcome ≡ IsSealed (sealed_from first.entry.segment) }
+    ensures first_own { IsOwnOutcome first.entry.claim.plan result.0.outcome }
+    ensures second_claim { result.1.claim ≡ second.entry.claim }
+    ensures second { result.1.outcome ≡ IsSealed (sealed_from second.entry.segment) }
+    ensures second_own { IsOwnOutcome second.entry.claim.plan result.1.outcome }
+    ensures third_claim { result.2.claim ≡ third.entry.claim }
+    ensures third { result.2.outcome ≡ IsSealed (sealed_from third.entry.segment) }
+    ensures third_own { IsOwnOutcome third.entry.claim.plan result.2.outcome }
+    ensures fourth_claim { result.3.claim ≡ fourth.entry.claim }
+    ensures fourth { result.3.outcome ≡ IsSealed (sealed_from fourth.entry.segment) }
+    ensures fourth_own { IsOwnOutcome fourth.entry.claim.plan result.3.outcome }
+{
+    let (one, two, three, four) = seal_four(
+        first.segment,
+        second.segment,
+        third.segment,
+        fourth.segment,
+    );
+    (
+        Worked {
+            claim: first.claim,
+            outcome: Outcome::Sealed(one),
+        },
+        Worked {
+            claim: second.claim,
+            outcome: Outcome::Sealed(two),
+        },
+        Worked {
+            claim: third.claim,
+            outcome: Outcome::Sealed(three),
+        },
+        Worked {
+            claim: fourth.claim,
+            outcome: Outcome::Sealed(four),
+        },
+    )
+}
