@@ -49,10 +49,31 @@ impl Lane {
     }
 
     /// Reads once, at most as many bytes as `buffer` has room for, and closes in its spool all segments that they close, or at the
-    /// end of the input the last ones. A fault of the input or of its stream stops the rendition, which is no refusal.
+    /// end of the input the last ones. A fault of the input or of its stream stops the rendition, which is no refusal:
+    /// its source is left.
     ///
     /// It has to go on. Want of memory leaves it of no use.
     pub fn turn<S: Source>(&mut self, source: &mut S, buffer: &mut [u8]) -> Result<(), AllocError>
+        requires reads { S.input.reads source.old < 2 ^ 63 }
+        requires failures { S.input.failures source.old < 2 ^ 63 }
+        requires some { 0 < length buffer.old }
+        requires short { length buffer.old ≤ PIECE }
+        requires open { self.old.stop ≡ None }
+        requires going { self.old.intake.ended ≡ false }
+        requires few { length self.old.intake.stream + PIECE < 2 ^ 63 }
+        ensures ok { OnOk result (IsTurned S.input source.old source.new self.old self.new) }
+        ensures err { OnErr result ((piece : List ℕ) × IsRead S.input source.old source.new piece) }
+        ensures no_read_failed { OnErr result (S.input.failures source.new ≡ S.input.failures source.old) }
+    {
+        self.read(source, buffer)?;
+        if self.stop.is_some() {
+            source.leave();
+        }
+        Ok(())
+    }
+
+    /// Reads once, and closes all that the bytes close, or at the end of the input the last ones.
+    fn read<S: Source>(&mut self, source: &mut S, buffer: &mut [u8]) -> Result<(), AllocError>
         requires reads { S.input.reads source.old < 2 ^ 63 }
         requires failures { S.input.failures source.old < 2 ^ 63 }
         requires some { 0 < length buffer.old }

@@ -4,6 +4,7 @@ ghost use Rattle.read_ahead.specs.Sources.{IsSound, rest_of};
 
 use crate::incoming::{Incoming, Phase};
 use crate::input::Contents;
+use crate::waiting::wait_ready;
 use item_io::{ReadFault, Source};
 use std::marker::Model;
 use std::sync::Wait;
@@ -55,31 +56,22 @@ impl<R: Wait, I: Contents> Ahead<R, I> {
         Some(!matches!(self.incoming.phase, Phase::Failed))
     }
 
-    /// Whether a read would answer at once. No clause says which.
-    pub fn is_ready(&mut self) -> bool
-        ensures { self.new ≡ self.old }
-    {
-        self.incoming.is_ready()
+    /// How often something came of any input: to be remembered before a look.
+    pub fn news(&self) -> u64 {
+        self.incoming.backlogs.news(&self.rt)
     }
 
-    /// No more reads come: what the input still gives is thrown away, so that its writer isn't held up. A read behind this fails,
-    /// once the bytes of the front block are given.
-    pub fn leave(&mut self)
-        ensures { self.new ≡ self.old }
-    {
-        self.incoming.stop();
-        self.incoming.backlogs.leave(&self.rt, self.incoming.number);
+    /// Waits until something came of any input since then.
+    pub fn wait_past(&self, seen: u64) {
+        self.incoming.backlogs.wait_past(&self.rt, seen);
     }
 }
 
-impl<R: Wait, I: Contents> Source for Ahead<R, I> {
+impl<R: Wait + Copy, I: Contents> Source for Ahead<R, I> {
     ghost input = { source_view (λ s. s.left) (λ s. s.reads) (λ s. s.failures) };
 
     fn read(&mut self, buffer: &mut [u8]) -> Result<usize, ReadFault> {
         let number = self.incoming.number;
-        if self.incoming.backlogs.is_left(&self.rt, number) {
-            self.incoming.stop();
-        }
         self.incoming.go_on(&self.rt);
         let share = self
             .incoming
@@ -99,6 +91,29 @@ impl<R: Wait, I: Contents> Source for Ahead<R, I> {
                 Err(fault)
             }
         }
+    }
+
+    /// What the input still gives is thrown away, so that its writer isn't held up. A read behind this fails, once the bytes of
+    /// the front block are given.
+    fn leave(&mut self) {
+        self.incoming.stop();
+        self.incoming.backlogs.leave(&self.rt, self.incoming.number);
+    }
+
+    /// Whether a byte lies ready, or the end, or a failure.
+    fn is_ready(&mut self) -> bool {
+        let number = self.incoming.number;
+        !self.incoming.backlogs.is_left(&self.rt, number) && self.incoming.is_ready()
+    }
+
+    /// Waits until one of these sources is ready. They are of one call of `open_all`.
+    fn wait_any(sources: &mut [Ahead<R, I>]) {
+        if sources.is_empty() {
+            return;
+        }
+        let first = &sources[0];
+        let rt = first.rt;
+        wait_ready(&rt, sources);
     }
 }
 

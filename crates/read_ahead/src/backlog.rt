@@ -9,8 +9,6 @@ pub struct Backlog {
     pub bytes: usize,
     /// The blocks that weren't begun.
     pub blocks: usize,
-    /// How many reads of its source were answered.
-    pub reads: u64,
     /// No more of it is given: what the input still gives is thrown away.
     pub left: bool,
 }
@@ -18,12 +16,11 @@ pub struct Backlog {
 impl Backlog {
     /// Of an input that gave nothing yet.
     pub fn new() -> Backlog
-        ensures { result ≡ record { bytes = 0; blocks = 0; reads = 0; left = false } }
+        ensures { result ≡ record { bytes = 0; blocks = 0; left = false } }
     {
         Backlog {
             bytes: 0,
             blocks: 0,
-            reads: 0,
             left: false,
         }
     }
@@ -55,10 +52,9 @@ impl Backlog {
 
     /// A read was answered with so many bytes.
     pub fn give(&mut self, count: usize)
-        ensures { self.new ≡ record self.old { bytes = self.old.bytes - count; reads = min (self.old.reads + 1) (2 ^ 64 - 1) } }
+        ensures { self.new ≡ record self.old { bytes = self.old.bytes - count } }
     {
         self.bytes = self.bytes.saturating_sub(count);
-        self.reads = self.reads.saturating_add(1);
     }
 
     /// No more of it is given.

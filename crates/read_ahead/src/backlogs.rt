@@ -3,7 +3,7 @@ ghost use Rattle.std.specs.Prelude.{◌<◌};
 
 use crate::backlog::Backlog;
 use crate::limits::{BLOCKS, ROOM};
-use crate::shares::{is_overtaken, share_of, turns_of};
+use crate::shares::{share_of, turns_of};
 use std::alloc::{AllocError, Global};
 use std::sync::{Arc, Condvar, Mutex, Wait};
 
@@ -96,7 +96,7 @@ impl Backlogs {
     {
         let counts = self.counts.lock(rt);
         match counts.backlogs.get(number) {
-            Some(backlog) => { share_of(backlog.bytes, turns_of(backlog.reads, &counts.backlogs)) }
+            Some(backlog) => share_of(backlog.bytes, turns_of(&counts.backlogs)),
             None => 1,
         }
     }
@@ -107,17 +107,6 @@ impl Backlogs {
         if let Some(backlog) = counts.backlogs.get_mut(number) {
             backlog.give(count);
             if backlog.bytes <= ROOM - ROOM / 16 {
-                self.wake(number);
-            }
-        }
-        self.leave_overtaken(&mut counts.backlogs);
-    }
-
-    /// Of inputs that were overtaken no more is given.
-    fn leave_overtaken(&self, backlogs: &mut [Backlog]) {
-        for number in 0..backlogs.len() {
-            if !backlogs[number].left && is_overtaken(backlogs[number].reads, backlogs) {
-                backlogs[number].leave();
                 self.wake(number);
             }
         }

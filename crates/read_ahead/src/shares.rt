@@ -1,6 +1,6 @@
 //! How much a source gives at a read, so that all are done with what lies ready in the same number of turns.
 ghost use Rattle.std.specs.Prelude.{◌≡◌, ◌<◌, max};
-ghost use Rattle.read_ahead.specs.Shares.{is_overtaken, parts, share, turns};
+ghost use Rattle.read_ahead.specs.Shares.{parts, share, turns};
 
 use crate::backlog::Backlog;
 use item_io::PIECE;
@@ -13,15 +13,15 @@ pub fn parts_of(count: usize, size: usize) -> usize
     count.div_ceil(size)
 }
 
-/// How many turns a source of so many reads counts with.
+/// In how many turns all inputs of which more is given have given what lies ready.
 #[tactic(auto, using(crate::proofs::Turns::turns_some))]
-pub fn turns_of(reads: u64, backlogs: &[Backlog]) -> usize
-    ensures is { result ≡ turns reads backlogs.now }
+pub fn turns_of(backlogs: &[Backlog]) -> usize
+    ensures is { result ≡ turns backlogs.now }
     ensures some { 0 < result }
 {
     let mut most = 1;
     for backlog in backlogs {
-        if backlog.reads >= reads {
+        if !backlog.left {
             most = most.max(parts_of(backlog.bytes, PIECE));
         }
     }
@@ -34,16 +34,4 @@ pub fn share_of(bytes: usize, turns: usize) -> usize
     ensures { result ≡ share bytes turns }
 {
     parts_of(bytes, turns).max(1)
-}
-
-/// Whether a source of so many reads was overtaken.
-pub fn is_overtaken(reads: u64, backlogs: &[Backlog]) -> bool
-    ensures { result ≡ is_overtaken reads backlogs.now }
-{
-    for backlog in backlogs {
-        if backlog.reads.saturating_sub(reads) >= 2 {
-            return true;
-        }
-    }
-    false
 }

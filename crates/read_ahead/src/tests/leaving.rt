@@ -1,4 +1,6 @@
 use super::fixtures::{Event, Given, Held, drain, pattern_of, source_of, sources_of};
+use crate::input::OpenInput;
+use crate::open_all;
 use item_io::Source;
 use std::alloc::Global;
 use std::sync::{Arc, Wait};
@@ -46,27 +48,31 @@ fn what_was_dropped_is_read_to_its_end(rt: HostRuntime) -> Result<(), Fail> {
 }
 
 #[test]
-fn one_that_is_never_read_is_read_to_its_end(rt: HostRuntime) -> Result<(), Fail> {
+fn one_that_was_left_unread_is_read_to_its_end(rt: HostRuntime) -> Result<(), Fail> {
     let ended = Event::new(rt.alloc())?;
-    let (first, second) = (long(rt, &ended)?, long(rt, &ended)?);
+    let others = Event::new(rt.alloc())?;
+    let (first, second) = (long(rt, &ended)?, long(rt, &others)?);
     if let Some((mut first, mut second)) = sources_of(rt, rt.alloc(), first, second)? {
+        first.leave();
         let given = drain(rt.alloc(), &mut second, 18_800)?;
         assert_eq!(rt; given, WHOLE);
         ended.wait(&rt);
+        assert!(rt; !first.is_ready());
         assert!(rt; first.read(&mut [0; 100]).is_err());
     }
     Ok(())
 }
 
 #[test]
-fn one_that_is_read_no_more_is_read_to_its_end(rt: HostRuntime) -> Result<(), Fail> {
+fn one_that_waits_unread_holds_up_no_other(rt: HostRuntime) -> Result<(), Fail> {
     let ended = Event::new(rt.alloc())?;
-    let (first, second) = (long(rt, &ended)?, long(rt, &ended)?);
+    let others = Event::new(rt.alloc())?;
+    let (first, second) = (long(rt, &ended)?, long(rt, &others)?);
     if let Some((mut first, mut second)) = sources_of(rt, rt.alloc(), first, second)? {
-        assert_eq!(rt; first.read(&mut [0; 100]).ok(), Some(100));
         let given = drain(rt.alloc(), &mut second, 18_800)?;
         assert_eq!(rt; given, WHOLE);
-        ended.wait(&rt);
+        let given = drain(rt.alloc(), &mut first, 18_800)?;
+        assert_eq!(rt; given, WHOLE);
     }
     Ok(())
 }
@@ -95,5 +101,43 @@ fn a_silent_input_holds_up_no_other(rt: HostRuntime) -> Result<(), Fail> {
         assert_eq!(rt; (given.count, given.wrong, given.failed), (5, 0, false));
         assert!(rt; first.is_ready());
     }
+    Ok(())
+}
+
+#[test]
+fn waiting_ends_where_one_is_ready(rt: HostRuntime) -> Result<(), Fail> {
+    let ended = Event::new(rt.alloc())?;
+    let until = Event::new(rt.alloc())?;
+    let silent = Held {
+        rt,
+        reader: pattern_of(5, 5),
+        until: Some(Arc::try_clone(&until)?),
+        ended: Arc::try_clone(&ended)?,
+    };
+    let other = Held {
+        rt,
+        reader: pattern_of(9, 9),
+        until: None,
+        ended: Arc::try_clone(&ended)?,
+    };
+    let mut inputs = Vec::new(rt.alloc());
+    inputs.push(OpenInput { reader: silent })?;
+    inputs.push(OpenInput { reader: other })?;
+    let mut ready = Vec::new(rt.alloc());
+    if let Ok(mut sources) = open_all(rt, rt.alloc(), inputs) {
+        Source::wait_any(&mut sources);
+        for source in sources.iter_mut() {
+            ready.push(source.is_ready())?;
+        }
+        if let Some(source) = sources.last_mut() {
+            source.leave();
+        }
+        until.bring(&rt);
+        Source::wait_any(&mut sources);
+        for source in sources.iter_mut() {
+            ready.push(source.is_ready())?;
+        }
+    }
+    assert_eq!(rt; ready.as_slice(), [false, true, true, false].as_slice());
     Ok(())
 }

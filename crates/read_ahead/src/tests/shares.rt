@@ -61,10 +61,9 @@ fn backlogs_shrink_together(rt: HostRuntime) -> Result<(), Fail> {
 #[test]
 fn one_that_is_read_no_more_holds_up_none(rt: HostRuntime) -> Result<(), Fail> {
     let backlogs = backlogs_of(&rt, rt.alloc(), &[1000, 1_880_000])?;
-    for want in [10, 990] {
-        assert_eq!(rt; backlogs.share(&rt, 0), want);
-        backlogs.give(&rt, 0, want);
-    }
+    assert_eq!(rt; backlogs.share(&rt, 0), 10);
+    backlogs.leave(&rt, 1);
+    assert_eq!(rt; backlogs.share(&rt, 0), 1000);
     assert!(rt; !backlogs.is_left(&rt, 0));
     assert!(rt; backlogs.is_left(&rt, 1));
     Ok(())
@@ -82,7 +81,6 @@ fn a_block_waits_for_room(rt: HostRuntime) -> Result<(), Fail> {
         let backlog = Backlog {
             bytes,
             blocks,
-            reads: 0,
             left: false,
         };
         assert_eq!(rt; backlog.is_full(100, 4, count), full, "{bytes}, {count}");

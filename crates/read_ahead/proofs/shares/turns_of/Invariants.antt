@@ -4,6 +4,6 @@ use Rattle.read_ahead.proofs.shares.turns_of.Given as goal
 
 abbrev pub invariant-loop-backlog : goal.invariant-loop-backlog
 invariant-loop-backlog l = record {
-  is : max l.most (turns l.reads (drop l.backlog-index l.backlogs)) ≡ turns l.reads l.backlogs;
+  is : max l.most (turns (drop l.backlog-index l.backlogs)) ≡ turns l.backlogs;
   some : 0 < l.most;
 }

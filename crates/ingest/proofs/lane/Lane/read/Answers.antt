@@ -1,5 +1,5 @@
 use Rattle.ingest.proofs.Turning.{read-failed}
-use Rattle.ingest.proofs.lane.Lane.turn.Goals as goal
+use Rattle.ingest.proofs.lane.Lane.read.Goals as goal
 
 pub returns-in-Err-clause-ok : goal.returns-in-Err-clause-ok
 returns-in-Err-clause-ok g c =
