@@ -22,7 +22,7 @@ module _ {X Y R : Type 0} (input : SourceView X) (out : OutletView Y) (ladder : 
   round-made right kept rounds more each there =
       let d = subst (λ (b : Broadcast X Y R). IsDriven input out ladder spools old.broadcast 0 b right) (sym is) there in
       record {
-        driven = record { on = d.on; enough = d.enough; turns = d.turns; stays = d.stays; fair = omega (arith, more, ap (λ (b : Books). b.right) kept, d.fair) };
+        driven = record { on = d.on; further = d.further; fair = omega (arith, more, ap (λ (b : Books). b.right) kept, d.fair) };
         rounds = rounds ∙ ap (λ (b : Books). b.rounds + 1) kept;
         each = each ∙ ap (λ (b : Books). length b.workers.items) kept;
       }
@@ -37,10 +37,10 @@ module _ {X Y R : Type 0} (input : SourceView X) (out : OutletView Y) (ladder : 
 module _ {X Y : Type 0} (input : SourceView X) (out : OutletView Y) (ladder : Ladder) (spools : List (List SegmentPlan)) (old new closed : Course X Y) (shows shows_now shows_closed : Known)
     (answer told : Result (Unit {0}) PackFault) (same : told ≡ answer) (courses : closed ≡ new) (shown : shows_closed ≡ shows_now) where
   abbrev Stops : Course X Y → Known → PackFault → Type 0
-  Stops course shows_then fault = (start : Start X Y) → IsOn input out ladder start 0 old shows (unfed_of spools) → IsStopped input out ladder start course shows_then fault
+  Stops course shows_then fault = (start : Start X Y) → IsOn input out ladder start old shows (unfed_of spools) → IsStopped input out ladder start course shows_then fault
 
-  pub break-closed : IfErr answer (λ fault. (start : Start X Y) → IsOn input out ladder start 0 old shows (unfed_of spools) → IsStopped input out ladder start new shows_now fault)
-      → IfErr told (λ fault. (start : Start X Y) → IsOn input out ladder start 0 old shows (unfed_of spools) → IsStopped input out ladder start closed shows_closed fault)
+  pub break-closed : IfErr answer (λ fault. (start : Start X Y) → IsOn input out ladder start old shows (unfed_of spools) → IsStopped input out ladder start new shows_now fault)
+      → IfErr told (λ fault. (start : Start X Y) → IsOn input out ladder start old shows (unfed_of spools) → IsStopped input out ladder start closed shows_closed fault)
   break-closed all =
       subst (λ (r : Result (Unit {0}) PackFault). IfErr r (Stops closed shows_closed)) (sym same)
       (subst (λ (d : Course X Y). IfErr answer (Stops d shows_closed)) (sym courses)
@@ -48,18 +48,18 @@ module _ {X Y : Type 0} (input : SourceView X) (out : OutletView Y) (ladder : La
 
 -- What is told of a run that stands here is told of one that stood before.
 module _ {X Y : Type 0} (input : SourceView X) (out : OutletView Y) (ladder : Ladder) (old mid new : Course X Y) (shows shows_mid shows_new : Known) (answer : Result (Unit {0}) PackFault)
-    (moves : (start : Start X Y) → IsOn input out ladder start 0 old shows (λ k. []) → IsOn input out ladder start 0 mid shows_mid (λ k. [])) where
-  pub moved-ok : OnOk answer ((start : Start X Y) → IsOn input out ladder start 0 mid shows_mid (λ k. []) → IsOn input out ladder start 0 new shows_new (λ k. []))
-      → OnOk answer ((start : Start X Y) → IsOn input out ladder start 0 old shows (λ k. []) → IsOn input out ladder start 0 new shows_new (λ k. []))
+    (moves : (start : Start X Y) → IsOn input out ladder start old shows (λ k. []) → IsOn input out ladder start mid shows_mid (λ k. [])) where
+  pub moved-ok : OnOk answer ((start : Start X Y) → IsOn input out ladder start mid shows_mid (λ k. []) → IsOn input out ladder start new shows_new (λ k. []))
+      → OnOk answer ((start : Start X Y) → IsOn input out ladder start old shows (λ k. []) → IsOn input out ladder start new shows_new (λ k. []))
   moved-ok all =
-      on_ok_weaker {Q = (start : Start X Y) → IsOn input out ladder start 0 old shows (λ k. []) → IsOn input out ladder start 0 new shows_new (λ k. [])} answer
+      on_ok_weaker {Q = (start : Start X Y) → IsOn input out ladder start old shows (λ k. []) → IsOn input out ladder start new shows_new (λ k. [])} answer
       (λ f start on. f start (moves start on)) all
 
-  pub moved-err : IfErr answer (λ fault. (start : Start X Y) → IsOn input out ladder start 0 mid shows_mid (λ k. []) → IsStopped input out ladder start new shows_new fault)
-      → IfErr answer (λ fault. (start : Start X Y) → IsOn input out ladder start 0 old shows (λ k. []) → IsStopped input out ladder start new shows_new fault)
+  pub moved-err : IfErr answer (λ fault. (start : Start X Y) → IsOn input out ladder start mid shows_mid (λ k. []) → IsStopped input out ladder start new shows_new fault)
+      → IfErr answer (λ fault. (start : Start X Y) → IsOn input out ladder start old shows (λ k. []) → IsStopped input out ladder start new shows_new fault)
   moved-err all =
-      IfErr-weaker answer (λ fault. (start : Start X Y) → IsOn input out ladder start 0 mid shows_mid (λ k. []) → IsStopped input out ladder start new shows_new fault)
-      (λ fault. (start : Start X Y) → IsOn input out ladder start 0 old shows (λ k. []) → IsStopped input out ladder start new shows_new fault)
+      IfErr-weaker answer (λ fault. (start : Start X Y) → IsOn input out ladder start mid shows_mid (λ k. []) → IsStopped input out ladder start new shows_new fault)
+      (λ fault. (start : Start X Y) → IsOn input out ladder start old shows (λ k. []) → IsStopped input out ladder start new shows_new fault)
       (λ fault f start on. f start (moves start on)) all
 
 -- more is known of what an answer holds

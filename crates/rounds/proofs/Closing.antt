@@ -16,11 +16,11 @@ use Rattle.ladder_items.specs.Items.{Part, no_part, part_at}
 use Rattle.ladder_items.specs.Weave.{End, AreLegal, after, after_all, closed_part, blocks}
 use Rattle.ladder_items.specs.Lanes.{BeginsMade}
 use Rattle.ladder_items.specs.Runs.{run_of}
-use Rattle.ladder_items.specs.World.{World, Stage, stream_at, turns_of}
+use Rattle.ladder_items.specs.World.{World, Stage, stream_at}
 use Rattle.ladder_items.proofs.Puts.{all_none}
 use Rattle.ladder_items.proofs.Worlds.{IsMoved, parts-of, parts-length, world-gave}
 use Rattle.rounds.specs.declared.run.course.Course.{Course}
-use Rattle.rounds.specs.Courses.{Start, IsOn}
+use Rattle.rounds.specs.Courses.{Start, IsOn, turns_at}
 use Rattle.rounds.specs.Showing.{ends_of}
 use Rattle.rounds.specs.Rounds.{unfed_of}
 use Rattle.rounds.proofs.Running.{stage-of}
@@ -67,17 +67,17 @@ ended-at (p ∷ parts) (suc k) = ended-at parts k
 
 module _ (X Y : Type 0) (input : SourceView X) (out : OutletView Y) (ladder : Ladder) (start : Start X Y) (course : Course X Y) (shows : Known) where
   -- an end that is due
-  module _ (on : IsOn input out ladder start 0 course shows (λ k. [])) (r : ℕ) (below : r < length ladder.renditions) where
+  module _ (on : IsOn input out ladder start course shows (λ k. [])) (r : ℕ) (below : r < length ladder.renditions) where
     pub end-at : slice_index_or course.ended.items r false ≡ (part_at (parts-of ladder on.world.events) r).ended
     end-at = ap (λ (l : List Bool). slice_index_or l r false) on.ends ∙ ended-at (parts-of ladder on.world.events) r
 
     pub end-due : (lane : Lane) → slice_get course.lanes.items r ≡ Some lane → length lane.intake.filled ≤ 0 → (is_good lane.stop ≡ slice_index_or course.ended.items r false → ⊥)
         → ((part_at (parts-of ladder on.world.events) r).ended ≡ false)
-        × (is_good (stage-of X Y input out ladder start 0 course shows (λ k. []) on r below).2.stop ≡ true)
-        × ((stage-of X Y input out ladder start 0 course shows (λ k. []) on r below).2.intake.filled ≡ [])
+        × (is_good (stage-of X Y input out ladder start course shows (λ k. []) on r below).2.stop ≡ true)
+        × ((stage-of X Y input out ladder start course shows (λ k. []) on r below).2.intake.filled ≡ [])
         × (is_good lane.stop ≡ true)
     end-due lane at empty differs =
-        let s = stage-of X Y input out ladder start 0 course shows (λ k. []) on r below in
+        let s = stage-of X Y input out ladder start course shows (λ k. []) on r below in
         let same : lane ≡ s.2 = same_Some lane s.2 (sym at ∙ s.3) in
         let both = just-first (is_good lane.stop) (part_at (parts-of ladder on.world.events) r).ended
         (λ e. ap (λ (l : Lane). is_good l.stop) same ∙ (s.4.ended e).0) (λ e. differs (e ∙ sym end-at)) in (
@@ -92,19 +92,19 @@ module _ (X Y : Type 0) (input : SourceView X) (out : OutletView Y) (ladder : La
         let parts = parts-of ladder on.world.events in
         get_or-set_same parts r (closed_part (part_at parts r)) no_part (omega (arith, parts-length ladder on.world.events, below))
 
-    pub end-moved : is_good (stage-of X Y input out ladder start 0 course shows (λ k. []) on r below).2.stop ≡ true
-        → (stage-of X Y input out ladder start 0 course shows (λ k. []) on r below).2.intake.filled ≡ []
-        → IsMoved (stage-of X Y input out ladder start 0 course shows (λ k. []) on r below).2 (stage-of X Y input out ladder start 0 course shows (λ k. []) on r below).2 []
+    pub end-moved : is_good (stage-of X Y input out ladder start course shows (λ k. []) on r below).2.stop ≡ true
+        → (stage-of X Y input out ladder start course shows (λ k. []) on r below).2.intake.filled ≡ []
+        → IsMoved (stage-of X Y input out ladder start course shows (λ k. []) on r below).2 (stage-of X Y input out ladder start course shows (λ k. []) on r below).2 []
         (part_at (after (parts-of ladder on.world.events) (End r)) r)
     end-moved good filled =
-        let s = stage-of X Y input out ladder start 0 course shows (λ k. []) on r below in
+        let s = stage-of X Y input out ladder start course shows (λ k. []) on r below in
         record { stop = refl; intake = refl; same = refl; gap = ap (λ (q : Part). q.plans ++ []) closed-at ∙ s.4.gap; ended = λ e. (good, refl, filled) }
 
-    pub end-begins : is_good (stage-of X Y input out ladder start 0 course shows (λ k. []) on r below).2.stop ≡ true
-        → (stage-of X Y input out ladder start 0 course shows (λ k. []) on r below).2.intake.filled ≡ []
-        → BeginsMade (stage-of X Y input out ladder start 0 course shows (λ k. []) on r below).2.stop ladder r (stream_at on.world.streams r) (part_at (after (parts-of ladder on.world.events) (End r)) r)
+    pub end-begins : is_good (stage-of X Y input out ladder start course shows (λ k. []) on r below).2.stop ≡ true
+        → (stage-of X Y input out ladder start course shows (λ k. []) on r below).2.intake.filled ≡ []
+        → BeginsMade (stage-of X Y input out ladder start course shows (λ k. []) on r below).2.stop ladder r (stream_at on.world.streams r) (part_at (after (parts-of ladder on.world.events) (End r)) r)
     end-begins good filled =
-        let s = stage-of X Y input out ladder start 0 course shows (λ k. []) on r below in
+        let s = stage-of X Y input out ladder start course shows (λ k. []) on r below in
         let moved = end-moved good filled in
         let part = part_at (after (parts-of ladder on.world.events) (End r)) r in
         let whole : part.plans ≡ made_of s.2.stop r ladder.cut (stream_at on.world.streams r) =
@@ -117,14 +117,14 @@ module _ (X Y : Type 0) (input : SourceView X) (out : OutletView Y) (ladder : La
       → slice_get course.lanes.items r ≡ Some lane → now.lanes.items ≡ set course.lanes.items r moved → now ≡ record course { lanes = now.lanes }
       → moved.stop ≡ lane.stop → moved.intake ≡ record lane.intake { turned = lane.intake.turned ++ lane.intake.filled; filled = [] }
       → waiting r ≡ [] → still r ≡ lane.intake.filled → ((k : ℕ) → (k ≡ r → ⊥) → still k ≡ waiting k)
-      → IsOn input out ladder start 0 course shows waiting → IsOn input out ladder start 0 now shows still
+      → IsOn input out ladder start course shows waiting → IsOn input out ladder start now shows still
   unfolding after_all blocks AreLegal
   on-turned r now waiting still lane moved at lanes same stop intake none full others on =
       let w = on.world in
       let parts = parts-of ladder w.events in
       let p = part_at parts r in
-      let s = stage-of X Y input out ladder start 0 course shows waiting on r (omega (arith, slice_get_within course.lanes.items r lane at, w.same_lanes)) in
-      let stage = subst (λ (l : Lane). Stage input ladder r (turns_of course.turns 0 r) s.0 s.1 l (stream_at w.streams r) (waiting r) p) (same_Some s.2 lane (sym s.3 ∙ at)) s.4 in
+      let s = stage-of X Y input out ladder start course shows waiting on r (omega (arith, slice_get_within course.lanes.items r lane at, w.same_lanes)) in
+      let stage = subst (λ (l : Lane). Stage input ladder r (turns_at course r) s.0 s.1 l (stream_at w.streams r) (waiting r) p) (same_Some s.2 lane (sym s.3 ∙ at)) s.4 in
       let turned : moved.intake.turned ≡ lane.intake.turned ++ lane.intake.filled = ap (λ (t : Taken). t.turned) intake in
       let emptied : moved.intake.filled ≡ [] = ap (λ (t : Taken). t.filled) intake in
       let all : p.plans ≡ lane.intake.turned = sym (append-nil p.plans) ∙ (ap (λ (l : List SegmentPlan). p.plans ++ l) (sym none) ∙ stage.gap) in
@@ -136,21 +136,21 @@ module _ (X Y : Type 0) (input : SourceView X) (out : OutletView Y) (ladder : La
         gap = ap (λ (l : List SegmentPlan). p.plans ++ l) full ∙ (ap (λ (l : List SegmentPlan). l ++ lane.intake.filled) all ∙ sym turned);
         ended = λ e. let x = stage.ended e in (ap is_good stop ∙ x.0, full ∙ x.2, emptied);
       } in
-      let v = world-gave X Y input out course.reads ladder course.turns 0 r start.sources course.sources.items course.lanes.items course.playlists.items course.playlists.items waiting still
+      let v = world-gave X Y input out course.reads ladder (turns_at course) r start.sources course.sources.items course.lanes.items course.playlists.items course.playlists.items waiting still
       start.outlet course.outlet course.outlet lane moved [] w at (record { of_r = λ k d below. absurd (omega (arith, below)); legal = tt }) (all_none out course.outlet) w.shown_are m others in
-      let pair : (u : World (run_of input out course.reads start.sources course.sources.items start.outlet course.outlet) ladder course.turns 0 now.lanes.items course.playlists.items still) × (u.events ≡ w.events ++ []) =
-      subst (λ (ls : List Lane). (u : World (run_of input out course.reads start.sources course.sources.items start.outlet course.outlet) ladder course.turns 0 ls course.playlists.items still) × (u.events ≡ w.events ++ []))
+      let pair : (u : World (run_of input out course.reads start.sources course.sources.items start.outlet course.outlet) ladder (turns_at course) now.lanes.items course.playlists.items still) × (u.events ≡ w.events ++ []) =
+      subst (λ (ls : List Lane). (u : World (run_of input out course.reads start.sources course.sources.items start.outlet course.outlet) ladder (turns_at course) ls course.playlists.items still) × (u.events ≡ w.events ++ []))
       (sym lanes) v in
-      subst (λ (d : Course X Y). IsOn input out ladder start 0 d shows still) (sym same)
-      (on-with X Y input out ladder start 0 0 course (record course { lanes = now.lanes }) shows waiting still on pair.0 (pair.1 ∙ append-nil _) refl refl refl on.turns)
+      subst (λ (d : Course X Y). IsOn input out ladder start d shows still) (sym same)
+      (on-with X Y input out ladder start course (record course { lanes = now.lanes }) shows waiting still on pair.0 (pair.1 ∙ append-nil _) refl refl refl on.counted on.turns)
 
   -- it wasn't, for want of memory
   pub on-unturned : (now : Course X Y) (waiting : ℕ → List SegmentPlan) → now.lanes.items ≡ course.lanes.items → now ≡ record course { lanes = now.lanes }
-      → IsOn input out ladder start 0 course shows waiting → IsOn input out ladder start 0 now shows waiting
+      → IsOn input out ladder start course shows waiting → IsOn input out ladder start now shows waiting
   on-unturned now waiting lanes same on =
       let w = on.world in
-      let pair : (u : World (run_of input out course.reads start.sources course.sources.items start.outlet course.outlet) ladder course.turns 0 now.lanes.items course.playlists.items waiting) × (u.events ≡ w.events) =
-      subst (λ (ls : List Lane). (u : World (run_of input out course.reads start.sources course.sources.items start.outlet course.outlet) ladder course.turns 0 ls course.playlists.items waiting) × (u.events ≡ w.events))
+      let pair : (u : World (run_of input out course.reads start.sources course.sources.items start.outlet course.outlet) ladder (turns_at course) now.lanes.items course.playlists.items waiting) × (u.events ≡ w.events) =
+      subst (λ (ls : List Lane). (u : World (run_of input out course.reads start.sources course.sources.items start.outlet course.outlet) ladder (turns_at course) ls course.playlists.items waiting) × (u.events ≡ w.events))
       (sym lanes) (w, refl) in
-      subst (λ (d : Course X Y). IsOn input out ladder start 0 d shows waiting) (sym same)
-      (on-with X Y input out ladder start 0 0 course (record course { lanes = now.lanes }) shows waiting waiting on pair.0 pair.1 refl refl refl on.turns)
+      subst (λ (d : Course X Y). IsOn input out ladder start d shows waiting) (sym same)
+      (on-with X Y input out ladder start course (record course { lanes = now.lanes }) shows waiting waiting on pair.0 pair.1 refl refl refl on.counted on.turns)

@@ -18,14 +18,8 @@ use Rattle.ladder_items.proofs.Blocks.{shown-each}
 use Rattle.ladder_items.proofs.Worlds.{parts-of, parts-length}
 use Rattle.rounds.specs.declared.run.course.Course.{Course}
 use Rattle.rounds.specs.Showing.{counts_of}
-use Rattle.rounds.specs.Courses.{Start, IsOn, ReadsNone, HasEnough}
+use Rattle.rounds.specs.Courses.{Start, IsOn}
 use Rattle.rounds.specs.Rounds.{InRound, expected, unfed_of, pieces_of, gathered}
-
--- nothing was read, so that enough is closed still
-pub enough-read : {X Y : Type 0} (old new : Course X Y) → ReadsNone old new → HasEnough old → HasEnough new
-enough-read old new none (inl x) = inl (x.0, x.1, ap (λ l. slice_get l.items x.0) none.lanes ∙ x.2, x.3)
-enough-read old new none (inr (inl x)) = inr (inl (omega (arith, x, none.turns, none.reads)))
-enough-read old new none (inr (inr x)) = inr (inr (λ k lane at. x k lane (ap (λ l. slice_get l.items k) (sym none.lanes) ∙ at)))
 
 -- the keys of all renditions
 abbrev pub keys-of : Ladder → List KeyRotation
@@ -74,9 +68,9 @@ gathered-none (l ∷ lanes) (n ∷ counts) each none nexts =
 
 module _ (X Y : Type 0) (input : SourceView X) (out : OutletView Y) (ladder : Ladder) (start : Start X Y) where
   -- how many renditions show something
-  counts-each : (next : ℕ) (course : Course X Y) (shows : Known) (waiting : ℕ → List SegmentPlan) → IsOn input out ladder start next course shows waiting
+  counts-each : (course : Course X Y) (shows : Known) (waiting : ℕ → List SegmentPlan) → IsOn input out ladder start course shows waiting
       → length (counts_of course.playlists.items) ≡ length ladder.renditions
-  counts-each next course shows waiting on =
+  counts-each course shows waiting on =
       let parts = parts-of ladder on.world.events in
       let each = parts-length ladder on.world.events in
       length-map course.playlists.items (λ (s : Shown). length s.rows) ∙ shown-each ladder parts course.playlists.items each on.world.shown_are
@@ -84,7 +78,7 @@ module _ (X Y : Type 0) (input : SourceView X) (out : OutletView Y) (ladder : La
   -- a round begins
   pub in-first : (spools : List (List SegmentPlan)) (course : Course X Y) (shows : Known) (g : Gathering) → length spools ≡ length ladder.renditions
       → g.lanes ≡ lanes_from 0 (keys-of ladder) (counts_of course.playlists.items)
-      → IsOn input out ladder start 0 course shows (unfed_of spools) → InRound input out ladder start spools course shows g
+      → IsOn input out ladder start course shows (unfed_of spools) → InRound input out ladder start spools course shows g
   in-first spools course shows g each is on =
       let counts = counts_of course.playlists.items in
       let keys = keys-of ladder in
@@ -105,15 +99,15 @@ module _ (X Y : Type 0) (input : SourceView X) (out : OutletView Y) (ladder : La
       }
 
   pub in-begun : (course : Course X Y) (shows : Known) (waiting : ℕ → List SegmentPlan) (g : Gathering) → g.lanes ≡ lanes_from 0 (keys-of ladder) (counts_of course.playlists.items)
-      → IsOn input out ladder start 0 course shows waiting → gathered g.lanes ≡ sum (counts_of course.playlists.items)
+      → IsOn input out ladder start course shows waiting → gathered g.lanes ≡ sum (counts_of course.playlists.items)
   in-begun course shows waiting g is on =
       let counts = counts_of course.playlists.items in
       let keys = keys-of ladder in
-      ap gathered is ∙ gathered-from 0 keys counts (omega (arith, length-map ladder.renditions (λ (r : RenditionValue). r.keys), counts-each 0 course shows waiting on))
+      ap gathered is ∙ gathered-from 0 keys counts (omega (arith, length-map ladder.renditions (λ (r : RenditionValue). r.keys), counts-each course shows waiting on))
 
   -- renditions had their turns
   pub in-read : (unfed : List (List SegmentPlan)) (course now : Course X Y) (shows : Known) (g : Gathering)
-      → ((waiting : ℕ → List SegmentPlan) → IsOn input out ladder start 0 course shows waiting → IsOn input out ladder start 0 now shows waiting) → now.playlists ≡ course.playlists
+      → ((waiting : ℕ → List SegmentPlan) → IsOn input out ladder start course shows waiting → IsOn input out ladder start now shows waiting) → now.playlists ≡ course.playlists
       → InRound input out ladder start unfed course shows g → InRound input out ladder start unfed now shows g
   in-read unfed course now shows g moves same i = record {
     waiting = i.waiting;
@@ -127,13 +121,13 @@ module _ (X Y : Type 0) (input : SourceView X) (out : OutletView Y) (ladder : La
 
   -- it ends
   pub in-last : (left : List (List SegmentPlan)) (course : Course X Y) (shows : Known) (g : Gathering) → awaited g.lanes ≡ 0 → ((k : ℕ) → unfed_of left k ≡ [])
-      → InRound input out ladder start left course shows g → IsOn input out ladder start 0 course shows (λ k. [])
+      → InRound input out ladder start left course shows g → IsOn input out ladder start course shows (λ k. [])
   in-last left course shows g none fed i =
       let all : (k : ℕ) → i.waiting k ≡ [] = λ k. i.waits k ∙ (ap (λ (l : List SegmentPlan). l ++ unfed_of left k) (awaits-none g.lanes k none) ∙ fed k) in
       let path : i.waiting ≡ (λ k. []) = λ j k. all k j in
-      subst (λ (w : ℕ → List SegmentPlan). IsOn input out ladder start 0 course shows w) path i.on
+      subst (λ (w : ℕ → List SegmentPlan). IsOn input out ladder start course shows w) path i.on
 
   pub in-given : (left : List (List SegmentPlan)) (course : Course X Y) (shows : Known) (g : Gathering) → awaited g.lanes ≡ 0
       → InRound input out ladder start left course shows g → gathered g.lanes ≡ sum (counts_of course.playlists.items)
   in-given left course shows g none i =
-      gathered-none g.lanes (counts_of course.playlists.items) (i.each ∙ sym (counts-each 0 course shows i.waiting i.on)) none (λ k below. i.nexts k below)
+      gathered-none g.lanes (counts_of course.playlists.items) (i.each ∙ sym (counts-each course shows i.waiting i.on)) none (λ k below. i.nexts k below)

@@ -18,19 +18,17 @@ use Rattle.ladder_items.specs.Runs.{run_of}
 use Rattle.ladder_items.specs.World.{World, NothingDue, HaveRoom}
 use Rattle.ladder_items.specs.Packed.{told_of}
 use Rattle.ladder_items.proofs.Puts.{all_none}
-use Rattle.ladder_items.proofs.Stages.{turns-none}
-use Rattle.ladder_items.proofs.Worlds.{parts-of, nothing-given, world-first}
+use Rattle.ladder_items.proofs.Worlds.{parts-of, nothing-given, world-first, at-default}
 use Rattle.ladder_items.proofs.Endings.{says-as, halted-said, world-halted, world-packed}
 use Rattle.rounds.specs.declared.run.course.Course.{Course}
 use Rattle.rounds.specs.Showing.{shown_by, ends_of}
-use Rattle.rounds.specs.Courses.{Start, IsOn, IsStopped, IsCutShown, IsAllGiven, of_sudden, SaysSudden}
+use Rattle.rounds.specs.Courses.{Start, IsOn, IsStopped, IsCutShown, IsAllGiven, of_sudden, SaysSudden, turns_at}
 use Rattle.rounds.specs.declared.run.books.Books.{Books}
 use Rattle.rounds.specs.Begun.{IsTold}
 use Rattle.rounds.specs.Shown.{Fits, FitsThreads, IsPackedShown, IsTurnedAway, FaultSaysShown, of_shown}
 use Rattle.rounds.proofs.Running.{stopped-here}
 use Rattle.rounds.proofs.Steps.{counts-are}
 use Rattle.rounds.proofs.Closing.{ended-at}
-use Rattle.rounds.proofs.Between.{on-turns}
 
 -- no rendition has ended, and none has a segment
 ends-none : (n : ℕ) → ends_of (replicate n no_part) ≡ replicate n false
@@ -43,20 +41,20 @@ counts-none (suc n) = ap (λ (l : List ℕ). 0 ∷ l) (counts-none n)
 
 module _ (X Y : Type 0) (input : SourceView X) (out : OutletView Y) (ladder : Ladder) where
   -- a run begins
-  pub on-first : (start : Start X Y) (course : Course X Y) → course.sources.items ≡ start.sources → course.outlet ≡ start.outlet → course.turns ≡ 0
+  pub on-first : (start : Start X Y) (course : Course X Y) → course.sources.items ≡ start.sources → course.outlet ≡ start.outlet → course.turns.items ≡ replicate (length ladder.renditions) 0
       → length start.sources ≡ length ladder.renditions → length course.lanes.items ≡ length ladder.renditions
       → ((k : ℕ) (lane : Lane) → slice_get course.lanes.items k ≡ Some lane → IsFirst k ladder.cut lane) → course.playlists.items ≡ shown_all ladder (none_of ladder)
       → ((k : ℕ) → closed_of k ladder.cut [] ≡ []) → course.ended.items ≡ replicate (length ladder.renditions) false
       → course.reads ≡ start.reads → counts_shown start.shows.list ≡ replicate (length ladder.renditions) 0 → IsAllowed ladder → course.reads ≤ 2 ^ 40 → HaveRoom input course.reads start.sources → out.failures start.outlet < 2 ^ 63
-      → IsOn input out ladder start 0 course start.shows (λ k. [])
+      → IsOn input out ladder start course start.shows (λ k. [])
   unfolding after_all shown_by
   on-first start course sources outlet turns same each first shown none ended limit counts allowed most room failures =
       let n = length ladder.renditions in
-      let w = world-first X Y input out course.reads ladder start.sources course.lanes.items course.playlists.items start.outlet same each first shown none in
-      let pair : (u : World (run_of input out course.reads start.sources course.sources.items start.outlet course.outlet) ladder course.turns 0 course.lanes.items course.playlists.items (λ k. [])) × (u.events ≡ []) =
-      subst (λ (xs : List X). (u : World (run_of input out course.reads start.sources xs start.outlet course.outlet) ladder course.turns 0 course.lanes.items course.playlists.items (λ k. [])) × (u.events ≡ [])) (sym sources)
-      (subst (λ (y : Y). (u : World (run_of input out course.reads start.sources start.sources start.outlet y) ladder course.turns 0 course.lanes.items course.playlists.items (λ k. [])) × (u.events ≡ [])) (sym outlet)
-      (subst (λ (t : ℕ). (u : World (run_of input out course.reads start.sources start.sources start.outlet start.outlet) ladder t 0 course.lanes.items course.playlists.items (λ k. [])) × (u.events ≡ [])) (sym turns) w)) in
+      let unturned : (k : ℕ) → turns_at course k ≡ 0 = λ k. ap (λ (l : List ℕ). slice_index_or l k 0) turns ∙ at-default (length ladder.renditions) k 0 in
+      let w = world-first X Y input out course.reads ladder (turns_at course) start.sources course.lanes.items course.playlists.items start.outlet same each first shown none (λ k below. unturned k) in
+      let pair : (u : World (run_of input out course.reads start.sources course.sources.items start.outlet course.outlet) ladder (turns_at course) course.lanes.items course.playlists.items (λ k. [])) × (u.events ≡ []) =
+      subst (λ (xs : List X). (u : World (run_of input out course.reads start.sources xs start.outlet course.outlet) ladder (turns_at course) course.lanes.items course.playlists.items (λ k. [])) × (u.events ≡ [])) (sym sources)
+      (subst (λ (y : Y). (u : World (run_of input out course.reads start.sources start.sources start.outlet y) ladder (turns_at course) course.lanes.items course.playlists.items (λ k. [])) × (u.events ≡ [])) (sym outlet) w) in
       let then : parts-of ladder pair.0.events ≡ none_of ladder = ap (parts-of ladder) pair.1 in
       record {
         world = pair.0;
@@ -66,7 +64,8 @@ module _ (X Y : Type 0) (input : SourceView X) (out : OutletView Y) (ladder : La
         board = refl;
         allowed = allowed;
         limit = limit;
-        turns = λ k. omega (arith, turns, turns-none course.turns k);
+        counted = ap length turns ∙ length-replicate (length ladder.renditions) 0;
+        turns = λ k. omega (arith, unturned k);
         most = most;
         room = room;
         failures = failures;
@@ -113,30 +112,23 @@ module _ (X Y : Type 0) (input : SourceView X) (out : OutletView Y) (ladder : La
       (of_shown (run_of input out course.reads start.sources course.sources.items start.outlet course.outlet) ladder workers start.shows.list shows.list) fault
       (λ no. absurd no) (λ r stop no. absurd no) (λ one. (stopped.cut, one)) (λ same. (stopped.cut, same)) (λ r n is same. (stopped.cut, same)) stopped.says)
 
-  module _ (start : Start X Y) (course : Course X Y) (shows : Known) (on : IsOn input out ladder start 0 course shows (λ k. [])) (all : IsAllGiven course) where
+  module _ (start : Start X Y) (course : Course X Y) (shows : Known) (on : IsOn input out ladder start course shows (λ k. [])) (all : IsAllGiven course) where
     -- all that is closed was given
-    abbrev nothing-due : NothingDue (run_of input out course.reads start.sources course.sources.items start.outlet course.outlet) ladder course.turns 0 course.lanes.items course.playlists.items
+    abbrev nothing-due : NothingDue (run_of input out course.reads start.sources course.sources.items start.outlet course.outlet) ladder (turns_at course) course.lanes.items course.playlists.items
     nothing-due = record {
       world = on.world;
       filled = all.filled;
       ended = λ k lane at. sym (ended-at (parts-of ladder on.world.events) k) ∙ (ap (λ (l : List Bool). slice_index_or l k false) (sym on.ends) ∙ all.ended k lane at);
     }
 
-    abbrev few : course.turns ≤ course.reads
-    few = (on-turns input out ladder start course shows (λ k. []) on).0
-
-    abbrev limit : (k : ℕ) (lane : Lane) → slice_get course.lanes.items k ≡ Some lane → lane.stop ≡ None → course.turns ≡ course.reads
-    limit k lane at going =
-        elim all.rests as (λ _. course.turns ≡ course.reads) [
-          | inl most ↦ omega (arith, most, few)
-          | inr none ↦ absurd (none k lane at going)
-        ]
+    abbrev limit : (k : ℕ) (lane : Lane) → slice_get course.lanes.items k ≡ Some lane → lane.stop ≡ None → turns_at course k ≡ course.reads
+    limit k lane at going = omega (arith, all.rests k lane at going, on.turns k)
 
     halted-shown : (workers r : ℕ) (lane : Lane) (fault : PackFault) → slice_get course.lanes.items r ≡ Some lane
         → ((k : ℕ) (earlier : Lane) → k < r → slice_get course.lanes.items k ≡ Some earlier → told_of k earlier.stop ≡ None) → told_of r lane.stop ≡ Some fault
         → FaultSaysShown (run_of input out course.reads start.sources course.sources.items start.outlet course.outlet) ladder workers start.shows.list shows.list fault
     halted-shown workers r lane fault at first told =
-        let h = world-halted X Y input out course.reads ladder course.turns start.sources course.sources.items course.lanes.items course.playlists.items start.outlet course.outlet r lane at first limit few on.allowed nothing-due in
+        let h = world-halted X Y input out course.reads ladder (turns_at course) start.sources course.sources.items course.lanes.items course.playlists.items start.outlet course.outlet r lane at first limit on.turns on.allowed nothing-due in
         halted-said (of_shown (run_of input out course.reads start.sources course.sources.items start.outlet course.outlet) ladder workers start.shows.list shows.list) r lane.stop fault told
         (record { halted = h.0; shown = on.list ∙ ap (λ (l : List Event). start.shows.list ++ shown_by ladder (none_of ladder) l) (sym h.1) })
 
@@ -147,7 +139,7 @@ module _ (X Y : Type 0) (input : SourceView X) (out : OutletView Y) (ladder : La
         → FaultSaysShown (run_of input out start.reads start.sources course.sources.items start.outlet course.outlet) ladder workers start.shows.list shows.list fault
     told-shown workers fault (inl e) =
         subst (FaultSaysShown (run_of input out start.reads start.sources course.sources.items start.outlet course.outlet) ladder workers start.shows.list shows.list) (sym e)
-        (stopped-shown start course shows workers NoMemory (stopped-here X Y input out ladder start 0 course shows (λ k. []) NoMemory refl on))
+        (stopped-shown start course shows workers NoMemory (stopped-here X Y input out ladder start course shows (λ k. []) NoMemory refl on))
     told-shown workers fault (inr x) =
         subst (λ (n : ℕ). FaultSaysShown (run_of input out n start.sources course.sources.items start.outlet course.outlet) ladder workers start.shows.list shows.list fault) on.limit
         (halted-shown workers x.0 x.1 fault x.2 x.4 x.3)
@@ -156,7 +148,7 @@ module _ (X Y : Type 0) (input : SourceView X) (out : OutletView Y) (ladder : La
     pub packed-shown : (workers : ℕ) (books : Books) (report : Report) → length books.workers.items ≡ workers → IsTold course.playlists.items course.lanes.items books report
         → IsPackedShown (run_of input out start.reads start.sources course.sources.items start.outlet course.outlet) ladder workers start.shows.list shows.list report
     packed-shown workers books report each told =
-        let p = world-packed X Y input out course.reads ladder course.turns start.sources course.sources.items course.lanes.items course.playlists.items start.outlet course.outlet report told.good told.numbers few nothing-due in
+        let p = world-packed X Y input out course.reads ladder (turns_at course) start.sources course.sources.items course.lanes.items course.playlists.items start.outlet course.outlet report told.good told.numbers on.turns nothing-due in
         subst (λ (n : ℕ). IsPackedShown (run_of input out n start.sources course.sources.items start.outlet course.outlet) ladder workers start.shows.list shows.list report) on.limit
         (record {
           packed = p.0;

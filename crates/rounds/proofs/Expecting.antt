@@ -79,7 +79,7 @@ module _ (X Y : Type 0) (input : SourceView X) (out : OutletView Y) (ladder : La
       let shown = count-at ladder parts course.playlists.items r each (omega (arith, each, below)) i.on.world.shown_are in
       let number : count (part_at parts r) + length front ≡ following (lane_at g r) = omega (arith, size, next, shown) in
       subst (λ (n : ℕ). IsPlan r ladder.cut n plan) number
-      (waits-next X Y input out ladder start 0 course shows i.waiting i.on order r below front plan left (i.waits r ∙ ap (λ (l : List SegmentPlan). front ++ l) is))
+      (waits-next X Y input out ladder start course shows i.waiting i.on order r below front plan left (i.waits r ∙ ap (λ (l : List SegmentPlan). front ++ l) is))
 
   -- it is expected now
   pub in-expect : (h : Gathering) → h ≡ with_lane g r (with_plan (lane_at g r) plan) → InRound input out ladder start (slice_set unfed r left) course shows h

@@ -99,11 +99,11 @@ module _ (X Y : Type 0) (input : SourceView X) (out : OutletView Y) (ladder : La
   -- the round was stopped between two steps
   pub in-stopped : (start : Start X Y) (unfed : List (List SegmentPlan)) (course : Course X Y) (shows : Known) (g : Gathering) (fault : PackFault)
       → SaysSudden fault (out.failures course.outlet) (out.failures course.outlet) → InRound input out ladder start unfed course shows g → IsStopped input out ladder start course shows fault
-  in-stopped start unfed course shows g fault says i = stopped-here X Y input out ladder start 0 course shows i.waiting fault says i.on
+  in-stopped start unfed course shows g fault says i = stopped-here X Y input out ladder start course shows i.waiting fault says i.on
 
   pub in-failures : (start : Start X Y) (unfed : List (List SegmentPlan)) (course : Course X Y) (shows : Known) (g : Gathering) → InRound input out ladder start unfed course shows g
       → out.failures course.outlet < 2 ^ 63
-  in-failures start unfed course shows g i = (on-failures X Y input out ladder start 0 course shows i.waiting i.on).1
+  in-failures start unfed course shows g i = (on-failures X Y input out ladder start course shows i.waiting i.on).1
 
   -- the piece that came for the first plan of a rendition
   module _ (start : Start X Y) (unfed : List (List SegmentPlan)) (course : Course X Y) (shows : Known) (g : Gathering) (i : InRound input out ladder start unfed course shows g) (order : InOrder ladder)
@@ -115,7 +115,7 @@ module _ (X Y : Type 0) (input : SourceView X) (out : OutletView Y) (ladder : La
     in-front = i.waits r ∙ ap (λ (l : List SegmentPlan). l ++ unfed_of unfed r) (front-of (lane_at g r).slots piece.plan piece at).0
 
     pub in-next : IsNext ladder r (parts-of ladder i.on.world.events) course.playlists.items piece.plan
-    in-next = first-next X Y input out ladder start 0 course shows i.waiting i.on order r in-within piece.plan _ in-front
+    in-next = first-next X Y input out ladder start course shows i.waiting i.on order r in-within piece.plan _ in-front
 
     pub in-sealed : piece ≡ sealed_segment (lane_at g r).keys piece.plan → piece ≡ sealed_segment (rendition_at ladder r).keys piece.plan
     in-sealed sealed = sealed ∙ ap (λ keys. sealed_segment keys piece.plan) (i.keys r (inside g r 0 _ at))
@@ -129,12 +129,12 @@ module _ (X Y : Type 0) (input : SourceView X) (out : OutletView Y) (ladder : La
         let parts = parts-of ladder i.on.world.events in
         let each = parts-length ladder i.on.world.events in
         let within : r < length parts = omega (arith, each, in-within) in
-        let s = stage-of X Y input out ladder start 0 course shows i.waiting i.on r in-within in
+        let s = stage-of X Y input out ladder start course shows i.waiting i.on r in-within in
         let still : ℕ → List SegmentPlan = λ k. expected (lane_at c k) ++ unfed_of unfed k in
         let here = lane-same g r r then inner refl in
-        let o = on-gave X Y input out ladder start 0 r course now shows shows_now i.waiting still (Row r piece.plan) s.2 i.on s.3 refl (waits-going X Y input out ladder start 0 course shows i.waiting i.on r in-within piece.plan _ in-front)
+        let o = on-gave X Y input out ladder start r course now shows shows_now i.waiting still (Row r piece.plan) s.2 i.on s.3 refl (waits-going X Y input out ladder start course shows i.waiting i.on r in-within piece.plan _ in-front)
         gave none board
-        (rw here (row-moved X Y input out ladder start 0 course shows i.waiting i.on r in-within piece.plan _ in-front))
+        (rw here (row-moved X Y input out ladder start course shows i.waiting i.on r in-within piece.plan _ in-front))
         (λ k other. ap (λ (l : LaneValue). expected l ++ unfed_of unfed k) (lane-other g r k then other) ∙ sym (i.waits k)) in
         let next : (k : ℕ) → k < length g.lanes → (lane_at c k).next ≡ slice_index_or (counts_of now.playlists.items) k 0 =
         λ k below.
@@ -174,6 +174,6 @@ module _ (X Y : Type 0) (input : SourceView X) (out : OutletView Y) (ladder : La
         → ReadsNone course now → shows_now.board ≡ shows.board → SaysFailures fault (out.failures course.outlet) (out.failures now.outlet)
         → IsStopped input out ladder start now shows_now fault
     in-ungiven now shows_now fault gave none board says =
-        let s = stage-of X Y input out ladder start 0 course shows i.waiting i.on r in-within in
-        on-ungiven X Y input out ladder start 0 r course now shows shows_now i.waiting (Row r piece.plan) s.2 fault i.on s.3 refl (waits-going X Y input out ladder start 0 course shows i.waiting i.on r in-within piece.plan _ in-front)
-        gave none board (row-begins X Y input out ladder start 0 course shows i.waiting i.on r in-within piece.plan _ in-front) says
+        let s = stage-of X Y input out ladder start course shows i.waiting i.on r in-within in
+        on-ungiven X Y input out ladder start r course now shows shows_now i.waiting (Row r piece.plan) s.2 fault i.on s.3 refl (waits-going X Y input out ladder start course shows i.waiting i.on r in-within piece.plan _ in-front)
+        gave none board (row-begins X Y input out ladder start course shows i.waiting i.on r in-within piece.plan _ in-front) says

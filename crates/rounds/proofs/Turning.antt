@@ -1,6 +1,12 @@
 -- A run on its way: renditions have their turns.
-use Rattle.std.proofs.Common.{◌≡◌, ◌∙◌, ℕ, ◌+◌, ◌<◌, ◌≤◌, List, [], ◌++◌, length, Some, None, refl, ap, sym, subst, arith}
-use Rattle.std.specs.List.{slice_get}
+use Rattle.std.proofs.Common.{◌≡◌, ◌∙◌, inl, inr, ℕ, zero, suc, ◌+◌, ◌*◌, ◌<◌, ◌≤◌, List, [], ◌∷◌, ◌++◌, length, Some, None, refl, ap, sym, subst, arith}
+use Rattle.std.specs.Prelude.{sum}
+use Rattle.std.specs.List.{slice_get, slice_index_or, slice_set}
+use Rattle.std.proofs.Math.Nat.{suc-mul}
+use Rattle.std.proofs.lemmas.Bool.{cases_eq}
+use Rattle.std.proofs.lemmas.List.{length-set, get_or-set_same, get_or-set_other}
+use Rattle.std.proofs.lemmas.List.Sums.{sum_by-cons}
+use Rattle.std.proofs.lemmas.Option.{slice_get_within}
 use Rattle.std.proofs.Math.ListN.{set}
 use Rattle.std.proofs.lemmas.List.{append-nil}
 use Rattle.ghost_list.specs.Lists.{IsBeginning}
@@ -15,20 +21,61 @@ use Rattle.ladder_items.specs.declared.fault.PackFault.TheVariants.{NoMemory}
 use Rattle.ladder_items.specs.Ladder.{Ladder}
 use Rattle.ladder_items.specs.Weave.{Event, after_all, none_of}
 use Rattle.ladder_items.specs.Runs.{run_of}
-use Rattle.ladder_items.specs.World.{World, turns_of}
-use Rattle.ladder_items.proofs.Stages.{turns-most, turns-none}
-use Rattle.ladder_items.proofs.Worlds.{world-read, world-skip, world-round, world-unread}
+use Rattle.ladder_items.specs.World.{World}
+use Rattle.ladder_items.proofs.Worlds.{world-read, world-unread}
 use Rattle.rounds.specs.declared.run.course.Course.{Course}
 use Rattle.rounds.specs.Showing.{counts_of, shown_by, ends_of}
-use Rattle.rounds.specs.Courses.{Start, IsOn, IsStopped}
+use Rattle.rounds.specs.Courses.{Start, IsOn, IsStopped, ReadsMore, ReadsNone, turns_at, turns_in}
+
+-- a count in a list of counts
+counts-here : (xs : List ℕ) (r n : ℕ) → r < length xs → slice_index_or (slice_set xs r n) r 0 ≡ n
+counts-here xs r n within = get_or-set_same xs r n 0 within
+
+counts-elsewhere : (xs : List ℕ) (r k n : ℕ) → (k ≡ r → ⊥) → slice_index_or (slice_set xs r n) k 0 ≡ slice_index_or xs k 0
+counts-elsewhere xs r k n other = get_or-set_other xs r k n 0 other
+
+counts-length : (xs : List ℕ) (r n : ℕ) → length (slice_set xs r n) ≡ length xs
+counts-length xs r n = length-set xs r n
+
+-- one more in their sum
+pub counts-sum : (xs : List ℕ) (r : ℕ) → r < length xs → sum (slice_set xs r (slice_index_or xs r 0 + 1)) ≡ sum xs + 1
+counts-sum [] r within = absurd (omega (arith, within))
+counts-sum (x ∷ xs) zero within = omega (arith, sum_by-cons (λ n. n) (x + 1) xs, sum_by-cons (λ n. n) x xs)
+counts-sum (x ∷ xs) (suc r) within =
+    omega (arith, counts-sum xs r (omega (arith, within)), sum_by-cons (λ n. n) x (slice_set xs r (slice_index_or xs r 0 + 1)), sum_by-cons (λ n. n) x xs)
+
+-- a sum of counts that are few
+pub counts-few : (xs : List ℕ) (most : ℕ) → ((k : ℕ) → slice_index_or xs k 0 ≤ most) → sum xs ≤ length xs * most
+counts-few [] most few = omega arith
+counts-few (x ∷ xs) most few =
+    let rest = counts-few xs most (λ k. few (suc k)) in
+    let first : x ≤ most = few zero in
+    let size : length (x ∷ xs) * most ≡ length xs * most + most = suc-mul (length xs) most in
+    omega (arith, rest, first, size, sum_by-cons (λ n. n) x xs)
+
+-- turns that were had
+pub more-none : {X Y : Type 0} (course : Course X Y) → ReadsMore course course
+more-none course = record { more = omega arith; stays = λ e. refl }
+
+pub more-then : {X Y : Type 0} (a b c : Course X Y) → ReadsMore a b → ReadsMore b c → ReadsMore a c
+more-then a b c f g = record {
+  more = omega (arith, f.more, g.more);
+  stays = λ e. g.stays (omega (arith, e, f.more, g.more)) ∙ f.stays (omega (arith, e, f.more, g.more));
+}
+
+pub more-unread : {X Y : Type 0} (a b : Course X Y) → ReadsNone a b → ReadsMore a b
+more-unread a b none = record { more = omega (arith, ap (λ t. sum t.items) none.turns); stays = λ e. none.lanes }
+
+pub more-looked : {X Y : Type 0} (a b : Course X Y) → b ≡ record a { sources = b.sources } → ReadsMore a b
+more-looked a b same = record { more = omega (arith, ap (λ (d : Course _ _). turns_in d) same); stays = λ e. ap (λ (d : Course _ _). d.lanes) same }
 
 module _ (X Y : Type 0) (input : SourceView X) (out : OutletView Y) (ladder : Ladder) where
   -- nothing was given, so that all that is shown stands
-  pub on-with : (start : Start X Y) (next then : ℕ) (course now : Course X Y) (shows : Known) (waiting still : ℕ → List SegmentPlan) (on : IsOn input out ladder start next course shows waiting)
-      → (u : World (run_of input out now.reads start.sources now.sources.items start.outlet now.outlet) ladder now.turns then now.lanes.items now.playlists.items still)
+  pub on-with : (start : Start X Y) (course now : Course X Y) (shows : Known) (waiting still : ℕ → List SegmentPlan) (on : IsOn input out ladder start course shows waiting)
+      → (u : World (run_of input out now.reads start.sources now.sources.items start.outlet now.outlet) ladder (turns_at now) now.lanes.items now.playlists.items still)
       → u.events ≡ on.world.events → now.ended ≡ course.ended → now.playlists ≡ course.playlists → now.reads ≡ course.reads
-      → ((k : ℕ) → turns_of now.turns then k ≤ now.reads) → IsOn input out ladder start then now shows still
-  on-with start next then course now shows waiting still on u events ended playlists reads turns = record {
+      → length now.turns.items ≡ length ladder.renditions → ((k : ℕ) → turns_at now k ≤ now.reads) → IsOn input out ladder start now shows still
+  on-with start course now shows waiting still on u events ended playlists reads counted turns = record {
     world = u;
     ends = ap (λ e. e.items) ended ∙ (on.ends ∙ ap (λ (l : List Event). ends_of (after_all (none_of ladder) l)) (sym events));
     list = on.list ∙ ap (λ (l : List Event). start.shows.list ++ shown_by ladder (none_of ladder) l) (sym events);
@@ -36,53 +83,59 @@ module _ (X Y : Type 0) (input : SourceView X) (out : OutletView Y) (ladder : La
     board = on.board;
     allowed = on.allowed;
     limit = reads ∙ on.limit;
+    counted = counted;
     turns = turns;
     most = rw reads on.most;
     room = rw reads on.room;
     failures = on.failures;
   }
 
+  -- sources were looked at, and none was read
+  pub on-looked : (start : Start X Y) (course now : Course X Y) (shows : Known) (waiting : ℕ → List SegmentPlan)
+      → now.sources.items ≡ course.sources.items → now ≡ record course { sources = now.sources }
+      → IsOn input out ladder start course shows waiting → IsOn input out ladder start now shows waiting
+  on-looked start course now shows waiting sources same on =
+      let w = on.world in
+      let pair : (u : World (run_of input out course.reads start.sources now.sources.items start.outlet course.outlet) ladder (turns_at course) course.lanes.items course.playlists.items waiting) × (u.events ≡ w.events) =
+      subst (λ (xs : List X). (u : World (run_of input out course.reads start.sources xs start.outlet course.outlet) ladder (turns_at course) course.lanes.items course.playlists.items waiting) × (u.events ≡ w.events)) (sym sources) (w, refl) in
+      subst (λ (d : Course X Y). IsOn input out ladder start d shows waiting) (sym same)
+      (on-with start course (record course { sources = now.sources }) shows waiting waiting on pair.0 pair.1 refl refl refl on.counted on.turns)
+
   -- rendition r had its turn
   pub on-read : (start : Start X Y) (r : ℕ) (course now : Course X Y) (shows : Known) (waiting : ℕ → List SegmentPlan) (b c : X) (lane moved : Lane)
       → slice_get course.sources.items r ≡ Some b → slice_get course.lanes.items r ≡ Some lane → lane.stop ≡ None → IsTurned input b c lane moved
-      → now.sources.items ≡ set course.sources.items r c → now.lanes.items ≡ set course.lanes.items r moved
-      → now ≡ record course { sources = now.sources; lanes = now.lanes } → course.turns < course.reads
-      → IsOn input out ladder start r course shows waiting → IsOn input out ladder start (r + 1) now shows waiting
-  on-read start r course now shows waiting b c lane moved f g goes_on turn sources lanes same below on =
+      → now.sources.items ≡ set course.sources.items r c → now.lanes.items ≡ set course.lanes.items r moved → now.turns.items ≡ slice_set course.turns.items r (turns_at course r + 1)
+      → now ≡ record course { sources = now.sources; lanes = now.lanes; turns = now.turns } → turns_at course r < course.reads
+      → IsOn input out ladder start course shows waiting → IsOn input out ladder start now shows waiting
+  on-read start r course now shows waiting b c lane moved f g goes_on turn sources lanes turns same below on =
       let w = on.world in
-      let v = world-read X Y input out course.reads ladder course.turns r start.sources course.sources.items course.lanes.items course.playlists.items waiting start.outlet course.outlet b c lane moved f g goes_on turn w in
-      let pair : (u : World (run_of input out course.reads start.sources now.sources.items start.outlet course.outlet) ladder course.turns (r + 1) now.lanes.items course.playlists.items waiting) × (u.events ≡ w.events) =
-      subst (λ (xs : List X). (u : World (run_of input out course.reads start.sources xs start.outlet course.outlet) ladder course.turns (r + 1) now.lanes.items course.playlists.items waiting) × (u.events ≡ w.events)) (sym sources)
-      (subst (λ (ls : List Lane). (u : World (run_of input out course.reads start.sources (set course.sources.items r c) start.outlet course.outlet) ladder course.turns (r + 1) ls course.playlists.items waiting) × (u.events ≡ w.events)) (sym lanes)
+      let then : Course X Y = record course { sources = now.sources; lanes = now.lanes; turns = now.turns } in
+      let within : r < length course.turns.items = omega (arith, slice_get_within course.lanes.items r lane g, w.same_lanes, on.counted) in
+      let one : turns_at now r ≡ turns_at course r + 1 = ap (λ (l : List ℕ). slice_index_or l r 0) turns ∙ counts-here course.turns.items r (turns_at course r + 1) within in
+      let others : (k : ℕ) → (k ≡ r → ⊥) → turns_at now k ≡ turns_at course k = λ k other. ap (λ (l : List ℕ). slice_index_or l k 0) turns ∙ counts-elsewhere course.turns.items r k (turns_at course r + 1) other in
+      let v = world-read X Y input out course.reads ladder (turns_at course) (turns_at now) r start.sources course.sources.items course.lanes.items course.playlists.items waiting start.outlet course.outlet b c lane moved f g goes_on turn one others w in
+      let pair : (u : World (run_of input out course.reads start.sources now.sources.items start.outlet course.outlet) ladder (turns_at now) now.lanes.items course.playlists.items waiting) × (u.events ≡ w.events) =
+      subst (λ (xs : List X). (u : World (run_of input out course.reads start.sources xs start.outlet course.outlet) ladder (turns_at now) now.lanes.items course.playlists.items waiting) × (u.events ≡ w.events)) (sym sources)
+      (subst (λ (ls : List Lane). (u : World (run_of input out course.reads start.sources (set course.sources.items r c) start.outlet course.outlet) ladder (turns_at now) ls course.playlists.items waiting) × (u.events ≡ w.events)) (sym lanes)
       (v.0, v.2)) in
-      subst (λ (d : Course X Y). IsOn input out ladder start (r + 1) d shows waiting) (sym same)
-      (on-with start r (r + 1) course (record course { sources = now.sources; lanes = now.lanes }) shows waiting waiting on pair.0 pair.1 refl refl refl
-      (λ k. omega (arith, turns-most course.turns (r + 1) k, below)))
-
-  -- it had stopped
-  pub on-skip : (start : Start X Y) (r : ℕ) (course : Course X Y) (shows : Known) (waiting : ℕ → List SegmentPlan) (lane : Lane) → slice_get course.lanes.items r ≡ Some lane → (lane.stop ≡ None → ⊥)
-      → course.turns < course.reads → IsOn input out ladder start r course shows waiting → IsOn input out ladder start (r + 1) course shows waiting
-  on-skip start r course shows waiting lane g stopped below on =
-      let v = world-skip X Y input out course.reads ladder course.turns r start.sources course.sources.items course.lanes.items course.playlists.items waiting start.outlet course.outlet lane g stopped on.world in
-      on-with start r (r + 1) course course shows waiting waiting on v.0 v.1 refl refl refl (λ k. omega (arith, turns-most course.turns (r + 1) k, below))
-
-  -- each rendition had its turn
-  pub on-round : (start : Start X Y) (n : ℕ) (course : Course X Y) (shows : Known) (waiting : ℕ → List SegmentPlan) → length course.lanes.items ≤ n → course.turns < course.reads
-      → IsOn input out ladder start n course shows waiting → IsOn input out ladder start 0 (record course { turns = course.turns + 1 }) shows waiting
-  on-round start n course shows waiting all below on =
-      let v = world-round X Y input out course.reads ladder course.turns n start.sources course.sources.items course.lanes.items course.playlists.items waiting start.outlet course.outlet (omega (arith, all, on.world.same_lanes)) on.world in
-      on-with start n 0 course (record course { turns = course.turns + 1 }) shows waiting waiting on v.0 v.1 refl refl refl (λ k. omega (arith, turns-none (course.turns + 1) k, below))
+      subst (λ (d : Course X Y). IsOn input out ladder start d shows waiting) (sym same)
+      (on-with start course then shows waiting waiting on pair.0 pair.1 refl refl refl
+      (ap length turns ∙ (counts-length course.turns.items r (turns_at course r + 1) ∙ on.counted))
+      (λ k. elim (cases_eq k r) as (λ _. turns_at now k ≤ course.reads) [
+        | inl q ↦ subst (λ (j : ℕ). turns_at now j ≤ course.reads) (sym q) (omega (arith, one, below))
+        | inr q ↦ omega (arith, others k q, on.turns k)
+      ]))
 
   -- want of memory stopped the run in a turn of rendition r
   pub on-unread : (start : Start X Y) (r : ℕ) (course now : Course X Y) (shows : Known) (waiting : ℕ → List SegmentPlan) (b c : X) (lane : Lane) (piece : List ℕ)
       → slice_get course.sources.items r ≡ Some b → slice_get course.lanes.items r ≡ Some lane → lane.stop ≡ None → IsRead input b c piece → input.failures c ≡ input.failures b
       → ((s more : List ℕ) → IsBeginning (closed_of r ladder.cut s) (closed_of r ladder.cut (s ++ more)))
-      → now.sources.items ≡ set course.sources.items r c → now ≡ record course { sources = now.sources; lanes = now.lanes } → course.turns < course.reads
-      → IsOn input out ladder start r course shows waiting → IsStopped input out ladder start now shows NoMemory
+      → now.sources.items ≡ set course.sources.items r c → now ≡ record course { sources = now.sources; lanes = now.lanes } → turns_at course r < course.reads
+      → IsOn input out ladder start course shows waiting → IsStopped input out ladder start now shows NoMemory
   on-unread start r course now shows waiting b c lane piece f g goes_on read unfailed grow sources same below on =
       let w = on.world in
-      let u = world-unread X Y input out course.reads ladder course.turns r r start.sources course.sources.items course.lanes.items course.playlists.items waiting start.outlet course.outlet b c lane piece
-      f g goes_on read unfailed grow refl below on.allowed w in
+      let u = world-unread X Y input out course.reads ladder (turns_at course) r start.sources course.sources.items course.lanes.items course.playlists.items waiting start.outlet course.outlet b c lane piece
+      f g goes_on read unfailed grow below on.turns on.allowed w in
       subst (λ (d : Course X Y). IsStopped input out ladder start d shows NoMemory) (sym same) (record {
         cut = rw sources (record {
           cut = u.0.cut;

@@ -18,6 +18,7 @@ pub record IsBegun (ladder : Ladder) (workers : ℕ) (first : First) : Type 0 wh
   pub each : (k : ℕ) (lane : Lane) → slice_get first.lanes.items k ≡ Some lane → IsFirst k ladder.cut lane
   pub playlists : first.playlists.items ≡ shown_all ladder (none_of ladder)
   pub ended : first.ended.items ≡ replicate (length ladder.renditions) false
+  pub turns : first.turns.items ≡ replicate (length ladder.renditions) 0
   pub spare : length first.spare.items ≡ length ladder.renditions
   pub keys : first.keys.items ≡ map (λ (r : RenditionValue). r.keys) ladder.renditions
   pub right : first.books.right ≡ 0

@@ -1,5 +1,5 @@
 -- A run under way on many threads.
-use Rattle.std.specs.Prelude.{◌≡◌, ◌≢◌, ◌⊎◌, ℕ, ◌<◌, ◌≤◌, ◌^◌, List, [], ◌∷◌, ◌++◌, length, None, Some, slice_get, slice_index_or, false}
+use Rattle.std.specs.Prelude.{◌≡◌, ◌≢◌, ◌⊎◌, ℕ, ◌<◌, ◌≤◌, ◌^◌, List, [], ◌∷◌, ◌++◌, length, sum, None, Some, slice_get, slice_index_or, false}
 use Rattle.cutter.specs.Plans.{SegmentPlan}
 use Rattle.item_io.specs.Items.{ItemValue}
 use Rattle.live_board.specs.Snapshots.{SnapshotFacts, Known}
@@ -16,7 +16,7 @@ use Rattle.ladder_items.specs.Weave.{End, Event, Row, after, after_all, block, b
 use Rattle.ladder_items.specs.Faults.{Sayings, Says}
 use Rattle.ladder_items.specs.Putting.{PutAll, PutSome, of_failures}
 use Rattle.ladder_items.specs.Runs.{Run, run_of}
-use Rattle.ladder_items.specs.World.{World, HaveRoom, turns_of}
+use Rattle.ladder_items.specs.World.{World, HaveRoom}
 use Rattle.ladder_items.specs.Packed.{IsCutShort}
 use Rattle.rounds.specs.declared.giving.broadcast.Broadcast.{Broadcast}
 use Rattle.rounds.specs.declared.run.course.Course.{Course}
@@ -85,17 +85,25 @@ pub record Start (X Y : Type 0) : Type 0 where
   pub shows : Known
   pub reads : ℕ
 
--- A run under way, in which the renditions before `next` had one turn more. `waiting` are the plans of each that were swapped
--- out and not given yet.
-pub record IsOn {X Y : Type 0} (input : SourceView X) (out : OutletView Y) (ladder : Ladder) (start : Start X Y) (next : ℕ) (course : Course X Y) (shows : Known) (waiting : ℕ → List SegmentPlan) : Type 0 where
-  pub world : World (run_of input out course.reads start.sources course.sources.items start.outlet course.outlet) ladder course.turns next course.lanes.items course.playlists.items waiting
+-- how many turns rendition k had
+abbrev pub turns_at : {X Y : Type 0} → Course X Y → ℕ → ℕ
+turns_at course k = slice_index_or course.turns.items k 0
+
+-- how many turns all had together
+abbrev pub turns_in : {X Y : Type 0} → Course X Y → ℕ
+turns_in course = sum course.turns.items
+
+-- A run under way. `waiting` are the plans of each rendition that were swapped out and not given yet.
+pub record IsOn {X Y : Type 0} (input : SourceView X) (out : OutletView Y) (ladder : Ladder) (start : Start X Y) (course : Course X Y) (shows : Known) (waiting : ℕ → List SegmentPlan) : Type 0 where
+  pub world : World (run_of input out course.reads start.sources course.sources.items start.outlet course.outlet) ladder (turns_at course) course.lanes.items course.playlists.items waiting
   pub ends : course.ended.items ≡ ends_of (after_all (none_of ladder) world.events)
   pub list : shows.list ≡ start.shows.list ++ shown_by ladder (none_of ladder) world.events
   pub counts : counts_shown shows.list ≡ counts_of course.playlists.items
   pub board : shows.board ≡ start.shows.board
   pub allowed : IsAllowed ladder
   pub limit : course.reads ≡ start.reads
-  pub turns : (k : ℕ) → turns_of course.turns next k ≤ course.reads
+  pub counted : length course.turns.items ≡ length ladder.renditions
+  pub turns : (k : ℕ) → turns_at course k ≤ course.reads
   pub most : course.reads ≤ READS
   pub room : HaveRoom input course.reads start.sources
   pub failures : out.failures start.outlet < 2 ^ 63
@@ -133,26 +141,31 @@ pub record IsStopped {X Y : Type 0} (input : SourceView X) (out : OutletView Y) 
   pub limit : course.reads ≡ start.reads
   pub board : shows.board ≡ start.shows.board
 
--- some run stands here, in which the renditions before `next` had one turn more
-abbrev pub IsRun : {X Y : Type 0} → SourceView X → OutletView Y → ℕ → Course X Y → Type 0
-IsRun {X} {Y} input out next course =
-    (ladder : Ladder) × (start : Start X Y) × (shows : Known) × (waiting : ℕ → List SegmentPlan) × IsOn input out ladder start next course shows waiting
+-- some run stands here
+abbrev pub IsRun : {X Y : Type 0} → SourceView X → OutletView Y → Course X Y → Type 0
+IsRun {X} {Y} input out course =
+    (ladder : Ladder) × (start : Start X Y) × (shows : Known) × (waiting : ℕ → List SegmentPlan) × IsOn input out ladder start course shows waiting
 
--- each run that stands there, before rendition `next`, stands here before rendition `then`
-abbrev pub ReadsOn : {X Y : Type 0} → SourceView X → OutletView Y → ℕ → Course X Y → ℕ → Course X Y → Type 0
-ReadsOn {X} {Y} input out next old then new =
+-- each run that stands there stands here
+abbrev pub ReadsOn : {X Y : Type 0} → SourceView X → OutletView Y → Course X Y → Course X Y → Type 0
+ReadsOn {X} {Y} input out old new =
     (ladder : Ladder) (start : Start X Y) (shows : Known) (waiting : ℕ → List SegmentPlan)
-    → IsOn input out ladder start next old shows waiting → IsOn input out ladder start then new shows waiting
+    → IsOn input out ladder start old shows waiting → IsOn input out ladder start new shows waiting
 
 -- each run that stands there was stopped here for want of memory
-abbrev pub ReadsShort : {X Y : Type 0} → SourceView X → OutletView Y → ℕ → Course X Y → Course X Y → Type 0
-ReadsShort {X} {Y} input out next old new =
+abbrev pub ReadsShort : {X Y : Type 0} → SourceView X → OutletView Y → Course X Y → Course X Y → Type 0
+ReadsShort {X} {Y} input out old new =
     (ladder : Ladder) (start : Start X Y) (shows : Known) (waiting : ℕ → List SegmentPlan)
-    → IsOn input out ladder start next old shows waiting → IsStopped input out ladder start new shows NoMemory
+    → IsOn input out ladder start old shows waiting → IsStopped input out ladder start new shows NoMemory
+
+-- some turns more were had, or nothing was closed
+pub record ReadsMore {X Y : Type 0} (old new : Course X Y) : Type 0 where
+  pub more : turns_in old ≤ turns_in new
+  pub stays : turns_in new ≡ turns_in old → new.lanes ≡ old.lanes
 
 -- the run stands here between two rounds: no plan waits
 abbrev pub IsBetween : {X Y R : Type 0} → SourceView X → OutletView Y → Ladder → Start X Y → Broadcast X Y R → Type 0
-IsBetween input out ladder start at = IsOn input out ladder start 0 at.course at.held.publisher (λ k. [])
+IsBetween input out ladder start at = IsOn input out ladder start at.course at.held.publisher (λ k. [])
 
 -- some run does
 abbrev pub IsSomeBetween : {X Y R : Type 0} → SourceView X → OutletView Y → Ladder → Broadcast X Y R → Type 0
@@ -167,17 +180,13 @@ abbrev pub StopsBetween : {X Y R : Type 0} → SourceView X → OutletView Y →
 StopsBetween {X} {Y} input out ladder old new fault =
     (start : Start X Y) → IsBetween input out ladder start old → IsStopped input out ladder start new.course new.held.publisher fault
 
--- no rendition is read any further: all have stopped, or had all their turns
+-- no rendition is read any further: each has stopped, or had all its turns
 abbrev pub Rests : {X Y : Type 0} → Course X Y → Type 0
-Rests course = (course.reads ≤ course.turns) ⊎ ((k : ℕ) (lane : Lane) → slice_get course.lanes.items k ≡ Some lane → lane.stop ≡ None → ⊥)
+Rests course = (k : ℕ) (lane : Lane) → slice_get course.lanes.items k ≡ Some lane → lane.stop ≡ None → course.reads ≤ turns_at course k
 
 -- a plan of some rendition is closed and not swapped out
 abbrev pub HasClosed : List Lane → Type 0
 HasClosed lanes = (k : ℕ) × (lane : Lane) × (slice_get lanes k ≡ Some lane) × (lane.intake.filled ≢ [])
-
--- some plans are closed, or no rendition is read any further
-abbrev pub HasEnough : {X Y : Type 0} → Course X Y → Type 0
-HasEnough course = HasClosed course.lanes.items ⊎ Rests course
 
 -- nothing is closed and not swapped out
 abbrev pub NoneClosed : List Lane → Type 0

@@ -14,7 +14,7 @@ use Rattle.rounds.specs.declared.giving.broadcast.Broadcast.{Broadcast}
 use Rattle.rounds.specs.declared.round.machine.Round.{Round}
 use Rattle.rounds.specs.declared.run.between.BetweenRounds.{BetweenRounds}
 use Rattle.rounds.specs.declared.run.course.Course.{Course}
-use Rattle.rounds.specs.Courses.{Start, IsBetween, IsOn, IsStopped, HasEnough, ReadsNone}
+use Rattle.rounds.specs.Courses.{Start, IsBetween, IsOn, IsStopped, ReadsMore, ReadsNone}
 use Rattle.rounds.specs.Showing.{counts_of}
 
 -- the plans that a rendition of a collector expects, in order
@@ -54,7 +54,7 @@ unfed_of unfed k = slice_index_or unfed k []
 -- collector stands behind the segments that were given of it.
 pub record InRound {X Y : Type 0} (input : SourceView X) (out : OutletView Y) (ladder : Ladder) (start : Start X Y) (unfed : List (List SegmentPlan)) (course : Course X Y) (shows : Known) (g : Gathering) : Type 0 where
   pub waiting : ℕ → List SegmentPlan
-  pub on : IsOn input out ladder start 0 course shows waiting
+  pub on : IsOn input out ladder start course shows waiting
   pub waits : (k : ℕ) → waiting k ≡ expected (lane_at g k) ++ unfed_of unfed k
   pub each : length g.lanes ≡ length ladder.renditions
   pub all : length unfed ≡ length ladder.renditions
@@ -148,7 +148,7 @@ BreaksAll {X} {Y} input out ladder spools old new fault =
 
 -- the run stands here, and what waits are the plans of these full spools
 abbrev pub IsFull : {X Y R : Type 0} → SourceView X → OutletView Y → Ladder → Start X Y → List (List SegmentPlan) → Broadcast X Y R → Type 0
-IsFull input out ladder start spools at = IsOn input out ladder start 0 at.course at.held.publisher (unfed_of spools)
+IsFull input out ladder start spools at = IsOn input out ladder start at.course at.held.publisher (unfed_of spools)
 
 -- some run does
 abbrev pub IsSomeFull : {X Y R : Type 0} → SourceView X → OutletView Y → Ladder → List (List SegmentPlan) → Broadcast X Y R → Type 0
@@ -158,20 +158,20 @@ IsSomeFull {X} {Y} input out ladder spools at = (start : Start X Y) × IsFull in
 abbrev pub SwapsOut : {X Y : Type 0} → SourceView X → OutletView Y → Course X Y → Course X Y → List (List SegmentPlan) → Type 0
 SwapsOut {X} {Y} input out old new full =
     (ladder : Ladder) (start : Start X Y) (shows : Known)
-    → IsOn input out ladder start 0 old shows (λ k. []) → IsOn input out ladder start 0 new shows (unfed_of full)
+    → IsOn input out ladder start old shows (λ k. []) → IsOn input out ladder start new shows (unfed_of full)
 
 -- each run of which no plan waits was stopped for want of memory
 abbrev pub SwapsShort : {X Y : Type 0} → SourceView X → OutletView Y → Course X Y → Course X Y → Type 0
 SwapsShort {X} {Y} input out old new =
     (ladder : Ladder) (start : Start X Y) (shows : Known)
-    → IsOn input out ladder start 0 old shows (λ k. []) → IsStopped input out ladder start new shows NoMemory
+    → IsOn input out ladder start old shows (λ k. []) → IsStopped input out ladder start new shows NoMemory
 
 -- of each run of which no plan of rendition r waits, those of its full spool wait
 abbrev pub SwapsOne : {X Y : Type 0} → SourceView X → OutletView Y → ℕ → Course X Y → Course X Y → List SegmentPlan → Type 0
 SwapsOne {X} {Y} input out r old new full =
     (ladder : Ladder) (start : Start X Y) (shows : Known) (waiting still : ℕ → List SegmentPlan)
     → waiting r ≡ [] → still r ≡ full → ((k : ℕ) → (k ≡ r → ⊥) → still k ≡ waiting k)
-    → IsOn input out ladder start 0 old shows waiting → IsOn input out ladder start 0 new shows still
+    → IsOn input out ladder start old shows waiting → IsOn input out ladder start new shows still
 
 -- the collector expects nothing yet, and each of its renditions stands behind the segments that were given of it
 abbrev pub IsBehind : {X Y L M R : Type 0} → Ladder → Round X Y L M R → Type 0
@@ -182,9 +182,7 @@ IsBehind ladder at = at.collector.lanes ≡ lanes_from 0 (map (λ (r : Rendition
 pub record IsDriven {X Y R : Type 0} (input : SourceView X) (out : OutletView Y) (ladder : Ladder) (spools : List (List SegmentPlan))
     (old : Broadcast X Y R) (right : ℕ) (new : Broadcast X Y R) (right_now : ℕ) : Type 0 where
   pub on : (start : Start X Y) → IsFull input out ladder start spools old → IsBetween input out ladder start new
-  pub enough : HasEnough new.course
-  pub turns : old.course.turns ≤ new.course.turns
-  pub stays : new.course.turns ≡ old.course.turns → new.course.lanes ≡ old.course.lanes
+  pub further : ReadsMore old.course new.course
   pub fair : right_now + sum (counts_of old.course.playlists.items) ≤ right + sum (counts_of new.course.playlists.items)
 
 -- a round whose numbers stand in the books

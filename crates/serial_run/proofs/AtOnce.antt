@@ -17,7 +17,7 @@ use Rattle.ladder_items.specs.Weave.{AreLegal, after_all, blocks, none_of}
 use Rattle.ladder_items.specs.Runs.{run_of}
 use Rattle.ladder_items.specs.Putting.{SaysFailures}
 use Rattle.ladder_items.specs.Lanes.{IsClosed, HasGiven}
-use Rattle.ladder_items.specs.World.{NothingDue, stream_at}
+use Rattle.ladder_items.specs.World.{NothingDue, stream_at, turns_of}
 use Rattle.ladder_items.specs.Packed.{told_of}
 use Rattle.ladder_items.proofs.Elsewhere.{some-at}
 use Rattle.ladder_items.proofs.Stages.{stage-given, turns-none}
@@ -42,7 +42,7 @@ told-unheld k (Some (Cut PassesLimit)) e r n told is = cc
 module _ (X Y : Type 0) (input : SourceView X) (out : OutletView Y) (most_reads : ℕ) (ladder : Ladder) where
   -- what a rendition had given
   given-at : (rounds next : ℕ) (before now : List X) (lanes : List Lane) (shown : List Shown) (x y : Y)
-      (d : NothingDue (run_of input out most_reads before now x y) ladder rounds next lanes shown) (k : ℕ) → k < length ladder.renditions
+      (d : NothingDue (run_of input out most_reads before now x y) ladder (turns_of rounds next) lanes shown) (k : ℕ) → k < length ladder.renditions
       → (stop : Option Stop) × HasGiven stop ladder k (stream_at d.world.streams k) (part_at (parts-of ladder d.world.events) k)
   given-at rounds next before now lanes shown x y d k within =
       let w = d.world in
@@ -53,7 +53,7 @@ module _ (X Y : Type 0) (input : SourceView X) (out : OutletView Y) (most_reads 
 
   -- a turn of rendition r was cut off, in which it had read this piece
   pub cut-at-once : (rounds next r : ℕ) (before now after : List X) (lanes : List Lane) (shown : List Shown) (x y z : Y) (piece : List ℕ)
-      (d : NothingDue (run_of input out most_reads before now x y) ladder rounds next lanes shown) → r < length ladder.renditions → length piece ≤ 18800
+      (d : NothingDue (run_of input out most_reads before now x y) ladder (turns_of rounds next) lanes shown) → r < length ladder.renditions → length piece ≤ 18800
       → CutBehind (run_of input out most_reads before after x z) ladder (set d.world.streams r (stream_at d.world.streams r ++ piece)) (blocks ladder (none_of ladder) d.world.events)
       → IsCutAtOnce (run_of input out most_reads before after x z) ladder
   cut-at-once rounds next r before now after lanes shown x y z piece d within short c =
@@ -76,10 +76,10 @@ module _ (X Y : Type 0) (input : SourceView X) (out : OutletView Y) (most_reads 
 
   -- the run was stopped between two turns
   pub stop-at-once : (rounds : ℕ) (before now : List X) (lanes : List Lane) (shown : List Shown) (x y : Y) → rounds ≤ most_reads
-      → IsAllowed ladder → NothingDue (run_of input out most_reads before now x y) ladder rounds 0 lanes shown → IsCutAtOnce (run_of input out most_reads before now x y) ladder
+      → IsAllowed ladder → NothingDue (run_of input out most_reads before now x y) ladder (turns_of rounds 0) lanes shown → IsCutAtOnce (run_of input out most_reads before now x y) ladder
   stop-at-once rounds before now lanes shown x y few allowed d =
       let w = d.world in
-      let c = (world-stop X Y input out most_reads ladder rounds 0 before now lanes shown _ x y (λ k. omega (arith, turns-none rounds k, few)) allowed w).0 in
+      let c = (world-stop X Y input out most_reads ladder (turns_of rounds 0) before now lanes shown _ x y (λ k. omega (arith, turns-none rounds k, few)) allowed w).0 in
       record {
         cut = c.cut;
         in_turn = 0;

@@ -20,10 +20,10 @@ use Rattle.ladder_items.specs.Weave.{after_all, blocks, none_of}
 use Rattle.ladder_items.specs.Giving.{AreNextPlans}
 use Rattle.ladder_items.specs.Runs.{run_of}
 use Rattle.ladder_items.specs.Putting.{PutAll, PutSome}
-use Rattle.ladder_items.specs.World.{NothingDue, World, stream_at}
+use Rattle.ladder_items.specs.World.{NothingDue, World, stream_at, turns_of}
 use Rattle.ladder_items.proofs.Elsewhere.{set-here, set-elsewhere, set-there, all-other}
 use Rattle.ladder_items.proofs.Rows.{after_all-append}
-use Rattle.ladder_items.proofs.Stages.{turns-most}
+use Rattle.ladder_items.proofs.Stages.{turns-now, turns-then, turns-other, turns-all, turns-none, turns-more, turns-most}
 use Rattle.ladder_items.proofs.Worlds.{InOrder, parts-of, parts-length, stage-at, world-read, world-gave, world-unread, world-ungiven, world-skip, world-round, world-first, at-default}
 use Rattle.serial_run.specs.Dues.{due}
 use Rattle.serial_run.specs.OneThread.{IsCutAtOnce}
@@ -37,8 +37,8 @@ set-twice (z ∷ xs) (suc r) x y = ap (λ l. z ∷ l) (set-twice xs r x y)
 
 module _ (X Y : Type 0) (input : SourceView X) (out : OutletView Y) (most_reads : ℕ) (ladder : Ladder) where
   -- rendition r has read, and not given yet
-  pub record HasRead (rounds r : ℕ) (before now : List X) (lanes : List Lane) (shown : List Shown) (x y : Y) (c : X) (moved : Lane) (d : NothingDue (run_of input out most_reads before now x y) ladder rounds r lanes shown) (piece : List ℕ) : Type 1 where
-    pub world : World (run_of input out most_reads before (set now r c) x y) ladder rounds (r + 1) (set lanes r moved) shown (λ k. [])
+  pub record HasRead (rounds r : ℕ) (before now : List X) (lanes : List Lane) (shown : List Shown) (x y : Y) (c : X) (moved : Lane) (d : NothingDue (run_of input out most_reads before now x y) ladder (turns_of rounds r) lanes shown) (piece : List ℕ) : Type 1 where
+    pub world : World (run_of input out most_reads before (set now r c) x y) ladder (turns_of rounds (r + 1)) (set lanes r moved) shown (λ k. [])
     pub streams_are : world.streams ≡ set d.world.streams r (stream_at d.world.streams r ++ piece)
     pub events_are : world.events ≡ d.world.events
     pub within : r < length lanes
@@ -48,13 +48,14 @@ module _ (X Y : Type 0) (input : SourceView X) (out : OutletView Y) (most_reads 
 
   pub has-read : (rounds r : ℕ) (before now : List X) (lanes : List Lane) (shown : List Shown) (x y : Y) (b c : X) (lane moved : Lane)
       → slice_get now r ≡ Some b → slice_get lanes r ≡ Some lane → lane.stop ≡ None → (turn : IsTurned input b c lane moved) → InOrder ladder
-      → (d : NothingDue (run_of input out most_reads before now x y) ladder rounds r lanes shown) → HasRead rounds r before now lanes shown x y c moved d turn.piece
+      → (d : NothingDue (run_of input out most_reads before now x y) ladder (turns_of rounds r) lanes shown) → HasRead rounds r before now lanes shown x y c moved d turn.piece
   has-read rounds r before now lanes shown x y b c lane moved f g goes_on turn order d =
-      let v = world-read X Y input out most_reads ladder rounds r before now lanes shown _ x y b c lane moved f g goes_on turn d.world in
+      let v = world-read X Y input out most_reads ladder (turns_of rounds r) (turns_of rounds (r + 1)) r before now lanes shown _ x y b c lane moved f g goes_on turn
+      (turns-then rounds r ∙ ap (λ n. n + 1) (sym (turns-now rounds r))) (turns-other rounds r) d.world in
       let w = v.0 in
       let within : r < length lanes = slice_get_within lanes r lane g in
       let below : r < length now = slice_get_within now r b f in
-      let s = stage-at X Y input out most_reads ladder rounds (r + 1) before (set now r c) (set lanes r moved) shown _ x y w r c moved (set-there now r c below) (set-there lanes r moved within) in
+      let s = stage-at X Y input out most_reads ladder (turns_of rounds (r + 1)) before (set now r c) (set lanes r moved) shown _ x y w r c moved (set-there now r c below) (set-there lanes r moved within) in
       let gap = sym (append-nil _) ∙ s.2.gap in
       let each = parts-length ladder w.events in
       let going : (part_at (parts-of ladder w.events) r).ended ≡ false =
@@ -76,11 +77,11 @@ module _ (X Y : Type 0) (input : SourceView X) (out : OutletView Y) (most_reads 
 
   -- all that was due was given
   pub due-step : (rounds r : ℕ) (before now : List X) (lanes : List Lane) (shown then : List Shown) (x y z : Y) (c : X) (lane moved gave : Lane)
-      → slice_get lanes r ≡ Some lane → (d : NothingDue (run_of input out most_reads before now x y) ladder rounds r lanes shown) (piece : List ℕ)
+      → slice_get lanes r ≡ Some lane → (d : NothingDue (run_of input out most_reads before now x y) ladder (turns_of rounds r) lanes shown) (piece : List ℕ)
       → HasRead rounds r before now lanes shown x y c moved d piece
       → ((parts : List Part) → AreNextPlans ladder r parts shown moved.intake.filled → PutAll out y z (blocks ladder parts (due r moved)) × (then ≡ shown_all ladder (after_all parts (due r moved))))
       → gave.stop ≡ moved.stop → gave.intake ≡ record moved.intake { turned = moved.intake.turned ++ moved.intake.filled; filled = [] }
-      → NothingDue (run_of input out most_reads before (set now r c) x z) ladder rounds (r + 1) (set lanes r gave) then
+      → NothingDue (run_of input out most_reads before (set now r c) x z) ladder (turns_of rounds (r + 1)) (set lanes r gave) then
   due-step rounds r before now lanes shown then x y z c lane moved gave g d piece h given stop intake =
       let w = h.world in
       let parts = parts-of ladder w.events in
@@ -89,7 +90,7 @@ module _ (X Y : Type 0) (input : SourceView X) (out : OutletView Y) (most_reads 
       let of_r = due-are-of ladder r parts shown moved h.next.goes_on in
       let turned = ap (λ (t : Taken). t.turned) intake in
       let filled = ap (λ (t : Taken). t.filled) intake in
-      let v = world-gave X Y input out most_reads ladder rounds (r + 1) r before (set now r c) (set lanes r moved) shown then (λ k. []) (λ k. []) x y z moved gave (due r moved) w
+      let v = world-gave X Y input out most_reads ladder (turns_of rounds (r + 1)) r before (set now r c) (set lanes r moved) shown then (λ k. []) (λ k. []) x y z moved gave (due r moved) w
       (set-there lanes r moved h.within) of_r puts.0 puts.1 (record {
         stop = stop;
         intake = intake ∙ ap (λ (t : Taken). record moved.intake { turned = t.turned; filled = t.filled }) (sym intake);
@@ -99,7 +100,7 @@ module _ (X Y : Type 0) (input : SourceView X) (out : OutletView Y) (most_reads 
       }) (λ k other. refl) in
       let twice = set-twice lanes r moved gave in
       let all : parts-of ladder v.0.events ≡ after_all parts (due r moved) = ap (parts-of ladder) v.1 ∙ after_all-append (none_of ladder) w.events (due r moved) in
-      subst (λ (ls : List Lane). NothingDue (run_of input out most_reads before (set now r c) x z) ladder rounds (r + 1) ls then) twice (record {
+      subst (λ (ls : List Lane). NothingDue (run_of input out most_reads before (set now r c) x z) ladder (turns_of rounds (r + 1)) ls then) twice (record {
         world = v.0;
         filled = λ k l at.
             elim (cases_eq k r) as (λ _. l.intake.filled ≡ []) [
@@ -123,7 +124,7 @@ module _ (X Y : Type 0) (input : SourceView X) (out : OutletView Y) (most_reads 
 
   -- what was due was given in part
   pub due-cut : (rounds r : ℕ) (before now : List X) (lanes : List Lane) (shown : List Shown) (x y z : Y) (c : X) (lane moved : Lane)
-      → (d : NothingDue (run_of input out most_reads before now x y) ladder rounds r lanes shown) (piece : List ℕ) → length piece ≤ 18800
+      → (d : NothingDue (run_of input out most_reads before now x y) ladder (turns_of rounds r) lanes shown) (piece : List ℕ) → length piece ≤ 18800
       → HasRead rounds r before now lanes shown x y c moved d piece
       → ((parts : List Part) → AreNextPlans ladder r parts shown moved.intake.filled → PutSome out y z (blocks ladder parts (due r moved)))
       → rounds < most_reads → IsAllowed ladder
@@ -133,7 +134,7 @@ module _ (X Y : Type 0) (input : SourceView X) (out : OutletView Y) (most_reads 
       let parts = parts-of ladder w.events in
       let part = due-part ladder r parts shown moved h.next.goes_on in
       let whole = ap (λ (p : Part). p.plans) part ∙ (ap (λ (l : List SegmentPlan). l ++ moved.intake.filled) h.gap ∙ h.made) in
-      let cut = (world-ungiven X Y input out most_reads ladder rounds (r + 1) r before (set now r c) (set lanes r moved) shown _ x y z moved (due r moved)
+      let cut = (world-ungiven X Y input out most_reads ladder (turns_of rounds (r + 1)) r before (set now r c) (set lanes r moved) shown _ x y z moved (due r moved)
       (set-there lanes r moved h.within) (λ k. omega (arith, turns-most rounds (r + 1) k, below)) allowed w (due-are-of ladder r parts shown moved h.next.goes_on) (given parts h.next)
       (record { plans = ([], sym (append-nil _ ∙ whole)); ended = λ e. (sym (ap (λ (p : Part). p.ended) part) ∙ e, whole) })).0 in
       cut-at-once X Y input out most_reads ladder rounds r r before now (set now r c) lanes shown x y z piece d (omega (arith, h.within, d.world.same_lanes)) short
@@ -148,35 +149,36 @@ module _ (X Y : Type 0) (input : SourceView X) (out : OutletView Y) (most_reads 
       → slice_get now r ≡ Some b → slice_get lanes r ≡ Some lane → lane.stop ≡ None → IsRead input b c piece → input.failures c ≡ input.failures b
       → ((s more : List ℕ) → IsBeginning (closed_of r ladder.cut s) (closed_of r ladder.cut (s ++ more)))
       → rounds < most_reads → IsAllowed ladder
-      → NothingDue (run_of input out most_reads before now x y) ladder rounds r lanes shown
+      → NothingDue (run_of input out most_reads before now x y) ladder (turns_of rounds r) lanes shown
       → IsCutAtOnce (run_of input out most_reads before (set now r c) x y) ladder
   read-cut rounds r before now lanes shown x y b c lane piece f g goes_on read unfailed grow below allowed d =
       cut-at-once X Y input out most_reads ladder rounds r r before now (set now r c) lanes shown x y y piece d (omega (arith, slice_get_within lanes r lane g, d.world.same_lanes)) read.short
-      (world-unread X Y input out most_reads ladder rounds r r before now lanes shown _ x y b c lane piece f g goes_on read unfailed grow refl below allowed d.world).0
+      (world-unread X Y input out most_reads ladder (turns_of rounds r) r before now lanes shown _ x y b c lane piece f g goes_on read unfailed grow
+      (omega (arith, turns-now rounds r, below)) (λ k. omega (arith, turns-most rounds r k, below)) allowed d.world).0
 
   -- rendition r had stopped
   pub due-skip : (rounds r : ℕ) (before now : List X) (lanes : List Lane) (shown : List Shown) (x y : Y) (lane : Lane)
       → slice_get lanes r ≡ Some lane → (lane.stop ≡ None → ⊥)
-      → NothingDue (run_of input out most_reads before now x y) ladder rounds r lanes shown → NothingDue (run_of input out most_reads before now x y) ladder rounds (r + 1) lanes shown
+      → NothingDue (run_of input out most_reads before now x y) ladder (turns_of rounds r) lanes shown → NothingDue (run_of input out most_reads before now x y) ladder (turns_of rounds (r + 1)) lanes shown
   due-skip rounds r before now lanes shown x y lane g stopped d =
-      let v = world-skip X Y input out most_reads ladder rounds r before now lanes shown _ x y lane g stopped d.world in
+      let v = world-skip X Y input out most_reads ladder (turns_of rounds r) (turns_of rounds (r + 1)) r before now lanes shown _ x y lane g stopped (turns-more rounds r) (turns-other rounds r) d.world in
       record { world = v.0; filled = d.filled; ended = λ k l at. ap (λ events. (part_at (parts-of ladder events) k).ended) v.1 ∙ d.ended k l at }
 
   -- each rendition had its turn
   pub due-round : (rounds n : ℕ) (before now : List X) (lanes : List Lane) (shown : List Shown) (x y : Y) → length ladder.renditions ≤ n
-      → NothingDue (run_of input out most_reads before now x y) ladder rounds n lanes shown → NothingDue (run_of input out most_reads before now x y) ladder (rounds + 1) 0 lanes shown
+      → NothingDue (run_of input out most_reads before now x y) ladder (turns_of rounds n) lanes shown → NothingDue (run_of input out most_reads before now x y) ladder (turns_of (rounds + 1) 0) lanes shown
   due-round rounds n before now lanes shown x y all d =
-      let v = world-round X Y input out most_reads ladder rounds n before now lanes shown _ x y all d.world in
+      let v = world-round X Y input out most_reads ladder (turns_of rounds n) (turns_of (rounds + 1) 0) before now lanes shown _ x y (λ k below. turns-all rounds n k (omega (arith, below, all))) d.world in
       record { world = v.0; filled = d.filled; ended = λ k l at. ap (λ events. (part_at (parts-of ladder events) k).ended) v.1 ∙ d.ended k l at }
 
   -- before the first turn
   pub due-first : (before : List X) (lanes : List Lane) (shown : List Shown) (x : Y) → length before ≡ length ladder.renditions → length lanes ≡ length ladder.renditions
       → ((k : ℕ) (lane : Lane) → slice_get lanes k ≡ Some lane → IsFirst k ladder.cut lane) → shown ≡ shown_all ladder (none_of ladder)
       → ((k : ℕ) → closed_of k ladder.cut [] ≡ [])
-      → NothingDue (run_of input out most_reads before before x x) ladder 0 0 lanes shown
+      → NothingDue (run_of input out most_reads before before x x) ladder (turns_of 0 0) lanes shown
   unfolding after_all
   due-first before lanes shown x same each first is none =
-      let v = world-first X Y input out most_reads ladder before lanes shown x same each first is none in
+      let v = world-first X Y input out most_reads ladder (turns_of 0 0) before lanes shown x same each first is none (λ k below. turns-none 0 k) in
       record {
         world = v.0;
         filled = λ k lane at. ap (λ (t : Taken). t.filled) (first k lane at).intake;

@@ -6,6 +6,10 @@ mod fixtures;
 #[cfg(test)]
 mod gates;
 #[cfg(test)]
+mod pause_tests;
+#[cfg(test)]
+mod pausing;
+#[cfg(test)]
 mod run_jobs;
 #[cfg(test)]
 mod run_tests;

@@ -3,7 +3,7 @@
 ghost use Rattle.std.specs.Prelude.{◌≡◌, ◌<◌, ◌≤◌, IfErr, IfOk, OnOk, length, map};
 ghost use Rattle.flow_core.specs.Gatherings.{lanes_from};
 ghost use Rattle.ladder_items.specs.Ladder.{RenditionValue};
-ghost use Rattle.rounds.specs.Courses.{HasEnough};
+ghost use Rattle.rounds.specs.Courses.{ReadsMore};
 ghost use Rattle.rounds.specs.Rounds.{Breaks, IsBehind, IsBroken, IsDriven, IsFair, IsSomeFull, IsSomewhere, Moves};
 ghost use Rattle.rounds.specs.Showing.{counts_of};
 ghost use Rattle.item_io.specs.declared.limits.TheConstants.{PIECE};
@@ -46,7 +46,8 @@ impl<'d, 's, 'r, S: Source, O: Outlet, L: Ledger, M: Ledger, R: Wait> Round<
     M,
     R,
 > {
-    /// Drives the round: feeds the plans of the full spools, reads the next round, and gives every segment in sequence.
+    /// Drives the round: feeds the plans of the full spools, reads for the next round what is ready, and gives every segment in
+    /// sequence.
     pub fn drive(
         &mut self,
         settings: &Settings,
@@ -67,7 +68,7 @@ impl<'d, 's, 'r, S: Source, O: Outlet, L: Ledger, M: Ledger, R: Wait> Round<
         Ok(())
     }
 
-    /// Reads the next round, and between turns gives what is ready.
+    /// Reads what is ready, until enough is closed for the next round, and between turns gives what has come sealed.
     fn read_on(
         &mut self,
         settings: &Settings,
@@ -79,20 +80,20 @@ impl<'d, 's, 'r, S: Source, O: Outlet, L: Ledger, M: Ledger, R: Wait> Round<
         requires somewhere { IsSomewhere S.input O.output settings.now self.old }
         ensures ok { OnOk result (Moves S.input O.output settings.now self.old self.new) }
         ensures err { IfErr result (Breaks S.input O.output settings.now self.old self.new) }
-        ensures enough { OnOk result (HasEnough self.new.broadcast.course) }
-        ensures turns { OnOk result (self.old.broadcast.course.turns ≤ self.new.broadcast.course.turns) }
-        ensures stays { OnOk result (self.new.broadcast.course.turns ≡ self.old.broadcast.course.turns
-            → self.new.broadcast.course.lanes ≡ self.old.broadcast.course.lanes) }
+        ensures further { OnOk result (ReadsMore self.old.broadcast.course self.new.broadcast.course) }
         ensures fair { OnOk result (IsFair self.old self.new) }
     {
-        while !self
-            .broadcast
-            .course
-            .is_enough(pace, self.collector.awaited())
-        {
-            self.broadcast.course.read_turn(buffer)?;
+        let rt = self.broadcast.held.rt;
+        for _ in rt.forever() {
+            let awaited = self.collector.awaited();
+            if self.broadcast.course.is_enough(pace, awaited) {
+                return Ok(());
+            }
+            if !self.broadcast.course.read_ready(buffer)? {
+                return Ok(());
+            }
             self.take_and_give(settings)?;
         }
-        Ok(())
+        unreachable!()
     }
 }

@@ -83,7 +83,7 @@ pub fn closed<'r, S, O, M: Ledger, R: Wait>(
 ) -> (BetweenRounds<'r, S, O, R>, Result<(), PackFault>)
     requires each { length claims.now ≡ length ended.between.books.workers.items }
     requires balanced { sum claims.now ≡ ended.taker.pass.count + left }
-    requires rounds { ended.between.books.rounds < 2 ^ 41 }
+    requires rounds { ended.between.books.rounds < 2 ^ 46 }
     ensures broadcast { result.0.broadcast ≡ ended.entry.between.broadcast }
     ensures answer { result.1 ≡ ended.entry.answer }
     ensures rounds { result.0.books.rounds ≡ ended.entry.between.books.rounds + 1 }

@@ -23,7 +23,7 @@ pub fn joined<'r, S, O, L: Ledger, M: Ledger, R: Threads + Wait>(
     requires each { (vec_len running ≤ length claims.items) × (length claims.items ≡ length ended.between.books.workers.items) }
     requires none { (sum claims.items ≡ 0) × (rest.amount ≡ 0) }
     requires parts { (rest.parts + vec_len running ≡ L.parts) × (M.parts ≡ 1) }
-    requires rounds { ended.between.books.rounds < 2 ^ 41 }
+    requires rounds { ended.between.books.rounds < 2 ^ 46 }
     ensures broadcast { result.0.broadcast ≡ ended.entry.between.broadcast }
     ensures answer { result.1 ≡ ended.entry.answer }
     ensures rounds { result.0.books.rounds ≡ ended.entry.between.books.rounds + 1 }

@@ -42,7 +42,7 @@ pub fn in_scope<
     requires none { (crew.rest.amount ≡ 0) × (M.parts ≡ 1) }
     requires unclaimed { (sum crew.claims.items ≡ 0) × (length crew.claims.items ≡ vec_len crew.workers) }
     requires booked { length crew.claims.items ≡ length between.books.workers.items }
-    requires rounds { between.books.rounds < 2 ^ 41 }
+    requires rounds { between.books.rounds < 2 ^ 46 }
     ensures ok { OnOk result.1 (IsRound S.input O.output setup.now.settings.now spools.now between.entry result.0) }
     ensures err { IfErr result.1 (IsBroken S.input O.output setup.now.settings.now spools.now between.entry.broadcast result.0.broadcast) }
 {
@@ -57,7 +57,7 @@ pub fn in_scope<
                 × IsSomeFull S.input O.output setup.now.settings.now spools.now between.broadcast
                 × (crew.taker.count ≡ 0) × (crew.rest.parts + vec_len crew.workers ≡ L.parts) × (crew.rest.amount ≡ 0) × (M.parts ≡ 1)
                 × (sum crew.claims.items ≡ 0) × (length crew.claims.items ≡ vec_len crew.workers)
-                × (length crew.claims.items ≡ length between.books.workers.items) × (between.books.rounds < 2 ^ 41) }
+                × (length crew.claims.items ≡ length between.books.workers.items) × (between.books.rounds < 2 ^ 46) }
             ensures ok { OnOk result.1 (IsRound S.input O.output setup.entry.now.settings.now spools.entry.now between.entry result.0) }
             ensures err { IfErr result.1 (IsBroken S.input O.output setup.entry.now.settings.now spools.entry.now between.entry.broadcast result.0.broadcast) }
         {

@@ -18,8 +18,8 @@ use std::sync::ledger::{Blank, Ledger};
 use std::thread::Threads;
 use work_desk::{Desk, Gate, Opened};
 
-/// Runs a round: the workers seal the plans of the full spools, which are given in sequence, and meanwhile the next round is
-/// read until enough of it is closed.
+/// Runs a round: the workers seal the plans of the full spools, which are given in sequence, and meanwhile what is ready is read
+/// for the next round.
 pub fn run_round<'r, S: Source + Drop, O: Outlet + Drop, G: Gate + Sync, R: Threads + Wait + Sync>(
     setup: &Setup<'_, G, R>,
     keys: &[Keys],
@@ -29,7 +29,7 @@ pub fn run_round<'r, S: Source + Drop, O: Outlet + Drop, G: Gate + Sync, R: Thre
     requires each { length spools.now ≡ length setup.now.settings.now.renditions }
     requires on { IsSomeFull S.input O.output setup.now.settings.now spools.now between.broadcast }
     requires workers { length between.books.workers.items ≡ setup.now.workers }
-    requires rounds { between.books.rounds < 2 ^ 41 }
+    requires rounds { between.books.rounds < 2 ^ 46 }
     ensures ok { OnOk result.1 (IsRound S.input O.output setup.now.settings.now spools.now between.entry result.0) }
     ensures err { IfErr result.1 (IsBroken S.input O.output setup.now.settings.now spools.now between.entry.broadcast result.0.broadcast) }
 {
@@ -58,7 +58,7 @@ fn round_with<
     requires each { length spools.now ≡ length setup.now.settings.now.renditions }
     requires on { IsSomeFull S.input O.output setup.now.settings.now spools.now between.broadcast }
     requires workers { length between.books.workers.items ≡ setup.now.workers }
-    requires rounds { between.books.rounds < 2 ^ 41 }
+    requires rounds { between.books.rounds < 2 ^ 46 }
     requires claims { (claims.name ≡ L.name) × (claims.parts ≡ L.parts) × (L.parts ≡ setup.now.workers) }
     requires takes { (takes.name ≡ M.name) × (takes.parts ≡ M.parts) × (M.parts ≡ 1) }
     ensures ok { OnOk result.1 (IsRound S.input O.output setup.now.settings.now spools.now between.entry result.0) }

@@ -38,7 +38,7 @@ impl Books {
         requires each { length claims.now ≡ length self.old.workers.items }
         requires balanced { sum claims.now ≡ right + thrown }
         requires few { thrown ≤ 2 ^ 65 }
-        requires rounds { self.old.rounds < 2 ^ 41 }
+        requires rounds { self.old.rounds < 2 ^ 46 }
         ensures rounds { self.new.rounds ≡ self.old.rounds + 1 }
         ensures right { self.new.right ≡ self.old.right + right }
         ensures thrown { self.new.thrown ≡ self.old.thrown + thrown }

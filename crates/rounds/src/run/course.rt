@@ -12,8 +12,8 @@ pub struct Course<S, O> {
     /// Whether the rendition's end has been given.
     pub ended: Vec<bool>,
     pub outlet: O,
-    /// How many turns each rendition that goes on has had.
-    pub turns: u64,
+    /// How many turns the rendition has had.
+    pub turns: Vec<u64>,
     /// At most how many reads of an input may return bytes.
     pub reads: u64,
 }

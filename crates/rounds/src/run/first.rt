@@ -18,6 +18,8 @@ pub struct First {
     pub playlists: Vec<Playlists>,
     /// Whether the rendition's end has been given.
     pub ended: Vec<bool>,
+    /// How many turns the rendition has had.
+    pub turns: Vec<u64>,
     pub spare: Vec<Spool>,
     pub keys: Vec<Keys>,
     pub books: Books,
@@ -33,6 +35,7 @@ pub fn beginning(alloc: Global, settings: &Settings, workers: usize) -> Result<F
         lanes: first_lanes(alloc, settings)?,
         playlists: first_playlists(alloc, settings)?,
         ended,
+        turns: no_turns(alloc, settings.renditions.len())?,
         spare,
         keys: copy_keys(alloc, &settings.renditions)?,
         books: Books::new(alloc, workers)?,
@@ -51,6 +54,13 @@ fn open_ends(alloc: Global, renditions: usize) -> Result<(Vec<bool>, Vec<Spool>)
         spare.push(Spool::new(alloc))?;
     }
     Ok((ended, spare))
+}
+
+/// For each rendition, that it had no turn.
+fn no_turns(alloc: Global, renditions: usize) -> Result<Vec<u64>, AllocError>
+    ensures { IfOk result (λ turns. turns.items ≡ replicate renditions 0) }
+{
+    vec![in alloc; 0; renditions]
 }
 
 /// A copy of the keys of each rendition.

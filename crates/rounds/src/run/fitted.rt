@@ -1,12 +1,11 @@
-//! A run that fits: it reads until there is enough for a first round, goes from round to round, and answers.
+//! A run that fits: it goes from round to round, and answers.
 
-ghost use Rattle.std.specs.Prelude.{◌≡◌, ◌<◌, ◌≤◌, ◌^◌, ℕ, IfErr, IfOk, OnOk, length, sum};
+ghost use Rattle.std.specs.Prelude.{◌≡◌, ◌<◌, ◌≤◌, ◌^◌, ℕ, IfErr, IfOk};
 ghost use Rattle.ladder_items.specs.Ladder.{Ladder};
 ghost use Rattle.ladder_items.specs.World.{HaveRoom};
 ghost use Rattle.rounds.specs.Begun.{IsBegun};
-ghost use Rattle.rounds.specs.Courses.{IsAllGiven, IsBetween, IsSomeBetween, StaysBetween, StopsBetween};
+ghost use Rattle.rounds.specs.Courses.{IsBetween};
 ghost use Rattle.rounds.specs.Shown.{EndsFaulted, EndsPacked, FitsStart, start_at};
-ghost use Rattle.rounds.specs.Showing.{counts_of};
 ghost use Rattle.item_io.specs.declared.limits.TheConstants.{READS};
 
 use crate::giving::broadcast::Broadcast;
@@ -18,8 +17,7 @@ use crate::run::reporting::answer_of;
 use crate::run::rounds_loop::run_rounds;
 use crate::run::setup::{Endpoints, Setup};
 use cutter::Spool;
-use item_io::{Outlet, PIECE, Source};
-use ladder_items::PackFault;
+use item_io::{Outlet, Source};
 use live_board::HeldPublisher;
 use segment_job::Keys;
 use std::sync::Wait;
@@ -45,6 +43,7 @@ fn set_out<'r, S: Source, O: Outlet, R: Wait>(
         lanes,
         playlists,
         ended,
+        turns,
         spare,
         keys,
         books,
@@ -61,7 +60,7 @@ fn set_out<'r, S: Source, O: Outlet, R: Wait>(
         playlists,
         ended,
         outlet,
-        turns: 0,
+        turns,
         reads,
     };
     let held = HeldPublisher { publisher, rt };
@@ -85,7 +84,7 @@ pub fn pack_fitted<S: Source + Drop, O: Outlet + Drop, G: Gate + Sync, R: Thread
     ensures board { result.publisher.board ≡ endpoints.publisher.board }
 {
     let (between, spare, keys) = set_out(setup.rt, first, endpoints);
-    let (between, answer) = run(setup, &keys, spare, between);
+    let (between, answer) = run_rounds(setup, &keys, spare, between);
     let BetweenRounds { broadcast, books } = between;
     if let Err(fault) = answer {
         return give_back(broadcast, Err(fault));
@@ -97,34 +96,4 @@ pub fn pack_fitted<S: Source + Drop, O: Outlet + Drop, G: Gate + Sync, R: Thread
         books,
     );
     give_back(broadcast, answer)
-}
-
-/// Reads until there is enough for a first round, then goes from round to round until everything is given.
-fn run<'r, S: Source + Drop, O: Outlet + Drop, G: Gate + Sync, R: Threads + Wait + Sync>(
-    setup: &Setup<'_, G, R>,
-    keys: &[Keys],
-    spare: Vec<Spool>,
-    between: BetweenRounds<'r, S, O, R>,
-) -> (BetweenRounds<'r, S, O, R>, Result<(), PackFault>)
-    requires each { length spare.items ≡ length setup.now.settings.now.renditions }
-    requires on { IsSomeBetween S.input O.output setup.now.settings.now between.broadcast }
-    requires workers { length between.books.workers.items ≡ setup.now.workers }
-    requires first { (between.books.rounds ≡ 0) × (between.books.right ≡ 0) }
-    ensures ok { OnOk result.1 (StaysBetween S.input O.output setup.now.settings.now between.entry.broadcast result.0.broadcast) }
-    ensures err { IfErr result.1 (StopsBetween S.input O.output setup.now.settings.now between.entry.broadcast result.0.broadcast) }
-    ensures all { OnOk result.1 (IsAllGiven result.0.broadcast.course) }
-    ensures right { OnOk result.1 (result.0.books.right ≤ sum (counts_of result.0.broadcast.course.playlists.items)) }
-    ensures workers { OnOk result.1 (length result.0.books.workers.items ≡ setup.now.workers) }
-{
-    let BetweenRounds {
-        mut broadcast,
-        books,
-    } = between;
-    let mut buffer = [0; PIECE];
-    let read = broadcast.course.read_first(setup.pace.least, &mut buffer);
-    let between = BetweenRounds { broadcast, books };
-    if let Err(_) = read {
-        return (between, Err(PackFault::NoMemory));
-    }
-    run_rounds(setup, keys, spare, between)
 }

@@ -6,7 +6,7 @@ ghost use Rattle.std.specs.Option.{unwrap_or};
 /// How many closed segments, over all renditions, begin the next round.
 #[derive(Clone, Copy)]
 pub struct Pace {
-    /// How many are enough once all of the round before has been given.
+    /// How many are enough once all of the round before has been given. One is, where no source is ready.
     pub least: usize,
     /// How many are enough at any time.
     pub most: usize,

@@ -21,7 +21,7 @@ use std::thread::Threads;
 use work_desk::Gate;
 
 /// Packs the streams of all inputs, one for each rendition, on many threads: `workers` threads seal, and the calling thread
-/// reads, gives and publishes.
+/// reads, gives and publishes. It reads from a source only when it's ready, so that none holds up another.
 ///
 /// For each rendition it gives what `pack_serial` gives, in the same order; between renditions the order may differ. After the
 /// four items of each segment and the two of each end it publishes one snapshot. Sources, publisher and outlet come back with
@@ -90,11 +90,11 @@ pub fn pack_parallel_reads<
 
 /// Packs as `pack_parallel_reads` does, with rounds of `batch` segments.
 ///
-/// A round is read until `batch` segments are closed over all renditions, and at least one, or until there is one for each
-/// worker and all of the round before has been given; then they are sealed and given while the next round is read. With a batch
-/// of 1, a segment of a live stream waits for no other; with fewer than there are workers, some workers are idle in most rounds;
-/// with more, workers wait less often for each other, and more segments are held at a time. The default is the number of
-/// workers, or how many segments may be outstanding if that is less. No clause depends on it.
+/// A round begins once `batch` segments are closed over all renditions, or, when all of the round before has been given, once there
+/// is one for each worker, or at least one and no source is ready. While a round is sealed and given, the next one is read. With a
+/// batch of 1, a segment waits for no other to be closed; with fewer than there are workers, some workers are idle in most rounds;
+/// with more, workers wait less often for each other, and more segments are held at a time. The default is the number of workers,
+/// or how many segments may be outstanding if that is less. No clause depends on it.
 pub fn pack_in_batches<
     S: Source + Drop,
     O: Outlet + Drop,

@@ -1,90 +1,181 @@
-//! Reading: each rendition that goes on has its turns; a turn is one read of its source.
+//! Reading: a turn is one read of a rendition's source. Each rendition has its turns when its source is ready.
 
-ghost use Rattle.std.specs.Prelude.{◌≡◌, ◌+◌, ◌<◌, ◌≤◌, [], ℕ, OnErr, OnOk, Some, true, false, length, slice_get};
+ghost use Rattle.std.specs.Prelude.{◌≡◌, ◌+◌, ◌<◌, ◌≤◌, [], ℕ, IfOk, OnErr, OnOk, None, Some, true, false, length, slice_get, slice_set};
 ghost use Rattle.ingest.specs.declared.lane.Lane.{Lane};
-ghost use Rattle.rounds.specs.Courses.{HasClosed, HasEnough, IsRun, ReadsOn, ReadsShort};
-ghost use Rattle.item_io.specs.declared.limits.TheConstants.{PIECE};
+ghost use Rattle.rounds.specs.Courses.{HasClosed, IsRun, ReadsMore, ReadsOn, ReadsShort, Rests, turns_at, turns_in};
+ghost use Rattle.item_io.specs.declared.limits.TheConstants.{PIECE, READS};
 
 use crate::run::course::Course;
 use crate::run::pace::Pace;
 use ingest::Lane;
 use item_io::{Outlet, Source};
-use ladder_items::have_stopped;
 use std::alloc::AllocError;
+use std::sync::Wait;
 
 impl<S: Source, O: Outlet> Course<S, O> {
-    /// Gives rendition `r` its turn if it goes on.
-    fn read_one(&mut self, r: usize, buffer: &mut [u8]) -> Result<(), AllocError>
-        requires some { 0 < length buffer.old }
-        requires short { length buffer.old ≤ PIECE }
-        requires below { self.old.turns < self.old.reads }
-        requires within { r < length self.old.lanes.items }
-        requires on { IsRun S.input O.output r self.old }
-        ensures ok { OnOk result (ReadsOn S.input O.output r self.old (r + 1) self.new) }
-        ensures err { OnErr result (ReadsShort S.input O.output r self.old self.new) }
-        ensures same { self.new ≡ record self.old { sources = self.new.sources; lanes = self.new.lanes } }
-        ensures count { length self.new.lanes.items ≡ length self.old.lanes.items }
+    /// Whether rendition `r` hasn't stopped, nor had all its turns.
+    fn goes_on(&self, r: usize) -> bool
+        requires within { r < length self.now.lanes.items }
+        requires each { length self.now.turns.items ≡ length self.now.lanes.items }
+        ensures going { result ≡ true → (lane : Lane) → slice_get self.now.lanes.items r ≡ Some lane → lane.stop ≡ None }
+        ensures below { result ≡ true → turns_at self.now r < self.now.reads }
+        ensures rests { result ≡ false → (lane : Lane) → slice_get self.now.lanes.items r ≡ Some lane → lane.stop ≡ None
+            → self.now.reads ≤ turns_at self.now r }
     {
         if self.lanes[r].stop.is_some() {
-            return Ok(());
+            return false;
         }
+        self.turns[r] < self.reads
+    }
+
+    /// Whether the source of rendition `r` is ready.
+    fn is_ready(&mut self, r: usize) -> bool
+        requires within { r < length self.old.sources.items }
+        ensures same { self.new ≡ record self.old { sources = self.new.sources } }
+        ensures sources { self.new.sources.items ≡ self.old.sources.items }
+    {
+        self.sources[r].is_ready()
+    }
+
+    /// Counts a turn of rendition `r`, and leaves its source if that was the last one.
+    fn count_turn(&mut self, r: usize)
+        requires within { r < length self.old.turns.items }
+        requires below { turns_at self.old r < self.old.reads }
+        requires most { self.old.reads ≤ READS }
+        requires source { r < length self.old.sources.items }
+        ensures same { self.new ≡ record self.old { sources = self.new.sources; turns = self.new.turns } }
+        ensures sources { self.new.sources.items ≡ self.old.sources.items }
+        ensures turns { self.new.turns.items ≡ slice_set self.old.turns.items r (turns_at self.old r + 1) }
+    {
+        let count = self.turns[r] + 1;
+        self.turns[r] = count;
+        if count >= self.reads {
+            self.sources[r].leave();
+        }
+    }
+
+    /// Gives rendition `r`, which goes on, its turn.
+    fn take_turn(&mut self, r: usize, buffer: &mut [u8]) -> Result<(), AllocError>
+        requires some { 0 < length buffer.old }
+        requires short { length buffer.old ≤ PIECE }
+        requires within { r < length self.old.lanes.items }
+        requires on { IsRun S.input O.output self.old }
+        requires going { (lane : Lane) → slice_get self.old.lanes.items r ≡ Some lane → lane.stop ≡ None }
+        requires below { turns_at self.old r < self.old.reads }
+        ensures ok { OnOk result (ReadsOn S.input O.output self.old self.new) }
+        ensures err { OnErr result (ReadsShort S.input O.output self.old self.new) }
+        ensures same { self.new ≡ record self.old { sources = self.new.sources; lanes = self.new.lanes; turns = self.new.turns } }
+        ensures count { length self.new.lanes.items ≡ length self.old.lanes.items }
+        ensures turns { OnOk result (turns_in self.new ≡ turns_in self.old + 1) }
+    {
         self.lanes[r].turn(&mut self.sources[r], buffer)?;
+        self.count_turn(r);
         Ok(())
     }
 
-    /// Gives each rendition that goes on its turn.
-    pub fn read_turn(&mut self, buffer: &mut [u8]) -> Result<(), AllocError>
+    /// Gives rendition `r` its turn if it goes on and is ready. Returns whether it did.
+    fn read_one(&mut self, r: usize, buffer: &mut [u8]) -> Result<bool, AllocError>
         requires some { 0 < length buffer.old }
         requires short { length buffer.old ≤ PIECE }
-        requires below { self.old.turns < self.old.reads }
-        requires on { IsRun S.input O.output 0 self.old }
-        ensures ok { OnOk result (ReadsOn S.input O.output 0 self.old 0 self.new) }
-        ensures err { OnErr result (ReadsShort S.input O.output 0 self.old self.new) }
-        ensures same { OnOk result (self.new ≡ record self.old { sources = self.new.sources; lanes = self.new.lanes; turns = self.old.turns + 1 }) }
+        requires within { r < length self.old.lanes.items }
+        requires on { IsRun S.input O.output self.old }
+        ensures ok { OnOk result (ReadsOn S.input O.output self.old self.new) }
+        ensures err { OnErr result (ReadsShort S.input O.output self.old self.new) }
+        ensures same { self.new ≡ record self.old { sources = self.new.sources; lanes = self.new.lanes; turns = self.new.turns } }
+        ensures count { length self.new.lanes.items ≡ length self.old.lanes.items }
+        ensures further { OnOk result (ReadsMore self.old self.new) }
     {
+        if !self.goes_on(r) {
+            return Ok(false);
+        }
+        if !self.is_ready(r) {
+            return Ok(false);
+        }
+        self.take_turn(r, buffer)?;
+        Ok(true)
+    }
+
+    /// Gives each rendition its turn that goes on and is ready. Returns whether any did.
+    pub fn read_ready(&mut self, buffer: &mut [u8]) -> Result<bool, AllocError>
+        requires some { 0 < length buffer.old }
+        requires short { length buffer.old ≤ PIECE }
+        requires on { IsRun S.input O.output self.old }
+        ensures ok { OnOk result (ReadsOn S.input O.output self.old self.new) }
+        ensures err { OnErr result (ReadsShort S.input O.output self.old self.new) }
+        ensures same { OnOk result (self.new ≡ record self.old { sources = self.new.sources; lanes = self.new.lanes; turns = self.new.turns }) }
+        ensures further { OnOk result (ReadsMore self.old self.new) }
+    {
+        let mut any = false;
         for r in 0..self.lanes.len() {
-            self.read_one(r, buffer)?;
+            any |= self.read_one(r, buffer)?;
         }
-        self.turns += 1;
-        Ok(())
+        Ok(any)
     }
 
-    /// Reads until `least` plans are closed, or nothing is left to read.
-    pub fn read_first(&mut self, least: usize, buffer: &mut [u8]) -> Result<(), AllocError>
+    /// Reads until `least` plans are closed, or one and no source is ready, or nothing is left to read. Waits for sources meanwhile.
+    pub fn read_more<R: Wait>(
+        &mut self,
+        rt: &R,
+        least: usize,
+        buffer: &mut [u8],
+    ) -> Result<(), AllocError>
         requires some { 0 < length buffer.old }
         requires short { length buffer.old ≤ PIECE }
-        requires on { IsRun S.input O.output 0 self.old }
-        ensures ok { OnOk result (ReadsOn S.input O.output 0 self.old 0 self.new) }
-        ensures err { OnErr result (ReadsShort S.input O.output 0 self.old self.new) }
-        ensures enough { OnOk result (HasEnough self.new) }
+        requires on { IsRun S.input O.output self.old }
+        ensures ok { OnOk result (ReadsOn S.input O.output self.old self.new) }
+        ensures err { OnErr result (ReadsShort S.input O.output self.old self.new) }
+        ensures playlists { OnOk result (self.new.playlists ≡ self.old.playlists) }
+        ensures further { OnOk result (ReadsMore self.old self.new) }
     {
-        while !self.has_closed(least) {
-            self.read_turn(buffer)?;
+        for _ in rt.forever() {
+            if self.has_closed(least) {
+                return Ok(());
+            }
+            if self.read_ready(buffer)? {
+                continue;
+            }
+            if self.has_closed(1) {
+                return Ok(());
+            }
+            self.wait();
         }
-        Ok(())
+        unreachable!()
+    }
+
+    /// Waits until a source is ready.
+    fn wait(&mut self)
+        ensures same { self.new ≡ record self.old { sources = self.new.sources } }
+        ensures sources { self.new.sources.items ≡ self.old.sources.items }
+    {
+        S::wait_any(&mut self.sources);
     }
 
     /// Whether `least` plans are closed, and at least one, or nothing is left to read.
     fn has_closed(&self, least: usize) -> bool
-        ensures yes { result ≡ true → HasEnough self.now }
-        ensures no { result ≡ false → self.now.turns < self.now.reads }
+        requires each { length self.now.turns.items ≡ length self.now.lanes.items }
     {
-        if self.turns >= self.reads {
+        if self.rests() {
             return true;
         }
-        if have_stopped(&self.lanes) {
-            return true;
+        any_closed(&self.lanes) && count_closed(&self.lanes) >= least
+    }
+
+    /// Whether nothing is left to read.
+    pub fn rests(&self) -> bool
+        requires each { length self.now.turns.items ≡ length self.now.lanes.items }
+        ensures { result ≡ true → Rests self.now }
+    {
+        for r in 0..self.lanes.len() {
+            if self.goes_on(r) {
+                return false;
+            }
         }
-        if !any_closed(&self.lanes) {
-            return false;
-        }
-        count_closed(&self.lanes) >= least
+        true
     }
 
     /// Whether enough is read for the next round, while `awaited` segments of the round before are still to be given.
     pub fn is_enough(&self, pace: Pace, awaited: usize) -> bool
-        ensures yes { result ≡ true → HasEnough self.now }
-        ensures no { result ≡ false → self.now.turns < self.now.reads }
+        requires each { length self.now.turns.items ≡ length self.now.lanes.items }
     {
         if awaited == 0 {
             return self.has_closed(pace.least);

@@ -1,16 +1,18 @@
 //! From round to round, until everything is given.
 
 ghost use Rattle.std.specs.Prelude.{◌≡◌, ◌+◌, ◌≤◌, IfErr, IfOk, OnErr, OnOk, length, sum};
-ghost use Rattle.rounds.specs.Courses.{HasEnough, HasGoodEnds, IsAllGiven, IsSomeBetween, NoneClosed, ReadsNone, StaysBetween, StopsBetween};
+ghost use Rattle.rounds.specs.Courses.{HasGoodEnds, IsAllGiven, IsSomeBetween, NoneClosed, ReadsNone, StaysBetween, StopsBetween};
+ghost use Rattle.rounds.specs.Courses.{IsRun, ReadsMore, ReadsOn, ReadsShort};
 ghost use Rattle.rounds.specs.Rounds.{SwapsOut, SwapsShort};
 ghost use Rattle.rounds.specs.Showing.{counts_of};
 
 use crate::round::starting::run_round;
 use crate::run::between::BetweenRounds;
+use crate::run::pace::Pace;
 use crate::run::reading::any_closed;
 use crate::run::setup::Setup;
 use cutter::Spool;
-use item_io::{Outlet, Source};
+use item_io::{Outlet, PIECE, Source};
 use ladder_items::{PackFault, Settings};
 use segment_job::Keys;
 use std::alloc::{AllocError, Global};
@@ -63,9 +65,33 @@ fn swap_spools<'r, S: Source, O: Outlet, R: Wait>(
     (BetweenRounds { broadcast, books }, swapped)
 }
 
+/// Reads until there is something for a round, while no round is under way.
+fn read_between<'r, S: Source, O: Outlet, R: Wait>(
+    rt: &R,
+    pace: Pace,
+    between: BetweenRounds<'r, S, O, R>,
+) -> (BetweenRounds<'r, S, O, R>, Result<(), AllocError>)
+    requires on { IsRun S.input O.output between.broadcast.course }
+    ensures ok { OnOk result.1 (ReadsOn S.input O.output between.entry.broadcast.course result.0.broadcast.course) }
+    ensures err { OnErr result.1 (ReadsShort S.input O.output between.entry.broadcast.course result.0.broadcast.course) }
+    ensures playlists { OnOk result.1 (result.0.broadcast.course.playlists ≡ between.entry.broadcast.course.playlists) }
+    ensures further { OnOk result.1 (ReadsMore between.entry.broadcast.course result.0.broadcast.course) }
+    ensures held { result.0.broadcast.held.publisher ≡ between.entry.broadcast.held.publisher }
+    ensures books { result.0.books ≡ between.entry.books }
+{
+    let BetweenRounds {
+        mut broadcast,
+        books,
+    } = between;
+    let mut buffer = [0; PIECE];
+    let read = broadcast.course.read_more(rt, pace.least, &mut buffer);
+    (BetweenRounds { broadcast, books }, read)
+}
+
 /// Goes from round to round until everything is given.
 ///
-/// Before each round, the ends are given of the renditions that have nothing left to give.
+/// Before each round, the ends are given of the renditions that have nothing left to give. Where nothing is closed for a round
+/// then, it reads until something is.
 pub fn run_rounds<'r, S: Source + Drop, O: Outlet + Drop, G: Gate + Sync, R: Threads + Wait + Sync>(
     setup: &Setup<'_, G, R>,
     keys: &[Keys],
@@ -74,7 +100,6 @@ pub fn run_rounds<'r, S: Source + Drop, O: Outlet + Drop, G: Gate + Sync, R: Thr
 ) -> (BetweenRounds<'r, S, O, R>, Result<(), PackFault>)
     requires each { length spare.items ≡ length setup.now.settings.now.renditions }
     requires on { IsSomeBetween S.input O.output setup.now.settings.now between.broadcast }
-    requires enough { HasEnough between.broadcast.course }
     requires workers { length between.books.workers.items ≡ setup.now.workers }
     requires first { between.books.rounds ≡ 0 }
     ensures ok { OnOk result.1 (StaysBetween S.input O.output setup.now.settings.now between.entry.broadcast result.0.broadcast) }
@@ -93,7 +118,15 @@ pub fn run_rounds<'r, S: Source + Drop, O: Outlet + Drop, G: Gate + Sync, R: Thr
             return (between, Err(fault));
         }
         if !any_closed(&between.broadcast.course.lanes) {
-            break;
+            if between.broadcast.course.rests() {
+                break;
+            }
+            let (now, read) = read_between(setup.rt, setup.pace, between);
+            between = now;
+            if let Err(_) = read {
+                return (between, Err(PackFault::NoMemory));
+            }
+            continue;
         }
         let (now, swapped) = swap_spools(setup.alloc, between, spare);
         between = now;

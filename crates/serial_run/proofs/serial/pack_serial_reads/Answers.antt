@@ -2,6 +2,8 @@ use Rattle.std.proofs.Common.{◌≡◌, ◌∙◌, length, slice_get, refl, ap,
 use Rattle.std.proofs.lemmas.Result.{err_from_is_err_and}
 use Rattle.ingest.proofs.Ordered.{closed_of-none}
 use Rattle.ladder_items.specs.Ladder.{IsAllowed}
+use Rattle.ladder_items.specs.World.{turns_of}
+use Rattle.ladder_items.proofs.Stages.{turns-none}
 use Rattle.ladder_items.proofs.Blocks.{shown-going, shown-each}
 use Rattle.ladder_items.proofs.Worlds.{nothing-given, parts-of, parts-length}
 use Rattle.serial_run.proofs.Stepping.{due-first}
@@ -37,8 +39,9 @@ returns-in-Some-clause-fault g c =
     let ok = c.in_ok-turns.ensures.ok in
     let some = c.in-Some.ensures.some in
     halted-says _ _ _ _ _ _ _ _ _ _ some.0 some.1.stop c.in-Some.fault some.3
-    (world-halted _ _ _ _ _ _ ok.0 _ _ _ _ _ _ some.0 some.1 (ap (λ lanes. slice_get lanes some.0) (sym c.deref.ensures.value) ∙ some.2)
-    (λ k earlier below at. some.4 k earlier below (ap (λ lanes. slice_get lanes k) c.deref.ensures.value ∙ at)) ok.3 ok.1 allowed.0 ok.2).0
+    (world-halted _ _ _ _ _ _ (turns_of ok.0 0) _ _ _ _ _ _ some.0 some.1 (ap (λ lanes. slice_get lanes some.0) (sym c.deref.ensures.value) ∙ some.2)
+    (λ k earlier below at. some.4 k earlier below (ap (λ lanes. slice_get lanes k) c.deref.ensures.value ∙ at))
+    (λ k lane at none. turns-none ok.0 k ∙ ok.3 k lane at none) (λ k. omega (arith, turns-none ok.0 k, ok.1)) allowed.0 ok.2).0
 
 pub report_of-requires-clause-each : goal.report_of-requires-clause-each
 report_of-requires-clause-each g c =
@@ -63,14 +66,14 @@ pub returns-in_err-report_of-clause-fault : goal.returns-in_err-report_of-clause
 returns-in_err-report_of-clause-fault g c =
     let allowed : IsAllowed c.args.settings.now × (c.len.result ≡ length c.args.settings.now.renditions) = search rules in
     let told = err_from_is_err_and c.from_residual-in_err-report_of.result c.from_residual-in_err-report_of.ensures.1 in
-    rw (told.1, told.2) ((stop-at-once _ _ _ _ _ _ _ _ _ _ _ _ _ c.in_ok-turns.ensures.ok.1 allowed.0 c.in_ok-turns.ensures.ok.2).cut, c.in_ok-turns.ensures.failures)
+    rw (told.1, told.2) ((stop-at-once _ _ _ _ _ _ c.in_ok-turns.ensures.ok.0 _ _ _ _ _ _ c.in_ok-turns.ensures.ok.1 allowed.0 c.in_ok-turns.ensures.ok.2).cut, c.in_ok-turns.ensures.failures)
 
 pub returns-clause-ok : goal.returns-clause-ok
 returns-clause-ok g c =
     let ok = c.in_ok-turns.ensures.ok in
-    (world-packed _ _ _ _ _ _ ok.0 _ _ _ _ _ _ c.in_ok-report_of.field-0
+    (world-packed _ _ _ _ _ _ (turns_of ok.0 0) _ _ _ _ _ _ c.in_ok-report_of.field-0
     (λ k lane at. c.in_default.ensures.none refl k lane (ap (λ lanes. slice_get lanes k) c.deref.ensures.value ∙ at))
-    (rw (c.deref-3.ensures.value, c.deref-2.ensures.value) at c.in_ok-report_of.ensures.numbers) ok.1 ok.2).0
+    (rw (c.deref-3.ensures.value, c.deref-2.ensures.value) at c.in_ok-report_of.ensures.numbers) (λ k. omega (arith, turns-none ok.0 k, ok.1)) ok.2).0
 
 pub returns-in_err-is_allowed-clause-at_once : goal.returns-in_err-is_allowed-clause-at_once
 returns-in_err-is_allowed-clause-at_once g c =
@@ -91,13 +94,13 @@ pub returns-in-Some-clause-at_once : goal.returns-in-Some-clause-at_once
 returns-in-Some-clause-at_once g c sudden =
     let allowed : IsAllowed c.args.settings.now × (c.len.result ≡ length c.args.settings.now.renditions) = search rules in
     let ok = c.in_ok-turns.ensures.ok in
-    stop-at-once _ _ _ _ _ _ _ _ _ _ _ _ _ ok.1 allowed.0 ok.2
+    stop-at-once _ _ _ _ _ _ ok.0 _ _ _ _ _ _ ok.1 allowed.0 ok.2
 
 pub returns-in_err-report_of-clause-at_once : goal.returns-in_err-report_of-clause-at_once
 returns-in_err-report_of-clause-at_once g c =
     let allowed : IsAllowed c.args.settings.now × (c.len.result ≡ length c.args.settings.now.renditions) = search rules in
     let told = err_from_is_err_and c.from_residual-in_err-report_of.result c.from_residual-in_err-report_of.ensures.1 in
-    rw told.1 (λ sudden. stop-at-once _ _ _ _ _ _ _ _ _ _ _ _ _ c.in_ok-turns.ensures.ok.1 allowed.0 c.in_ok-turns.ensures.ok.2)
+    rw told.1 (λ sudden. stop-at-once _ _ _ _ _ _ c.in_ok-turns.ensures.ok.0 _ _ _ _ _ _ c.in_ok-turns.ensures.ok.1 allowed.0 c.in_ok-turns.ensures.ok.2)
 
 pub returns-in_err-turns-clause-fault : goal.returns-in_err-turns-clause-fault
 returns-in_err-turns-clause-fault g c =

@@ -3,6 +3,7 @@ use Rattle.std.proofs.lemmas.Option.{slice_get_read}
 use Rattle.std.proofs.lemmas.Result.{err_from_is_err_and}
 use Rattle.ingest.proofs.Ordered.{closed_of-grow, made_of-at}
 use Rattle.ladder_items.proofs.Elsewhere.{none-there, some-there}
+use Rattle.ladder_items.proofs.Stages.{turns-now}
 use Rattle.ladder_items.proofs.Worlds.{put-back, parts-of, reads-fit, stage-at}
 use Rattle.serial_run.proofs.Stepping.{has-read, due-step, due-cut, read-cut, due-skip, due-round}
 use Rattle.serial_run.proofs.serial.turns.Goals as goal
@@ -15,34 +16,34 @@ pub turn-requires-clause-reads : goal.turn-requires-clause-reads
 turn-requires-clause-reads g c =
     let w = c.loop-r.invariant.due.world in
     let below : c.loop-r.r < length c.args.settings.now.renditions = omega (arith, c.loop-r-test.true, c.len-r-end.ensures, c.loop.invariant.due.world.same_lanes) in
-    (reads-fit _ _ _ _ _ _ _ _ _ _ _ _ _ _ _ w c.loop-r.r c.index_mut.result.now c.index_mut-lane.result.now
+    (reads-fit _ _ _ _ _ _ _ _ _ _ _ _ _ _ w c.loop-r.r c.index_mut.result.now c.index_mut-lane.result.now
     (slice_get_read c.loop-r.sources.items _ c.loop-r.r c.index_mut.result.now (sym w.same_now) below c.index_mut.ensures.value)
     (slice_get_read c.loop-r.lanes.items _ c.loop-r.r c.index_mut-lane.result.now (sym w.same_lanes) below c.index_mut-lane.ensures.value)
-    (none-there _ (sym c.if-is_some.ensures)) refl c.loop-test.true c.requires.most c.requires.room).0
+    (none-there _ (sym c.if-is_some.ensures)) (omega (arith, turns-now c.loop.counter c.loop-r.r, c.loop-test.true)) c.requires.most c.requires.room).0
 
 pub turn-requires-clause-failures : goal.turn-requires-clause-failures
 turn-requires-clause-failures g c =
     let w = c.loop-r.invariant.due.world in
     let below : c.loop-r.r < length c.args.settings.now.renditions = omega (arith, c.loop-r-test.true, c.len-r-end.ensures, c.loop.invariant.due.world.same_lanes) in
-    (reads-fit _ _ _ _ _ _ _ _ _ _ _ _ _ _ _ w c.loop-r.r c.index_mut.result.now c.index_mut-lane.result.now
+    (reads-fit _ _ _ _ _ _ _ _ _ _ _ _ _ _ w c.loop-r.r c.index_mut.result.now c.index_mut-lane.result.now
     (slice_get_read c.loop-r.sources.items _ c.loop-r.r c.index_mut.result.now (sym w.same_now) below c.index_mut.ensures.value)
     (slice_get_read c.loop-r.lanes.items _ c.loop-r.r c.index_mut-lane.result.now (sym w.same_lanes) below c.index_mut-lane.ensures.value)
-    (none-there _ (sym c.if-is_some.ensures)) refl c.loop-test.true c.requires.most c.requires.room).1
+    (none-there _ (sym c.if-is_some.ensures)) (omega (arith, turns-now c.loop.counter c.loop-r.r, c.loop-test.true)) c.requires.most c.requires.room).1
 
 pub turn-requires-clause-few : goal.turn-requires-clause-few
 turn-requires-clause-few g c =
     let w = c.loop-r.invariant.due.world in
     let below : c.loop-r.r < length c.args.settings.now.renditions = omega (arith, c.loop-r-test.true, c.len-r-end.ensures, c.loop.invariant.due.world.same_lanes) in
-    (reads-fit _ _ _ _ _ _ _ _ _ _ _ _ _ _ _ w c.loop-r.r c.index_mut.result.now c.index_mut-lane.result.now
+    (reads-fit _ _ _ _ _ _ _ _ _ _ _ _ _ _ w c.loop-r.r c.index_mut.result.now c.index_mut-lane.result.now
     (slice_get_read c.loop-r.sources.items _ c.loop-r.r c.index_mut.result.now (sym w.same_now) below c.index_mut.ensures.value)
     (slice_get_read c.loop-r.lanes.items _ c.loop-r.r c.index_mut-lane.result.now (sym w.same_lanes) below c.index_mut-lane.ensures.value)
-    (none-there _ (sym c.if-is_some.ensures)) refl c.loop-test.true c.requires.most c.requires.room).2
+    (none-there _ (sym c.if-is_some.ensures)) (omega (arith, turns-now c.loop.counter c.loop-r.r, c.loop-test.true)) c.requires.most c.requires.room).2
 
 pub turn-requires-clause-going : goal.turn-requires-clause-going
 turn-requires-clause-going g c =
     let w = c.loop-r.invariant.due.world in
     let below : c.loop-r.r < length c.args.settings.now.renditions = omega (arith, c.loop-r-test.true, c.len-r-end.ensures, c.loop.invariant.due.world.same_lanes) in
-    let s = stage-at _ _ _ _ _ _ _ _ _ _ _ _ _ _ _ w c.loop-r.r c.index_mut.result.now c.index_mut-lane.result.now
+    let s = stage-at _ _ _ _ _ _ _ _ _ _ _ _ _ _ w c.loop-r.r c.index_mut.result.now c.index_mut-lane.result.now
     (slice_get_read c.loop-r.sources.items _ c.loop-r.r c.index_mut.result.now (sym w.same_now) below c.index_mut.ensures.value)
     (slice_get_read c.loop-r.lanes.items _ c.loop-r.r c.index_mut-lane.result.now (sym w.same_lanes) below c.index_mut-lane.ensures.value) in
     (s.2.is_at.goes_on (none-there _ (sym c.if-is_some.ensures))).going
@@ -52,7 +53,7 @@ returns-in_err-turn-clause-err g c =
     let told = err_from_is_err_and c.from_residual.result c.from_residual.ensures.1 in
     let w = c.loop-r.invariant.due.world in
     let below : c.loop-r.r < length c.args.settings.now.renditions = omega (arith, c.loop-r-test.true, c.len-r-end.ensures, c.loop.invariant.due.world.same_lanes) in
-    rw told.1 (read-cut _ _ _ _ _ _ _ c.loop-r.r _ _ _ _ _ _ c.index_mut.result.now c.turn.new.source c.index_mut-lane.result.now _
+    rw told.1 (read-cut _ _ _ _ _ _ c.loop.counter c.loop-r.r _ _ _ _ _ _ c.index_mut.result.now c.turn.new.source c.index_mut-lane.result.now _
     (slice_get_read c.loop-r.sources.items _ c.loop-r.r c.index_mut.result.now (sym w.same_now) below c.index_mut.ensures.value)
     (slice_get_read c.loop-r.lanes.items _ c.loop-r.r c.index_mut-lane.result.now (sym w.same_lanes) below c.index_mut-lane.ensures.value)
     (none-there _ (sym c.if-is_some.ensures)) c.in_err-turn.ensures.err.1 c.in_err-turn.ensures.no_read_failed
@@ -62,7 +63,7 @@ pub give_due-requires-clause-next : goal.give_due-requires-clause-next
 give_due-requires-clause-next g c =
     let w = c.loop-r.invariant.due.world in
     let below : c.loop-r.r < length c.args.settings.now.renditions = omega (arith, c.loop-r-test.true, c.len-r-end.ensures, c.loop.invariant.due.world.same_lanes) in
-    let h = has-read _ _ _ _ _ _ _ c.loop-r.r _ _ _ _ _ _ c.index_mut.result.now c.turn.new.source c.index_mut-lane.result.now c.turn.new.self
+    let h = has-read _ _ _ _ _ _ c.loop.counter c.loop-r.r _ _ _ _ _ _ c.index_mut.result.now c.turn.new.source c.index_mut-lane.result.now c.turn.new.self
     (slice_get_read c.loop-r.sources.items _ c.loop-r.r c.index_mut.result.now (sym w.same_now) below c.index_mut.ensures.value)
     (slice_get_read c.loop-r.lanes.items _ c.loop-r.r c.index_mut-lane.result.now (sym w.same_lanes) below c.index_mut-lane.ensures.value)
     (none-there _ (sym c.if-is_some.ensures)) c.in_ok-turn.ensures.ok (λ stop r. made_of-at stop r c.args.settings.now.cut) c.loop-r.invariant.due in
@@ -73,11 +74,11 @@ returns-in_err-give_due-clause-err g c =
     let told = err_from_is_err_and c.from_residual-in_err-give_due.result c.from_residual-in_err-give_due.ensures.1 in
     let w = c.loop-r.invariant.due.world in
     let below : c.loop-r.r < length c.args.settings.now.renditions = omega (arith, c.loop-r-test.true, c.len-r-end.ensures, c.loop.invariant.due.world.same_lanes) in
-    let h = has-read _ _ _ _ _ _ _ c.loop-r.r _ _ _ _ _ _ c.index_mut.result.now c.turn.new.source c.index_mut-lane.result.now c.turn.new.self
+    let h = has-read _ _ _ _ _ _ c.loop.counter c.loop-r.r _ _ _ _ _ _ c.index_mut.result.now c.turn.new.source c.index_mut-lane.result.now c.turn.new.self
     (slice_get_read c.loop-r.sources.items _ c.loop-r.r c.index_mut.result.now (sym w.same_now) below c.index_mut.ensures.value)
     (slice_get_read c.loop-r.lanes.items _ c.loop-r.r c.index_mut-lane.result.now (sym w.same_lanes) below c.index_mut-lane.ensures.value)
     (none-there _ (sym c.if-is_some.ensures)) c.in_ok-turn.ensures.ok (λ stop r. made_of-at stop r c.args.settings.now.cut) c.loop-r.invariant.due in
-    rw told.1 (due-cut _ _ _ _ _ _ _ c.loop-r.r _ _ _ _ _ _ _ c.turn.new.source c.index_mut-lane.result.now c.turn.new.self c.loop-r.invariant.due _ c.in_ok-turn.ensures.ok.read.short h
+    rw told.1 (due-cut _ _ _ _ _ _ c.loop.counter c.loop-r.r _ _ _ _ _ _ _ c.turn.new.source c.index_mut-lane.result.now c.turn.new.self c.loop-r.invariant.due _ c.in_ok-turn.ensures.ok.read.short h
     c.in_err-give_due.ensures.err c.loop-test.true c.requires.allowed)
 
 pub loop-r-preserved-then-is_some : goal.loop-r-preserved-then-is_some
@@ -86,7 +87,7 @@ loop-r-preserved-then-is_some g c =
     let below : c.loop-r.r < length c.args.settings.now.renditions = omega (arith, c.loop-r-test.true, c.len-r-end.ensures, c.loop.invariant.due.world.same_lanes) in
     record {
       failures = c.loop-r.invariant.failures;
-      due = rw (put-back c.loop-r.lanes.items c.loop-r.r c.index_mut-lane.result.now c.index_mut-lane.ensures.value) (due-skip _ _ _ _ _ _ _ c.loop-r.r _ _ _ _ _ _ c.index_mut-lane.result.now
+      due = rw (put-back c.loop-r.lanes.items c.loop-r.r c.index_mut-lane.result.now c.index_mut-lane.ensures.value) (due-skip _ _ _ _ _ _ c.loop.counter c.loop-r.r _ _ _ _ _ _ c.index_mut-lane.result.now
           (slice_get_read c.loop-r.lanes.items _ c.loop-r.r c.index_mut-lane.result.now (sym w.same_lanes) below c.index_mut-lane.ensures.value) (some-there _ (sym c.if-is_some.ensures)) c.loop-r.invariant.due);
     }
 
@@ -95,13 +96,13 @@ loop-r-preserved g c =
     let w = c.loop-r.invariant.due.world in
     let below : c.loop-r.r < length c.args.settings.now.renditions = omega (arith, c.loop-r-test.true, c.len-r-end.ensures, c.loop.invariant.due.world.same_lanes) in
     let there = slice_get_read c.loop-r.lanes.items _ c.loop-r.r c.index_mut-lane.result.now (sym w.same_lanes) below c.index_mut-lane.ensures.value in
-    let h = has-read _ _ _ _ _ _ _ c.loop-r.r _ _ _ _ _ _ c.index_mut.result.now c.turn.new.source c.index_mut-lane.result.now c.turn.new.self
+    let h = has-read _ _ _ _ _ _ c.loop.counter c.loop-r.r _ _ _ _ _ _ c.index_mut.result.now c.turn.new.source c.index_mut-lane.result.now c.turn.new.self
     (slice_get_read c.loop-r.sources.items _ c.loop-r.r c.index_mut.result.now (sym w.same_now) below c.index_mut.ensures.value)
     there
     (none-there _ (sym c.if-is_some.ensures)) c.in_ok-turn.ensures.ok (λ stop r. made_of-at stop r c.args.settings.now.cut) c.loop-r.invariant.due in
     record {
       failures = c.in_ok-give_due.ensures.failures ∙ c.loop-r.invariant.failures;
-      due = due-step _ _ _ _ _ _ _ c.loop-r.r _ _ _ _ _ _ _ _ c.turn.new.source c.index_mut-lane.result.now c.turn.new.self c.give_due.new.lane
+      due = due-step _ _ _ _ _ _ c.loop.counter c.loop-r.r _ _ _ _ _ _ _ _ c.turn.new.source c.index_mut-lane.result.now c.turn.new.self c.give_due.new.lane
           there c.loop-r.invariant.due _ h c.in_ok-give_due.ensures.ok c.in_ok-give_due.ensures.stop c.in_ok-give_due.ensures.intake;
     }
 
@@ -109,5 +110,5 @@ pub loop-preserved : goal.loop-preserved
 loop-preserved g c =
     let w = c.loop-r.invariant.due.world in record {
       failures = c.loop-r.invariant.failures;
-      due = due-round _ _ _ _ _ _ _ c.loop-r.r _ _ _ _ _ _ (omega (arith, c.loop-r-test.false, c.len-r-end.ensures, c.loop.invariant.due.world.same_lanes)) c.loop-r.invariant.due;
+      due = due-round _ _ _ _ _ _ c.loop.counter c.loop-r.r _ _ _ _ _ _ (omega (arith, c.loop-r-test.false, c.len-r-end.ensures, c.loop.invariant.due.world.same_lanes)) c.loop-r.invariant.due;
     }

@@ -7,7 +7,7 @@ use Rattle.rounds.proofs.Driven.{keys-of}
 use Rattle.rounds.proofs.round.ending.driven.Goals as goal
 
 pub returns-in_default-clause-err : goal.returns-in_default-clause-err
-returns-in_default-clause-err g c start on = stopped-here _ _ _ _ _ start 0 _ _ _ _ refl on
+returns-in_default-clause-err g c start on = stopped-here _ _ _ _ _ start _ _ _ _ refl on
 
 pub drive-answer-requires-clause-behind : goal.drive-answer-requires-clause-behind
 drive-answer-requires-clause-behind g c =

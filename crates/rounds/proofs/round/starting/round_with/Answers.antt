@@ -3,7 +3,7 @@ use Rattle.rounds.proofs.Running.{stopped-here}
 use Rattle.rounds.proofs.round.starting.round_with.Goals as goal
 
 pub returns-in_default-clause-err : goal.returns-in_default-clause-err
-returns-in_default-clause-err g c start on = stopped-here _ _ _ _ _ start 0 _ _ _ _ refl on
+returns-in_default-clause-err g c start on = stopped-here _ _ _ _ _ start _ _ _ _ refl on
 
 pub returns-in_default-new-clause-err : goal.returns-in_default-new-clause-err
-returns-in_default-new-clause-err g c start on = stopped-here _ _ _ _ _ start 0 _ _ _ _ refl on
+returns-in_default-new-clause-err g c start on = stopped-here _ _ _ _ _ start _ _ _ _ refl on

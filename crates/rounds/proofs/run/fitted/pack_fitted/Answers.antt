@@ -9,27 +9,27 @@ use Rattle.rounds.proofs.Answered.{ok-weaker}
 use Rattle.rounds.proofs.Ending.{stopped-shown, told-shown, packed-shown}
 use Rattle.rounds.proofs.run.fitted.pack_fitted.Goals as goal
 
-pub run-between-requires-clause-on : goal.run-between-requires-clause-on
-run-between-requires-clause-on g c κs within = (start_at c.args.endpoints, c.set_out-between.ensures.on c.args.setup.now.settings.now c.args.setup.now.workers c.requires.fits c.requires.begun)
+pub run_rounds-between-requires-clause-on : goal.run_rounds-between-requires-clause-on
+run_rounds-between-requires-clause-on g c κs within = (start_at c.args.endpoints, c.set_out-between.ensures.on c.args.setup.now.settings.now c.args.setup.now.workers c.requires.fits c.requires.begun)
 
 pub returns-in-Err-clause-fault : goal.returns-in-Err-clause-fault
 returns-in-Err-clause-fault g c =
     let start : Start _ _ = start_at c.args.endpoints in
     let on = c.set_out-between.ensures.on c.args.setup.now.settings.now c.args.setup.now.workers c.requires.fits c.requires.begun in
     rw (c.give_back.ensures.answer, c.give_back.ensures.sources, c.give_back.ensures.outlet, c.give_back.ensures.publisher)
-    (stopped-shown _ _ _ _ _ start _ _ c.args.setup.now.workers c.in-Err.fault (IfErr-at_err _ c.in-Err.is c.run-between.ensures.err start on))
+    (stopped-shown _ _ _ _ _ start _ _ c.args.setup.now.workers c.in-Err.fault (IfErr-at_err _ c.in-Err.is c.run_rounds-between.ensures.err start on))
 
 pub returns-in-Err-clause-board : goal.returns-in-Err-clause-board
 returns-in-Err-clause-board g c =
     let start : Start _ _ = start_at c.args.endpoints in
     let on = c.set_out-between.ensures.on c.args.setup.now.settings.now c.args.setup.now.workers c.requires.fits c.requires.begun in
-    ap (λ (k : Known). k.board) c.give_back.ensures.publisher ∙ (IfErr-at_err _ c.in-Err.is c.run-between.ensures.err start on).board
+    ap (λ (k : Known). k.board) c.give_back.ensures.publisher ∙ (IfErr-at_err _ c.in-Err.is c.run_rounds-between.ensures.err start on).board
 
 pub answer_of-answer-requires-clause-each : goal.answer_of-answer-requires-clause-each
 answer_of-answer-requires-clause-each g c =
     let start : Start _ _ = start_at c.args.endpoints in
     let on = c.set_out-between.ensures.on c.args.setup.now.settings.now c.args.setup.now.workers c.requires.fits c.requires.begun in
-    let done = IfOk-at_ok _ c.in_default.is c.run-between.ensures.ok start on in
+    let done = IfOk-at_ok _ c.in_default.is c.run_rounds-between.ensures.ok start on in
     let parts = parts-of c.args.setup.now.settings.now done.world.events in
     let each = parts-length c.args.setup.now.settings.now done.world.events in
     ap length c.deref-2.ensures.value ∙ (done.world.same_lanes ∙ (sym (shown-each c.args.setup.now.settings.now parts _ each done.world.shown_are) ∙ ap length (sym c.deref-3.ensures.value)))
@@ -38,7 +38,7 @@ pub answer_of-answer-requires-clause-going : goal.answer_of-answer-requires-clau
 answer_of-answer-requires-clause-going g c =
     let start : Start _ _ = start_at c.args.endpoints in
     let on = c.set_out-between.ensures.on c.args.setup.now.settings.now c.args.setup.now.workers c.requires.fits c.requires.begun in
-    let done = IfOk-at_ok _ c.in_default.is c.run-between.ensures.ok start on in
+    let done = IfOk-at_ok _ c.in_default.is c.run_rounds-between.ensures.ok start on in
     let parts = parts-of c.args.setup.now.settings.now done.world.events in
     let each = parts-length c.args.setup.now.settings.now done.world.events in
     shown-going c.args.setup.now.settings.now parts c.deref-3.result.now each (c.deref-3.ensures.value ∙ done.world.shown_are)
@@ -47,7 +47,7 @@ pub answer_of-answer-requires-clause-few : goal.answer_of-answer-requires-clause
 answer_of-answer-requires-clause-few g c =
     let start : Start _ _ = start_at c.args.endpoints in
     let on = c.set_out-between.ensures.on c.args.setup.now.settings.now c.args.setup.now.workers c.requires.fits c.requires.begun in
-    let done = IfOk-at_ok _ c.in_default.is c.run-between.ensures.ok start on in
+    let done = IfOk-at_ok _ c.in_default.is c.run_rounds-between.ensures.ok start on in
     let parts = parts-of c.args.setup.now.settings.now done.world.events in
     let each = parts-length c.args.setup.now.settings.now done.world.events in
     let size = shown-each c.args.setup.now.settings.now parts c.deref-3.result.now each (c.deref-3.ensures.value ∙ done.world.shown_are) in
@@ -58,19 +58,19 @@ pub returns-clause-ok : goal.returns-clause-ok
 returns-clause-ok g c =
     let start : Start _ _ = start_at c.args.endpoints in
     let on = c.set_out-between.ensures.on c.args.setup.now.settings.now c.args.setup.now.workers c.requires.fits c.requires.begun in
-    let done = IfOk-at_ok _ c.in_default.is c.run-between.ensures.ok start on in
-    let all = IfOk-at_ok _ c.in_default.is c.run-between.ensures.all in
+    let done = IfOk-at_ok _ c.in_default.is c.run_rounds-between.ensures.ok start on in
+    let all = IfOk-at_ok _ c.in_default.is c.run_rounds-between.ensures.all in
     rw (c.give_back-2.ensures.answer, c.give_back-2.ensures.sources, c.give_back-2.ensures.outlet, c.give_back-2.ensures.publisher)
     (ok-weaker c.answer_of-answer.result _ _ (λ report told.
-    packed-shown _ _ _ _ _ start _ _ done all c.args.setup.now.workers c.run-between.result.0.books report (IfOk-at_ok _ c.in_default.is c.run-between.ensures.workers) (rw (← c.deref-2.ensures.value, ← c.deref-3.ensures.value) told))
+    packed-shown _ _ _ _ _ start _ _ done all c.args.setup.now.workers c.run_rounds-between.result.0.books report (IfOk-at_ok _ c.in_default.is c.run_rounds-between.ensures.workers) (rw (← c.deref-2.ensures.value, ← c.deref-3.ensures.value) told))
     c.answer_of-answer.ensures.ok)
 
 pub returns-clause-fault : goal.returns-clause-fault
 returns-clause-fault g c =
     let start : Start _ _ = start_at c.args.endpoints in
     let on = c.set_out-between.ensures.on c.args.setup.now.settings.now c.args.setup.now.workers c.requires.fits c.requires.begun in
-    let done = IfOk-at_ok _ c.in_default.is c.run-between.ensures.ok start on in
-    let all = IfOk-at_ok _ c.in_default.is c.run-between.ensures.all in
+    let done = IfOk-at_ok _ c.in_default.is c.run_rounds-between.ensures.ok start on in
+    let all = IfOk-at_ok _ c.in_default.is c.run_rounds-between.ensures.all in
     rw (c.give_back-2.ensures.answer, c.give_back-2.ensures.sources, c.give_back-2.ensures.outlet, c.give_back-2.ensures.publisher)
     (IfErr-weaker c.answer_of-answer.result _ _ (λ fault told.
     told-shown _ _ _ _ _ start _ _ done all c.args.setup.now.workers fault (rw (← c.deref-2.ensures.value) told))
@@ -80,4 +80,4 @@ pub returns-clause-board : goal.returns-clause-board
 returns-clause-board g c =
     let start : Start _ _ = start_at c.args.endpoints in
     let on = c.set_out-between.ensures.on c.args.setup.now.settings.now c.args.setup.now.workers c.requires.fits c.requires.begun in
-    ap (λ (k : Known). k.board) c.give_back-2.ensures.publisher ∙ (IfOk-at_ok _ c.in_default.is c.run-between.ensures.ok start on).board
+    ap (λ (k : Known). k.board) c.give_back-2.ensures.publisher ∙ (IfOk-at_ok _ c.in_default.is c.run_rounds-between.ensures.ok start on).board

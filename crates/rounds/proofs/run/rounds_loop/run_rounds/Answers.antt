@@ -1,4 +1,4 @@
-use Rattle.std.proofs.Common.{◌∙◌, refl, ap, sym, subst, arith, length}
+use Rattle.std.proofs.Common.{◌∙◌, [], refl, ap, sym, subst, arith, length}
 use Rattle.std.specs.Prelude.{sum}
 use Rattle.std.proofs.lemmas.Result.{IfErr-at_err, IfOk-at_ok}
 use Rattle.live_board.specs.Snapshots.{Known}
@@ -6,10 +6,10 @@ use Rattle.ladder_items.specs.declared.fault.PackFault.TheVariants.{NoMemory}
 use Rattle.rounds.specs.declared.run.books.Books.{Books}
 use Rattle.rounds.specs.declared.run.course.Course.{Course}
 use Rattle.rounds.specs.Showing.{counts_of}
-use Rattle.rounds.specs.Courses.{HasClosed, IsStopped, NoneClosed}
-use Rattle.rounds.proofs.Between.{counted-read, few-rounds, counted-round, on-turns, on-as, never, all-given}
+use Rattle.rounds.specs.Courses.{HasClosed, IsOn, IsStopped, NoneClosed, turns_in}
+use Rattle.rounds.proofs.Between.{counted-more, counted-read, few-rounds, counted-round, on-turns, on-as, never, all-given}
 use Rattle.rounds.proofs.run.rounds_loop.run_rounds.Goals as goal
-use Rattle.rounds.proofs.run.rounds_loop.run_rounds.Goals.{in-None, in-Some+in_default+then-not-any_closed}
+use Rattle.rounds.proofs.run.rounds_loop.run_rounds.Goals.{in-None, in-Some+in_default+then-not-any_closed+then-rests}
 
 pub give_due_ends-now-requires : goal.give_due_ends-now-requires
 give_due_ends-now-requires g c = let some = c.requires.on in record { on = (some.0, c.loop.invariant.on some.0 some.1) }
@@ -55,7 +55,7 @@ run_round-now-requires-clause-rounds g c κs within =
     let closed : HasClosed c.give_due_ends-now.result.0.broadcast.course.lanes.items = subst HasClosed c.deref.ensures.value (c.if-not-any_closed.ensures.some refl) in
     let few = few-rounds c.give_due_ends-now.result.0.books.rounds c.give_due_ends-now.result.0.broadcast.course closed
     (counted-read c.loop.between.books.rounds c.give_due_ends-now.result.0.books.rounds _ _ (ap (λ (b : Books). b.rounds) e.books) e.none_read c.loop.invariant.counted) in
-    omega (arith, few, (on-turns _ _ _ some.0 _ _ _ on1).1, ap (λ (b : Books). b.rounds) c.swap_spools-now.ensures.books)
+    omega (arith, few, on-turns _ _ _ some.0 _ _ _ on1, ap (λ (b : Books). b.rounds) c.swap_spools-now.ensures.books)
 
 pub returns-in-Err-answer-clause-err : goal.returns-in-Err-answer-clause-err
 returns-in-Err-answer-clause-err g c start on =
@@ -79,35 +79,69 @@ loop-preserved g c =
     let before = c.loop.invariant.on some.0 some.1 in
     let none = IfOk-at_ok _ c.in-Ok.is t.empty in
     let sums = ap (λ (d : Course _ _). sum (counts_of d.playlists.items)) t.same ∙ ap (λ p. sum (counts_of p.items)) e.playlists in
-    let turns = ap (λ (d : Course _ _). d.turns) t.same in
+    let turns = ap (λ (d : Course _ _). turns_in d) t.same in
     record {
       on = λ start on.
           let on1 = IfOk-at_ok _ c.in_default.is e.ok start (c.loop.invariant.on start on) in
           let full = IfOk-at_ok _ c.in-Ok.is t.ok c.args.setup.now.settings.now start _ on1 in
           r.driven.on start (on-as _ _ _ start _ _ _ _ c.deref-in-loop.result.now t.held c.deref-in-loop.ensures.value full);
       each = IfOk-at_ok _ c.in-Ok.is t.each ∙ (ap (λ l. length l.items) e.none_read.lanes ∙ before.world.same_lanes);
-      enough = r.driven.enough;
       workers = r.each ∙ (ap (λ (b : Books). length b.workers.items) t.books ∙ (ap (λ (b : Books). length b.workers.items) e.books ∙ c.loop.invariant.workers));
       right = omega (arith, r.driven.fair, c.loop.invariant.right, ap (λ (b : Books). b.right) t.books, ap (λ (b : Books). b.right) e.books, sums);
-      counted = counted-round c.swap_spools-now.result.0.books.rounds c.run_round-now.result.0.books.rounds c.swap_spools-now.result.0.broadcast.course c.run_round-now.result.0.broadcast.course r.rounds (omega (arith, few, ap (λ (b : Books). b.rounds) t.books, turns)) r.driven.turns r.driven.stays none;
+      counted = counted-round c.swap_spools-now.result.0.books.rounds c.run_round-now.result.0.books.rounds c.swap_spools-now.result.0.broadcast.course c.run_round-now.result.0.broadcast.course r.rounds (omega (arith, few, ap (λ (b : Books). b.rounds) t.books, turns)) r.driven.further none;
+    }
+
+pub rests-requires : goal.rests-requires
+rests-requires g c =
+    let some = c.requires.on in
+    let on = IfOk-at_ok _ c.in_default.is c.give_due_ends-now.ensures.ok some.0 (c.loop.invariant.on some.0 some.1) in
+    record { each = on.counted ∙ sym on.world.same_lanes }
+
+pub read_between-now-requires : goal.read_between-now-requires
+read_between-now-requires g c =
+    let some = c.requires.on in
+    let on = IfOk-at_ok _ c.in_default.is c.give_due_ends-now.ensures.ok some.0 (c.loop.invariant.on some.0 some.1) in
+    record { on = (c.args.setup.now.settings.now, some.0, c.give_due_ends-now.result.0.broadcast.held.publisher, (λ k. []), on) }
+
+pub returns-in-Err-read-clause-err : goal.returns-in-Err-read-clause-err
+returns-in-Err-read-clause-err g c start on =
+    let on1 = IfOk-at_ok _ c.in_default.is c.give_due_ends-now.ensures.ok start (c.loop.invariant.on start on) in
+    subst (λ (k : Known). IsStopped g.S.Source.input g.O.Outlet.output c.args.setup.now.settings.now start c.read_between-now.result.0.broadcast.course k NoMemory) (sym c.read_between-now.ensures.held)
+    (IfErr-at_err _ c.in-Err-read.is c.read_between-now.ensures.err c.args.setup.now.settings.now start _ (λ k. []) on1)
+
+pub loop-preserved-then-not-any_closed : goal.loop-preserved-then-not-any_closed
+loop-preserved-then-not-any_closed g c =
+    let e = c.give_due_ends-now.ensures in
+    let r = c.read_between-now.ensures in
+    let sums = ap (λ p. sum (counts_of p.items)) (IfOk-at_ok _ c.in_default-read.is r.playlists) ∙ ap (λ p. sum (counts_of p.items)) e.playlists in
+    record {
+      on = λ start on.
+          let on1 = IfOk-at_ok _ c.in_default.is e.ok start (c.loop.invariant.on start on) in
+          subst (λ (k : Known). IsOn g.S.Source.input g.O.Outlet.output c.args.setup.now.settings.now start c.read_between-now.result.0.broadcast.course k (λ k. [])) (sym r.held)
+          (IfOk-at_ok _ c.in_default-read.is r.ok c.args.setup.now.settings.now start _ (λ k. []) on1);
+      each = c.loop.invariant.each;
+      workers = ap (λ (b : Books). length b.workers.items) r.books ∙ (ap (λ (b : Books). length b.workers.items) e.books ∙ c.loop.invariant.workers);
+      right = omega (arith, c.loop.invariant.right, ap (λ (b : Books). b.right) r.books, ap (λ (b : Books). b.right) e.books, sums);
+      counted = counted-more c.give_due_ends-now.result.0.books.rounds c.read_between-now.result.0.books.rounds _ _ (ap (λ (b : Books). b.rounds) r.books) (IfOk-at_ok _ c.in_default-read.is r.further)
+          (counted-read c.loop.between.books.rounds c.give_due_ends-now.result.0.books.rounds _ _ (ap (λ (b : Books). b.rounds) e.books) e.none_read c.loop.invariant.counted);
     }
 
 pub returns-clause-ok : goal.returns-clause-ok
 returns-clause-ok g c start on =
     elim c.match-next.branch [
       | in-None w ↦ never w.in-None.ensures.steps
-      | in-Some+in_default+then-not-any_closed w ↦ rw w.between-is (IfOk-at_ok _ w.in_default.is w.give_due_ends-now.ensures.ok start (c.loop.invariant.on start on))
+      | in-Some+in_default+then-not-any_closed+then-rests w ↦ rw w.between-is (IfOk-at_ok _ w.in_default.is w.give_due_ends-now.ensures.ok start (c.loop.invariant.on start on))
     ]
 
 pub returns-clause-all : goal.returns-clause-all
 returns-clause-all g c =
     elim c.match-next.branch [
       | in-None w ↦ never w.in-None.ensures.steps
-      | in-Some+in_default+then-not-any_closed w ↦
+      | in-Some+in_default+then-not-any_closed+then-rests w ↦
           let e = w.give_due_ends-now.ensures in
           let some = c.requires.on in
           let on = c.loop.invariant.on some.0 some.1 in
-          rw w.between-is (all-given (length c.args.setup.now.settings.now.renditions) c.loop.between.broadcast.course w.give_due_ends-now.result.0.broadcast.course e.none_read c.loop.invariant.enough
+          rw w.between-is (all-given (length c.args.setup.now.settings.now.renditions) w.give_due_ends-now.result.0.broadcast.course (w.if-rests.ensures refl)
           (subst NoneClosed w.deref.ensures.value (w.if-not-any_closed.ensures.none refl)) (ap (λ l. length l.items) e.none_read.lanes ∙ on.world.same_lanes)
           (IfOk-at_ok _ w.in_default.is e.ended))
     ]

@@ -1,7 +1,7 @@
 use Rattle.std.proofs.Common.{◌≡◌, ◌+◌, ◌≤◌, length}
 use Rattle.std.specs.Prelude.{sum}
 use Rattle.rounds.specs.Showing.{counts_of}
-use Rattle.rounds.specs.Courses.{HasEnough, StaysBetween}
+use Rattle.rounds.specs.Courses.{StaysBetween}
 use Rattle.rounds.proofs.Between.{IsCounted}
 use Rattle.rounds.proofs.run.rounds_loop.run_rounds.Given as goal
 
@@ -9,7 +9,6 @@ abbrev pub invariant-loop : goal.invariant-loop
 invariant-loop g l = record {
   on : StaysBetween g.S.Source.input g.O.Outlet.output l.setup.settings.now l.fn.between.broadcast l.between.broadcast;
   each : length l.spare.items ≡ length l.setup.settings.now.renditions;
-  enough : HasEnough l.between.broadcast.course;
   workers : length l.between.books.workers.items ≡ l.setup.workers;
   right : l.between.books.right + sum (counts_of l.fn.between.broadcast.course.playlists.items) ≤ l.fn.between.books.right + sum (counts_of l.between.broadcast.course.playlists.items);
   counted : IsCounted l.between.books.rounds l.between.broadcast.course;

@@ -41,7 +41,7 @@ give_its_end-requires-clause-next g c =
     let differs : is_good c.index-lane.result.now.stop ≡ slice_index_or ended r false → ⊥ = λ e. beq-apart _ _ c.if-is_good-index.false (c.is_good.ensures ∙ (e ∙ here)) in
     let some = c.requires.on in
     let due = end-due _ _ _ _ _ some.0 _ _ some.1 r c.requires.within c.index-lane.result.now at0 empty differs in
-    (parts-of c.args.settings.now some.1.world.events, is-going _ _ _ _ _ some.0 0 _ _ (λ k. []) some.1 r c.requires.within due.0, some.1.ends)
+    (parts-of c.args.settings.now some.1.world.events, is-going _ _ _ _ _ some.0 _ _ (λ k. []) some.1 r c.requires.within due.0, some.1.ends)
 
 pub returns-in_err-give_its_end-clause-err : goal.returns-in_err-give_its_end-clause-err
 returns-in_err-give_its_end-clause-err g c =
@@ -55,9 +55,9 @@ returns-in_err-give_its_end-clause-err g c =
     let differs : is_good c.index-lane.result.now.stop ≡ slice_index_or ended r false → ⊥ = λ e. beq-apart _ _ c.if-is_good-index.false (c.is_good.ensures ∙ (e ∙ here)) in
     rw (told.1, told.2) (λ start on.
     let due = end-due _ _ _ _ _ start _ _ on r c.requires.within c.index-lane.result.now at0 empty differs in
-    let s = stage-of _ _ _ _ _ start 0 _ _ (λ k. []) on r c.requires.within in
-    on-ungiven _ _ _ _ _ start 0 r _ _ _ _ (λ k. []) (End r) s.2 _ on s.3 refl due.0
-    (c.in_err-give_its_end.ensures.err (parts-of c.args.settings.now on.world.events) (is-going _ _ _ _ _ start 0 _ _ (λ k. []) on r c.requires.within due.0))
+    let s = stage-of _ _ _ _ _ start _ _ (λ k. []) on r c.requires.within in
+    on-ungiven _ _ _ _ _ start r _ _ _ _ (λ k. []) (End r) s.2 _ on s.3 refl due.0
+    (c.in_err-give_its_end.ensures.err (parts-of c.args.settings.now on.world.events) (is-going _ _ _ _ _ start _ _ (λ k. []) on r c.requires.within due.0))
     c.in_err-give_its_end.ensures.none_read c.in_err-give_its_end.ensures.board (end-begins _ _ _ _ _ start _ _ on r c.requires.within due.1 due.2) c.in_err-give_its_end.ensures.fault)
 
 pub returns-clause-ok : goal.returns-clause-ok
@@ -70,9 +70,9 @@ returns-clause-ok g c start on =
     let empty : length c.index-lane.result.now.intake.filled ≤ 0 = omega (arith, c.plans.ensures, c.if-plans-gt0.false) in
     let differs : is_good c.index-lane.result.now.stop ≡ slice_index_or ended r false → ⊥ = λ e. beq-apart _ _ c.if-is_good-index.false (c.is_good.ensures ∙ (e ∙ here)) in
     let due = end-due _ _ _ _ _ start _ _ on r c.requires.within c.index-lane.result.now at0 empty differs in
-    let s = stage-of _ _ _ _ _ start 0 _ _ (λ k. []) on r c.requires.within in
-    (on-gave _ _ _ _ _ start 0 r _ _ _ _ (λ k. []) (λ k. []) (End r) s.2 on s.3 refl due.0
-    (c.in_ok-give_its_end.ensures.ok (parts-of c.args.settings.now on.world.events) (is-going _ _ _ _ _ start 0 _ _ (λ k. []) on r c.requires.within due.0) on.ends)
+    let s = stage-of _ _ _ _ _ start _ _ (λ k. []) on r c.requires.within in
+    (on-gave _ _ _ _ _ start r _ _ _ _ (λ k. []) (λ k. []) (End r) s.2 on s.3 refl due.0
+    (c.in_ok-give_its_end.ensures.ok (parts-of c.args.settings.now on.world.events) (is-going _ _ _ _ _ start _ _ (λ k. []) on r c.requires.within due.0) on.ends)
     c.in_ok-give_its_end.ensures.none_read c.in_ok-give_its_end.ensures.board (end-moved _ _ _ _ _ start _ _ on r c.requires.within due.1 due.2) (λ k other. refl)).0
 
 pub returns-clause-ended : goal.returns-clause-ended
@@ -88,7 +88,7 @@ returns-clause-ended g c lane at filled =
     let on = some.1 in
     let parts = parts-of c.args.settings.now on.world.events in
     let due = end-due _ _ _ _ _ some.0 _ _ some.1 r c.requires.within c.index-lane.result.now at0 empty differs in
-    let gave = c.in_ok-give_its_end.ensures.ok parts (is-going _ _ _ _ _ some.0 0 _ _ (λ k. []) on r c.requires.within due.0) on.ends in
+    let gave = c.in_ok-give_its_end.ensures.ok parts (is-going _ _ _ _ _ some.0 _ _ (λ k. []) on r c.requires.within due.0) on.ends in
     let now = gave.ends ∙ ends-end parts r in
     let same : c.index-lane.result.now ≡ lane = same_Some _ _ (sym at0 ∙ at) in
     let size : r < length (ends_of parts) = omega (arith, inside, ap length on.ends) in
@@ -107,6 +107,6 @@ returns-clause-others g c k other =
     let on = some.1 in
     let parts = parts-of c.args.settings.now on.world.events in
     let due = end-due _ _ _ _ _ some.0 _ _ some.1 r c.requires.within c.index-lane.result.now at0 empty differs in
-    let gave = c.in_ok-give_its_end.ensures.ok parts (is-going _ _ _ _ _ some.0 0 _ _ (λ k. []) on r c.requires.within due.0) on.ends in
+    let gave = c.in_ok-give_its_end.ensures.ok parts (is-going _ _ _ _ _ some.0 _ _ (λ k. []) on r c.requires.within due.0) on.ends in
     let now = gave.ends ∙ ends-end parts r in
     ap (λ (l : List Bool). slice_index_or l k false) now ∙ (get_or-set_other (ends_of parts) r k true false other ∙ ap (λ (l : List Bool). slice_index_or l k false) (sym on.ends))

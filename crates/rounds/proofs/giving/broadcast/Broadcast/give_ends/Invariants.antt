@@ -7,7 +7,7 @@ use Rattle.rounds.proofs.giving.broadcast.Broadcast.give_ends.Given as goal
 
 abbrev pub invariant-loop-r : goal.invariant-loop-r
 invariant-loop-r g l = record {
-  ok : (start : Start _ _) → IsOn g.S.Source.input g.O.Outlet.output l.settings start 0 l.fn.self.course l.fn.self.held.publisher (λ k. []) → IsOn g.S.Source.input g.O.Outlet.output l.settings start 0 l.self.course l.self.held.publisher (λ k. []);
+  ok : (start : Start _ _) → IsOn g.S.Source.input g.O.Outlet.output l.settings start l.fn.self.course l.fn.self.held.publisher (λ k. []) → IsOn g.S.Source.input g.O.Outlet.output l.settings start l.self.course l.self.held.publisher (λ k. []);
   none_read : ReadsNone l.fn.self.course l.self.course;
   playlists : l.self.course.playlists ≡ l.fn.self.course.playlists;
   ended : (k : ℕ) (lane : Lane) → k < l.r → slice_get l.fn.self.course.lanes.items k ≡ Some lane → lane.intake.filled ≡ [] → slice_index_or l.self.course.ended.items k false ≡ is_good lane.stop;

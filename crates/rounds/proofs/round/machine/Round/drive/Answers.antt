@@ -1,6 +1,7 @@
-use Rattle.std.proofs.Common.{◌∙◌, sym, arith}
+use Rattle.std.proofs.Common.{arith}
 use Rattle.std.proofs.lemmas.Result.{err_from_is_err_and}
-use Rattle.rounds.proofs.Driven.{enough-read, in-first, in-begun, in-last, in-given}
+use Rattle.rounds.proofs.Driven.{in-first, in-begun, in-last, in-given}
+use Rattle.rounds.proofs.Turning.{more-then, more-unread}
 use Rattle.rounds.proofs.round.machine.Round.drive.Goals as goal
 
 pub feed_all-requires : goal.feed_all-requires
@@ -46,14 +47,11 @@ returns-clause-ok g c =
     let last = c.in_ok-give_expected.ensures.ok some.0 fed.0 (c.in_ok-read_on.ensures.ok some.0 fed.0 fed.1) in
     let begun = in-begun _ _ _ _ _ some.0 _ _ _ c.args.self.now.collector c.requires.behind some.1 in
     let given = in-given _ _ _ _ _ some.0 fed.0 _ _ _ c.in_ok-give_expected.ensures.all last in
-    let none = c.in_ok-give_expected.ensures.none_read in
-    let none_fed = c.in_ok-feed_all.ensures.none_read in
     record {
       on = λ start on.
           let fed = c.in_ok-feed_all.ensures.ok start (in-first _ _ _ _ _ start c.args.spools.now _ _ _ c.requires.each c.requires.behind on) in
           in-last _ _ _ _ _ start fed.0 _ _ _ c.in_ok-give_expected.ensures.all fed.2 (c.in_ok-give_expected.ensures.ok start fed.0 (c.in_ok-read_on.ensures.ok start fed.0 fed.1));
-      enough = enough-read _ _ none c.in_ok-read_on.ensures.enough;
-      turns = omega (arith, none.turns, none_fed.turns, c.in_ok-read_on.ensures.turns);
-      stays = λ e. none.lanes ∙ (c.in_ok-read_on.ensures.stays (sym none.turns ∙ (e ∙ sym none_fed.turns)) ∙ none_fed.lanes);
+      further = more-then _ _ _ (more-unread _ _ c.in_ok-feed_all.ensures.none_read)
+          (more-then _ _ _ c.in_ok-read_on.ensures.further (more-unread _ _ c.in_ok-give_expected.ensures.none_read));
       fair = omega (arith, begun, given, c.in_ok-feed_all.ensures.fair, c.in_ok-read_on.ensures.fair, c.in_ok-give_expected.ensures.fair);
     }

@@ -23,13 +23,13 @@ loop-spool-init g c = record {
 pub returns-in_err-reserve-clause-err : goal.returns-in_err-reserve-clause-err
 returns-in_err-reserve-clause-err g c =
     let told = err_from_is_err_and c.from_residual.result c.from_residual.ensures.1 in
-    rw told.1 (λ ladder start shows on. stopped-here _ _ _ _ _ start 0 _ shows _ _ refl (c.loop-spool.invariant.on ladder start shows on))
+    rw told.1 (λ ladder start shows on. stopped-here _ _ _ _ _ start _ shows _ _ refl (c.loop-spool.invariant.on ladder start shows on))
 
 pub returns-in_err-swap_one-clause-err : goal.returns-in_err-swap_one-clause-err
 returns-in_err-swap_one-clause-err g c =
     let told = err_from_is_err_and c.from_residual-in_err-swap_one.result c.from_residual-in_err-swap_one.ensures.1 in
     rw told.1 (λ ladder start shows on.
-    stopped-here _ _ _ _ _ start 0 _ shows _ _ refl
+    stopped-here _ _ _ _ _ start _ shows _ _ refl
     (on-unturned _ _ _ _ _ start _ shows _ _ c.in_err-swap_one.ensures.err c.in_err-swap_one.ensures.same (c.loop-spool.invariant.on ladder start shows on)))
 
 pub loop-spool-preserved : goal.loop-spool-preserved

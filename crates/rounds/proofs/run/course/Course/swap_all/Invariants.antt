@@ -10,7 +10,7 @@ use Rattle.rounds.proofs.run.course.Course.swap_all.Given as goal
 
 abbrev pub invariant-loop-spool : goal.invariant-loop-spool
 invariant-loop-spool g l = record {
-  on : (ladder : Ladder) (start : Start _ _) (shows : Known) → IsOn g.S.Source.input g.O.Outlet.output ladder start 0 l.fn.self shows (λ k. []) → IsOn g.S.Source.input g.O.Outlet.output ladder start 0 l.self shows (unfed_of l.full.items);
+  on : (ladder : Ladder) (start : Start _ _) (shows : Known) → IsOn g.S.Source.input g.O.Outlet.output ladder start l.fn.self shows (λ k. []) → IsOn g.S.Source.input g.O.Outlet.output ladder start l.self shows (unfed_of l.full.items);
   same : l.self ≡ record l.fn.self { lanes = l.self.lanes };
   count : length l.self.lanes.items ≡ length l.fn.self.lanes.items;
   rest : l.yielded ++ into_iter_items l.spool-iterator ≡ l.fn.spare.items;

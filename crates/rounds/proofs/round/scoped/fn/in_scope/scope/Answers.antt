@@ -5,7 +5,7 @@ use Rattle.rounds.proofs.Running.{stopped-here}
 use Rattle.rounds.proofs.round.scoped.fn.in_scope.scope.Goals as goal
 
 pub returns-then-len-workers : goal.returns-then-len-workers
-returns-then-len-workers g c = record { ok = tt; err = λ start on. stopped-here _ _ _ _ _ start 0 _ _ _ _ refl on }
+returns-then-len-workers g c = record { ok = tt; err = λ start on. stopped-here _ _ _ _ _ start _ _ _ _ refl on }
 
 pub returns : goal.returns
 returns g c =

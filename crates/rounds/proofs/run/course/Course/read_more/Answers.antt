@@ -1,0 +1,51 @@
+use Rattle.std.proofs.Common.{◌∙◌, ap, sym, rules}
+use Rattle.std.proofs.lemmas.Result.{err_from_is_err_and}
+use Rattle.rounds.specs.declared.run.course.Course.{Course}
+use Rattle.rounds.proofs.Turning.{more-then, more-looked, on-looked}
+use Rattle.rounds.proofs.run.course.Course.read_more.Goals as goal
+
+pub has_closed-requires : goal.has_closed-requires
+has_closed-requires g c =
+    let some = c.requires.on in
+    let on = c.loop.invariant.ok some.0 some.1 some.2 some.3 some.4 in
+    record { each = on.counted ∙ sym on.world.same_lanes }
+
+pub read_ready-requires-clause-on : goal.read_ready-requires-clause-on
+read_ready-requires-clause-on g c = let some = c.requires.on in (some.0, some.1, some.2, some.3, c.loop.invariant.ok some.0 some.1 some.2 some.3 some.4)
+
+pub returns-in_err-read_ready-clause-err : goal.returns-in_err-read_ready-clause-err
+returns-in_err-read_ready-clause-err g c =
+    let told = err_from_is_err_and c.from_residual.result c.from_residual.ensures.1 in
+    rw told.1 (λ ladder start shows waiting on. c.in_err-read_ready.ensures.err ladder start shows waiting (c.loop.invariant.ok ladder start shows waiting on))
+
+pub loop-preserved-then-branch : goal.loop-preserved-then-branch
+loop-preserved-then-branch g c = record {
+  ok = λ ladder start shows waiting on. c.in_ok-read_ready.ensures.ok ladder start shows waiting (c.loop.invariant.ok ladder start shows waiting on);
+  playlists = ap (λ (d : Course _ _). d.playlists) c.in_ok-read_ready.ensures.same ∙ c.loop.invariant.playlists;
+  further = more-then _ _ _ c.loop.invariant.further c.in_ok-read_ready.ensures.further;
+  buffer = search rules;
+}
+
+pub has_closed-requires-in-loop : goal.has_closed-requires-in-loop
+has_closed-requires-in-loop g c =
+    let some = c.requires.on in
+    let on = c.in_ok-read_ready.ensures.ok some.0 some.1 some.2 some.3 (c.loop.invariant.ok some.0 some.1 some.2 some.3 some.4) in
+    record { each = on.counted ∙ sym on.world.same_lanes }
+
+pub returns-then-has_closed-2-clause-ok : goal.returns-then-has_closed-2-clause-ok
+returns-then-has_closed-2-clause-ok g c ladder start shows waiting on = c.in_ok-read_ready.ensures.ok ladder start shows waiting (c.loop.invariant.ok ladder start shows waiting on)
+
+pub returns-then-has_closed-2-clause-playlists : goal.returns-then-has_closed-2-clause-playlists
+returns-then-has_closed-2-clause-playlists g c = ap (λ (d : Course _ _). d.playlists) c.in_ok-read_ready.ensures.same ∙ c.loop.invariant.playlists
+
+pub returns-then-has_closed-2-clause-further : goal.returns-then-has_closed-2-clause-further
+returns-then-has_closed-2-clause-further g c = more-then _ _ _ c.loop.invariant.further c.in_ok-read_ready.ensures.further
+
+pub loop-preserved : goal.loop-preserved
+loop-preserved g c = record {
+  ok = λ ladder start shows waiting on.
+      on-looked _ _ _ _ _ start _ _ shows waiting c.wait.ensures.sources c.wait.ensures.same (c.in_ok-read_ready.ensures.ok ladder start shows waiting (c.loop.invariant.ok ladder start shows waiting on));
+  playlists = ap (λ (d : Course _ _). d.playlists) c.wait.ensures.same ∙ (ap (λ (d : Course _ _). d.playlists) c.in_ok-read_ready.ensures.same ∙ c.loop.invariant.playlists);
+  further = more-then _ _ _ (more-then _ _ _ c.loop.invariant.further c.in_ok-read_ready.ensures.further) (more-looked _ _ c.wait.ensures.same);
+  buffer = search rules;
+}

@@ -1,0 +1,23 @@
+use Rattle.std.proofs.Common.{◌∙◌, ap, rules}
+use Rattle.std.proofs.lemmas.Result.{err_from_is_err_and}
+use Rattle.rounds.specs.declared.run.course.Course.{Course}
+use Rattle.rounds.proofs.Turning.{more-then}
+use Rattle.rounds.proofs.run.course.Course.read_ready.Goals as goal
+
+pub read_one-requires-clause-on : goal.read_one-requires-clause-on
+read_one-requires-clause-on g c = let some = c.requires.on in (some.0, some.1, some.2, some.3, c.loop-r.invariant.ok some.0 some.1 some.2 some.3 some.4)
+
+pub returns-in_err-any-clause-err : goal.returns-in_err-any-clause-err
+returns-in_err-any-clause-err g c =
+    let told = err_from_is_err_and c.from_residual.result c.from_residual.ensures.1 in
+    rw told.1 (λ ladder start shows waiting on. c.in_err-any.ensures.err ladder start shows waiting (c.loop-r.invariant.ok ladder start shows waiting on))
+
+pub loop-r-preserved : goal.loop-r-preserved
+loop-r-preserved g c = record {
+  ok = λ ladder start shows waiting on. c.in_ok-any.ensures.ok ladder start shows waiting (c.loop-r.invariant.ok ladder start shows waiting on);
+  same = c.in_ok-any.ensures.same
+      ∙ ap (λ (d : Course _ _). record d { sources = c.read_one.new.self.sources; lanes = c.read_one.new.self.lanes; turns = c.read_one.new.self.turns }) c.loop-r.invariant.same;
+  count = c.in_ok-any.ensures.count ∙ c.loop-r.invariant.count;
+  further = more-then _ _ _ c.loop-r.invariant.further c.in_ok-any.ensures.further;
+  buffer = search rules;
+}

@@ -1,0 +1,12 @@
+use Rattle.std.proofs.Common.{◌≡◌, ℕ, List, length}
+use Rattle.rounds.specs.Courses.{ReadsMore, ReadsOn}
+use Rattle.rounds.proofs.run.course.Course.read_ready.Given as goal
+
+abbrev pub invariant-loop-r : goal.invariant-loop-r
+invariant-loop-r g l = record {
+  ok : ReadsOn g.S.Source.input g.O.Outlet.output l.fn.self l.self;
+  same : l.self ≡ record l.fn.self { sources = l.self.sources; lanes = l.self.lanes; turns = l.self.turns };
+  count : length l.self.lanes.items ≡ length l.fn.self.lanes.items;
+  further : ReadsMore l.fn.self l.self;
+  buffer : length l.buffer ≡ length l.fn.buffer;
+}
