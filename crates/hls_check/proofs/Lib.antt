@@ -20,3 +20,4 @@ pub mod EscapedBytes
 pub mod LineEnds
 pub mod Splitting
 pub mod Taking
+pub mod Wanting

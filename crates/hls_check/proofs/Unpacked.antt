@@ -66,7 +66,7 @@ pub no-text-told : (p : Packed) (fault : UnpackFault) → OfAll p (IsThere p) �
 no-text-told p (Missing i) there told = absurd told
 no-text-told p (Closed i) there told = (there, told)
 no-text-told p (NoHead i) there told = absurd told
-no-text-told p NoMemory there told = there
+no-text-told p NoMemory there told = (there, told)
 
 -- what is told where a text has no head
 pub no-rest-told : (p : Packed) (texts : List (List ℕ)) (fault : UnpackFault) → OfAll p (IsThere p) → AreTexts p texts → IsNoRest texts fault → IsTold p fault
@@ -93,7 +93,15 @@ no-rest-told p texts (NoHead i) there opened told = (
         );
   },
 )
-no-rest-told p texts NoMemory there opened told = there
+no-rest-told p texts NoMemory there opened told = (
+  there,
+  record {
+    place = 0;
+    entry = omega (arith, told, opened.each_one);
+    opens = (get_or texts 0 [], (opened.opens 0 told).seals);
+    before = λ j lt. (get_or texts j [], (opened.opens j (omega (arith, lt, told))).seals);
+  },
+)
 
 -- what is told where bytes weren't counted
 pub not-counted-told : (p : Packed) (fault : UnpackFault) → OfAll p (IsThere p) → IsNotCounted p fault → IsTold p fault

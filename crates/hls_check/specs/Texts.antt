@@ -1,10 +1,10 @@
 -- What the steps of unpacking find.
-use Rattle.std.specs.Prelude.{◌≡◌, ⊤, ℕ, ◌<◌, ◌⊎◌, List, [], length, slice_index_or, Option, Some, None}
+use Rattle.std.specs.Prelude.{◌≡◌, ℕ, ◌<◌, ◌⊎◌, List, [], length, slice_index_or, Option, Some, None}
 use Rattle.std.specs.List.{concat}
 use Rattle.aes_cbc.specs.Opening.{Seals}
 use Rattle.hls_check.specs.declared.fault.UnpackFault.{UnpackFault}
 use Rattle.hls_check.specs.declared.fault.UnpackFault.TheVariants.{Missing, Closed, NoHead, NoMemory}
-use Rattle.hls_check.specs.Unpacking.{Packed, key_at, vector_at, bytes_at, IsOpen, IsFirstWithout, BeginsWithHead}
+use Rattle.hls_check.specs.Unpacking.{Packed, key_at, vector_at, bytes_at, IsOpen, IsReached, IsFirstWithout, BeginsWithHead}
 
 -- the one text that is sealed to these bytes, under a key and a vector
 pub record IsTheText (key vector bytes text : List ℕ) : Type 0 where
@@ -25,7 +25,7 @@ abbrev pub IsNoText : Packed → UnpackFault → Type 0
 IsNoText p (Missing i) = ⊥
 IsNoText p (Closed i) = IsFirstWithout p (IsOpen p) i
 IsNoText p (NoHead i) = ⊥
-IsNoText p NoMemory = ⊤
+IsNoText p NoMemory = IsReached p
 
 -- what stands behind the heads of texts
 pub record AreRests (texts rests : List (List ℕ)) : Type 0 where
@@ -43,7 +43,7 @@ abbrev pub IsNoRest : List (List ℕ) → UnpackFault → Type 0
 IsNoRest texts (Missing i) = ⊥
 IsNoRest texts (Closed i) = ⊥
 IsNoRest texts (NoHead i) = IsFirstHeadless texts i
-IsNoRest texts NoMemory = ⊤
+IsNoRest texts NoMemory = 0 < length texts
 
 -- what stands behind the heads of texts: so many bytes, or a first text has none
 abbrev pub HaveBytes : List (List ℕ) → Option ℕ → ℕ → Type 0

@@ -79,9 +79,17 @@ pub record IsFirstWithout (p : Packed) (Holds : ℕ → Type 0) (i : ℕ) : Type
   pub without : ¬ Holds i
   pub before : (j : ℕ) → j < i → Holds j
 
--- the fault is the one to tell: all that is missing comes first, then all that doesn't open, then all without a head
+-- an entry opens, and each before it: only then is there a text that memory can be wanted for
+pub record IsReached (p : Packed) : Type 0 where
+  pub place : ℕ
+  pub entry : place < length p.entries
+  pub opens : IsOpen p place
+  pub before : (j : ℕ) → j < place → IsOpen p j
+
+-- the fault is the one to tell: all that is missing comes first, then all that doesn't open, then all without a head. Lack of
+-- memory is told only where a text was reached that wants it
 abbrev pub IsTold : Packed → UnpackFault → Type 0
 IsTold p (Missing i) = IsFirstWithout p (IsThere p) i
 IsTold p (Closed i) = OfAll p (IsThere p) × IsFirstWithout p (IsOpen p) i
 IsTold p (NoHead i) = OfAll p (IsThere p) × OfAll p (IsOpen p) × IsFirstWithout p (HasHead p) i
-IsTold p NoMemory = OfAll p (IsThere p)
+IsTold p NoMemory = OfAll p (IsThere p) × IsReached p

@@ -66,7 +66,10 @@ fn count_opened(
             headless = Some(i);
             continue;
         };
-        bytes = bytes.checked_add(rest.len()).ok_or(UnpackFault::NoMemory)?;
+        let Some(more) = bytes.checked_add(rest.len()) else {
+            return Err(UnpackFault::NoMemory);
+        };
+        bytes = more;
     }
     match headless {
         Some(i) => Err(UnpackFault::NoHead(i)),

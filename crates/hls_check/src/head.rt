@@ -1,6 +1,6 @@
 //! The head of a segment, taken off (RFC 8216, 3.2).
 
-ghost use Rattle.std.specs.Prelude.{◌≡◌, ◌*◌, ◌+◌, ◌<◌, ◌≤◌, ◌^◌, ℕ, List, ◌++◌, length, slice_index, IfOk, IsSomeAnd, MatchOption, Decides, None};
+ghost use Rattle.std.specs.Prelude.{◌≡◌, ◌*◌, ◌+◌, ◌<◌, ◌≤◌, ◌^◌, ℕ, List, ◌++◌, length, slice_index, IfOk, OnErr, IsSomeAnd, MatchOption, Decides, None};
 ghost use Rattle.psi_tables.specs.ProgramMap.{pmt_fault};
 ghost use Rattle.psi_tables.specs.Head.{head, section_packets, IsSendable};
 ghost use Rattle.hls_check.specs.Unpacking.{BeginsWithHead};
@@ -65,9 +65,10 @@ fn made_head(
     Ok(bytes)
 }
 
-/// Whether a section is that of a good PMT.
+/// Whether a section is that of a good PMT. Only such a section wants memory.
 fn is_pmt(alloc: Global, section: &[u8]) -> Result<bool, AllocError>
-    ensures { IfOk result (λ good. Decides good (pmt_fault section.now ≡ None)) }
+    ensures good { IfOk result (λ good. Decides good (pmt_fault section.now ≡ None)) }
+    ensures memory { OnErr result (pmt_fault section.now ≡ None) }
 {
     match Pmt::read(alloc, section) {
         Ok(_) => Ok(true),

@@ -54,7 +54,7 @@ pub fn open_segments(
     Ok(texts)
 }
 
-/// The text of an entry's segment, if there is one.
+/// The text of an entry's segment, if there is one. Only such a text wants memory.
 pub fn open_entry(
     alloc: Global,
     salt: Option<[u8; 16]>,
@@ -65,8 +65,10 @@ pub fn open_entry(
 ) -> Result<Option<Vec<u8>>, AllocError>
     requires entry { i < length entries.now }
     requires there { IsThere (packed salt entries.now (map (λ s. s.items) segments.now) keys.now) i }
-    ensures { let p = packed salt entries.now (map (λ s. s.items) segments.now) keys.now in
+    ensures found { let p = packed salt entries.now (map (λ s. s.items) segments.now) keys.now in
         IfOk result (λ found. MatchOption found (¬ IsOpen p i) (λ text. OpensAlone p i text.items)) }
+    ensures memory { let p = packed salt entries.now (map (λ s. s.items) segments.now) keys.now in
+        OnErr result (IsOpen p i) }
 {
     let entry = entries[i];
     let key = keys[entry.key as usize];

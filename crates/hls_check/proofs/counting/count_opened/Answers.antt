@@ -1,6 +1,7 @@
 use Rattle.std.proofs.Common.{◌∙◌, sym, subst, inl, rules}
 use Rattle.std.proofs.lemmas.Option.{MatchOption-at_some}
 use Rattle.hls_check.specs.Unpacking.{BeginsWithHead}
+use Rattle.hls_check.proofs.Wanting.{memory-told}
 use Rattle.hls_check.proofs.Growing.{MatchOption-none}
 use Rattle.hls_check.proofs.Counted.{past, headless-here, counted-here}
 use Rattle.hls_check.proofs.counting.count_opened.Goals as goal
@@ -8,21 +9,45 @@ use Rattle.hls_check.proofs.counting.count_opened.Goals as goal
 pub returns-in_default-clause-err : goal.returns-in_default-clause-err
 returns-in_default-clause-err c = inl (record {
   entry = c.loop-i-test.true;
-  without = MatchOption-none _ _ _ c.in_default.not-Some c.in_ok-text.ensures;
+  without = MatchOption-none _ _ _ c.in_default.not-Some c.in_ok-text.ensures.found;
   before = λ j lt. (_, (c.loop-i.invariant.opens j lt).seals);
 })
 
 pub loop-i-preserved-then-is_some : goal.loop-i-preserved-then-is_some
 loop-i-preserved-then-is_some c =
-    past _ _ _ c.in-Some.text.items (MatchOption-at_some _ _ _ c.in-Some.is c.in_ok-text.ensures) c.loop-i.headless (sym c.is_some.ensures ∙ c.if-is_some.true) c.loop-i.invariant
+    past _ _ _ c.in-Some.text.items (MatchOption-at_some _ _ _ c.in-Some.is c.in_ok-text.ensures.found) c.loop-i.headless (sym c.is_some.ensures ∙ c.if-is_some.true) c.loop-i.invariant
 
 pub loop-i-preserved-in_default-2 : goal.loop-i-preserved-in_default-2
 loop-i-preserved-in_default-2 c =
     let without = subst (λ t. (rest : _) → ¬ BeginsWithHead t rest) c.deref.ensures.value (MatchOption-none _ _ _ c.in_default-2.not-Some c.in_ok-rest.ensures) in
-    headless-here _ _ _ c.in-Some.text.items (MatchOption-at_some _ _ _ c.in-Some.is c.in_ok-text.ensures) c.loop-i.headless (sym c.is_some.ensures ∙ c.if-is_some.false) without c.loop-i.invariant
+    headless-here _ _ _ c.in-Some.text.items (MatchOption-at_some _ _ _ c.in-Some.is c.in_ok-text.ensures.found) c.loop-i.headless (sym c.is_some.ensures ∙ c.if-is_some.false) without c.loop-i.invariant
 
 pub loop-i-preserved : goal.loop-i-preserved
 loop-i-preserved c =
     let begins = subst (λ t. BeginsWithHead t c.in-Some-2.rest.now) c.deref.ensures.value (MatchOption-at_some _ _ _ c.in-Some-2.is c.in_ok-rest.ensures) in
-    counted-here _ _ _ c.in-Some.text.items (MatchOption-at_some _ _ _ c.in-Some.is c.in_ok-text.ensures) c.loop-i.headless c.in-Some-2.rest.now _ (sym c.is_some.ensures ∙ c.if-is_some.false) begins (search rules)
+    counted-here _ _ _ c.in-Some.text.items (MatchOption-at_some _ _ _ c.in-Some.is c.in_ok-text.ensures.found) c.loop-i.headless c.in-Some-2.rest.now _ (sym c.is_some.ensures ∙ c.if-is_some.false) begins (search rules)
     c.loop-i.invariant
+
+pub returns-in_err-text-clause-err : goal.returns-in_err-text-clause-err
+returns-in_err-text-clause-err c = memory-told c.from_residual.result _ c.from_residual.ensures.1 (inl (record {
+  place = c.loop-i.i;
+  entry = c.loop-i-test.true;
+  opens = c.in_err-text.ensures.memory;
+  before = λ j lt. (_, (c.loop-i.invariant.opens j lt).seals);
+}))
+
+pub returns-in_err-rest-clause-err : goal.returns-in_err-rest-clause-err
+returns-in_err-rest-clause-err c = memory-told c.from_residual-in_err-rest.result _ c.from_residual-in_err-rest.ensures.1 (inl (record {
+  place = c.loop-i.i;
+  entry = c.loop-i-test.true;
+  opens = (_, (MatchOption-at_some _ _ _ c.in-Some.is c.in_ok-text.ensures.found).seals);
+  before = λ j lt. (_, (c.loop-i.invariant.opens j lt).seals);
+}))
+
+pub returns-in_default-checked_add-clause-err : goal.returns-in_default-checked_add-clause-err
+returns-in_default-checked_add-clause-err c = inl (record {
+  place = c.loop-i.i;
+  entry = c.loop-i-test.true;
+  opens = (_, (MatchOption-at_some _ _ _ c.in-Some.is c.in_ok-text.ensures.found).seals);
+  before = λ j lt. (_, (c.loop-i.invariant.opens j lt).seals);
+})

@@ -8,8 +8,8 @@ use Rattle.hls_check.proofs.Openings.{entry-opened}
 use Rattle.hls_check.proofs.Growing.{items_at}
 use Rattle.hls_check.proofs.opening.open_entry.Goals as goal
 
-pub returns : goal.returns
-returns c =
+pub returns-clause-found : goal.returns-clause-found
+returns-clause-found c =
     let segments = map (λ s. s.items) c.args.segments.now in
     let p = packed c.args.salt c.args.entries.now segments c.args.keys.now in
     let entry = c.entry.view_is ∙ get_or_read c.args.entries.now c.args.i c.index-entries-i.result c.requires.entry c.index-entries-i.is (record { number = 0; key = 0; micros = 0; discontinuity = false }) in
