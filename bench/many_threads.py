@@ -34,13 +34,13 @@ def pack(program, folder, entries, *options, target=8, segment=6):
     return [program, "pack", "--out", str(out), *cuts, *options, *entries]
 
 
-def ffmpeg(folder, streams):
+def ffmpeg(folder, streams, segment=6):
     """One process that packs all streams, each into a playlist of its own."""
     command = ["ffmpeg", "-nostdin", "-v", "error", "-y"]
     for stream in streams:
         command += ["-i", str(stream)]
     for number in range(len(streams)):
-        command += ["-map", str(number), "-c", "copy", "-f", "hls", "-hls_time", "6", "-hls_list_size", "5"]
+        command += ["-map", str(number), "-c", "copy", "-f", "hls", "-hls_time", str(segment), "-hls_list_size", "5"]
         command += ["-hls_key_info_file", str(folder / "key_info"), str(folder / f"ffmpeg{number}.m3u8")]
     return command
 
@@ -54,8 +54,8 @@ def ratios(what, size, other, runs):
         )
 
 
-def with_workers(program, folder, entries, workers, *options):
-    return pack(program, folder, entries, "--workers", str(workers), *options)
+def with_workers(program, folder, entries, workers, *options, **cuts):
+    return pack(program, folder, entries, "--workers", str(workers), *options, **cuts)
 
 
 def runs_of(program, folder, entries, *options):
