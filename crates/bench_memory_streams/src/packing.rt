@@ -31,6 +31,7 @@ fn settings(alloc: Global) -> Option<Settings> {
         keys: keys(alloc)?.pop()?,
         salt: None,
         gone: Gone::nothing(),
+        earlier: Vec::new(alloc),
     };
     Some(Settings {
         renditions: Vec::from_array(alloc, [rendition]).ok()?,

@@ -25,8 +25,8 @@ use Rattle.ladder_items.specs.Packed.{HasHalted, IsCutShort, IsPacked}
 use Rattle.ladder_items.proofs.Endings.{says-as}
 use Rattle.ladder_items.proofs.WholeBlocks.{weaves-whole}
 use Rattle.ladder_laws.specs.Playlists.{HasByteNames}
-use Rattle.ladder_laws.specs.Playable.{StaysPlayable}
-use Rattle.ladder_laws.proofs.Playable.{nothing-playable, stays-playable}
+use Rattle.ladder_laws.specs.Playable.{StaysPlayable, StaysPlayableBehind}
+use Rattle.ladder_laws.proofs.Playable.{nothing-behind, nothing-playable, stays-playable, stays-playable-behind}
 use Rattle.live_board.specs.Counts.{counts_shown}
 use Rattle.rounds.specs.Shown.{Fits, IsPackedShown, of_shown}
 use Rattle.commands.specs.LadderPacking.{LadderSays, TurnsAway}
@@ -133,10 +133,16 @@ module _ {X F : Type 0} (input : SourceView X) (made : F → List Move) (ladder 
   playable-of : HasByteNames ladder → (p : LeavesPrefix ladder d.syncs (made y.folder)) → (p.items ≡ []) ⊎ IsAllowed ladder → LeavesPlayable ladder d.syncs (made y.folder)
   playable-of bytes p (inl none) = record {
     leaves = p;
-    playable = subst (λ (l : List ItemValue). StaysPlayable (made y.folder) l) (sym none)
+    playable = λ _. subst (λ (l : List ItemValue). StaysPlayable (made y.folder) l) (sym none)
         (nothing-playable (made y.folder) (subst (λ (l : List ItemValue). EachKillLeaves (made y.folder) l) none p.killed));
+    behind = subst (λ (l : List ItemValue). StaysPlayableBehind ladder (made y.folder) l) (sym none)
+        (nothing-behind ladder (made y.folder) (subst (λ (l : List ItemValue). EachKillLeaves (made y.folder) l) none p.killed));
   }
-  playable-of bytes p (inr allowed) = record { leaves = p; playable = stays-playable ladder p.parts p.items (made y.folder) allowed bytes p.weave p.killed }
+  playable-of bytes p (inr allowed) = record {
+    leaves = p;
+    playable = λ fresh. stays-playable ladder p.parts p.items (made y.folder) allowed bytes fresh p.weave p.killed;
+    behind = stays-playable-behind ladder p.parts p.items (made y.folder) allowed bytes p.weave p.killed;
+  }
 
   playable-of-packed : HasByteNames ladder → (report : Report) → IsPackedInto (folder_run input made most before now d y) ladder d.syncs (made y.folder) report → LeavesPlayable ladder d.syncs (made y.folder)
   playable-of-packed bytes report p =

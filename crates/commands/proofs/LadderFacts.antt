@@ -35,6 +35,7 @@ one-rendition words turns a b one other =
     let held : a.keys.salt ≡ b.keys.salt = one.held_is ∙ salt ∙ sym other.held_is in
     let first : a.keys.first ≡ b.keys.first = one.is_new.first ∙ sym other.is_new.first in
     let gone : a.gone ≡ b.gone = one.is_new.gone ∙ sym other.is_new.gone in
+    let earlier : a.earlier ≡ b.earlier = one.is_new.earlier ∙ sym other.is_new.earlier in
     λ i. record {
       name = name i;
       codecs = codecs i;
@@ -43,6 +44,7 @@ one-rendition words turns a b one other =
       keys = record { keys = keys i; period = period i; salt = held i; first = first i };
       salt = salt i;
       gone = gone i;
+      earlier = earlier i;
     }
 
 pub one-list : (words : Entry → Words) (turns : ℕ) (entries : List Entry) (xs ys : List RenditionValue)

@@ -13,7 +13,8 @@ use Rattle.ladder_items.specs.Weave.{Weaves}
 use Rattle.ladder_items.specs.Runs.{Run, run_of}
 use Rattle.ladder_items.specs.Faults.{Sayings, Says}
 use Rattle.ladder_items.specs.Packed.{HasHalted, IsCutShort, IsPacked}
-use Rattle.ladder_laws.specs.Playable.{StaysPlayable}
+use Rattle.ladder_laws.specs.Playable.{StaysPlayable, StaysPlayableBehind}
+use Rattle.ladder_laws.specs.Playlists.{HasNoEarlier}
 use Rattle.commands.specs.declared.destination.Destination.{Destination}
 use Rattle.commands.specs.declared.ladder_packing.LadderPackingFault.{LadderPackingFault}
 use Rattle.commands.specs.declared.ladder_packing.LadderPackingFault.TheVariants.{Packing, Unwritten, NoMemory}
@@ -35,10 +36,12 @@ pub record LeavesPrefix (ladder : Ladder) (syncs : Bool) (made : List Move) : Ty
   pub killed : EachKillLeaves made items
   pub lost : syncs ≡ true → EachLossOfPowerLeaves made items
 
--- So it does, and what it leaves can be played: each file that a playlist in place lists is in place too, whole.
+-- So it does, and what it leaves can be played: each file that a playlist in place lists is in place too, whole. So it is where no
+-- rendition lists rows of earlier runs, and in a folder in which those runs left what they put.
 pub record LeavesPlayable (ladder : Ladder) (syncs : Bool) (made : List Move) : Type 0 where
   pub leaves : LeavesPrefix ladder syncs made
-  pub playable : StaysPlayable made leaves.items
+  pub playable : HasNoEarlier ladder → StaysPlayable made leaves.items
+  pub behind : StaysPlayableBehind ladder made leaves.items
 
 -- what is left of all items, which are in the folder
 pub record AreAllThere (syncs : Bool) (made : List Move) (items : List ItemValue) : Type 0 where

@@ -23,7 +23,8 @@ use std::thread::Threads;
 /// Wherever the process is killed, also after a fault, the folder shows what stood there before with a prefix of a weave
 /// of the renditions over it, whole files alone; and once all is packed, all of the weave is there. A folder that is synced
 /// holds that on the disk too, wherever the machine loses its power. What the folder shows can be played at each moment: each
-/// file that a playlist in place lists is in place too, whole, where the folder had no file of these names before.
+/// file that a playlist in place lists is in place too, whole, where the folder had no file of these names before, or, in a run
+/// that goes on, just what the runs before it put.
 pub fn pack_into_folder<S: Source + Drop, F: Folder + Drop, W: Write, R: Threads + Wait + Sync>(
     rt: &R,
     alloc: Global,

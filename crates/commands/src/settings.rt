@@ -183,6 +183,7 @@ fn rendition(
         keys: rotation(keys, period, parts.salt),
         salt: parts.salt,
         gone: Gone::nothing(),
+        earlier: Vec::new(alloc),
     })
 }
 

@@ -25,7 +25,7 @@ pub record IsNext (ladder : Ladder) (r : ℕ) (parts : List Part) (shown : List 
   pub plan_is : IsPlan r ladder.cut (count (part_at parts r)) plan
 
 abbrev pub no_shown : Shown
-no_shown = record { name = []; target = 0; window = 0; event = false; salt = None; gone = nothing_gone; rows = []; ended = false }
+no_shown = record { name = []; target = 0; window = 0; event = false; salt = None; gone = nothing_gone; earlier = []; rows = []; ended = false }
 
 -- a segment of rendition r, its playlists and the master of what all renditions show
 abbrev pub block_of : Ladder → ℕ → SealedSegment → List Shown → List ItemValue

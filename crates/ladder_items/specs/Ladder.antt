@@ -1,18 +1,21 @@
 -- The renditions of a ladder, and the settings that they share.
-use Rattle.std.specs.Prelude.{◌≡◌, ℕ, ◌*◌, ◌≤◌, Bool, true, false, List, [], map, length, All, Option, Some, None, get_or}
+use Rattle.std.specs.Prelude.{◌≡◌, ℕ, ◌+◌, ◌*◌, ◌<◌, ◌≤◌, Bool, true, false, List, [], map, length, All, Option, Some, None, get_or}
 use Rattle.segment_job.specs.Rotation.{KeyRotation}
 use Rattle.media_playlist.specs.declared.row.Gone.{Gone}
 use Rattle.media_playlist.specs.Gone.{IsSmall}
 use Rattle.media_playlist.specs.Listed.{nothing_gone}
+use Rattle.media_playlist.specs.Rows.{SegmentRow}
 use Rattle.cutter.specs.declared.settings.CutSettings.{CutSettings}
 use Rattle.ladder_items.specs.declared.settings.Kind.{Kind}
 use Rattle.ladder_items.specs.declared.settings.Kind.TheVariants.{Live, Event}
+use Rattle.ladder_items.specs.declared.settings.TheConstants.{MOST_EARLIER}
+use Rattle.ladder_items.specs.Shown.{AreNextRows}
 use Rattle.master_playlist.specs.Listed.{Listed}
 use Rattle.master_playlist.specs.Faults.{fault_of}
-use Rattle.limits.specs.declared.TheConstants.{TICKS, LEAST, MOST_TARGET, MOST_FRAME, MOST_GAP, MOST_PACKETS, MOST_PROGRAM, MOST_RENDITIONS, MOST_WINDOW, MOST_QUEUE, LAST_SEGMENT}
+use Rattle.limits.specs.declared.TheConstants.{TICKS, LEAST, MOST_TARGET, MOST_FRAME, MOST_GAP, MOST_PACKETS, MOST_PROGRAM, MOST_RENDITIONS, MOST_WINDOW, MOST_QUEUE, LAST_SEGMENT, MOST_KEYS}
 
--- a rendition: its name and codecs as bytes, its size in pixels, the keys of its segments, the salt of their vectors, and
--- what came before in earlier runs
+-- a rendition: its name and codecs as bytes, its size in pixels, the keys of its segments, the salt of their vectors, what is
+-- gone of earlier runs, and the rows of theirs that are still listed
 pub record RenditionValue : Type 0 where
   pub name : List ℕ
   pub codecs : List ℕ
@@ -21,6 +24,7 @@ pub record RenditionValue : Type 0 where
   pub keys : KeyRotation
   pub salt : Option (List ℕ)
   pub gone : Gone
+  pub earlier : List SegmentRow
 
 -- all renditions, how their streams are cut, which segments are listed, the least number of segments to list, and how many
 -- segments may be on their way
@@ -32,7 +36,7 @@ pub record Ladder : Type 0 where
   pub queue : ℕ
 
 abbrev pub no_rendition : RenditionValue
-no_rendition = record { name = []; codecs = []; width = 0; height = 0; keys = record { keys = []; period = 0; salt = None; first = 0 }; salt = None; gone = nothing_gone }
+no_rendition = record { name = []; codecs = []; width = 0; height = 0; keys = record { keys = []; period = 0; salt = None; first = 0 }; salt = None; gone = nothing_gone; earlier = [] }
 
 abbrev pub rendition_at : Ladder → ℕ → RenditionValue
 rendition_at ladder r = get_or ladder.renditions r no_rendition
@@ -82,17 +86,22 @@ pub record IsCutAllowed (cut : CutSettings) : Type 0 where
 pub record IsNew (rendition : RenditionValue) : Type 0 where
   pub first : rendition.keys.first ≡ 0
   pub gone : rendition.gone ≡ nothing_gone
+  pub earlier : rendition.earlier ≡ []
 
 -- playlists of an event list all segments from the first one on (RFC 8216, 4.3.3.5): nothing is gone that they would number
 abbrev pub HasAll : Kind → Gone → Type 0
 HasAll Live gone = Unit {0}
 HasAll Event gone = (gone.rows ≡ 0) × (gone.discontinuities ≡ 0)
 
--- A rendition goes on from what came before: its first segment has the next number, and no count is past the last number.
-pub record GoesOn (kind : Kind) (rendition : RenditionValue) : Type 0 where
-  pub first : rendition.keys.first ≡ rendition.gone.rows
+-- A rendition goes on from what came before: its earlier rows follow on what is gone, their keys are of those that may be, its
+-- first segment has the next number behind them, and no count is past the last number.
+pub record GoesOn (kind : Kind) (target : ℕ) (rendition : RenditionValue) : Type 0 where
+  pub first : rendition.keys.first ≡ rendition.gone.rows + length rendition.earlier
+  pub few : length rendition.earlier ≤ MOST_EARLIER
+  pub follow : AreNextRows target rendition.gone.rows rendition.earlier
+  pub turns : All (λ row. row.key < MOST_KEYS) rendition.earlier
   pub limit : rendition.keys.first ≤ LAST_SEGMENT
-  pub discontinuities : rendition.gone.discontinuities ≤ LAST_SEGMENT
+  pub discontinuities : rendition.gone.discontinuities + length rendition.earlier ≤ LAST_SEGMENT
   pub small : IsSmall rendition.gone
   pub all : HasAll kind rendition.gone
 
@@ -104,7 +113,7 @@ pub record IsWithinLimits (ladder : Ladder) : Type 0 where
   pub window : (LEAST ≤ ladder.window) × (ladder.window ≤ MOST_WINDOW)
   pub queue : (LEAST ≤ ladder.queue) × (ladder.queue ≤ MOST_QUEUE)
   pub salts : All (λ rendition. rendition.keys.salt ≡ rendition.salt) ladder.renditions
-  pub go_on : All (GoesOn ladder.kind) ladder.renditions
+  pub go_on : All (GoesOn ladder.kind ladder.cut.target) ladder.renditions
 
 -- settings that a run takes: their renditions can be listed besides
 pub record IsAllowed (ladder : Ladder) : Type 0 where

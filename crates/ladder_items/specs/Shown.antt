@@ -1,5 +1,5 @@
 -- What a rendition shows of the rows of its segments: two playlists, and their bit rates.
-use Rattle.std.specs.Prelude.{ℕ, Bool, Option, List, map, length, ◌≡◌, ◌<◌, ◌≤◌, ◌^◌, false, All}
+use Rattle.std.specs.Prelude.{ℕ, ◌+◌, Bool, Option, Some, List, ◌++◌, map, length, ◌≡◌, ◌<◌, ◌≤◌, ◌^◌, false, All, slice_get}
 use Rattle.std.specs.List.{flat_map}
 use Rattle.playlist_text.specs.Lines.{text_of}
 use Rattle.media_playlist.specs.declared.row.FrameRow.{FrameRow}
@@ -11,7 +11,8 @@ use Rattle.bandwidth.specs.declared.run.Span.{Span}
 use Rattle.limits.specs.declared.TheConstants.{MOST_PACKETS}
 
 -- a rendition's name, the target duration in seconds, the least number of rows to list, whether all rows of an event are
--- listed, the salt of the vectors, what came before the run, the rows of all its segments, and whether it takes no more
+-- listed, the salt of the vectors, what is gone of earlier runs, the rows of theirs that were still listed when the run began,
+-- the rows of all segments of the run, and whether it takes no more
 pub record Shown : Type 0 where
   pub name : List ℕ
   pub target : ℕ
@@ -19,12 +20,17 @@ pub record Shown : Type 0 where
   pub event : Bool
   pub salt : Option (List ℕ)
   pub gone : Gone
+  pub earlier : List SegmentRow
   pub rows : List SegmentRow
   pub ended : Bool
 
+-- all rows that are known: the earlier ones and those of the run
+abbrev pub known : Shown → List SegmentRow
+known shown = shown.earlier ++ shown.rows
+
 -- as the window of its playlists
 abbrev pub in_window : Shown → Pushed
-in_window shown = record { name = shown.name; target = shown.target; window = shown.window; event = shown.event; salt = shown.salt; gone = shown.gone; rows = shown.rows }
+in_window shown = record { name = shown.name; target = shown.target; window = shown.window; event = shown.event; salt = shown.salt; gone = shown.gone; rows = known shown }
 
 -- the texts of its playlists, ended or not
 abbrev pub media_text : Shown → Bool → List ℕ
@@ -65,3 +71,7 @@ pub record IsNextRow (target count : ℕ) (row : SegmentRow) : Type 0 where
   pub micros : row.micros < 2 ^ 32
   pub frames : All IsSmallFrame row.frames
   pub few : length row.frames ≤ MOST_PACKETS
+
+-- rows that follow on one another from a number on, each of which may come behind those before it
+abbrev pub AreNextRows : ℕ → ℕ → List SegmentRow → Type 0
+AreNextRows target first rows = (k : ℕ) (row : SegmentRow) → slice_get rows k ≡ Some row → IsNextRow target (first + k) row

@@ -1,17 +1,20 @@
-ghost use Rattle.std.specs.Prelude.{◌≡◌, ◌≤◌, None, map, length, All, Decides, IfOk, MatchResult};
+ghost use Rattle.std.specs.Prelude.{◌≡◌, ◌<◌, ◌≤◌, ◌+◌, None, map, length, All, Decides, IfOk, MatchResult};
 ghost use Rattle.master_playlist.specs.Faults.{fault_of};
 ghost use Rattle.media_playlist.specs.Gone.{IsSmall};
 ghost use Rattle.ladder_items.specs.Ladder.{unmeasured, IsProgram, IsCutAllowed, HasAll, GoesOn, IsWithinLimits, IsAllowed};
 ghost use Rattle.ladder_items.specs.Ladder;
+ghost use Rattle.ladder_items.specs.Shown.{AreNextRows};
+ghost use Rattle.ladder_items.specs.declared.settings.TheConstants.{MOST_EARLIER};
 
-use crate::settings::{Kind, Rendition, Settings};
+use crate::earlier::follow;
+use crate::settings::{Kind, MOST_EARLIER, Rendition, Settings};
 use cutter::CutSettings;
 use limits::{
-    LAST_SEGMENT, LEAST, MOST_FRAME, MOST_GAP, MOST_PACKETS, MOST_QUEUE, MOST_RENDITIONS,
-    MOST_TARGET, MOST_WINDOW, TICKS,
+    LAST_SEGMENT, LEAST, MOST_FRAME, MOST_GAP, MOST_KEYS, MOST_PACKETS, MOST_QUEUE,
+    MOST_RENDITIONS, MOST_TARGET, MOST_WINDOW, TICKS,
 };
 use master_playlist::{MasterFault, Variant, master_text};
-use media_playlist::Gone;
+use media_playlist::{Gone, Row};
 use segment_job::Keys;
 use std::alloc::{AllocError, Global};
 
@@ -25,7 +28,9 @@ pub fn is_allowed(alloc: Global, settings: &Settings, inputs: usize) -> Result<b
     if inputs != settings.renditions.len() || !is_ladder(settings) || !is_cut(settings.cut) {
         return Ok(false);
     }
-    if !hold_their_salts(&settings.renditions) || !go_on(settings.kind, &settings.renditions) {
+    if !hold_their_salts(&settings.renditions)
+        || !go_on(settings.kind, settings.cut.target, &settings.renditions)
+    {
         return Ok(false);
     }
     are_listable(alloc, &settings.renditions)
@@ -52,22 +57,43 @@ fn hold_their_salts(renditions: &[Rendition]) -> bool
 }
 
 /// Whether each rendition goes on from what came before.
-fn go_on(kind: Kind, renditions: &[Rendition]) -> bool
-    ensures { Decides result (All (GoesOn kind) renditions.now) }
+fn go_on(kind: Kind, target: u64, renditions: &[Rendition]) -> bool
+    ensures { Decides result (All (GoesOn kind target) renditions.now) }
 {
     renditions
         .iter()
-        .all(|rendition| goes_on(kind, &rendition.keys, rendition.gone))
+        .all(|rendition| goes_on(kind, target, rendition))
 }
 
-/// Whether keys begin behind what came before.
-fn goes_on(kind: Kind, keys: &Keys, gone: Gone) -> bool
-    ensures { Decides result ((keys.now.first ≡ gone.rows) × (keys.now.first ≤ LAST_SEGMENT)
-        × (gone.discontinuities ≤ LAST_SEGMENT) × IsSmall gone × HasAll kind gone) }
+/// Whether a rendition goes on from what came before.
+fn goes_on(kind: Kind, target: u64, rendition: &Rendition) -> bool
+    ensures { Decides result (GoesOn kind target rendition.now) }
 {
-    keys.number(0) == u128::from(gone.rows)
-        && gone.rows <= LAST_SEGMENT
+    let earlier = &rendition.earlier;
+    if !begins_behind(kind, &rendition.keys, rendition.gone, earlier) {
+        return false;
+    }
+    have_keys(earlier) && follow(target, rendition.gone.rows, earlier)
+}
+
+/// Whether the keys of rows are of those that a rendition may have.
+fn have_keys(rows: &[Row]) -> bool
+    ensures { Decides result (All (λ row. row.key < MOST_KEYS) rows.now) }
+{
+    rows.iter().all(|row| row.key < MOST_KEYS)
+}
+
+/// Whether keys begin behind what came before, which is within its limits.
+fn begins_behind(kind: Kind, keys: &Keys, gone: Gone, earlier: &[Row]) -> bool
+    ensures { Decides result ((keys.now.first ≡ gone.rows + length earlier.now) × (length earlier.now ≤ MOST_EARLIER)
+        × (keys.now.first ≤ LAST_SEGMENT) × (gone.discontinuities + length earlier.now ≤ LAST_SEGMENT)
+        × IsSmall gone × HasAll kind gone) }
+{
+    keys.number(0) == u128::from(gone.rows) + earlier.len() as u128
+        && earlier.len() as u64 <= MOST_EARLIER
+        && keys.number(0) <= u128::from(LAST_SEGMENT)
         && gone.discontinuities <= LAST_SEGMENT
+        && gone.discontinuities + earlier.len() as u64 <= LAST_SEGMENT
         && gone.frames <= 1 << 126
         && has_all(kind, gone)
 }

@@ -5,10 +5,12 @@ ghost use Rattle.media_playlist.specs.Listed.{duration, nothing_gone};
 ghost use Rattle.media_playlist.specs.Gone.{IsSmall};
 ghost use Rattle.ladder_items.specs.declared.fault.PackFault.TheVariants.{NoMemory};
 ghost use Rattle.ladder_items.specs.Ladder.{is_event, least_listed};
-ghost use Rattle.ladder_items.specs.Shown.{IsNextRow, IsSmallFrame, frame_rate, segment_rates, frame_rates};
+ghost use Rattle.ladder_items.specs.Shown.{IsNextRow, IsSmallFrame, AreNextRows, frame_rate, segment_rates, frame_rates, known};
 ghost use Rattle.ladder_items.specs.Shown;
+ghost use Rattle.ladder_items.specs.declared.settings.TheConstants.{MOST_EARLIER};
 ghost use Rattle.limits.specs.declared.TheConstants.{MOST_TARGET};
 
+use crate::earlier::push_rows;
 use crate::fault::PackFault;
 use crate::settings::Kind;
 use bandwidth::{Meter, Peak};
@@ -19,13 +21,16 @@ use std::marker::Model;
 /// The playlists of a rendition, and the bit rates of its segments and of its I-frames.
 ///
 /// Clauses see them as the rendition's name, the target duration, the least number of rows to list, whether all rows of an
-/// event are listed, the salt of the vectors, what came before in earlier runs, and the rows of all segments. For want of
-/// memory they end, and take no more rows.
+/// event are listed, the salt of the vectors, what is gone of earlier runs, the rows of theirs that are still listed, and the
+/// rows of all segments of the run. For want of memory they end, and take no more rows.
 #[derive(Drop)]
 pub struct Playlists {
     window: Window,
     segments: Meter,
     frames: Meter,
+    /// How many rows of the window are of earlier runs.
+    earlier: u64,
+    /// How long the run's own segments last together.
     micros: u128,
     ended: bool,
 }
@@ -61,6 +66,7 @@ impl Playlists {
           event = is_event kind;
           salt = salt;
           gone = nothing_gone;
+          earlier = [];
           rows = [];
           ended = false;
         }) }
@@ -69,27 +75,35 @@ impl Playlists {
             window: empty_window(alloc, name, target, window, kind, salt)?,
             segments: Meter::new(alloc, target),
             frames: Meter::new(alloc, target),
+            earlier: 0,
             micros: 0,
             ended: false,
         })
     }
 
-    /// The playlists of a rendition that goes on behind what came before. No row was pushed yet.
-    pub fn behind(self, gone: Gone) -> Playlists
-        requires empty { self.rows ≡ [] }
+    /// The playlists of a rendition that goes on behind what came before: so much is gone, and the earlier rows behind it are
+    /// listed and measured as the run's own. No row was pushed yet.
+    pub fn behind(self, alloc: Global, gone: Gone, earlier: &[Row]) -> Result<Playlists, AllocError>
+        requires going { self.ended ≡ false }
+        requires empty { known self ≡ [] }
         requires small { IsSmall gone }
-        ensures { result ≡ record self { gone = gone } }
+        requires few { length earlier.now < 2 ^ 32 }
+        requires follow { AreNextRows self.target gone.rows earlier.now }
+        ensures { IfOk result (λ new. new ≡ record self { gone = gone; earlier = earlier.now }) }
     {
         let mut playlists = self;
         playlists.window = playlists.window.behind(gone);
-        playlists
+        push_rows(alloc, &mut playlists, earlier)?;
+        playlists.earlier = playlists.window.row_count();
+        playlists.micros = 0;
+        Ok(playlists)
     }
 
     /// Takes the row of the next segment. For want of memory the playlists end, with the rows from before.
     pub fn push(&mut self, row: Row) -> Result<(), PackFault>
         requires going { self.old.ended ≡ false }
-        requires few { length self.old.rows < 2 ^ 32 }
-        requires next { IsNextRow self.old.target (self.old.gone.rows + length self.old.rows) row }
+        requires few { length (known self.old) < 2 ^ 32 + MOST_EARLIER }
+        requires next { IsNextRow self.old.target (self.old.gone.rows + length (known self.old)) row }
         ensures pushed { OnOk result (self.new ≡ record self.old { rows = self.old.rows ++ row ∷ [] }) }
         ensures err { OnErr result (self.new ≡ record self.old { ended = true }) }
         ensures fault { IfErr result (λ fault. fault ≡ NoMemory) }
@@ -105,14 +119,21 @@ impl Playlists {
         Ok(())
     }
 
-    /// How many segments were pushed.
+    /// How many segments the run gave.
     pub fn count(&self) -> u64
         ensures { result ≡ length self.now.rows }
+    {
+        self.window.row_count() - self.earlier
+    }
+
+    /// How many segments are known, those of earlier runs too.
+    pub fn known_count(&self) -> u64
+        ensures { result ≡ length (known self.now) }
     {
         self.window.row_count()
     }
 
-    /// How long the segments last together, in microseconds.
+    /// How long the segments of the run last together, in microseconds.
     pub fn micros(&self) -> u128
         requires { self.now.ended ≡ false }
         ensures { result ≡ duration self.now.rows }
@@ -134,34 +155,34 @@ impl Playlists {
         self.window.iframe_text(ended)
     }
 
-    /// The peak bit rate of the segments. None stands for no segments.
+    /// The peak bit rate of the known segments. None stands for no segments.
     pub fn peak(&self) -> Option<Peak>
         requires { self.now.ended ≡ false }
-        ensures { result ≡ peak_of self.now.target (segment_rates self.now.rows) }
+        ensures { result ≡ peak_of self.now.target (segment_rates (known self.now)) }
     {
         self.segments.peak()
     }
 
-    /// The average bit rate of the segments. None stands for no segments.
+    /// The average bit rate of the known segments. None stands for no segments.
     pub fn average(&self) -> Option<u64>
         requires { self.now.ended ≡ false }
-        ensures { result ≡ average_of (segment_rates self.now.rows) }
+        ensures { result ≡ average_of (segment_rates (known self.now)) }
     {
         self.segments.average()
     }
 
-    /// The peak bit rate of the I-frames. None stands for no I-frames.
+    /// The peak bit rate of their I-frames. None stands for no I-frames.
     pub fn frame_peak(&self) -> Option<Peak>
         requires { self.now.ended ≡ false }
-        ensures { result ≡ peak_of self.now.target (frame_rates self.now.rows) }
+        ensures { result ≡ peak_of self.now.target (frame_rates (known self.now)) }
     {
         self.frames.peak()
     }
 
-    /// The average bit rate of the I-frames. None stands for no I-frames.
+    /// The average bit rate of their I-frames. None stands for no I-frames.
     pub fn frame_average(&self) -> Option<u64>
         requires { self.now.ended ≡ false }
-        ensures { result ≡ average_of (frame_rates self.now.rows) }
+        ensures { result ≡ average_of (frame_rates (known self.now)) }
     {
         self.frames.average()
     }

@@ -110,7 +110,7 @@ pub fn put_playlists<O: Outlet>(
     Ok(())
 }
 
-/// Puts the master playlist of the renditions that have segments.
+/// Puts the master playlist of the renditions of which segments are known.
 pub fn put_master<O: Outlet>(
     alloc: Global,
     outlet: &mut O,

@@ -1,7 +1,10 @@
 use cutter::CutSettings;
-use media_playlist::Gone;
+use media_playlist::{Gone, Row};
 use segment_job::Keys;
 use std::marker::Model;
+
+/// The most rows of earlier runs that a rendition goes on behind.
+pub const MOST_EARLIER: u64 = 134_217_728;
 
 /// Which segments the playlists of a ladder list.
 #[derive(Clone, Copy, PartialEq, Eq, Debug)]
@@ -14,7 +17,7 @@ pub enum Kind {
 
 /// A rendition of a ladder: its name and codecs (RFC 6381) as a master playlist lists them, its size in pixels, each
 /// side from 1 to 16,384, the keys of its segments, the salt of their vectors, where there is one, and what came before in
-/// earlier runs.
+/// earlier runs: how much is gone, and the rows that are still listed.
 #[derive(Drop)]
 pub struct Rendition {
     pub name: String,
@@ -24,8 +27,11 @@ pub struct Rendition {
     /// They hold the same salt, and begin behind what came before.
     pub keys: Keys,
     pub salt: Option<[u8; 16]>,
-    /// How many segments, I-frames and discontinuities came before: [`Gone::nothing`] in a first run.
+    /// How many segments, I-frames and discontinuities came before the earlier rows: [`Gone::nothing`] in a first run.
     pub gone: Gone,
+    /// The rows of earlier runs that their last playlists listed, at most [`MOST_EARLIER`]: none in a
+    /// first run. They follow on one another, the first one on what is gone.
+    pub earlier: Vec<Row>,
 }
 
 impl Model for Rendition {

@@ -38,7 +38,7 @@ pub fn first_playlists(alloc: Global, settings: &Settings) -> Result<Vec<Playlis
             settings.kind,
             rendition.salt,
         )?;
-        playlists.push(new.behind(rendition.gone))?;
+        playlists.push(new.behind(alloc, rendition.gone, &rendition.earlier)?)?;
     }
     Ok(playlists)
 }

@@ -1,7 +1,7 @@
 -- What the I-frame playlist behind a segment lists of it, and the segments of a rendition.
 use Rattle.std.proofs.Common.{◌≡◌, ◌∙◌, ℕ, ◌+◌, ◌≤◌, Bool, true, false, List, [], ◌∷◌, ◌++◌, map, length, drop, filter, Option, slice_get, refl, ap, sym, subst, append_assoc}
 use Rattle.std.specs.List.{flat_map}
-use Rattle.std.proofs.lemmas.List.{append-nil, map-append, drop-append-le}
+use Rattle.std.proofs.lemmas.List.{append-nil, drop-append-le}
 use Rattle.std.proofs.lemmas.List.Elements.{filter-append}
 use Rattle.std.proofs.lemmas.Grind.{flat_map-append}
 use Rattle.cutter.specs.Plans.{SegmentPlan}
@@ -13,7 +13,7 @@ use Rattle.media_playlist.specs.Listed.{Pushed, first, listed, removed, disconti
 use Rattle.media_playlist.specs.Lines.{unless_empty, frames_only_line, row_frame_lines, iframe_lines}
 use Rattle.item_io.specs.Items.{ItemValue, SegmentValue, PlaylistValue, SegmentItem, MediaItem, FramesItem}
 use Rattle.ladder_items.specs.Ladder.{Ladder, rendition_at, is_event, IsAllowed}
-use Rattle.ladder_items.specs.Rows.{row_of, rows_of}
+use Rattle.ladder_items.specs.Rows.{row_of}
 use Rattle.ladder_items.specs.Shown.{in_window, frames_text}
 use Rattle.ingest.specs.Streams.{plans_of}
 use Rattle.ladder_items.specs.Items.{Part, part_at, shown_of, playlist_of, segment_item, items_from, end_items}
@@ -21,7 +21,7 @@ use Rattle.ladder_items.specs.Weave.{Row, after_all, block, none_of, Weaves}
 use Rattle.ladder_laws.specs.Openings.{AreOfStreams}
 use Rattle.ladder_laws.specs.Listings.{is_segment, segments_of, AreFramesListed, AreFramesListedBehind}
 use Rattle.ladder_laws.proofs.Alone.{seen}
-use Rattle.ladder_laws.proofs.Salts.{salt-held}
+use Rattle.ladder_laws.proofs.Salts.{salt-held, known_rows, known-more}
 use Rattle.ladder_laws.proofs.Together.{segment-at}
 use Rattle.ladder_laws.proofs.Opening.{Suffice, Order, Long, last-in-window, unless-some, segment_value, media_value, within-at, front-at, at-front, number-at, same-segment}
 
@@ -53,20 +53,20 @@ are-listed : Suffice → (ladder : Ladder) (r : ℕ) (before : List SegmentPlan)
     → AreFramesListed (rendition_at ladder r).keys plan (segment_value ladder r plan) (frames_value ladder r (before ++ plan ∷ []))
 are-listed suffice ladder r before plan allowed =
     let keys = (rendition_at ladder r).keys in
-    let rows = rows_of keys before in
+    let rows = known_rows ladder r before in
     let row = row_of keys (sealed_segment keys plan) in
     let name = (rendition_at ladder r).name in
-    let all : rows_of keys (before ++ plan ∷ []) ≡ rows ++ row ∷ [] = map-append (λ p. row_of keys (sealed_segment keys p)) before (plan ∷ []) in
+    let all : known_rows ladder r (before ++ plan ∷ []) ≡ rows ++ row ∷ [] = known-more ladder r before plan in
     let pushed : Pushed = in_window (shown_of ladder (rendition_at ladder r) (before ++ plan ∷ [])) in
     let salt = pushed.salt in
     let j = first pushed in
-    let below : j ≤ length rows = last-in-window suffice (is_event ladder.kind) ladder.kind ladder.cut.target ladder.window (rows_of keys (before ++ plan ∷ [])) rows row refl all allowed.within.window.0 in
+    let below : j ≤ length rows = last-in-window suffice (is_event ladder.kind) ladder.kind ladder.cut.target ladder.window (known_rows ladder r (before ++ plan ∷ [])) rows row refl all allowed.within.window.0 in
     let front = flat_map (row_frame_lines name salt) (drop j rows) in
     record {
       before = heading pushed ++ front;
       text_is = ap text_of
           (lines-are pushed rows row all
-          ∙ (ap (λ l. heading pushed ++ l) (last-lines name salt j (rows_of keys (before ++ plan ∷ [])) rows row all below)
+          ∙ (ap (λ l. heading pushed ++ l) (last-lines name salt j (known_rows ladder r (before ++ plan ∷ [])) rows row all below)
           ∙ (sym (append_assoc (heading pushed) front (row_frame_lines name salt row))
           ∙ ap (λ s. heading pushed ++ front ++ row_frame_lines name s row) (sym (salt-held ladder r allowed)))));
     }

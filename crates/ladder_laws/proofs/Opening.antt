@@ -25,7 +25,7 @@ use Rattle.item_io.specs.Items.{ItemValue, SegmentValue, PlaylistValue, SegmentI
 use Rattle.ladder_items.specs.declared.settings.Kind.{Kind}
 use Rattle.ladder_items.specs.declared.settings.Kind.TheVariants.{Live, Event as OfEvent}
 use Rattle.ladder_items.specs.Ladder.{Ladder, rendition_at, is_event, least_listed, IsAllowed}
-use Rattle.ladder_items.specs.Rows.{row_of, rows_of}
+use Rattle.ladder_items.specs.Rows.{row_of}
 use Rattle.ladder_items.specs.Shown.{in_window, media_text}
 use Rattle.ingest.specs.Streams.{plans_of}
 use Rattle.ladder_items.specs.Items.{Part, no_part, part_at, shown_of, playlist_of}
@@ -33,7 +33,7 @@ use Rattle.ladder_items.specs.Weave.{Event, Row, End, rendition_of, grown, close
 use Rattle.ingest.specs.Sealable.{IsOfBytes}
 use Rattle.ladder_laws.specs.Openings.{AreOfStreams, IsListed, IsListedBehind}
 use Rattle.ladder_items.proofs.Rows.{after_all-append}
-use Rattle.ladder_laws.proofs.Salts.{salt-held, begins-behind}
+use Rattle.ladder_laws.proofs.Salts.{salt-held, begins-behind, known_rows, known-more, known-count}
 use Rattle.ladder_laws.proofs.KeyLines.{applies-last}
 use Rattle.ladder_laws.proofs.Together.{segment-at, legal-behind}
 
@@ -99,16 +99,16 @@ is-listed : Suffice → (ladder : Ladder) (r : ℕ) (before : List SegmentPlan) 
 unfolding row_of listing_of
 is-listed suffice ladder r before plan allowed number of_bytes =
     let keys = (rendition_at ladder r).keys in
-    let rows = rows_of keys before in
+    let rows = known_rows ladder r before in
     let row = row_of keys (sealed_segment keys plan) in
-    let all : rows_of keys (before ++ plan ∷ []) ≡ rows ++ row ∷ [] = map-append (λ p. row_of keys (sealed_segment keys p)) before (plan ∷ []) in
+    let all : known_rows ladder r (before ++ plan ∷ []) ≡ rows ++ row ∷ [] = known-more ladder r before plan in
     let pushed : Pushed = in_window (shown_of ladder (rendition_at ladder r) (before ++ plan ∷ [])) in
     let salted : keys.salt ≡ pushed.salt = salt-held ladder r allowed in
     let j = first pushed in
-    let below : j ≤ length rows = last-in-window suffice (is_event ladder.kind) ladder.kind ladder.cut.target ladder.window (rows_of keys (before ++ plan ∷ [])) rows row refl all allowed.within.window.0 in
-    let many : length rows ≡ length before = length-map before (λ p. row_of keys (sealed_segment keys p)) in
+    let below : j ≤ length rows = last-in-window suffice (is_event ladder.kind) ladder.kind ladder.cut.target ladder.window (known_rows ladder r (before ++ plan ∷ [])) rows row refl all allowed.within.window.0 in
+    let many : length rows ≡ length (rendition_at ladder r).earlier + length before = known-count ladder r before in
     let gone = pushed.gone.rows in
-    let behind : keys.first ≡ gone = begins-behind ladder r allowed in
+    let behind : keys.first ≡ gone + length (rendition_at ladder r).earlier = begins-behind ladder r allowed in
     let sequence : gone + j + length (map entry_of (drop j rows)) ≡ number_of keys plan.number =
     omega (arith, behind, below, many, number, length-map (drop j rows) entry_of, length-drop j rows) in
     let bytes : sealed_text (key_of keys plan.number) (vector_of keys plan.number) (plain plan)

@@ -3,9 +3,10 @@ use Rattle.std.proofs.Common.{◌≡◌, ◌∙◌, ◌⊎◌, inl, inr, ℕ, ze
 use Rattle.std.specs.Prelude.{codes}
 use Rattle.std.specs.List.{flat_map, list_all, list_any, zip}
 use Rattle.std.specs.Fmt.{decimal}
-use Rattle.std.proofs.lemmas.Bool.{cases_eq}
+use Rattle.std.proofs.Math.ListN.{get_or-eq_default}
+use Rattle.std.proofs.lemmas.Bool.{cases_eq, cases_lt}
 use Rattle.std.proofs.lemmas.List.{append-nil, get_or-set_same, get_or-set_other, length-replicate, length-append, get_or-append-add, take-append-drop}
-use Rattle.std.proofs.lemmas.List.Elements.{All-nil, All-cons, All-append, All-get_or, All-map, All-push, All-weaker}
+use Rattle.std.proofs.lemmas.List.Elements.{All-nil, All-cons, All-append, All-get_or, All-push, All-weaker}
 use Rattle.std.proofs.lemmas.Slice.Eq.{bytes_eq-Decides}
 use Rattle.ghost_list.specs.Bytes.{AreBytes}
 use Rattle.percent_encoding.specs.Percent.{percent_decode}
@@ -23,26 +24,23 @@ use Rattle.folder.specs.Puts.{IsServed, MayBePut, Put, staged_with}
 use Rattle.folder.specs.Playing.{AreListedInTurn, IsAmong}
 use Rattle.folder.proofs.Playing.{IsAmong-before, IsAmong-it}
 use Rattle.item_io.specs.Items.{ItemValue}
-use Rattle.item_io.specs.FileNames.{file_name}
+use Rattle.item_io.specs.FileNames.{segment_file_name}
 use Rattle.item_io.specs.FolderMoves.{put_of, puts_of}
 use Rattle.item_io.proofs.Fitting.{given-fit, puts-append}
 use Rattle.ladder_items.specs.Ladder.{IsAllowed, Ladder, RenditionValue, no_rendition, rendition_at, unmeasured}
 use Rattle.ladder_items.specs.Rows.{row_of, rows_of}
-use Rattle.ladder_items.specs.Shown.{Shown, in_window}
+use Rattle.ladder_items.specs.Shown.{Shown, in_window, known}
 use Rattle.ladder_items.specs.Masters.{measured, variant_of, variants}
 use Rattle.ladder_items.specs.Items.{Part, frames_item, master_item, media_item, no_part, part_at, segment_item, shown_all, shown_of}
 use Rattle.ladder_items.specs.Weave.{AreLegal, End, Event, Row, Weaves, after, block, blocks, closed_part, grown, none_of, rendition_of}
 use Rattle.ladder_items.proofs.Elsewhere.{after-length}
 use Rattle.ladder_items.proofs.Listing.{none_stands, or_none}
 use Rattle.ladder_items.proofs.WholeBlocks.{weaves-whole}
-use Rattle.ladder_laws.specs.Playlists.{HasByteNames, is_playlist, lists_file}
+use Rattle.ladder_laws.specs.Playlists.{HasByteNames, HasNoEarlier, IsPut, HasEarlierFiles, AreListedBehind, is_playlist, lists_file}
 use Rattle.ladder_laws.proofs.UriLines.{IsGood, IsInLine, IsOneLine, both-of, listed-by}
 use Rattle.ladder_laws.proofs.FileUris.{media-named, segment-named}
+use Rattle.ladder_laws.proofs.Salts.{known_rows, known-more}
 use Rattle.ladder_laws.proofs.PlaylistLines.{IsGoodVariant, iframes-good, master-good, media-good}
-
--- a file of this name was put
-abbrev IsPut : List Put → List ℕ → Type 0
-IsPut before name = (s : Put) × IsAmong s before × (s.name ≡ name)
 
 IsPut-more : (before more : List Put) (name : List ℕ) → IsPut before name → IsPut (before ++ more) name
 IsPut-more before more name it = (it.0, IsAmong-before it.0 before more it.1, it.2)
@@ -97,17 +95,17 @@ no-playlist front is =
     omega (arith, last)
 
 module _ (ladder : Ladder) where
-  abbrev SegmentIsPut : List Put → ℕ → SegmentPlan → Type 0
-  SegmentIsPut before r plan = IsPut before (file_name (segment_item ladder r plan))
+  abbrev RowIsPut : List Put → ℕ → SegmentRow → Type 0
+  RowIsPut before r row = IsPut before (segment_file_name (rendition_at ladder r).name row.number)
 
-  -- the segments of these plans were put, and if there is one a media playlist
+  -- the segments of all rows that are known behind these plans were put, and if there is one a media playlist
   record HasPut (before : List Put) (r : ℕ) (plans : List SegmentPlan) : Type 0 where
-    segments : All (SegmentIsPut before r) plans
-    media : (plans ≡ []) ⊎ IsPut before ((rendition_at ladder r).name ++ codes ".m3u8")
+    rows : All (RowIsPut before r) (known_rows ladder r plans)
+    media : (known_rows ladder r plans ≡ []) ⊎ IsPut before ((rendition_at ladder r).name ++ codes ".m3u8")
 
   HasPut-more : (before more : List Put) (r : ℕ) (plans : List SegmentPlan) → HasPut before r plans → HasPut (before ++ more) r plans
   HasPut-more before more r plans has = record {
-    segments = All-weaker (SegmentIsPut before r) (SegmentIsPut (before ++ more) r) (λ plan. IsPut-more before more (file_name (segment_item ladder r plan))) plans has.segments;
+    rows = All-weaker (RowIsPut before r) (RowIsPut (before ++ more) r) (λ row. IsPut-more before more (segment_file_name (rendition_at ladder r).name row.number)) (known_rows ladder r plans) has.rows;
     media = elim has.media [ inl none ↦ inl none | inr it ↦ inr (IsPut-more before more _ it) ];
   }
 
@@ -122,24 +120,22 @@ module _ (ladder : Ladder) where
   segment-after before r plan name lists =
       absurd (no-playlist ((rendition_at ladder r).name ++ codes "." ++ decimal (number_of (rendition_at ladder r).keys plan.number)) (both-of _ _ lists).0)
 
-  rows-put : (before : List Put) (r : ℕ) (plans : List SegmentPlan) → AreBytes (rendition_at ladder r).name → All (SegmentIsPut before r) plans →
-      All (λ row. IsPut before (percent_decode (segment_uri (rendition_at ladder r).name row.number))) (rows_of (rendition_at ladder r).keys plans)
-  unfolding row_of
-  rows-put before r plans small put =
-      let rendition = rendition_at ladder r in
-      All-map (λ (row : SegmentRow). IsPut before (percent_decode (segment_uri rendition.name row.number))) (λ plan. row_of rendition.keys (sealed_segment rendition.keys plan)) plans
-      (All-weaker (SegmentIsPut before r) (λ plan. IsPut before (percent_decode (segment_uri rendition.name (number_of rendition.keys plan.number))))
-      (λ plan it. subst (λ (name : List ℕ). IsPut before name) (sym (segment-named rendition.name (number_of rendition.keys plan.number) small)) it) plans put)
+  rows-put : (before : List Put) (r : ℕ) (rows : List SegmentRow) → AreBytes (rendition_at ladder r).name → All (RowIsPut before r) rows →
+      All (λ row. IsPut before (percent_decode (segment_uri (rendition_at ladder r).name row.number))) rows
+  rows-put before r rows small put =
+      let name = (rendition_at ladder r).name in
+      All-weaker (RowIsPut before r) (λ row. IsPut before (percent_decode (segment_uri name row.number)))
+      (λ row it. subst (λ (file : List ℕ). IsPut before file) (sym (segment-named name row.number small)) it) rows put
 
-  media-after : (before : List Put) (r : ℕ) (plans : List SegmentPlan) (ended : Bool) → AreBytes (rendition_at ladder r).name → All (SegmentIsPut before r) plans → IsAfter before (put_of (media_item ladder r plans ended))
+  media-after : (before : List Put) (r : ℕ) (plans : List SegmentPlan) (ended : Bool) → AreBytes (rendition_at ladder r).name → All (RowIsPut before r) (known_rows ladder r plans) → IsAfter before (put_of (media_item ladder r plans ended))
   media-after before r plans ended small put =
       let pushed = in_window (shown_of ladder (rendition_at ladder r) plans) in
-      after-lines before (put_of (media_item ladder r plans ended)) (media_lines pushed ended) refl (media-good (λ uri. IsPut before (percent_decode uri)) pushed ended (rows-put before r plans small put))
+      after-lines before (put_of (media_item ladder r plans ended)) (media_lines pushed ended) refl (media-good (λ uri. IsPut before (percent_decode uri)) pushed ended (rows-put before r (known_rows ladder r plans) small put))
 
-  frames-after : (before : List Put) (r : ℕ) (plans : List SegmentPlan) (ended : Bool) → AreBytes (rendition_at ladder r).name → All (SegmentIsPut before r) plans → IsAfter before (put_of (frames_item ladder r plans ended))
+  frames-after : (before : List Put) (r : ℕ) (plans : List SegmentPlan) (ended : Bool) → AreBytes (rendition_at ladder r).name → All (RowIsPut before r) (known_rows ladder r plans) → IsAfter before (put_of (frames_item ladder r plans ended))
   frames-after before r plans ended small put =
       let pushed = in_window (shown_of ladder (rendition_at ladder r) plans) in
-      after-lines before (put_of (frames_item ladder r plans ended)) (iframe_lines pushed ended) refl (iframes-good (λ uri. IsPut before (percent_decode uri)) pushed ended (rows-put before r plans small put))
+      after-lines before (put_of (frames_item ladder r plans ended)) (iframe_lines pushed ended) refl (iframes-good (λ uri. IsPut before (percent_decode uri)) pushed ended (rows-put before r (known_rows ladder r plans) small put))
 
 -- codecs
 quotable-in : (b : ℕ) → is_quotable_byte b ≡ true → IsInLine b
@@ -169,15 +165,14 @@ all-coded (q ∷ rs) none (suc r) within =
 -- the renditions that a master playlist lists
 module _ (ladder : Ladder) (P : List ℕ → Type 0) where
   abbrev IsShown : RenditionValue → Part → Type 0
-  IsShown rendition part = IsOneLine rendition.codecs × ((part.plans ≡ []) ⊎ P (media_uri rendition.name))
+  IsShown rendition part = IsOneLine rendition.codecs × ((rendition.earlier ++ rows_of rendition.keys part.plans ≡ []) ⊎ P (media_uri rendition.name))
 
-  one-shown : (rendition : RenditionValue) (shown : Shown) (plans : List SegmentPlan) (rows : List SegmentRow) → rows ≡ rows_of rendition.keys plans → IsOneLine rendition.codecs → (plans ≡ []) ⊎ P (media_uri rendition.name) →
+  one-shown : (rendition : RenditionValue) (shown : Shown) (rows : List SegmentRow) → IsOneLine rendition.codecs → (rows ≡ []) ⊎ P (media_uri rendition.name) →
       All (IsGoodVariant P) (variant_of rendition shown rows)
   unfolding measured
-  one-shown rendition shown plans [] are one says = All-nil (IsGoodVariant P)
-  one-shown rendition shown [] (row ∷ rows) are one says = absurd (cc are)
-  one-shown rendition shown (plan ∷ plans) (row ∷ rows) are one (inl none) = absurd (cc none)
-  one-shown rendition shown (plan ∷ plans) (row ∷ rows) are one (inr says) = All-cons (IsGoodVariant P) (measured rendition shown) [] (one, says) (All-nil (IsGoodVariant P))
+  one-shown rendition shown [] one says = All-nil (IsGoodVariant P)
+  one-shown rendition shown (row ∷ rows) one (inl none) = absurd (cc none)
+  one-shown rendition shown (row ∷ rows) one (inr says) = All-cons (IsGoodVariant P) (measured rendition shown) [] (one, says) (All-nil (IsGoodVariant P))
 
   all-shown : (rs : List RenditionValue) (ps : List Part) → ((k : ℕ) → k < length rs → IsShown (get_or rs k no_rendition) (get_or ps k no_part)) →
       All (IsGoodVariant P) (variants rs (map (λ x. shown_of ladder x.0 x.1.plans) (zip rs ps)))
@@ -187,8 +182,8 @@ module _ (ladder : Ladder) (P : List ℕ → Type 0) where
   all-shown (r ∷ rs) (p ∷ ps) each =
       let shown = shown_of ladder r p.plans in
       let first = each 0 (omega arith) in
-      All-append (IsGoodVariant P) (variant_of r shown shown.rows) (flat_map (λ x. variant_of x.0 x.1 x.1.rows) (zip rs (map (λ x. shown_of ladder x.0 x.1.plans) (zip rs ps))))
-      (one-shown r shown p.plans shown.rows refl first.0 first.1) (all-shown rs ps (λ k within. each (suc k) (omega (arith, within))))
+      All-append (IsGoodVariant P) (variant_of r shown (known shown)) (flat_map (λ x. variant_of x.0 x.1 (known x.1)) (zip rs (map (λ x. shown_of ladder x.0 x.1.plans) (zip rs ps))))
+      (one-shown r shown (known shown) first.0 first.1) (all-shown rs ps (λ k within. each (suc k) (omega (arith, within))))
 
 module _ (ladder : Ladder) (small : HasByteNames ladder) (coded : (r : ℕ) → r < length ladder.renditions → IsOneLine (rendition_at ladder r).codecs) where
   name-small : (r : ℕ) → r < length ladder.renditions → AreBytes (rendition_at ladder r).name
@@ -229,12 +224,21 @@ module _ (ladder : Ladder) (small : HasByteNames ladder) (coded : (r : ℕ) → 
     abbrev with_frames : List Put
     with_frames = with_media ++ frames ∷ []
 
-    segments-put : All (SegmentIsPut ladder with_segment r) plans_then
-    segments-put = All-push (SegmentIsPut ladder with_segment r) (part_at parts r).plans plan (HasPut-more ladder before (segment ∷ []) r (part_at parts r).plans (have r)).segments (IsPut-last before segment)
+    rows-then : All (RowIsPut ladder with_segment r) (known_rows ladder r plans_then)
+    unfolding row_of
+    rows-then =
+        let plans = (part_at parts r).plans in
+        subst (λ (rows : List SegmentRow). All (RowIsPut ladder with_segment r) rows) (sym (known-more ladder r plans plan))
+        (All-push (RowIsPut ladder with_segment r) (known_rows ladder r plans) (row_of (rendition_at ladder r).keys (sealed_segment (rendition_at ladder r).keys plan))
+        (HasPut-more ladder before (segment ∷ []) r plans (have r)).rows (IsPut-last before segment))
+
+    rows-behind : All (RowIsPut ladder with_media r) (known_rows ladder r plans_then)
+    rows-behind =
+        All-weaker (RowIsPut ladder with_segment r) (RowIsPut ladder with_media r) (λ row. IsPut-more with_segment (media ∷ []) (segment_file_name (rendition_at ladder r).name row.number)) (known_rows ladder r plans_then) rows-then
 
     has-grown : HasPut ladder with_frames r plans_then
     has-grown = HasPut-more ladder with_media (frames ∷ []) r plans_then (record {
-      segments = All-weaker (SegmentIsPut ladder with_segment r) (SegmentIsPut ladder with_media r) (λ p. IsPut-more with_segment (media ∷ []) (file_name (segment_item ladder r p))) plans_then segments-put;
+      rows = rows-behind;
       media = inr (IsPut-last with_segment media);
     })
 
@@ -252,10 +256,9 @@ module _ (ladder : Ladder) (small : HasByteNames ladder) (coded : (r : ℕ) → 
     row-after = (
       segment-after ladder before r plan,
       (
-        media-after ladder with_segment r plans_then false (name-small r listed) segments-put,
+        media-after ladder with_segment r plans_then false (name-small r listed) rows-then,
         (
-          frames-after ladder with_media r plans_then false (name-small r listed)
-              (All-weaker (SegmentIsPut ladder with_segment r) (SegmentIsPut ladder with_media r) (λ p. IsPut-more with_segment (media ∷ []) (file_name (segment_item ladder r p))) plans_then segments-put),
+          frames-after ladder with_media r plans_then false (name-small r listed) rows-behind,
           (
             master-after with_frames (after parts (Row r plan)) have-then,
             tt,
@@ -276,9 +279,9 @@ module _ (ladder : Ladder) (small : HasByteNames ladder) (coded : (r : ℕ) → 
     end-after =
         let plans = (part_at parts r).plans in
         let media_then = before ++ put_of (media_item ladder r plans true) ∷ [] in (
-          media-after ladder before r plans true (name-small r listed) (have r).segments,
+          media-after ladder before r plans true (name-small r listed) (have r).rows,
           (
-            frames-after ladder media_then r plans true (name-small r listed) (HasPut-more ladder before (put_of (media_item ladder r plans true) ∷ []) r plans (have r)).segments,
+            frames-after ladder media_then r plans true (name-small r listed) (HasPut-more ladder before (put_of (media_item ladder r plans true) ∷ []) r plans (have r)).rows,
             tt,
           ),
         )
@@ -314,10 +317,43 @@ none-at zero r = refl
 none-at (suc n) zero = refl
 none-at (suc n) (suc r) = none-at n r
 
-pub weaves-in-turn : (ladder : Ladder) (parts : List Part) (items : List ItemValue) → IsAllowed ladder → HasByteNames ladder → Weaves ladder parts items → AreListedInTurn lists_file (puts_of items)
-weaves-in-turn ladder parts items allowed small weaves =
+-- nothing was given yet, and what came before was put
+none-have : (ladder : Ladder) (before : List Put) → HasEarlierFiles ladder before → HaveAllPut ladder before (none_of ladder)
+none-have ladder before has r = subst (λ (p : Part). HasPut ladder before r p.plans) (sym (none-at (length ladder.renditions) r)) (record {
+  rows = subst (λ (l : List SegmentRow). All (RowIsPut ladder before r) l) (sym (append-nil (rendition_at ladder r).earlier)) (has r).rows;
+  media = elim (has r).media [ inl none ↦ inl (append-nil (rendition_at ladder r).earlier ∙ none) | inr it ↦ inr it ];
+})
+
+-- each file that an item lists is put before it, or came before
+pub all-after : (ladder : Ladder) (parts : List Part) (items : List ItemValue) (before : List Put) → IsAllowed ladder → HasByteNames ladder → Weaves ladder parts items → HasEarlierFiles ladder before →
+    AreAfter before (puts_of items)
+all-after ladder parts items before allowed small weaves has =
     let coded = all-coded ladder.renditions (none_stands (map unmeasured ladder.renditions) allowed.listable).codecs in
-    let have : HaveAllPut ladder [] (none_of ladder) = λ r. subst (λ (p : Part). HasPut ladder [] r p.plans) (sym (none-at (length ladder.renditions) r)) (record { segments = All-nil (SegmentIsPut ladder [] r); media = inl refl }) in
-    let all : AreAfter [] (puts_of items) = subst (λ (l : List ItemValue). AreAfter [] (puts_of l)) (sym weaves.items_are)
-    (blocks-after ladder small coded (none_of ladder) [] weaves.events (length-replicate (length ladder.renditions) no_part) weaves.legal have) in
-    in-turn (puts_of items) (given-fit items items [] (weaves-whole ladder parts items allowed weaves) (sym (append-nil items))) all
+    subst (λ (l : List ItemValue). AreAfter before (puts_of l)) (sym weaves.items_are)
+    (blocks-after ladder small coded (none_of ladder) before weaves.events (length-replicate (length ladder.renditions) no_part) weaves.legal (none-have ladder before has))
+
+none-of : (ladder : Ladder) (r : ℕ) → HasNoEarlier ladder → (rendition_at ladder r).earlier ≡ []
+none-of ladder r none = elim (cases_lt r (length ladder.renditions)) as (λ _. (rendition_at ladder r).earlier ≡ []) [
+  | inl within ↦ All-get_or (λ (rendition : RenditionValue). rendition.earlier ≡ []) ladder.renditions r no_rendition within none
+  | inr past ↦ ap (λ (rendition : RenditionValue). rendition.earlier) (get_or-eq_default ladder.renditions no_rendition past)
+]
+
+-- where nothing came before, no file is wanted
+no-files-wanted : (ladder : Ladder) → HasNoEarlier ladder → HasEarlierFiles ladder []
+no-files-wanted ladder none r = record {
+  rows = subst (λ (l : List SegmentRow). All (RowIsPut ladder [] r) l) (sym (none-of ladder r none)) (All-nil (RowIsPut ladder [] r));
+  media = inl (none-of ladder r none);
+}
+
+pub weaves-in-turn : (ladder : Ladder) (parts : List Part) (items : List ItemValue) → IsAllowed ladder → HasByteNames ladder → HasNoEarlier ladder → Weaves ladder parts items → AreListedInTurn lists_file (puts_of items)
+weaves-in-turn ladder parts items allowed small none weaves =
+    in-turn (puts_of items) (given-fit items items [] (weaves-whole ladder parts items allowed weaves) (sym (append-nil items)))
+    (all-after ladder parts items [] allowed small weaves (no-files-wanted ladder none))
+
+after-at : (before : List Put) (puts : List Put) → AreAfter before puts → AreListedBehind lists_file before puts
+after-at before puts all mid p behind split name lists =
+    IsAfter-at before mid behind p (subst (λ (l : List Put). AreAfter before l) split all) name lists
+
+pub weaves-behind : (ladder : Ladder) (parts : List Part) (items : List ItemValue) (before : List Put) → IsAllowed ladder → HasByteNames ladder → Weaves ladder parts items → HasEarlierFiles ladder before →
+    AreListedBehind lists_file before (puts_of items)
+weaves-behind ladder parts items before allowed small weaves has = after-at before (puts_of items) (all-after ladder parts items before allowed small weaves has)

@@ -1,12 +1,13 @@
 -- Folders in which all that a playlist lists is in place.
-use Rattle.std.specs.Prelude.{◌≡◌, ℕ, true, Some, None, List, ◌++◌}
-use Rattle.folder.specs.Moves.{Files, Move, no_files}
+use Rattle.std.specs.Prelude.{◌≡◌, ℕ, true, false, Some, None, List, ◌++◌}
+use Rattle.folder.specs.Moves.{Files, Move, Shows, is_hidden, no_files}
 use Rattle.folder.specs.Kills.{KillMayLeave}
-use Rattle.folder.specs.Puts.{Put}
-use Rattle.folder.specs.Playing.{IsAmong, IsPlayablePrefix}
+use Rattle.folder.specs.Puts.{Put, after_puts}
+use Rattle.folder.specs.Playing.{AreListedInTurn, IsAmong, IsPlayablePrefix}
 use Rattle.item_io.specs.Items.{ItemValue}
 use Rattle.item_io.specs.FolderMoves.{puts_of}
-use Rattle.ladder_laws.specs.Playlists.{lists_file}
+use Rattle.ladder_items.specs.Ladder.{Ladder}
+use Rattle.ladder_laws.specs.Playlists.{HasEarlierFiles, lists_file}
 
 -- no file of these names stands there
 abbrev pub HasNoneOf : Files → List Put → Type 0
@@ -28,3 +29,17 @@ pub record HasPlayablePrefix (puts : List Put) (left : Files) : Type 0 where
 pub record StaysPlayable (made : List Move) (items : List ItemValue) : Type 0 where
   pub alone : (left : Files) → KillMayLeave no_files made left → IsPlayablePrefix lists_file (puts_of items) left
   pub beside : (files left : Files) → HasNoneOf files (puts_of items) → KillMayLeave files made left → HasPlayablePrefix (puts_of items) left
+
+-- A folder in which earlier runs left what they put, and nothing else is served: each file behind those that it lists, and among
+-- them all that the rows of this ladder list.
+pub record StandsBehind (ladder : Ladder) (earlier : List Put) (files : Files) : Type 0 where
+  pub has : HasEarlierFiles ladder earlier
+  pub in_turn : AreListedInTurn lists_file earlier
+  pub served : (p : Put) → IsAmong p earlier → is_hidden p.name ≡ false
+  pub shows : Shows files (after_puts no_files earlier)
+
+-- In such a folder, what a kill at any moment of these moves leaves can be played: each file that a playlist in place lists is in
+-- place too, whole, with bytes that one of the runs put.
+abbrev pub StaysPlayableBehind : Ladder → List Move → List ItemValue → Type 0
+StaysPlayableBehind ladder made items = (earlier : List Put) (files left : Files) → StandsBehind ladder earlier files → KillMayLeave files made left →
+    IsPlayablePrefix lists_file (earlier ++ puts_of items) left

@@ -1,4 +1,5 @@
 pub mod Places
+pub mod Earlier
 pub mod Splitting
 pub mod Listing
 pub mod Returning

@@ -4,7 +4,7 @@ use Rattle.std.specs.List.{All}
 use Rattle.std.proofs.Math.ListN.{get_or-eq_default}
 use Rattle.std.proofs.Math.Seq.{take-append_seam}
 use Rattle.std.proofs.lemmas.Bool.{cases_Bool, cases_lt}
-use Rattle.std.proofs.lemmas.List.{length-map, length-drop, length-append, length-take-le, get_or-map, drop-map}
+use Rattle.std.proofs.lemmas.List.{map-append, length-map, length-drop, length-append, length-take-le, get_or-map, drop-map}
 use Rattle.std.proofs.lemmas.List.Elements.{filter-append}
 use Rattle.std.proofs.lemmas.List.Sums.{count_by-le-length}
 use Rattle.std.proofs.lemmas.Option.{slice_get_within, get_or_from_slice_get}
@@ -41,6 +41,7 @@ use Rattle.ladder_laws.proofs.Alone.{same_test}
 use Rattle.ladder_laws.proofs.Salts.{salt-held}
 use Rattle.ladder_items.proofs.Elsewhere.{some-at}
 use Rattle.round_trip.proofs.Places.{at-drop, at-front}
+use Rattle.round_trip.proofs.Earlier.{drop-both, listed-append, earlier-listed}
 use Rattle.round_trip.proofs.Splitting.{split}
 use Rattle.round_trip.proofs.Listing.{window_listing, lines-are, some-in-window, event-begins, has-all, AreFrom, Rounds, listed-on, bytes_of, unpack-all}
 
@@ -147,19 +148,32 @@ comes-back rounds unfaulted suffice has_parts seen order sealed ladder parts str
     let are : AreFrom r cut 0 given =
     λ i plan here. let zero_is : i ≡ 0 + i = omega arith in subst (λ n. IsPlan r cut n plan) zero_is (order r cut stream i plan (at_all i plan here)) in
     let pushed = in_window shown in
-    let j = first pushed in
-    let j_below : j < length rows =
-    some-in-window (is_event ladder.kind) ladder.kind cut.target ladder.window rows refl (suffice cut.target ladder.window rows) (length-drop (first_listed cut.target ladder.window rows) rows) allowed.within.window.0 (omega (arith, any, long)) in
+    let before = rendition.earlier in
+    let known = before ++ rows in
+    let many : length known ≡ length before + length rows = length-append before rows in
+    let f = first pushed in
+    let f_below : f < length known =
+    some-in-window (is_event ladder.kind) ladder.kind cut.target ladder.window known refl (suffice cut.target ladder.window known) (length-drop (first_listed cut.target ladder.window known) known) allowed.within.window.0 (omega (arith, any, long, many)) in
+    let j = f - length before in
+    let j_below : j < length rows = omega (arith, f_below, many, any, long) in
     let behind_j : AreFrom r cut j (drop j given) =
     λ i plan here. order r cut stream (j + i) plan (at_all (j + i) plan (at-drop j i given plan here)) in
     let bytes_behind : (i : ℕ) (plan : SegmentPlan) → slice_get (drop j given) i ≡ Some plan → IsOfBytes plan =
     λ i plan here. all-at (plans_of r cut stream) (j + i) plan (sealed r cut stream (of.bytes r within)) (at_all (j + i) plan (at-drop j i given plan here)) in
     let listing = window_listing pushed at.ended in
-    let goes : GoesOn ladder.kind rendition = allowed.within.go_on r no_rendition below in
-    let number : number_of keys j ≡ pushed.gone.rows + j = ap (λ (n : ℕ). n + j) goes.first in
+    let goes : GoesOn ladder.kind cut.target rendition = allowed.within.go_on r no_rendition below in
+    let earlier = map entry_of (drop f before) in
+    let left : length earlier ≡ length before - f = length-map (drop f before) entry_of ∙ length-drop f before in
+    let number : number_of keys j ≡ pushed.gone.rows + f + length earlier = omega (arith, goes.first, left) in
+    let both : map entry_of (drop f known) ≡ earlier ++ map entry_of (drop j rows) = ap (map entry_of) (drop-both f before rows) ∙ map-append entry_of (drop f before) (drop j rows) in
     let rows_behind : drop j rows ≡ rows_of keys (drop j given) = drop-map _ j given in
     let entries : map entry_of (drop j rows) ≡ map entry_of (rows_of keys (drop j given)) = ap (map entry_of) rows_behind in
-    let few : discontinuity_count (take j rows) ≤ length (take j rows) = count_by-le-length (λ (row : SegmentRow). row.discontinuity) (take j rows) in
+    let few : discontinuity_count (take f known) ≤ length (take f known) = count_by-le-length (λ (row : SegmentRow). row.discontinuity) (take f known) in
+    let own : AreListed cut.target (pushed.gone.rows + f + length earlier) (map entry_of (drop j rows)) =
+    subst (λ (m : ℕ). AreListed cut.target m (map entry_of (drop j rows))) number
+    (subst (AreListed cut.target (number_of keys j)) (sym entries)
+    (listed-on rounds r cut keys j (drop j given) is_made.keys goes.limit (omega (arith, allowed.within.cut.frame.0)) behind_j)) in
+    let fewer = few-plans r cut given are in
     let segments : drop j (sealed_of r front) ≡ map (bytes_of keys) (drop j given) =
     ap (λ l. drop j (map sealed_bytes l)) at.segments_are ∙ (ap (drop j) (sealed-are ladder r given) ∙ drop-map (bytes_of keys) j given) in
     record {
@@ -169,22 +183,28 @@ comes-back rounds unfaulted suffice has_parts seen order sealed ladder parts str
         utf8 = is_made.name;
         some_target = omega (arith, allowed.within.cut.target.0);
         target = allowed.within.cut.target.1;
-        discontinuity_sequence = omega (arith, goes.discontinuities, few, length-take-le j rows (omega (arith, j_below)), j_below, long, few-plans r cut given are);
+        discontinuity_sequence = omega (arith, goes.discontinuities, few, length-take-le f known (omega (arith, f_below)), f_below, many, long, fewer);
         event = λ is.
             let begins = event-begins pushed is in
             let all = has-all ladder.kind pushed.gone goes.all is in
             (omega (arith, begins.0, all.0), omega (arith, begins.1, all.1));
         salt = is_made.salt;
-        some = omega (arith, length-map (drop j rows) entry_of, length-drop j rows, j_below);
-        entries = subst (λ (m : ℕ). AreListed cut.target m (map entry_of (drop j rows))) number
-            (subst (AreListed cut.target (number_of keys j)) (sym entries)
-            (listed-on rounds r cut keys j (drop j given) is_made.keys goes.limit (omega (arith, allowed.within.cut.frame.0)) behind_j));
+        some = omega (arith, length-map (drop f known) entry_of, length-drop f known, f_below);
+        entries = subst (AreListed cut.target (pushed.gone.rows + f)) (sym both)
+            (listed-append cut.target (pushed.gone.rows + f) earlier (map entry_of (drop j rows))
+            (earlier-listed cut.target pushed.gone.rows f before goes.follow goes.turns (omega (arith, goes.first, goes.limit)) (omega (arith, f_below, many, long, fewer, goes.first, goes.limit))) own);
       };
-      text_is = ap (λ (p : PlaylistValue). p.text) same ∙ ap text_of (lines-are pushed at.ended (omega (arith, any, long)));
+      text_is = ap (λ (p : PlaylistValue). p.text) same ∙ ap text_of (lines-are pushed at.ended (omega (arith, any, long, many)));
       name_is = sym (ap (λ (p : PlaylistValue). p.name) same);
       ended_is = sym (ap (λ (p : PlaylistValue). p.ended) same);
       all_before = ap length at.segments_are ∙ (length-map given (segment_item ladder r) ∙ sym count);
+      skipped = f;
+      earlier = earlier;
+      own = map entry_of (drop j rows);
+      earlier_are = refl;
+      entries_are = both;
       place = j;
+      place_is = refl;
       sequence_is = sym number;
       names_are = ap (map (λ (e : Entry). segment_file_name rendition.name e.number)) entries
           ∙ (names-of ladder r (drop j given)

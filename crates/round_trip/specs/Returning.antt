@@ -1,9 +1,10 @@
 -- What was packed comes back, by its media playlists.
-use Rattle.std.specs.Prelude.{◌≡◌, ℕ, ◌<◌, List, [], map, length, take, drop}
+use Rattle.std.specs.Prelude.{◌≡◌, ℕ, ◌+◌, ◌-◌, ◌<◌, List, [], ◌++◌, map, length, take, drop}
 use Rattle.std.specs.Str.{IsUtf8}
 use Rattle.cutter.specs.Plans.{SegmentPlan}
 use Rattle.segment_job.specs.Rotation.{IsRotation, number_of}
-use Rattle.playlist_text.specs.MediaLines.{Listing}
+use Rattle.playlist_text.specs.MediaLines.{Entry, Listing}
+use Rattle.media_playlist.specs.Lines.{entry_of}
 use Rattle.item_io.specs.Items.{ItemValue, PlaylistValue, SegmentItem, MediaItem, FramesItem, MasterItem}
 use Rattle.item_io.specs.FileNames.{segment_file_name, file_name}
 use Rattle.ladder_items.specs.Ladder.{RenditionValue, Ladder, rendition_at}
@@ -33,8 +34,9 @@ sealed_bytes (MasterItem text) = []
 abbrev pub sealed_of : ℕ → List ItemValue → List (List ℕ)
 sealed_of r items = map sealed_bytes (segments_of r items)
 
--- The media playlist is the text of a listing of its rendition. The segments that it lists stand before it: of all those of
--- the rendition the last ones, from the place on whose number is the playlist's media sequence. Their files have the names
+-- The media playlist is the text of a listing of its rendition. Of all rows that are known it lists those from a place on: the
+-- earlier runs' first, where some are left, and then the run's own. The segments of its own that it lists stand before it: of all
+-- those of the rendition the last ones, from the place on whose number follows on those before. Their files have the names
 -- that the playlist's entries ask for, and under the rendition's keys they unpack to the bodies of the same plans of the
 -- stream.
 pub record ComesBack (ladder : Ladder) (streams : ℕ → List ℕ) (front : List ItemValue) (media : PlaylistValue) : Type 0 where
@@ -44,9 +46,15 @@ pub record ComesBack (ladder : Ladder) (streams : ℕ → List ℕ) (front : Lis
   pub name_is : listing.name ≡ media.name
   pub ended_is : listing.ended ≡ media.ended
   pub all_before : length (segments_of media.rendition front) ≡ media.count
+  pub skipped : ℕ
+  pub earlier : List Entry
+  pub own : List Entry
+  pub earlier_are : earlier ≡ map entry_of (drop skipped (rendition_at ladder media.rendition).earlier)
+  pub entries_are : listing.entries ≡ earlier ++ own
   pub place : ℕ
-  pub sequence_is : listing.sequence ≡ number_of (rendition_at ladder media.rendition).keys place
-  pub names_are : map (λ entry. segment_file_name listing.name entry.number) listing.entries ≡ map file_name (drop place (segments_of media.rendition front))
+  pub place_is : place ≡ skipped - length (rendition_at ladder media.rendition).earlier
+  pub sequence_is : listing.sequence + length earlier ≡ number_of (rendition_at ladder media.rendition).keys place
+  pub names_are : map (λ entry. segment_file_name listing.name entry.number) own ≡ map file_name (drop place (segments_of media.rendition front))
   pub plans : List SegmentPlan
   pub plans_are : plans ≡ drop place (take media.count (plans_of media.rendition ladder.cut (streams media.rendition)))
-  pub unpack : AllUnpack (packed listing.salt listing.entries (drop place (sealed_of media.rendition front)) (rendition_at ladder media.rendition).keys.keys) (map (λ plan. plan.body) plans)
+  pub unpack : AllUnpack (packed listing.salt own (drop place (sealed_of media.rendition front)) (rendition_at ladder media.rendition).keys.keys) (map (λ plan. plan.body) plans)

@@ -157,6 +157,7 @@ pub fn rendition(
         keys: keys_of(alloc, keys, period, salt)?,
         salt,
         gone: Gone::nothing(),
+        earlier: Vec::new(alloc),
     })
 }
 

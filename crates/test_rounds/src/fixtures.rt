@@ -15,6 +15,7 @@ pub(crate) fn rendition(alloc: Global, name: &str) -> Result<Rendition, Fail> {
         keys: key(alloc).ok_or("no key")?,
         salt: None,
         gone: Gone::nothing(),
+        earlier: Vec::new(alloc),
     })
 }
 

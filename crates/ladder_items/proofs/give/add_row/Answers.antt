@@ -3,11 +3,11 @@ use Rattle.std.specs.Vec.{vec_len}
 use Rattle.segment_job.specs.Rotation.{KeyRotation, number_of}
 use Rattle.segment_job.specs.Segments.{sealed_segment}
 use Rattle.ladder_items.specs.Ladder.{rendition_at, no_rendition}
-use Rattle.ladder_items.specs.Shown.{Shown}
+use Rattle.ladder_items.specs.Shown.{Shown, known}
 use Rattle.ladder_items.specs.Rows.{row_of}
-use Rattle.ladder_items.specs.Items.{count, part_at}
+use Rattle.ladder_items.specs.Items.{count, part_at, shown_of}
 use Rattle.ladder_items.proofs.RowFacts.{short-ticks, next-row}
-use Rattle.ladder_items.proofs.Nexts.{here, here-long, rows-long, shown-next}
+use Rattle.ladder_items.proofs.Nexts.{here, here-long, known-long, shown-next}
 use Rattle.ladder_items.proofs.give.add_row.Goals as goal
 
 pub row_of-requires-clause-short : goal.row_of-requires-clause-short
@@ -33,9 +33,11 @@ push-requires-clause-going c =
 
 pub push-requires-clause-few : goal.push-requires-clause-few
 push-requires-clause-few c =
-    let was = here c.args.settings.now c.args.r c.requires.next.0 c.args.playlists.now.items c.index_mut.result.now c.requires.next.1.goes_on c.index_mut.ensures.value in
-    let long = ap (λ (o : Shown). length o.rows) was ∙ rows-long c.args.settings.now c.args.r (part_at c.requires.next.0 c.args.r).plans in
-    omega (arith, long, c.requires.next.1.plan_is.below)
+    let next = c.requires.next.1 in
+    let was = here c.args.settings.now c.args.r c.requires.next.0 c.args.playlists.now.items c.index_mut.result.now next.goes_on c.index_mut.ensures.value in
+    let first = c.requires.allowed.within.go_on c.args.r no_rendition (omega (arith, next.goes_on.within, next.goes_on.each)) in
+    let long = ap (λ (o : Shown). length (known o)) was ∙ known-long c.args.settings.now c.args.r (part_at c.requires.next.0 c.args.r).plans in
+    omega (arith, long, next.plan_is.below, first.few)
 
 pub push-requires-clause-next : goal.push-requires-clause-next
 push-requires-clause-next c =
@@ -44,9 +46,10 @@ push-requires-clause-next c =
     let was = here c.args.settings.now c.args.r c.requires.next.0 c.args.playlists.now.items c.index_mut.result.now next.goes_on c.index_mut.ensures.value in
     let first = c.requires.allowed.within.go_on c.args.r no_rendition (omega (arith, next.goes_on.within, next.goes_on.each)) in
     let keys = ap (λ (k : KeyRotation). k.first) c.keys_of-keys.ensures in
-    let number : (rendition_at c.args.settings.now c.args.r).gone.rows + length (part_at c.requires.next.0 c.args.r).plans ≡ number_of c.keys_of-keys.result.now (count (part_at c.requires.next.0 c.args.r))
-    = omega (arith, keys, first.first) in
-    rw (was, rows-long c.args.settings.now c.args.r (part_at c.requires.next.0 c.args.r).plans, number, c.in_ok-row.ensures.row)
+    let long = known-long c.args.settings.now c.args.r (part_at c.requires.next.0 c.args.r).plans in
+    let number : (rendition_at c.args.settings.now c.args.r).gone.rows + length (known (shown_of c.args.settings.now (rendition_at c.args.settings.now c.args.r) (part_at c.requires.next.0 c.args.r).plans)) ≡ number_of c.keys_of-keys.result.now (count (part_at c.requires.next.0 c.args.r))
+    = omega (arith, keys, first.first, long) in
+    rw (was, number, c.in_ok-row.ensures.row)
     (next-row c.args.r c.args.settings.now.cut (count (part_at c.requires.next.0 c.args.r)) c.keys_of-keys.result.now c.args.sealed.now next.plan_is frame
     c.requires.allowed.within.cut.target.1 c.requires.allowed.within.cut.most.1 c.in_ok-row.ensures.size c.frames_share_the_time.ensures.sum c.frames_share_the_time.ensures.each c.seconds_of_ticks_are_those_of_microseconds.ensures)
 
