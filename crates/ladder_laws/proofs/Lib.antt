@@ -10,3 +10,5 @@ pub mod FileUris
 pub mod PlaylistLines
 pub mod Turns
 pub mod Playable
+pub mod Splitting
+pub mod Resuming

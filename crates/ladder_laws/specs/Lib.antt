@@ -3,3 +3,4 @@ pub mod Openings
 pub mod Listings
 pub mod Playlists
 pub mod Playable
+pub mod Resuming

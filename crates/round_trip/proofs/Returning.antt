@@ -5,7 +5,6 @@ use Rattle.std.proofs.Math.ListN.{get_or-eq_default}
 use Rattle.std.proofs.Math.Seq.{take-append_seam}
 use Rattle.std.proofs.lemmas.Bool.{cases_Bool, cases_lt}
 use Rattle.std.proofs.lemmas.List.{map-append, length-map, length-drop, length-append, length-take-le, get_or-map, drop-map}
-use Rattle.std.proofs.lemmas.List.Elements.{filter-append}
 use Rattle.std.proofs.lemmas.List.Sums.{count_by-le-length}
 use Rattle.std.proofs.lemmas.Option.{slice_get_within, get_or_from_slice_get}
 use Rattle.ghost_list.specs.Bytes.{AreBytes}
@@ -31,18 +30,17 @@ use Rattle.ladder_items.specs.Shown.{in_window, media_text}
 use Rattle.ingest.specs.Streams.{plans_of}
 use Rattle.ladder_items.specs.Items.{Part, no_part, part_at, shown_of, playlist_of, segment_item, items_of}
 use Rattle.ladder_items.specs.Weave.{Weaves}
-use Rattle.ladder_laws.specs.Seen.{is_of, of_rendition}
+use Rattle.ladder_laws.specs.Seen.{of_rendition}
 use Rattle.ingest.specs.Sealable.{IsOfBytes}
 use Rattle.ladder_laws.specs.Openings.{AreOfStreams}
 use Rattle.hls_check.specs.Unpacking.{packed, AllUnpack}
 use Rattle.hls_check.specs.MediaTexts.{AreListed}
 use Rattle.round_trip.specs.Returning.{AreMade, IsMade, sealed_bytes, sealed_of, ComesBack}
-use Rattle.ladder_laws.proofs.Alone.{same_test}
 use Rattle.ladder_laws.proofs.Salts.{salt-held}
 use Rattle.ladder_items.proofs.Elsewhere.{some-at}
 use Rattle.round_trip.proofs.Places.{at-drop, at-front}
 use Rattle.round_trip.proofs.Earlier.{drop-both, listed-append, earlier-listed}
-use Rattle.round_trip.proofs.Splitting.{split}
+use Rattle.ladder_laws.proofs.Splitting.{split, seen-split, same-media}
 use Rattle.round_trip.proofs.Listing.{window_listing, lines-are, some-in-window, event-begins, has-all, AreFrom, Rounds, listed-on, bytes_of, unpack-all}
 
 -- what the laws say of which this is made
@@ -63,17 +61,6 @@ Order = (r : ℕ) (s : CutSettings) (stream : List ℕ) (n : ℕ) (plan : Segmen
 
 abbrev pub CanBeSealed : Type 0
 CanBeSealed = (r : ℕ) (s : CutSettings) (stream : List ℕ) → AreBytes stream → All IsOfBytes (plans_of r s stream)
-
--- the items of the playlist's rendition, split at it
-seen-split : (front : List ItemValue) (media : PlaylistValue) (behind : List ItemValue)
-    → of_rendition media.rendition (front ++ MediaItem media ∷ behind) ≡ of_rendition media.rendition front ++ MediaItem media ∷ of_rendition media.rendition behind
-seen-split front media behind =
-    let r = media.rendition in
-    let here : of_rendition r (MediaItem media ∷ behind) ≡ MediaItem media ∷ of_rendition r behind = rw (same_test r) refl in
-    filter-append (is_of r) front (MediaItem media ∷ behind) ∙ ap (λ l. of_rendition r front ++ l) here
-
-same-media : (a b : PlaylistValue) → MediaItem a ≡ MediaItem b → a ≡ b
-same-media a b e = cc
 
 -- a rendition that may be listed has a name
 named : Unfaulted → (ladder : Ladder) (r : ℕ) → IsAllowed ladder → r < length ladder.renditions → is_name (rendition_at ladder r).name ≡ true

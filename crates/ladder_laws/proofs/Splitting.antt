@@ -4,7 +4,10 @@ use Rattle.cutter.specs.Plans.{SegmentPlan}
 use Rattle.item_io.specs.Items.{ItemValue, SegmentValue, PlaylistValue, SegmentItem, MediaItem, FramesItem}
 use Rattle.ladder_items.specs.Ladder.{Ladder}
 use Rattle.ladder_items.specs.Items.{Part, segment_item, media_item, frames_item, items_from, end_items}
+use Rattle.std.proofs.lemmas.List.Elements.{filter-append}
 use Rattle.ladder_laws.specs.Listings.{is_segment}
+use Rattle.ladder_laws.specs.Seen.{is_of, of_rendition}
+use Rattle.ladder_laws.proofs.Alone.{same_test}
 
 -- the playlist is that of the plans given so far, whose segments stand before it
 pub record IsOfGiven (ladder : Ladder) (r : ℕ) (before plans : List SegmentPlan) (front : List ItemValue) (media : PlaylistValue) : Type 0 where
@@ -79,3 +82,14 @@ split ladder r before (plan ∷ plans) part ended (x ∷ y ∷ z ∷ front) medi
           ∙ (ap (λ (i : ItemValue). filter is_segment (segment_item ladder r plan ∷ media_item ladder r (before ++ plan ∷ []) false ∷ i ∷ front)) same.2
           ∙ ap (λ l. segment_item ladder r plan ∷ l) then.segments_are));
     }
+
+-- the items of the playlist's rendition, split at it
+pub seen-split : (front : List ItemValue) (media : PlaylistValue) (behind : List ItemValue)
+    → of_rendition media.rendition (front ++ MediaItem media ∷ behind) ≡ of_rendition media.rendition front ++ MediaItem media ∷ of_rendition media.rendition behind
+seen-split front media behind =
+    let r = media.rendition in
+    let here : of_rendition r (MediaItem media ∷ behind) ≡ MediaItem media ∷ of_rendition r behind = rw (same_test r) refl in
+    filter-append (is_of r) front (MediaItem media ∷ behind) ∙ ap (λ l. of_rendition r front ++ l) here
+
+pub same-media : (a b : PlaylistValue) → MediaItem a ≡ MediaItem b → a ≡ b
+same-media a b e = cc
