@@ -3,6 +3,8 @@
 //! the run on many threads in `rounds`.
 #![tactic(auto)]
 
-pub use ladder_items::{FrameRow, Gone, Kind, PackFault, Rendition, Report, Row, Settings};
+pub use ladder_items::{
+    FrameRow, Gone, Kind, PackFault, Rendition, Report, Row, Settings, seen_number,
+};
 pub use rounds::{Ran, opening_board, pack_in_batches, pack_parallel, pack_parallel_reads};
 pub use serial_run::{pack_serial, pack_serial_reads};
