@@ -3,6 +3,7 @@
 
 check_live_ladder() {
     check 'pack: a live ladder of three, watched' packs_live "${LIVE_SECONDS:-30}"
+    check 'pack: one of three inputs is silent, faster, or before the others' plays_silence
 }
 
 # encodes_live SECONDS FOLDER: 6 Mbit/s, 800 and 60 kbit/s at the encoder's own flags, a key frame every second.
@@ -25,7 +26,7 @@ packs_live() {
     local watching=$!
     exec 8>"$work/until"
     encodes_live "$seconds" "$work/pipes" >"$work/encoded" 2>&1 &
-    timeout $((seconds + 60)) "$program" pack --out "$work/live" --target 3 --segment 2 --batch 1 "${entries[@]}" >"$work/out" 2>"$work/err" || status=$?
+    timeout $((seconds + 60)) "$program" pack --out "$work/live" --target 3 --segment 2 "${entries[@]}" >"$work/out" 2>"$work/err" || status=$?
     exec 8>&-
     wait "$watching" || { echo "the watcher: $(tail -1 "$work/watched")"; return 1; }
     rm "$work/until"
@@ -36,4 +37,8 @@ packs_live() {
     done
     read -r _ frames <"$work/watched"
     [ "$frames" -ge $((seconds * 3 / 2 - 6)) ] || { echo "the watcher opened $frames segments"; return 1; }
+}
+
+plays_silence() {
+    python3 "$here/silence.py" "$program" >"$work/silence" 2>&1 || { tail -1 "$work/silence"; return 1; }
 }
