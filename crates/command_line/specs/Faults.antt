@@ -24,7 +24,7 @@ status_of (Packing fault) = 1
 status_of (LadderPacking fault) = 1
 status_of (Checking fault) = 1
 
--- a refused command line, or want of memory: nothing was read or written
+-- a refused command line, a file of a key that gives none, or want of memory: nothing else was read, and nothing written
 abbrev pub IsOfCommandLine : Fault → Type 0
 IsOfCommandLine (Usage error) = Unit {0}
 IsOfCommandLine NotUtf8 = Unit {0}

@@ -62,6 +62,7 @@ impl fmt::Display for Explanation<'_, '_, '_> {
             Fault::Settings(SettingsFault::Settings) => write_settings(f, self.options),
             Fault::Settings(fault) => f.write_str(settings_reason(*fault)),
             Fault::Ladder(LadderFault::BadEntry(n)) => write_bad_entry(f, self.options, *n),
+            Fault::Ladder(LadderFault::BadKeyFile(n)) => write_bad_key_file(f, self.options, *n),
             Fault::Ladder(LadderFault::Settings) => write_settings(f, self.options),
             Fault::Ladder(fault) => f.write_str(ladder_reason(*fault)),
             Fault::Sealing(fault) => f.write_str(sealing_reason(*fault)),
@@ -113,6 +114,19 @@ fn write_bad_entry<W: fmt::Write>(
             "entry {number} has fewer than four colons: NAME:CODECS:WxH:KEY[+KEY..]:PATH"
         ),
     }
+}
+
+/// Writes that a key file of the entry of this number, counted from 1, holds no key.
+fn write_bad_key_file<W: fmt::Write>(
+    f: &mut fmt::Formatter<W>,
+    options: &ArgMatches<'_>,
+    number: usize,
+) -> fmt::Result {
+    write!(f, "entry {number}")?;
+    if let Some(words) = entry_at(options, number.wrapping_sub(1)) {
+        write!(f, ", {}", words.name)?;
+    }
+    f.write_str(": a key file is neither 16 bytes nor 32 hex digits with at most one line end")
 }
 
 /// The parts of the entry at a place; None where there is none, or where it has fewer.

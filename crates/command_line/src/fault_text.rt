@@ -26,9 +26,9 @@ fn write_fault<W: fmt::Write>(f: &mut fmt::Formatter<W>, fault: &Fault) -> fmt::
         Fault::NotUtf8 => f.write_str("NotUtf8"),
         Fault::NoMemory => f.write_str("NoMemory"),
         Fault::Busy => f.write_str("Busy"),
-        Fault::Cipher(fault) => f.write_str(cipher_name(*fault)),
-        Fault::Settings(fault) => f.write_str(settings_name(*fault)),
-        Fault::KeyList(fault) => f.write_str(key_list_name(*fault)),
+        Fault::Cipher(fault) => write_cipher(f, *fault),
+        Fault::Settings(fault) => write_settings(f, *fault),
+        Fault::KeyList(fault) => write_key_list(f, *fault),
         Fault::Ladder(fault) => write_ladder(f, *fault),
         Fault::Sealing(fault) => f.write_str(sealing_name(*fault)),
         Fault::Opening(fault) => f.write_str(opening_name(*fault)),
@@ -39,33 +39,43 @@ fn write_fault<W: fmt::Write>(f: &mut fmt::Formatter<W>, fault: &Fault) -> fmt::
     }
 }
 
-fn cipher_name(fault: CipherFault) -> &'static str {
+/// The name of a fault of a key and a vector, and the number of a bad key file.
+fn write_cipher<W: fmt::Write>(f: &mut fmt::Formatter<W>, fault: CipherFault) -> fmt::Result {
     match fault {
-        CipherFault::BadKey => "BadKey",
-        CipherFault::BadVector => "BadVector",
+        CipherFault::BadKey => write!(f, "BadKey"),
+        CipherFault::BadVector => write!(f, "BadVector"),
+        CipherFault::Unread => write!(f, "Unread"),
+        CipherFault::BadKeyFile(number) => write!(f, "BadKeyFile {number}"),
+        CipherFault::NoMemory => write!(f, "NoMemory"),
     }
 }
 
-fn key_list_name(fault: KeyListFault) -> &'static str {
+/// The name of a fault of some keys, and the number of a bad key file.
+fn write_key_list<W: fmt::Write>(f: &mut fmt::Formatter<W>, fault: KeyListFault) -> fmt::Result {
     match fault {
-        KeyListFault::BadKey => "BadKey",
-        KeyListFault::NoMemory => "NoMemory",
+        KeyListFault::BadKey => write!(f, "BadKey"),
+        KeyListFault::Unread => write!(f, "Unread"),
+        KeyListFault::BadKeyFile(number) => write!(f, "BadKeyFile {number}"),
+        KeyListFault::NoMemory => write!(f, "NoMemory"),
     }
 }
 
-fn settings_name(fault: SettingsFault) -> &'static str {
+/// The name of a fault of a packager's words, and the number of a bad key file.
+fn write_settings<W: fmt::Write>(f: &mut fmt::Formatter<W>, fault: SettingsFault) -> fmt::Result {
     match fault {
-        SettingsFault::BadKey => "BadKey",
-        SettingsFault::BadSize => "BadSize",
-        SettingsFault::BadVector => "BadVector",
-        SettingsFault::TooMany => "TooMany",
-        SettingsFault::ZeroPeriod => "ZeroPeriod",
-        SettingsFault::Settings => "Settings",
-        SettingsFault::NoMemory => "NoMemory",
+        SettingsFault::BadKey => write!(f, "BadKey"),
+        SettingsFault::BadSize => write!(f, "BadSize"),
+        SettingsFault::BadVector => write!(f, "BadVector"),
+        SettingsFault::TooMany => write!(f, "TooMany"),
+        SettingsFault::ZeroPeriod => write!(f, "ZeroPeriod"),
+        SettingsFault::Settings => write!(f, "Settings"),
+        SettingsFault::Unread => write!(f, "Unread"),
+        SettingsFault::BadKeyFile(number) => write!(f, "BadKeyFile {number}"),
+        SettingsFault::NoMemory => write!(f, "NoMemory"),
     }
 }
 
-/// The name of a fault of the ladder's words, and the number of a bad entry.
+/// The name of a fault of the ladder's words, and the number of the entry that is bad or has a bad key file.
 fn write_ladder<W: fmt::Write>(f: &mut fmt::Formatter<W>, fault: LadderFault) -> fmt::Result {
     match fault {
         LadderFault::BadEntry(number) => write!(f, "BadEntry {number}"),
@@ -73,6 +83,8 @@ fn write_ladder<W: fmt::Write>(f: &mut fmt::Formatter<W>, fault: LadderFault) ->
         LadderFault::TooMany => write!(f, "TooMany"),
         LadderFault::ZeroPeriod => write!(f, "ZeroPeriod"),
         LadderFault::Settings => write!(f, "Settings"),
+        LadderFault::Unread => write!(f, "Unread"),
+        LadderFault::BadKeyFile(number) => write!(f, "BadKeyFile {number}"),
         LadderFault::NoMemory => write!(f, "NoMemory"),
     }
 }

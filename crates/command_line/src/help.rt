@@ -6,9 +6,10 @@ pub const VERSION: &str = "0.1.0";
 /// The faults of `seal`.
 pub const SEAL: &str = "\
 Faults, as 'tshls: NAME' on standard error:
-  BadKey     --key isn't 32 hex digits
+  BadKey     --key is neither 32 hex digits nor @FILE
   BadVector  --iv isn't 32 hex digits, or --seq and --iv are both given, or neither is
-  Unread     Standard input couldn't be read; nothing was printed
+  Unread     The file of the key, or standard input, couldn't be read; nothing was printed
+  BadKeyFile The file of the key is neither 16 bytes nor 32 hex digits with at most one line end
   ReadLimit  2^40 reads didn't come to the end of the input
   Unwritten  Standard output took only a beginning of the line
   NoMemory   Memory was refused; nothing was printed";
@@ -16,9 +17,10 @@ Faults, as 'tshls: NAME' on standard error:
 /// The faults of `open`.
 pub const OPEN: &str = "\
 Faults, as 'tshls: NAME' on standard error:
-  BadKey      --key isn't 32 hex digits
+  BadKey      --key is neither 32 hex digits nor @FILE
   BadVector   --iv isn't 32 hex digits, or --seq and --iv are both given, or neither is
-  Unread      Standard input couldn't be read; nothing was printed
+  Unread      The file of the key, or standard input, couldn't be read; nothing was printed
+  BadKeyFile  The file of the key is neither 16 bytes nor 32 hex digits with at most one line end
   ReadLimit   2^40 reads didn't come to the end of the input
   BadHex      The input isn't one line of an even number of hex digits
   NotBlocks   The digits aren't whole blocks of 16 bytes, or there are none
@@ -42,7 +44,10 @@ Ticks are 1/90000 s. Faults, as 'tshls: NAME NUMBERS' on standard error; what wa
                'master'; or the codecs aren't 1 to 128 bytes of printable ASCII without a quotation mark.
   BigSegment   This segment has more packets than --most: give more, or a shorter --segment.
   Limit        The last number of a segment, or the range of time, is passed.
-  BadKey       A key isn't 32 hex digits.         BadSize     The size isn't WIDTHxHEIGHT.
+  BadKey       A key is neither 32 hex digits nor @FILE.
+  Unread       The file of a key couldn't be read.
+  BadKeyFile   The file of this key, counted from 1, is neither 16 bytes nor 32 hex digits with at most one line end.
+  BadSize      The size isn't WIDTHxHEIGHT.
   BadVector    --salt isn't 32 hex digits.
   TooMany      More than 4096 keys.               ZeroPeriod  --period is 0.
   Read         Standard input couldn't be read.   ReadLimit   2^40 reads didn't come to its end.
@@ -63,13 +68,15 @@ of its stream the others are packed to their ends. What was written before a fau
   NoProgram R      No tables                                    NoStart R      No key frame to begin at
   BigSegment R N   This segment has more packets than --most    Limit R        The last number or time is passed
   Read R           The stream couldn't be read                  ReadLimit R    2^40 reads didn't come to its end
-  BadEntry N       Entry N, counted from 1, hasn't four colons, or its size isn't WIDTHxHEIGHT, or a key isn't 32 hex digits
+  BadEntry N       Entry N, counted from 1, hasn't four colons, or its size isn't WIDTHxHEIGHT, or a key is neither
+                   32 hex digits nor @FILE
+  BadKeyFile N     A key file of entry N, counted from 1, is neither 16 bytes nor 32 hex digits with at most one line end
   BadVector        --salt isn't 32 hex digits
   TooMany          A rendition has more than 4096 keys          ZeroPeriod     --period is 0
   Settings         An option, a name, codecs or a side of a size is out of its range, two names are the same, or there are
                    more than 32 renditions
   Busy             Another tshls packs into DIR; nothing was read or written
-  Unread           A path can't be opened; nothing was written
+  Unread           The file of a key can't be read, or a path can't be opened; nothing was written
   Outlet           A file can't be written: DIR isn't there, or full; the packager stopped
   Unwritten        All was packed, and standard output can't be written
   NoMemory         Memory was refused; the packager stopped";
@@ -77,8 +84,9 @@ of its stream the others are packed to their ends. What was written before a fau
 /// The faults of `check`.
 pub const CHECK: &str = "\
 Faults, as 'tshls: NAME NUMBER' on standard error:
-  BadKey      A key isn't 32 hex digits
-  Unread      The playlist or a segment that it lists can't be read, or the playlist isn't UTF-8
+  BadKey      A key is neither 32 hex digits nor @FILE
+  BadKeyFile  The file of this key, counted from 1, is neither 16 bytes nor 32 hex digits with at most one line end
+  Unread      The file of a key, the playlist or a segment that it lists can't be read, or the playlist isn't UTF-8
   NotProfile  The line of this number isn't what tshls writes there
   Missing     The entry of this place, counted from 0, has no key among --keys
   Closed      Its segment doesn't open: another key, or damaged

@@ -17,8 +17,8 @@ use crate::pack_options::{
 use clap::error::ErrorKind;
 use clap::{ArgMatches, Command};
 use commands::{
-    CheckOptions, CipherOptions, LadderOptions, read_check_options, read_cipher_options,
-    read_ladder_options, read_settings,
+    CheckOptions, CipherOptions, FileReader, LadderOptions, read_check_options,
+    read_cipher_options, read_ladder_options, read_settings,
 };
 use pipeline::Settings;
 use std::alloc::{AllocError, Global};
@@ -54,19 +54,24 @@ pub struct LadderJob<'a> {
     pub syncs: bool,
 }
 
-/// The job that the words of a command line ask for, the program's name first. No fault of the command line comes
-/// after a read or a write.
-pub fn line<'a, S: AsStr>(alloc: Global, words: &'a [S]) -> Result<Job<'a>, Fault>
+/// The job that the words of a command line ask for, the program's name first. Where they name files of keys, those are read
+/// behind all faults of the words, and nothing else is read or written.
+pub fn line<'a, S: AsStr, F: FileReader>(
+    alloc: Global,
+    files: &F,
+    words: &'a [S],
+) -> Result<Job<'a>, Fault>
     ensures { IfErr result IsOfCommandLine }
 {
     let mut command = program(alloc)?;
     let matches = command.try_get_matches_from_mut(words)?;
-    job_of(alloc, &mut command, &matches)
+    job_of(alloc, files, &mut command, &matches)
 }
 
 /// The job of the command that was matched, by its options.
-fn job_of<'a>(
+fn job_of<'a, F: FileReader>(
     alloc: Global,
+    files: &F,
     command: &mut Command<'a>,
     matches: &ArgMatches<'a>,
 ) -> Result<Job<'a>, Fault>
@@ -74,20 +79,21 @@ fn job_of<'a>(
 {
     match matches.subcommand() {
         Some(("seal", options)) => {
-            let options = read_cipher_options(cipher_words(options))?;
+            let options = read_cipher_options(alloc, files, cipher_words(options))?;
             return Ok(Job::Stream(StreamJob::Seal(options)));
         }
         Some(("open", options)) => {
-            let options = read_cipher_options(cipher_words(options))?;
+            let options = read_cipher_options(alloc, files, cipher_words(options))?;
             return Ok(Job::Stream(StreamJob::Open(options)));
         }
         Some(("one", options)) => {
-            let settings = read_settings(alloc, packing_words(options), number_words(options))?;
+            let words = packing_words(options);
+            let settings = read_settings(alloc, files, words, number_words(options))?;
             return Ok(Job::Stream(StreamJob::One(settings)));
         }
-        Some(("pack", options)) => return Ok(Job::Ladder(ladder_job(alloc, options)?)),
+        Some(("pack", options)) => return Ok(Job::Ladder(ladder_job(alloc, files, options)?)),
         Some(("check", options)) => {
-            let options = read_check_options(alloc, check_words(options))?;
+            let options = read_check_options(alloc, files, check_words(options))?;
             return Ok(Job::Stream(StreamJob::Check(options)));
         }
         _ => {}
@@ -96,12 +102,17 @@ fn job_of<'a>(
 }
 
 /// The ladder that the words of `pack` tell.
-fn ladder_job<'a>(alloc: Global, options: &ArgMatches<'a>) -> Result<LadderJob<'a>, Fault>
+fn ladder_job<'a, F: FileReader>(
+    alloc: Global,
+    files: &F,
+    options: &ArgMatches<'a>,
+) -> Result<LadderJob<'a>, Fault>
     ensures { IfErr result IsOfCommandLine }
 {
     let entries = entry_words(alloc, options)?;
     let words = ladder_words(options, &entries);
-    let ladder = read_ladder_options(alloc, words, number_words(options), pool_words(options))?;
+    let numbers = number_words(options);
+    let ladder = read_ladder_options(alloc, files, words, numbers, pool_words(options))?;
     Ok(LadderJob {
         options: ladder,
         folder: folder_word(options),

@@ -16,9 +16,10 @@ pub fn with_cipher_options<'a>(
 ) -> Result<Command<'a>, AllocError>
     ensures { IfOk result (λ made. GetsOptions command.entry cipher_options made) }
 {
+    let key = "The key: 32 hex digits, or @FILE, which holds its 16 bytes or those digits";
     let seq = "The segment's number, which gives the vector";
     let command = command
-        .arg(text(alloc, "key", "HEX", "The key: 32 hex digits").required(true))?
+        .arg(text(alloc, "key", "HEX", key).required(true))?
         .arg(number(alloc, "seq", "NUMBER", seq))?;
     command.arg(text(alloc, "iv", "HEX", "The vector itself: 32 hex digits"))
 }
@@ -51,7 +52,7 @@ fn with_rendition<'a>(alloc: Global, command: Command<'a>) -> Result<Command<'a>
 {
     let codecs = "The codecs, as a master playlist lists them";
     let size = "The width and the height of the pictures, 1 to 16384 pixels each";
-    let keys = "The keys, 32 hex digits each, 1 to 4096 of them";
+    let keys = "The keys, 32 hex digits or @FILE each, 1 to 4096 of them";
     let name = "The name of the rendition";
     command
         .arg(text(alloc, "codecs", "CODECS", codecs).required(true))?
@@ -215,7 +216,7 @@ pub fn with_check_options<'a>(
 ) -> Result<Command<'a>, AllocError>
     ensures { IfOk result (λ made. GetsOptions command.entry check_options made) }
 {
-    let keys = "The keys of the rendition, 32 hex digits each";
+    let keys = "The keys of the rendition, 32 hex digits or @FILE each";
     let command = command.arg(text(alloc, "keys", "KEY[+KEY..]", keys).required(true))?;
     let playlist = Arg::new(alloc, "playlist")
         .value_name("PLAYLIST")

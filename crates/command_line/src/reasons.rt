@@ -20,6 +20,11 @@ const TOO_MANY: &str = "more than 4096 keys for one rendition";
 
 const ZERO_PERIOD: &str = "--period is 0: a key seals at least one segment";
 
+const UNREAD_KEY: &str = "the file of a key can't be read; nothing was written";
+
+const BAD_KEY_FILE: &str =
+    "the file of that key, counted from 1, is neither 16 bytes nor 32 hex digits with at most one line end";
+
 const BAD_KEYS: &str = "a key of --keys is not 32 hex digits";
 
 pub(crate) fn cipher_reason(fault: CipherFault) -> &'static str {
@@ -28,12 +33,17 @@ pub(crate) fn cipher_reason(fault: CipherFault) -> &'static str {
         CipherFault::BadVector => {
             "exactly one of --seq and --iv is wanted, and --iv as 32 hex digits"
         }
+        CipherFault::Unread => UNREAD_KEY,
+        CipherFault::BadKeyFile(_) => BAD_KEY_FILE,
+        CipherFault::NoMemory => NO_MEMORY,
     }
 }
 
 pub(crate) fn key_list_reason(fault: KeyListFault) -> &'static str {
     match fault {
         KeyListFault::BadKey => BAD_KEYS,
+        KeyListFault::Unread => UNREAD_KEY,
+        KeyListFault::BadKeyFile(_) => BAD_KEY_FILE,
         KeyListFault::NoMemory => NO_MEMORY,
     }
 }
@@ -46,6 +56,8 @@ pub(crate) fn settings_reason(fault: SettingsFault) -> &'static str {
         SettingsFault::TooMany => TOO_MANY,
         SettingsFault::ZeroPeriod => ZERO_PERIOD,
         SettingsFault::Settings => "an option is outside its range",
+        SettingsFault::Unread => UNREAD_KEY,
+        SettingsFault::BadKeyFile(_) => BAD_KEY_FILE,
         SettingsFault::NoMemory => NO_MEMORY,
     }
 }
@@ -57,6 +69,8 @@ pub(crate) fn ladder_reason(fault: LadderFault) -> &'static str {
         LadderFault::TooMany => TOO_MANY,
         LadderFault::ZeroPeriod => ZERO_PERIOD,
         LadderFault::Settings => "an option is outside its range",
+        LadderFault::Unread => UNREAD_KEY,
+        LadderFault::BadKeyFile(_) => "a key file of that entry is no key",
         LadderFault::NoMemory => NO_MEMORY,
     }
 }

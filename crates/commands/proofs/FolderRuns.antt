@@ -18,8 +18,7 @@ use Rattle.ladder_items.specs.declared.fault.PackFault.TheVariants.{Settings, Re
 use Rattle.ladder_items.specs.Faults.{Says, Sayings}
 use Rattle.ladder_items.specs.declared.report.Report.{Report}
 use Rattle.ladder_items.specs.Ladder.{IsAllowed, Ladder}
-use Rattle.ladder_items.specs.Items.{Part}
-use Rattle.ladder_items.specs.Weave.{AreLegal, Weaves, after_all, blocks, none_of}
+use Rattle.ladder_items.specs.Weave.{AreLegal, after_all, blocks, none_of}
 use Rattle.ladder_items.specs.Putting.{PutAll, PutSome}
 use Rattle.ladder_items.specs.Packed.{HasHalted, IsCutShort, IsPacked}
 use Rattle.ladder_items.proofs.Endings.{says-as}

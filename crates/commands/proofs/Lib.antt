@@ -1,10 +1,12 @@
+pub mod EntryKeys
+pub mod FolderRuns
 pub mod GoodEntries
-pub mod KeyLists
-pub mod SealedTexts
-pub mod LineRuns
+pub mod KeyBytes
+pub mod KeyWords
 pub mod LadderEnds
 pub mod LadderFacts
-pub mod FolderRuns
-pub mod TextFacts
+pub mod LineRuns
+pub mod SealedTexts
 pub mod SegmentFiles
 pub mod SummaryLines
+pub mod TextFacts

@@ -1,9 +1,11 @@
 pub mod Checking
+pub mod CipherWords
 pub mod Counts
 pub mod Defaults
 pub mod Entries
 pub mod FolderPacking
 pub mod Hex
+pub mod KeyFiles
 pub mod KeyLists
 pub mod LadderOptions
 pub mod LadderPacking

@@ -1,5 +1,5 @@
 -- A packager's settings of words and numbers.
-use Rattle.std.specs.Prelude.{◌≡◌, ◌≢◌, ℕ, ◌*◌, ◌<◌, ◌≤◌, ◌^◌, Bool, true, false, List, [], ◌∷◌, map, length, Option, Some, None}
+use Rattle.std.specs.Prelude.{◌≡◌, ◌≢◌, ℕ, ◌*◌, ◌<◌, ◌≤◌, ◌^◌, Bool, true, false, List, [], ◌∷◌, length, Option, Some, None}
 use Rattle.std.specs.Option.{unwrap_or, option_map}
 use Rattle.cutter.specs.declared.settings.CutSettings.{CutSettings}
 use Rattle.ladder_items.specs.declared.settings.Kind.{Kind}
@@ -8,7 +8,8 @@ use Rattle.ladder_items.specs.Ladder.{Ladder, RenditionValue, IsNew}
 use Rattle.commands.specs.declared.numbers.Numbers.{Numbers}
 use Rattle.commands.specs.declared.settings.PackingWords.{PackingWords}
 use Rattle.commands.specs.Defaults.{name_of}
-use Rattle.commands.specs.Hex.{bytes_of_hex, chosen_salt}
+use Rattle.commands.specs.Hex.{chosen_salt}
+use Rattle.commands.specs.KeyFiles.{TellKeys}
 use Rattle.commands.specs.KeyLists.{are_keys, key_texts}
 use Rattle.commands.specs.Sizes.{HasSize, IsSize}
 use Rattle.limits.specs.declared.TheConstants.{TICKS, MOST_PROGRAM, MOST_KEYS}
@@ -60,7 +61,7 @@ words_of words = record {
 abbrev pub HasSalt : Words → Type 0
 HasSalt words = chosen_salt words.salt ≢ None
 
--- keys of 32 hex digits each, a size and a salt, as it may be, and keys that may take turns
+-- keys that name files or are 32 hex digits each, a size and a salt, as it may be, and keys that may take turns
 pub record AreGoodWords (words : Words) (turns : ℕ) : Type 0 where
   pub keys_are : are_keys words.keys ≡ true
   pub size_is : HasSize words.size
@@ -72,23 +73,34 @@ abbrev pub kind_of : Bool → Kind
 kind_of true = Event
 kind_of false = Live
 
--- a rendition of these words, whose keys take turns by this period and hold its salt, and of which nothing came before
-pub record IsRenditionOf (words : Words) (turns : ℕ) (made : RenditionValue) : Type 0 where
+-- a rendition of these words and as many keys, which take turns by this period and hold its salt, and of which nothing came before
+pub record IsRenditionOf (words : Words) (turns : ℕ) (keys : List (List ℕ)) (made : RenditionValue) : Type 0 where
   pub name_is : made.name ≡ words.name
   pub codecs_are : made.codecs ≡ words.codecs
   pub size_is : IsSize words.size made.width made.height
-  pub keys_are : map bytes_of_hex (key_texts words.keys) ≡ map Some made.keys.keys
+  pub number_is : length keys ≡ length (key_texts words.keys)
+  pub keys_are : made.keys.keys ≡ keys
   pub period_is : made.keys.period ≡ turns
   pub salt_is : chosen_salt words.salt ≡ Some made.salt
   pub held_is : made.keys.salt ≡ made.salt
   pub is_new : IsNew made
 
--- the settings of one rendition, cut and listed by these numbers
-pub record IsLadderOf (words : Words) (numbers : Numbers) (made : Ladder) : Type 0 where
+-- the settings of one rendition with these keys, cut and listed by these numbers
+pub record IsLadderOf (words : Words) (numbers : Numbers) (keys : List (List ℕ)) (made : Ladder) : Type 0 where
   pub rendition : RenditionValue
   pub alone : made.renditions ≡ rendition ∷ []
-  pub rendition_is : IsRenditionOf words numbers.period rendition
+  pub rendition_is : IsRenditionOf words numbers.period keys rendition
   pub cut_is : made.cut ≡ cut_of numbers
   pub kind_is : made.kind ≡ kind_of words.event
   pub window_is : made.window ≡ numbers.window
   pub queue_is : made.queue ≡ 1
+
+-- the words are good, and there is room for the numbers
+abbrev pub AreFit : Words → Numbers → Type 0
+AreFit words numbers = AreGoodWords words numbers.period × FitsCut numbers
+
+-- the settings of one rendition, with the keys that its words tell, where files may give such bytes
+pub record IsReadLadderOf (gives : List ℕ → List ℕ → Type 0) (words : Words) (numbers : Numbers) (made : Ladder) : Type 0 where
+  pub keys : List (List ℕ)
+  pub told : TellKeys gives (key_texts words.keys) keys
+  pub ladder : IsLadderOf words numbers keys made

@@ -12,9 +12,14 @@ use Rattle.commands.specs.declared.settings.SettingsFault.TheVariants as setting
 abbrev pub cipher_status : CipherFault → ℕ
 cipher_status cipher.BadKey = 2
 cipher_status cipher.BadVector = 2
+cipher_status cipher.Unread = 1
+cipher_status (cipher.BadKeyFile n) = 1
+cipher_status cipher.NoMemory = 1
 
 abbrev pub key_list_status : KeyListFault → ℕ
 key_list_status keys.BadKey = 2
+key_list_status keys.Unread = 1
+key_list_status (keys.BadKeyFile n) = 1
 key_list_status keys.NoMemory = 1
 
 abbrev pub settings_status : SettingsFault → ℕ
@@ -24,6 +29,8 @@ settings_status settings.BadVector = 2
 settings_status settings.TooMany = 1
 settings_status settings.ZeroPeriod = 1
 settings_status settings.Settings = 1
+settings_status settings.Unread = 1
+settings_status (settings.BadKeyFile n) = 1
 settings_status settings.NoMemory = 1
 
 abbrev pub ladder_status : LadderFault → ℕ
@@ -32,4 +39,6 @@ ladder_status ladder.BadVector = 2
 ladder_status ladder.TooMany = 1
 ladder_status ladder.ZeroPeriod = 1
 ladder_status ladder.Settings = 1
+ladder_status ladder.Unread = 1
+ladder_status (ladder.BadKeyFile n) = 1
 ladder_status ladder.NoMemory = 1

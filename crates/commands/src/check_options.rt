@@ -1,10 +1,11 @@
 //! The keys and the playlist of `check`, as its words tell them.
-ghost use Rattle.std.specs.Prelude.{◌≡◌, ◌↔◌, map, Some, false, IfOk, IsErrOf};
+ghost use Rattle.std.specs.Prelude.{◌≡◌, ◌↔◌, ℕ, false, IfOk, IsErrOf};
 ghost use Rattle.std.specs.String.{string_bytes};
-ghost use Rattle.commands.specs.Hex.{bytes_of_hex};
-ghost use Rattle.commands.specs.KeyLists.{key_texts, are_keys};
+ghost use Rattle.commands.specs.KeyFiles.{TellKeys};
+ghost use Rattle.commands.specs.KeyLists.{IsBadKeyFile, IsUnreadKey, key_texts, are_keys};
 
-use crate::key_list::{KeyListFault, read_keys};
+use crate::files::FileReader;
+use crate::key_list::{KeyListFault, are_keys, key_room, read_keys};
 use std::alloc::Global;
 
 /// The words of the keys of a rendition and of a playlist's path, as they stand.
@@ -21,16 +22,26 @@ pub struct CheckOptions {
     pub playlist: String,
 }
 
-/// The options that the words of `check` ask for; BadKey where a key isn't 32 hex digits.
-pub fn read_check_options(
+/// The options that the words of `check` ask for, with the keys that they tell.
+///
+/// BadKey is told before all else, and NoMemory before any file is read where memory was wanted for the options. Unread and
+/// BadKeyFile are told of the first key whose file gives none, counted from 1.
+pub fn read_check_options<F: FileReader>(
     alloc: Global,
+    files: &F,
     words: CheckWords<'_>,
 ) -> Result<CheckOptions, KeyListFault>
-    ensures keys { IfOk result (λ options. map bytes_of_hex (key_texts words.entry.keys.now) ≡ map Some options.keys.items) }
+    ensures keys { IfOk result (λ options. TellKeys (F.gives files.now) (key_texts words.entry.keys.now) options.keys.items) }
     ensures playlist { IfOk result (λ options. string_bytes options.playlist ≡ words.entry.playlist.now) }
     ensures bad { IsErrOf result KeyListFault.BadKey ↔ (are_keys words.entry.keys.now ≡ false) }
+    ensures unread { IsErrOf result KeyListFault.Unread → IsUnreadKey (F.gives files.now) (F.refuses files.now) words.entry.keys.now }
+    ensures bad_file { (n : ℕ) → IsErrOf result (KeyListFault.BadKeyFile n) → IsBadKeyFile (F.gives files.now) words.entry.keys.now n }
 {
-    let keys = read_keys(alloc, words.keys)?;
+    if !are_keys(words.keys) {
+        return Err(KeyListFault::BadKey);
+    }
     let playlist = String::from_str(alloc, words.playlist)?;
+    let room = key_room(alloc, words.keys)?;
+    let keys = read_keys(alloc, files, room, words.keys)?;
     Ok(CheckOptions { keys, playlist })
 }

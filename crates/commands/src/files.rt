@@ -1,7 +1,10 @@
-//! Files that are read whole.
+//! Files that are read by their paths.
 ghost use Rattle.std.specs.Prelude.{◌≡◌, ⊤, List, ℕ, IfOk, IsErrOf};
+ghost use Rattle.commands.specs.KeyFiles.{GivesFront};
 
 use std::alloc::{AllocError, AllocFailed, Global};
+use std::fs::File;
+use std::io::Read;
 use std::{fs, io};
 use thiserror::Error;
 
@@ -50,6 +53,28 @@ pub trait FileReader {
         ensures ok { IfOk result (λ bytes. gives self.now path.now bytes.items) }
         ensures unread { IsErrOf result FileFault.Unread → refuses self.now path.now }
         ensures no_memory { IsErrOf result FileFault.NoMemory → wants self.now path.now };
+
+    /// The first bytes of the file at a path: all of them where they are fewer than `most`. No more than `most` are read.
+    fn read_front(&self, alloc: Global, path: &str, most: usize) -> Result<Vec<u8>, FileFault>
+        ensures ok { IfOk result (λ bytes. GivesFront (gives self.now path.now) most bytes.items) }
+        ensures unread { IsErrOf result FileFault.Unread → refuses self.now path.now }
+        ensures no_memory { IsErrOf result FileFault.NoMemory → wants self.now path.now };
+}
+
+/// Why a file wasn't read.
+fn fault_of(error: io::Error) -> FileFault {
+    match error.kind() {
+        io::ErrorKind::OutOfMemory => FileFault::NoMemory,
+        _ => FileFault::Unread,
+    }
+}
+
+/// The first bytes of a file of the system.
+fn front(rt: &HostRuntime, path: &str, most: usize) -> io::Result<Vec<u8>> {
+    let file = File::open(rt, path)?;
+    let mut bytes = Vec::new(rt.alloc());
+    file.take(most as u64).read_to_end(&mut bytes)?;
+    Ok(bytes)
 }
 
 /// The files of the system. What they hold is the system's, so nothing is claimed of it.
@@ -63,10 +88,14 @@ impl FileReader for HostRuntime {
     fn read(&self, _alloc: Global, path: &str) -> Result<Vec<u8>, FileFault> {
         match fs::read(self, path) {
             Ok(bytes) => Ok(bytes),
-            Err(error) => match error.kind() {
-                io::ErrorKind::OutOfMemory => Err(FileFault::NoMemory),
-                _ => Err(FileFault::Unread),
-            },
+            Err(error) => Err(fault_of(error)),
+        }
+    }
+
+    fn read_front(&self, _alloc: Global, path: &str, most: usize) -> Result<Vec<u8>, FileFault> {
+        match front(self, path, most) {
+            Ok(bytes) => Ok(bytes),
+            Err(error) => Err(fault_of(error)),
         }
     }
 }

@@ -1,19 +1,26 @@
 //! The keys of a rendition, as one word tells them.
-ghost use Rattle.std.specs.Prelude.{◌≡◌, ◌↔◌, map, length, Some, false, is_some, IfOk, IsErrOf};
+ghost use Rattle.std.specs.Prelude.{◌≡◌, map, length, true, IfOk, IfErr};
 ghost use Rattle.std.specs.List.{list_all};
-ghost use Rattle.commands.specs.Hex.{bytes_of_hex};
+ghost use Rattle.commands.specs.KeyFiles.{IsKeyFault, TellKeys, counted, is_key_word, texts_of, told};
 ghost use Rattle.commands.specs.KeyLists.{key_texts, are_keys};
 
-use crate::cipher::block;
+use crate::files::FileReader;
+use crate::key_word::{KeyFileFault, KeyWord, fill_keys, is_key_word};
 use std::alloc::{AllocError, AllocFailed, Global};
 use thiserror::Error;
 
 /// Why a word tells no keys.
 #[derive(Clone, Copy, Debug, PartialEq, Eq, Error)]
 pub enum KeyListFault {
-    /// A key isn't 32 hex digits.
+    /// A key is neither 32 hex digits nor the name of a file.
     #[error("a key isn't 32 hex digits")]
     BadKey,
+    /// The file of a key can't be read.
+    #[error("a key file can't be read")]
+    Unread,
+    /// The file of this key, counted from 1, is neither 16 bytes nor 32 hex digits with at most one LF behind them.
+    #[error("the file of key {0} is neither 16 bytes nor 32 hex digits")]
+    BadKeyFile(usize),
     #[error("out of memory")]
     NoMemory,
 }
@@ -27,7 +34,7 @@ impl KeyListFault {
     {
         match self {
             KeyListFault::BadKey => 2,
-            KeyListFault::NoMemory => 1,
+            KeyListFault::Unread | KeyListFault::BadKeyFile(_) | KeyListFault::NoMemory => 1,
         }
     }
 }
@@ -52,11 +59,25 @@ impl<T: Drop> From<AllocFailed<T>> for KeyListFault {
     }
 }
 
-/// Whether each text between the `+` is 32 hex digits.
+impl From<KeyFileFault> for KeyListFault {
+    ghost use Rattle.commands.specs.Told.{key_list_fault_of};
+
+    ghost from_gives = { λ why fault. fault ≡ key_list_fault_of why };
+
+    fn from(why: KeyFileFault) -> KeyListFault {
+        match why {
+            KeyFileFault::Unread => KeyListFault::Unread,
+            KeyFileFault::BadKeyFile(number) => KeyListFault::BadKeyFile(number),
+            KeyFileFault::NoMemory => KeyListFault::NoMemory,
+        }
+    }
+}
+
+/// Whether each text between the `+` names a file or is 32 hex digits.
 pub(crate) fn are_keys(text: &str) -> bool
     ensures { result ≡ are_keys text.now }
 {
-    text.split('+').all(|piece| block(piece).is_some())
+    text.split('+').all(|piece| is_key_word(piece))
 }
 
 /// How many texts there are between the `+`.
@@ -67,35 +88,83 @@ pub(crate) fn key_count(text: &str) -> usize
 }
 
 /// The texts between the `+`.
-fn key_texts<'a>(alloc: Global, text: &'a str) -> Result<Vec<&'a str>, AllocError>
+pub(crate) fn key_texts<'a>(alloc: Global, text: &'a str) -> Result<Vec<&'a str>, AllocError>
     ensures { IfOk result (λ texts. map (λ t. t.now) texts.items ≡ key_texts text.now) }
 {
     text.split('+').collect(alloc)
 }
 
-/// The key of each text.
-fn keys_of(alloc: Global, texts: &[&str]) -> Result<Vec<[u8; 16]>, KeyListFault>
-    ensures ok { IfOk result (λ keys. map (λ t. bytes_of_hex t.now) texts.now ≡ map Some keys.items) }
-    ensures bad { IsErrOf result KeyListFault.BadKey → list_all (λ t. is_some (bytes_of_hex t.now)) texts.now ≡ false }
+/// Each text, told by its place, counted from 1.
+fn counted<'a>(alloc: Global, texts: &[&'a str]) -> Result<Vec<KeyWord<'a>>, AllocError>
+    ensures { IfOk result (λ words. map told words.items ≡ counted 1 (map (λ t. t.now) texts.now)) }
+{
+    let mut words = Vec::new(alloc);
+    for place in 0..texts.len() {
+        words.push(KeyWord {
+            number: place + 1,
+            text: texts[place],
+        })?;
+    }
+    Ok(words)
+}
+
+/// Room for so many keys.
+pub(crate) fn room(alloc: Global, count: usize) -> Result<Vec<[u8; 16]>, AllocError>
+    ensures { IfOk result (λ keys. length keys.items ≡ count) }
 {
     let mut keys = Vec::new(alloc);
-    for text in texts {
-        match block(text) {
-            Some(key) => keys.push(key)?,
-            None => return Err(KeyListFault::BadKey),
-        }
-    }
+    keys.resize(count, [0; 16])?;
     Ok(keys)
 }
 
-/// The keys of texts of 32 hex digits with a `+` between them; BadKey where one isn't.
-pub(crate) fn read_keys(alloc: Global, text: &str) -> Result<Vec<[u8; 16]>, KeyListFault>
-    ensures ok { IfOk result (λ keys. map bytes_of_hex (key_texts text.now) ≡ map Some keys.items) }
-    ensures bad { IsErrOf result KeyListFault.BadKey ↔ (are_keys text.now ≡ false) }
+/// The words of some keys, and room for the keys.
+#[derive(Drop)]
+pub(crate) struct KeyRoom<'a> {
+    words: Vec<KeyWord<'a>>,
+    keys: Vec<[u8; 16]>,
+}
+
+/// Takes the memory for the keys of the words between the `+`.
+pub(crate) fn key_room<'a>(alloc: Global, text: &'a str) -> Result<KeyRoom<'a>, AllocError>
+    ensures words { IfOk result (λ room. map told room.words.items ≡ counted 1 (key_texts text.now)) }
+    ensures keys { IfOk result (λ room. length room.keys.items ≡ length room.words.items) }
 {
-    if !are_keys(text) {
-        return Err(KeyListFault::BadKey);
-    }
     let texts = key_texts(alloc, text)?;
-    keys_of(alloc, &texts)
+    let words = counted(alloc, &texts)?;
+    let keys = room(alloc, words.len())?;
+    Ok(KeyRoom { words, keys })
+}
+
+/// The room with the key of each word in its place.
+pub(crate) fn filled<F: FileReader>(
+    alloc: Global,
+    files: &F,
+    words: &[KeyWord<'_>],
+    room: Vec<[u8; 16]>,
+) -> Result<Vec<[u8; 16]>, KeyFileFault>
+    requires words { list_all (λ word. is_key_word word.text) (map told words.now) ≡ true }
+    requires places { length words.now ≡ length room.items }
+    ensures ok { IfOk result (λ keys. TellKeys (F.gives files.now) (texts_of (map told words.now)) keys.items) }
+    ensures err { IfErr result (IsKeyFault (F.gives files.now) (F.refuses files.now) (F.wants files.now) (map told words.now)) }
+{
+    let mut keys = room;
+    fill_keys(alloc, files, words, &mut keys)?;
+    Ok(keys)
+}
+
+/// Reads the keys for which memory was taken.
+pub(crate) fn read_keys<F: FileReader>(
+    alloc: Global,
+    files: &F,
+    room: KeyRoom<'_>,
+    text: &str,
+) -> Result<Vec<[u8; 16]>, KeyFileFault>
+    requires words { map told room.words.items ≡ counted 1 (key_texts text.now) }
+    requires keys { length room.keys.items ≡ length room.words.items }
+    requires good { are_keys text.now ≡ true }
+    ensures ok { IfOk result (λ keys. TellKeys (F.gives files.now) (key_texts text.now) keys.items) }
+    ensures err { IfErr result (IsKeyFault (F.gives files.now) (F.refuses files.now) (F.wants files.now) (counted 1 (key_texts text.now))) }
+{
+    let KeyRoom { words, keys } = room;
+    filled(alloc, files, &words, keys)
 }

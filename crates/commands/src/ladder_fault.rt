@@ -1,12 +1,14 @@
 ghost use Rattle.std.specs.Prelude.{◌≡◌};
 
+use crate::key_word::KeyFileFault;
 use std::alloc::{AllocError, AllocFailed};
 use thiserror::Error;
 
 /// Why words and numbers tell no ladder.
 #[derive(Clone, Copy, Debug, PartialEq, Eq, Error)]
 pub enum LadderFault {
-    /// The entry of this number, counted from 1, has fewer than four colons, no size, or a key that isn't 32 hex digits.
+    /// The entry of this number, counted from 1, has fewer than four colons, no size, or a key that is neither 32 hex
+    /// digits nor the name of a file.
     #[error("entry {0} isn't NAME:CODECS:WxH:KEY[+KEY..]:PATH")]
     BadEntry(usize),
     /// The salt isn't 32 hex digits.
@@ -21,6 +23,13 @@ pub enum LadderFault {
     /// A number is outside its limits, or the renditions can't be listed together.
     #[error("the settings aren't allowed")]
     Settings,
+    /// The file of a key can't be read.
+    #[error("a key file can't be read")]
+    Unread,
+    /// A key file of the entry of this number, counted from 1, is neither 16 bytes nor 32 hex digits with at most one LF behind
+    /// them.
+    #[error("a key file of entry {0} is neither 16 bytes nor 32 hex digits")]
+    BadKeyFile(usize),
     #[error("out of memory")]
     NoMemory,
 }
@@ -56,5 +65,19 @@ impl<T: Drop> From<AllocFailed<T>> for LadderFault {
 
     fn from(_: AllocFailed<T>) -> LadderFault {
         LadderFault::NoMemory
+    }
+}
+
+impl From<KeyFileFault> for LadderFault {
+    ghost use Rattle.commands.specs.Told.{ladder_fault_of};
+
+    ghost from_gives = { λ why fault. fault ≡ ladder_fault_of why };
+
+    fn from(why: KeyFileFault) -> LadderFault {
+        match why {
+            KeyFileFault::Unread => LadderFault::Unread,
+            KeyFileFault::BadKeyFile(number) => LadderFault::BadKeyFile(number),
+            KeyFileFault::NoMemory => LadderFault::NoMemory,
+        }
     }
 }

@@ -4,11 +4,12 @@ ghost use Rattle.commands.specs.Defaults.{numbers_of};
 ghost use Rattle.commands.specs.Pools.{pool_of, IsPool};
 ghost use Rattle.commands.specs.Settings.{FitsCut};
 ghost use Rattle.commands.specs.Entries.{entry_value};
-ghost use Rattle.commands.specs.LadderOptions.{asked_of, IsBadEntry, HasBadSalt, HasTooMany, HasNoPeriod, HasTurns, IsOutside, AreOptionsOf};
+ghost use Rattle.commands.specs.LadderOptions.{asked_of, IsBadEntry, HasBadSalt, HasTooMany, HasNoPeriod, HasTurns, IsOutside, HasUnreadKey, HasBadKeyFile, AreOptionsOf};
 
 use crate::entry::{EntryWords, entries, first_bad};
+use crate::files::FileReader;
 use crate::ladder_fault::LadderFault;
-use crate::ladder_settings::{fitting_cut, has_too_many, ladder_settings};
+use crate::ladder_settings::{has_room, has_too_many, read_ladder};
 use crate::numbers::{NumberWords, Numbers};
 use crate::pool::{Pool, PoolWords};
 use crate::settings::read_salt;
@@ -42,6 +43,8 @@ fn look(words: LadderWords<'_, '_>, numbers: Numbers, pool: Pool) -> Result<(), 
     ensures bad_vector { IsErrOf result LadderFault.BadVector ↔ HasBadSalt (asked_of words.entry numbers pool) }
     ensures too_many { IsErrOf result LadderFault.TooMany ↔ HasTooMany (asked_of words.entry numbers pool) }
     ensures zero_period { IsErrOf result LadderFault.ZeroPeriod ↔ HasNoPeriod (asked_of words.entry numbers pool) }
+    ensures unread { IsErrOf result LadderFault.Unread → ⊥ }
+    ensures bad_file { (n : ℕ) → IsErrOf result (LadderFault.BadKeyFile n) → ⊥ }
     ensures only { IfErr result (λ fault. (fault ≢ LadderFault.Settings) × (fault ≢ LadderFault.NoMemory)) }
 {
     if let Some(place) = first_bad(words.entries) {
@@ -70,34 +73,38 @@ fn paths<'a>(alloc: Global, entries: &[EntryWords<'a>]) -> Result<Vec<&'a str>, 
     Ok(paths)
 }
 
-/// The settings of a ladder, the numbers of its pool, and the paths of its inputs.
+/// The settings of a ladder with the keys that its entries tell, the numbers of its pool, and the paths of its inputs.
 ///
 /// BadEntry is told before BadVector, that before TooMany, that before ZeroPeriod, and that before Settings. For Settings
 /// NoMemory may stand, but not where the settings have no room for a number or the pool is out of its ranges: that is told
-/// before any memory is taken, as all the others are.
-pub fn read_ladder_options<'a>(
+/// before any memory is taken, as all the others are. All of them are told before any file is read, and so is NoMemory where
+/// memory was wanted for the settings; Unread and BadKeyFile are told of the first key whose file gives none.
+pub fn read_ladder_options<'a, F: FileReader>(
     alloc: Global,
+    files: &F,
     words: LadderWords<'_, 'a>,
     numbers: NumberWords,
     pool: PoolWords,
 ) -> Result<LadderOptions<'a>, LadderFault>
-    ensures ok { IfOk result (λ options. AreOptionsOf (asked_of words.entry (numbers_of numbers) (pool_of pool)) options) }
+    ensures ok { IfOk result (λ options. AreOptionsOf (F.gives files.now) (asked_of words.entry (numbers_of numbers) (pool_of pool)) options) }
     ensures bad_entry { (n : ℕ) → IsErrOf result (LadderFault.BadEntry n) ↔ IsBadEntry (asked_of words.entry (numbers_of numbers) (pool_of pool)) n }
     ensures bad_vector { IsErrOf result LadderFault.BadVector ↔ HasBadSalt (asked_of words.entry (numbers_of numbers) (pool_of pool)) }
     ensures too_many { IsErrOf result LadderFault.TooMany ↔ HasTooMany (asked_of words.entry (numbers_of numbers) (pool_of pool)) }
     ensures zero_period { IsErrOf result LadderFault.ZeroPeriod ↔ HasNoPeriod (asked_of words.entry (numbers_of numbers) (pool_of pool)) }
     ensures settings { IsErrOf result LadderFault.Settings → IsOutside (asked_of words.entry (numbers_of numbers) (pool_of pool)) }
     ensures outside { IsOutside (asked_of words.entry (numbers_of numbers) (pool_of pool)) → IsErrOf result LadderFault.Settings ⊎ IsErrOf result LadderFault.NoMemory }
+    ensures unread { IsErrOf result LadderFault.Unread → HasUnreadKey (F.gives files.now) (F.refuses files.now) (asked_of words.entry (numbers_of numbers) (pool_of pool)) }
+    ensures bad_file { (n : ℕ) → IsErrOf result (LadderFault.BadKeyFile n) → HasBadKeyFile (F.gives files.now) (asked_of words.entry (numbers_of numbers) (pool_of pool)) n }
     ensures no_memory { IsErrOf result LadderFault.NoMemory → HasTurns (asked_of words.entry (numbers_of numbers) (pool_of pool)) × FitsCut (numbers_of numbers) × IsPool (pool_of pool) }
 {
     let numbers = numbers.numbers();
     let pool = pool.pool();
     look(words, numbers, pool)?;
-    let Some(cut) = fitting_cut(numbers, pool) else {
+    if !has_room(numbers, pool) {
         return Err(LadderFault::Settings);
-    };
+    }
     let entries = entries(alloc, words.entries)?;
-    let settings = ladder_settings(alloc, words, &entries, numbers, pool, cut)?;
+    let settings = read_ladder(alloc, files, words, &entries, numbers, pool)?;
     Ok(LadderOptions {
         settings,
         pool,

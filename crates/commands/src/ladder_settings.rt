@@ -1,18 +1,22 @@
-ghost use Rattle.std.specs.Prelude.{◌≡◌, ◌≢◌, None, ◌<◌, ◌≤◌, ◌⊎◌, map, false, true, All, Any, IfOk, IfErr, IfSome, IsErrOf};
+ghost use Rattle.std.specs.Prelude.{◌≡◌, ◌≢◌, None, ℕ, ◌<◌, ◌≤◌, ◌⊎◌, map, length, false, true, All, Any, Decides, IfOk, IfErr, IsErrOf};
 ghost use Rattle.std.specs.Option.{option_map};
 ghost use Rattle.commands.specs.Hex.{chosen_salt};
 ghost use Rattle.commands.specs.Entries.{entry_of, entry_value, IsGood};
-ghost use Rattle.commands.specs.LadderOptions.{asked_of, key_count, IsWhole, entry_words, HasTurns, AreRenditionsOf, IsAskedLadder, IsWithin, IsOutside};
+ghost use Rattle.commands.specs.KeyLists.{key_texts};
+ghost use Rattle.commands.specs.LadderOptions.{asked_of, key_count, key_total, IsWhole, entry_words, HasTurns, ShareKeys, IsAskedLadder, IsWithin, IsOutside, IsReadLadder};
+ghost use Rattle.commands.specs.LadderOptions.{HasUnreadKey, HasBadKeyFile, IsBehindTexts};
 ghost use Rattle.commands.specs.Pools.{IsPool};
 ghost use Rattle.commands.specs.Settings.{FitsCut, IsRenditionOf, cut_of};
 
 use crate::entry::{EntryWords, cut_entry};
-use crate::key_list::key_count;
+use crate::files::FileReader;
+use crate::key_list::{filled, key_count, room};
 use crate::ladder_fault::LadderFault;
+use crate::ladder_keys::ladder_words;
 use crate::ladder_options::LadderWords;
 use crate::numbers::Numbers;
 use crate::pool::Pool;
-use crate::settings::{PackingWords, kind, read_rendition};
+use crate::settings::{PackingWords, kind, rendition_of};
 use cutter::CutSettings;
 use ladder_items::is_allowed;
 use limits::MOST_KEYS;
@@ -45,17 +49,19 @@ pub(crate) fn has_too_many(texts: &[&str]) -> bool
     false
 }
 
-/// The rendition of an entry.
+/// The rendition of an entry and its keys.
 fn rendition(
     alloc: Global,
     words: LadderWords<'_, '_>,
     entry: EntryWords<'_>,
+    keys: &[[u8; 16]],
     period: u64,
 ) -> Result<Rendition, AllocError>
     requires whole { IsWhole (entry_value entry) }
+    requires keys { length keys.now ≡ length (key_texts entry.keys.now) }
     requires salt { chosen_salt (option_map (λ t. t.now) words.salt) ≢ None }
     requires some { 0 < period }
-    ensures { IfOk result (λ made. IsRenditionOf (entry_words (option_map (λ t. t.now) words.entry.salt) words.entry.event (entry_value entry.entry)) period made) }
+    ensures { IfOk result (λ made. IsRenditionOf (entry_words (option_map (λ t. t.now) words.entry.salt) words.entry.event (entry_value entry.entry)) period keys.now made) }
 {
     let words = PackingWords {
         name: Some(entry.name),
@@ -65,61 +71,72 @@ fn rendition(
         salt: words.salt,
         event: words.event,
     };
-    read_rendition(alloc, words, period)
+    rendition_of(alloc, words, keys, period)
 }
 
-/// The rendition of each entry, in their order.
+/// The rendition of each entry, in their order: each has as many of the keys as its entry has words of keys.
 fn renditions(
     alloc: Global,
     words: LadderWords<'_, '_>,
     entries: &[EntryWords<'_>],
+    keys: &[[u8; 16]],
     period: u64,
 ) -> Result<Vec<Rendition>, AllocError>
     requires whole { All IsWhole (map entry_value entries.now) }
+    requires keys { length keys.now ≡ key_total (map entry_value entries.now) }
     requires salt { chosen_salt (option_map (λ t. t.now) words.salt) ≢ None }
     requires some { 0 < period }
-    ensures { IfOk result (λ made. AreRenditionsOf (entry_words (option_map (λ t. t.now) words.entry.salt) words.entry.event) period (map entry_value entries.now) made.items) }
+    ensures { IfOk result (λ made. ShareKeys (entry_words (option_map (λ t. t.now) words.entry.salt) words.entry.event) period (map entry_value entries.now) keys.now made.items) }
 {
     let mut renditions = Vec::new(alloc);
+    let mut rest = keys;
     for entry in entries {
-        renditions.push(rendition(alloc, words, *entry, period)?)?;
+        let (own, more) = rest.split_at(key_count(entry.keys));
+        rest = more;
+        renditions.push(rendition(alloc, words, *entry, own, period)?)?;
     }
     Ok(renditions)
 }
 
-/// How streams are cut; None where the settings have no room for a number, or the pool is out of its ranges.
-pub(crate) fn fitting_cut(numbers: Numbers, pool: Pool) -> Option<CutSettings>
-    ensures some { IfSome result (λ cut. (cut ≡ cut_of numbers) × FitsCut numbers × IsPool pool) }
-    ensures none { result ≡ None → ¬ (FitsCut numbers × IsPool pool) }
+/// Whether the settings have room for the numbers, and the pool is within its ranges.
+pub(crate) fn has_room(numbers: Numbers, pool: Pool) -> bool
+    ensures { Decides result (FitsCut numbers × IsPool pool) }
 {
-    let cut = numbers.cut_settings()?;
-    if !pool.is_allowed() {
-        return None;
-    }
-    Some(cut)
+    numbers.cut_settings().is_some() && pool.is_allowed()
 }
 
-/// The settings of the ladder that is asked for; Settings where it isn't within its limits.
-pub(crate) fn ladder_settings(
+/// How streams are cut by numbers that the settings have room for.
+fn cut(numbers: Numbers) -> CutSettings
+    requires { FitsCut numbers }
+    ensures { result ≡ cut_of numbers }
+{
+    let Some(cut) = numbers.cut_settings() else {
+        unreachable!()
+    };
+    cut
+}
+
+/// The settings of the ladder that is asked for, under these keys; Settings where it isn't within its limits.
+fn ladder_under(
     alloc: Global,
     words: LadderWords<'_, '_>,
     entries: &[EntryWords<'_>],
+    keys: &[[u8; 16]],
     numbers: Numbers,
     pool: Pool,
-    cut: CutSettings,
 ) -> Result<Settings, LadderFault>
     requires turns { HasTurns (asked_of words numbers pool) }
     requires each { map entry_value entries.now ≡ map entry_of (map (λ t. t.now) words.entries.now) }
-    requires cut { cut ≡ cut_of numbers }
+    requires keys { length keys.now ≡ key_total (map entry_value entries.now) }
     requires fits { FitsCut numbers × IsPool pool }
-    ensures ladder { IfOk result (λ made. IsAskedLadder (asked_of words.entry numbers pool) made) }
+    ensures ladder { IfOk result (λ made. IsAskedLadder (asked_of words.entry numbers pool) keys.now made) }
     ensures within { IfOk result (λ made. IsWithin (asked_of words.entry numbers pool) made) }
     ensures outside { IsErrOf result LadderFault.Settings → IsOutside (asked_of words.entry numbers pool) }
     ensures only { IfErr result (λ fault. (fault ≡ LadderFault.Settings) ⊎ (fault ≡ LadderFault.NoMemory)) }
 {
     let settings = Settings {
-        renditions: renditions(alloc, words, entries, numbers.period)?,
-        cut,
+        renditions: renditions(alloc, words, entries, keys, numbers.period)?,
+        cut: cut(numbers),
         kind: kind(words.event),
         window: numbers.window,
         queue: pool.queue,
@@ -128,4 +145,34 @@ pub(crate) fn ladder_settings(
         return Err(LadderFault::Settings);
     }
     Ok(settings)
+}
+
+/// The settings of the ladder that is asked for, with the keys that its entries tell; Settings where it isn't within its
+/// limits, which is told before any file is read.
+pub(crate) fn read_ladder<F: FileReader>(
+    alloc: Global,
+    files: &F,
+    words: LadderWords<'_, '_>,
+    entries: &[EntryWords<'_>],
+    numbers: Numbers,
+    pool: Pool,
+) -> Result<Settings, LadderFault>
+    requires turns { HasTurns (asked_of words numbers pool) }
+    requires each { map entry_value entries.now ≡ map entry_of (map (λ t. t.now) words.entries.now) }
+    requires fits { FitsCut numbers × IsPool pool }
+    ensures ok { IfOk result (IsReadLadder (F.gives files.now) (asked_of words.entry numbers pool)) }
+    ensures outside { IsErrOf result LadderFault.Settings → IsOutside (asked_of words.entry numbers pool) }
+    ensures unread { IsErrOf result LadderFault.Unread → HasUnreadKey (F.gives files.now) (F.refuses files.now) (asked_of words.entry numbers pool) }
+    ensures bad_file { (n : ℕ) → IsErrOf result (LadderFault.BadKeyFile n) → HasBadKeyFile (F.gives files.now) (asked_of words.entry numbers pool) n }
+    ensures only { IfErr result IsBehindTexts }
+{
+    let key_words = ladder_words(alloc, entries)?;
+    let blank = room(alloc, key_words.len())?;
+    let settings = ladder_under(alloc, words, entries, &blank, numbers, pool)?;
+    let keys = filled(alloc, files, &key_words, blank)?;
+    let renditions = renditions(alloc, words, entries, &keys, numbers.period)?;
+    Ok(Settings {
+        renditions,
+        ..settings
+    })
 }

@@ -77,7 +77,7 @@ impl From<OutletFault> for OpeningFault {
 }
 
 /// The text without one last LF, where there is one.
-fn without_end(text: &[u8]) -> &[u8]
+pub(crate) fn without_end(text: &[u8]) -> &[u8]
     ensures { result.now ≡ without_end text.now }
 {
     match text.split_last() {

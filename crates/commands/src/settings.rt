@@ -1,15 +1,17 @@
 //! A packager's settings, as words tell them.
-ghost use Rattle.std.specs.Prelude.{◌≡◌, ◌↔◌, ◌≢◌, ◌<◌, ◌≤◌, Some, None, length, false, true, OnOk, IfOk, IfErr, IsErr, IsErrOf};
+ghost use Rattle.std.specs.Prelude.{◌≡◌, ◌↔◌, ◌≢◌, ◌<◌, ◌≤◌, ℕ, Some, None, length, false, true, OnOk, IfOk, IfErr, IsErr, IsErrOf};
 ghost use Rattle.std.specs.Option.{option_map};
 ghost use Rattle.commands.specs.Defaults.{numbers_of};
 ghost use Rattle.commands.specs.Hex.{chosen_salt};
-ghost use Rattle.commands.specs.KeyLists.{are_keys, key_texts};
+ghost use Rattle.commands.specs.KeyLists.{IsBadKeyFile, IsUnreadKey, are_keys, key_texts};
 ghost use Rattle.commands.specs.Sizes.{IsSize, HasSize};
-ghost use Rattle.commands.specs.Settings.{words_of, kind_of, AreGoodWords, HasSalt, IsRenditionOf, IsLadderOf, FitsCut, TakeTurns};
+ghost use Rattle.commands.specs.Settings.{words_of, kind_of, AreGoodWords, HasSalt, AreFit, IsRenditionOf, IsReadLadderOf, FitsCut, TakeTurns};
 
 use crate::cipher::block;
+use crate::files::FileReader;
 use crate::frame_size::{FrameSize, size};
-use crate::key_list::{KeyListFault, are_keys, key_count, read_keys};
+use crate::key_list::{are_keys, key_count, key_room, read_keys};
+use crate::key_word::KeyFileFault;
 use crate::numbers::{NumberWords, name};
 use limits::MOST_KEYS;
 use pipeline::{Gone, Kind, Rendition, Settings};
@@ -33,7 +35,7 @@ pub struct PackingWords<'a> {
 /// Why words and numbers tell no settings.
 #[derive(Clone, Copy, Debug, PartialEq, Eq, Error)]
 pub enum SettingsFault {
-    /// A key isn't 32 hex digits.
+    /// A key is neither 32 hex digits nor the name of a file.
     #[error("a key isn't 32 hex digits")]
     BadKey,
     /// The size isn't two numbers round an `x`.
@@ -51,6 +53,12 @@ pub enum SettingsFault {
     /// A number is past what settings have room for.
     #[error("the settings aren't allowed")]
     Settings,
+    /// The file of a key can't be read.
+    #[error("a key file can't be read")]
+    Unread,
+    /// The file of this key, counted from 1, is neither 16 bytes nor 32 hex digits with at most one LF behind them.
+    #[error("the file of key {0} is neither 16 bytes nor 32 hex digits")]
+    BadKeyFile(usize),
     #[error("out of memory")]
     NoMemory,
 }
@@ -89,6 +97,20 @@ impl<T: Drop> From<AllocFailed<T>> for SettingsFault {
     }
 }
 
+impl From<KeyFileFault> for SettingsFault {
+    ghost use Rattle.commands.specs.Told.{settings_fault_of};
+
+    ghost from_gives = { λ why fault. fault ≡ settings_fault_of why };
+
+    fn from(why: KeyFileFault) -> SettingsFault {
+        match why {
+            KeyFileFault::Unread => SettingsFault::Unread,
+            KeyFileFault::BadKeyFile(number) => SettingsFault::BadKeyFile(number),
+            KeyFileFault::NoMemory => SettingsFault::NoMemory,
+        }
+    }
+}
+
 /// One thread has one segment on its way.
 const QUEUE: u64 = 1;
 
@@ -124,6 +146,8 @@ fn look(words: PackingWords<'_>, period: u64) -> Result<Parts, SettingsFault>
     ensures bad_vector { IsErrOf result SettingsFault.BadVector ↔ ((are_keys words.entry.keys.now ≡ true) × HasSize words.entry.size.now × (chosen_salt (words_of words.entry).salt ≡ None)) }
     ensures too_many { IsErrOf result SettingsFault.TooMany ↔ ((are_keys words.entry.keys.now ≡ true) × HasSize words.entry.size.now × HasSalt (words_of words.entry) × (MOST_KEYS < length (key_texts words.entry.keys.now))) }
     ensures zero_period { IsErrOf result SettingsFault.ZeroPeriod ↔ ((are_keys words.entry.keys.now ≡ true) × HasSize words.entry.size.now × HasSalt (words_of words.entry) × (length (key_texts words.entry.keys.now) ≤ MOST_KEYS) × (period ≡ 0)) }
+    ensures unread { IsErrOf result SettingsFault.Unread → ⊥ }
+    ensures bad_file { (n : ℕ) → IsErrOf result (SettingsFault.BadKeyFile n) → ⊥ }
     ensures only { IfErr result (λ fault. (fault ≢ SettingsFault.Settings) × (fault ≢ SettingsFault.NoMemory)) }
 {
     if !are_keys(words.keys) {
@@ -158,23 +182,20 @@ fn rotation(keys: Vec<[u8; 16]>, period: u64, salt: Option<[u8; 16]>) -> Keys
     }
 }
 
-/// The rendition of good words, its keys taking turns after as many segments as the period says.
+/// The rendition of good words and their keys, which take turns after as many segments as the period says.
 fn rendition(
     alloc: Global,
     words: PackingWords<'_>,
+    keys: Vec<[u8; 16]>,
     parts: Parts,
     period: u64,
 ) -> Result<Rendition, AllocError>
     requires good { AreGoodWords (words_of words) period }
+    requires keys { length keys.items ≡ length (key_texts words.keys.now) }
     requires size { IsSize words.size.now parts.size.width parts.size.height }
     requires salt { chosen_salt (words_of words).salt ≡ Some parts.salt }
-    ensures { IfOk result (λ made. IsRenditionOf (words_of words.entry) period made) }
+    ensures { IfOk result (λ made. IsRenditionOf (words_of words.entry) period keys.items made) }
 {
-    let keys = match read_keys(alloc, words.keys) {
-        Ok(keys) => keys,
-        Err(KeyListFault::NoMemory) => return Err(AllocError),
-        Err(KeyListFault::BadKey) => unreachable!(),
-    };
     Ok(Rendition {
         name: String::from_str(alloc, name(words.name))?,
         codecs: String::from_str(alloc, words.codecs)?,
@@ -187,14 +208,16 @@ fn rendition(
     })
 }
 
-/// The rendition of words that are known to be good.
-pub(crate) fn read_rendition(
+/// The rendition of words that are known to be good, and of their keys.
+pub(crate) fn rendition_of(
     alloc: Global,
     words: PackingWords<'_>,
+    keys: &[[u8; 16]],
     period: u64,
 ) -> Result<Rendition, AllocError>
     requires good { AreGoodWords (words_of words) period }
-    ensures { IfOk result (λ made. IsRenditionOf (words_of words.entry) period made) }
+    requires keys { length keys.now ≡ length (key_texts words.keys.now) }
+    ensures { IfOk result (λ made. IsRenditionOf (words_of words.entry) period keys.now made) }
 {
     let Some(size) = size(words.size) else {
         unreachable!()
@@ -202,7 +225,8 @@ pub(crate) fn read_rendition(
     let Ok(salt) = read_salt(words.salt) else {
         unreachable!()
     };
-    rendition(alloc, words, Parts { size, salt }, period)
+    let keys = Vec::from_slice(alloc, keys)?;
+    rendition(alloc, words, keys, Parts { size, salt }, period)
 }
 
 /// Playlists that slide, or those of an event.
@@ -212,30 +236,36 @@ pub(crate) fn kind(event: bool) -> Kind
     if event { Kind::Event } else { Kind::Live }
 }
 
-/// The settings of one rendition.
+/// The settings of one rendition, with the keys that its words tell.
 ///
 /// BadKey is told before BadSize, that before BadVector, that before TooMany, that before ZeroPeriod, and that before Settings,
-/// where a number is past what settings have room for. All of them are told before any memory is taken.
-pub fn read_settings(
+/// where a number is past what settings have room for. All of them are told before any memory is taken, and before any file
+/// is read. Unread and BadKeyFile are told of the first key whose file gives none, counted from 1.
+pub fn read_settings<F: FileReader>(
     alloc: Global,
+    files: &F,
     words: PackingWords<'_>,
     numbers: NumberWords,
 ) -> Result<Settings, SettingsFault>
-    ensures ok { IfOk result (λ made. IsLadderOf (words_of words.entry) (numbers_of numbers) made) }
+    ensures ok { IfOk result (IsReadLadderOf (F.gives files.now) (words_of words.entry) (numbers_of numbers)) }
     ensures bad_key { IsErrOf result SettingsFault.BadKey ↔ (are_keys words.entry.keys.now ≡ false) }
     ensures bad_size { IsErrOf result SettingsFault.BadSize ↔ ((are_keys words.entry.keys.now ≡ true) × ¬ HasSize words.entry.size.now) }
     ensures bad_vector { IsErrOf result SettingsFault.BadVector ↔ ((are_keys words.entry.keys.now ≡ true) × HasSize words.entry.size.now × (chosen_salt (words_of words.entry).salt ≡ None)) }
     ensures too_many { IsErrOf result SettingsFault.TooMany ↔ ((are_keys words.entry.keys.now ≡ true) × HasSize words.entry.size.now × HasSalt (words_of words.entry) × (MOST_KEYS < length (key_texts words.entry.keys.now))) }
     ensures zero_period { IsErrOf result SettingsFault.ZeroPeriod ↔ ((are_keys words.entry.keys.now ≡ true) × HasSize words.entry.size.now × HasSalt (words_of words.entry) × (length (key_texts words.entry.keys.now) ≤ MOST_KEYS) × ((numbers_of numbers).period ≡ 0)) }
     ensures settings { IsErrOf result SettingsFault.Settings ↔ (AreGoodWords (words_of words.entry) (numbers_of numbers).period × ¬ FitsCut (numbers_of numbers)) }
-    ensures no_memory { IsErrOf result SettingsFault.NoMemory → AreGoodWords (words_of words.entry) (numbers_of numbers).period × FitsCut (numbers_of numbers) }
+    ensures unread { IsErrOf result SettingsFault.Unread → AreFit (words_of words.entry) (numbers_of numbers) × IsUnreadKey (F.gives files.now) (F.refuses files.now) words.entry.keys.now }
+    ensures bad_file { (n : ℕ) → IsErrOf result (SettingsFault.BadKeyFile n) → AreFit (words_of words.entry) (numbers_of numbers) × IsBadKeyFile (F.gives files.now) words.entry.keys.now n }
+    ensures no_memory { IsErrOf result SettingsFault.NoMemory → AreFit (words_of words.entry) (numbers_of numbers) }
 {
     let numbers = numbers.numbers();
     let parts = look(words, numbers.period)?;
     let Some(cut) = numbers.cut_settings() else {
         return Err(SettingsFault::Settings);
     };
-    let rendition = rendition(alloc, words, parts, numbers.period)?;
+    let room = key_room(alloc, words.keys)?;
+    let keys = read_keys(alloc, files, room, words.keys)?;
+    let rendition = rendition(alloc, words, keys, parts, numbers.period)?;
     let mut renditions = Vec::new(alloc);
     renditions.push(rendition)?;
     Ok(Settings {

@@ -8,6 +8,11 @@ fn keys_on_the_command_line(rt: HostRuntime) -> Result<(), Fail> {
     let table = [
         (KEY, "", 0),
         ("000102030405060708090A0B0C0D0E0F", "", 0),
+        ("@raw", "", 0),
+        ("@line", "", 0),
+        ("@bad", "tshls: BadKeyFile 1\n", 1),
+        ("@none", "tshls: Unread\n", 1),
+        ("@", "tshls: BadKey\n", 2),
         ("00", "tshls: BadKey\n", 2),
         ("", "tshls: BadKey\n", 2),
         ("000102030405060708090a0b0c0d0e0g", "tshls: BadKey\n", 2),
@@ -21,8 +26,9 @@ fn keys_on_the_command_line(rt: HostRuntime) -> Result<(), Fail> {
 
 #[test]
 fn vectors_on_the_command_line(rt: HostRuntime) -> Result<(), Fail> {
-    let table: [(&[&str], &str); 6] = [
+    let table: [(&[&str], &str); 7] = [
         (&["tshls", "open", "--key", KEY], "tshls: BadVector\n"),
+        (&["tshls", "open", "--key", "@none"], "tshls: BadVector\n"),
         (&["tshls", "seal", "--key", KEY], "tshls: BadVector\n"),
         (
             &["tshls", "seal", "--key", KEY, "--iv", VECTOR, "--seq", "0"],

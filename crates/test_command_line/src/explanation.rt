@@ -1,3 +1,4 @@
+use super::words::KeyFiles;
 use command_line::{Fault, explain, line};
 use commands::LadderPackingFault;
 use pipeline::PackFault;
@@ -18,7 +19,7 @@ fn is_explained(
     fault: Fault,
     text: &str,
 ) -> Result<bool, AllocError> {
-    let fault = match line(alloc, words) {
+    let fault = match line(alloc, &KeyFiles, words) {
         Ok(_) => fault,
         Err(refused) => refused,
     };

@@ -27,7 +27,20 @@ fn of_the_line(rt: HostRuntime) -> Result<(), Fail> {
             "tshls: BadVector\n",
             2,
         ),
+        (Fault::Cipher(CipherFault::Unread), "tshls: Unread\n", 1),
+        (
+            Fault::Cipher(CipherFault::BadKeyFile(1)),
+            "tshls: BadKeyFile 1\n",
+            1,
+        ),
+        (Fault::Cipher(CipherFault::NoMemory), "tshls: NoMemory\n", 1),
         (Fault::KeyList(KeyListFault::BadKey), "tshls: BadKey\n", 2),
+        (Fault::KeyList(KeyListFault::Unread), "tshls: Unread\n", 1),
+        (
+            Fault::KeyList(KeyListFault::BadKeyFile(2)),
+            "tshls: BadKeyFile 2\n",
+            1,
+        ),
         (
             Fault::KeyList(KeyListFault::NoMemory),
             "tshls: NoMemory\n",
@@ -49,6 +62,8 @@ fn of_settings(rt: HostRuntime) -> Result<(), Fail> {
         (SettingsFault::TooMany, "tshls: TooMany\n", 1),
         (SettingsFault::ZeroPeriod, "tshls: ZeroPeriod\n", 1),
         (SettingsFault::Settings, "tshls: Settings\n", 1),
+        (SettingsFault::Unread, "tshls: Unread\n", 1),
+        (SettingsFault::BadKeyFile(3), "tshls: BadKeyFile 3\n", 1),
         (SettingsFault::NoMemory, "tshls: NoMemory\n", 1),
     ];
     for (fault, text, status) in table {
@@ -68,6 +83,8 @@ fn of_a_ladder(rt: HostRuntime) -> Result<(), Fail> {
         (LadderFault::TooMany, "tshls: TooMany\n", 1),
         (LadderFault::ZeroPeriod, "tshls: ZeroPeriod\n", 1),
         (LadderFault::Settings, "tshls: Settings\n", 1),
+        (LadderFault::Unread, "tshls: Unread\n", 1),
+        (LadderFault::BadKeyFile(4), "tshls: BadKeyFile 4\n", 1),
         (LadderFault::NoMemory, "tshls: NoMemory\n", 1),
     ];
     for (fault, text, status) in table {

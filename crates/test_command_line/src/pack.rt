@@ -1,3 +1,4 @@
+use super::words::KeyFiles;
 use command_line::{Job, LadderJob, line};
 use std::alloc::{AllocError, Global};
 use std::test::Fail;
@@ -21,7 +22,7 @@ fn asked(alloc: Global, more: &[&str]) -> Result<String, Fail> {
     let mut words = Vec::new(alloc);
     words.extend_from_slice(&["tshls", "pack"])?;
     words.extend_from_slice(more)?;
-    match line(alloc, words.as_slice()) {
+    match line(alloc, &KeyFiles, words.as_slice()) {
         Ok(Job::Ladder(job)) => Ok(text_of(alloc, &job)?),
         Ok(_) => Err(Fail::from("another command")),
         Err(fault) => Ok(format!(in alloc; "{fault}")?),
@@ -50,7 +51,7 @@ const POOL: [&str; 9] = [
 ];
 
 /// Words, and what they ask for or print.
-const LADDERS: [(&[&str], &str); 7] = [
+const LADDERS: [(&[&str], &str); 12] = [
     (&["--out", "hls", V], "hls 4 16 0 a.ts"),
     (&[W, V, "--out", "hls"], "hls 4 16 0 b:c d a.ts"),
     (&POOL, "a 2 3 1 a.ts"),
@@ -58,6 +59,26 @@ const LADDERS: [(&[&str], &str); 7] = [
     (&["--out", "hls", V, "w:c:2x1"], "tshls: BadEntry 2\n"),
     (&["--out", "hls", "--salt", "0", V], "tshls: BadVector\n"),
     (&["--out", "hls", "--workers", "0", V], "tshls: Settings\n"),
+    (
+        &["--out", "hls", "v:c:2x1:@raw+@hex:a.ts"],
+        "hls 4 16 0 a.ts",
+    ),
+    (
+        &["--out", "hls", V, "w:c:2x1:@raw+@bad+@none:b.ts"],
+        "tshls: BadKeyFile 2\n",
+    ),
+    (
+        &["--out", "hls", "w:c:2x1:@none:b.ts", V],
+        "tshls: Unread\n",
+    ),
+    (
+        &["--out", "hls", "--window", "0", "w:c:2x1:@none:b.ts"],
+        "tshls: Settings\n",
+    ),
+    (
+        &["--out", "hls", "w:c:2x1:@none:b.ts", "v:c:2x1:@:a.ts"],
+        "tshls: BadEntry 2\n",
+    ),
 ];
 
 #[test]

@@ -1,14 +1,47 @@
 use command_line::{Fault, Job, StreamJob, line};
-use commands::CheckOptions;
+use commands::{CheckOptions, FileFault, FileReader};
 use std::alloc::{AllocError, Global};
 use std::test::Fail;
 
 /// A key.
 pub const KEY: &str = "000102030405060708090a0b0c0d0e0f";
 
+/// Files of keys: `raw`, `hex`, `line` and `bad`.
+#[derive(Clone, Copy, Drop)]
+pub struct KeyFiles;
+
+impl FileReader for KeyFiles {
+    ghost use Rattle.std.specs.Prelude.{⊤};
+
+    ghost gives = { λ _ _ _. ⊤ };
+
+    ghost refuses = { λ _ _. ⊤ };
+
+    ghost wants = { λ _ _. ⊤ };
+
+    fn read(&self, alloc: Global, path: &str) -> Result<Vec<u8>, FileFault> {
+        let files: [(&str, &[u8]); 4] = [
+            ("raw", &OTHER),
+            ("hex", KEY.as_bytes()),
+            ("line", b"100102030405060708090A0B0C0D0E0F\n"),
+            ("bad", b"bad"),
+        ];
+        for (name, bytes) in files {
+            if name == path {
+                return Ok(Vec::from_slice(alloc, bytes)?);
+            }
+        }
+        Err(FileFault::Unread)
+    }
+
+    fn read_front(&self, alloc: Global, path: &str, _most: usize) -> Result<Vec<u8>, FileFault> {
+        self.read(alloc, path)
+    }
+}
+
 /// What a refused command line prints, and the status that it ends with; nothing and 0 where it isn't refused.
 pub fn told(alloc: Global, words: &[&str]) -> Result<(String, u8), AllocError> {
-    match line(alloc, words) {
+    match line(alloc, &KeyFiles, words) {
         Ok(_) => Ok((String::new(alloc), 0)),
         Err(fault) => Ok((format!(in alloc; "{fault}")?, fault.status())),
     }
@@ -19,7 +52,7 @@ type Keys = (usize, [[u8; 16]; 2]);
 
 /// The keys that a command line of `check` asks for, and its playlist; or what its refusal prints. With the status.
 fn asked(alloc: Global, words: &[&str]) -> Result<(Keys, String, u8), AllocError> {
-    let options = match line(alloc, words) {
+    let options = match line(alloc, &KeyFiles, words) {
         Ok(Job::Stream(StreamJob::Check(options))) => options,
         Ok(job) => {
             drop(job);
@@ -59,7 +92,7 @@ const TWO_KEYS: &str = "000102030405060708090a0b0c0d0e0f+100102030405060708090A0
 
 #[test]
 fn options(rt: HostRuntime) -> Result<(), Fail> {
-    let table: [(&[&str], Keys, &str, u8); 4] = [
+    let table: [(&[&str], Keys, &str, u8); 8] = [
         (
             &["--keys", KEY, "a/v.m3u8"],
             (1, [ONE, [0; 16]]),
@@ -71,6 +104,30 @@ fn options(rt: HostRuntime) -> Result<(), Fail> {
             (2, [ONE, OTHER]),
             "v.m3u8",
             0,
+        ),
+        (
+            &["--keys", "@hex+@raw", "v.m3u8"],
+            (2, [ONE, OTHER]),
+            "v.m3u8",
+            0,
+        ),
+        (
+            &["--keys", "@line", "v.m3u8"],
+            (1, [OTHER, [0; 16]]),
+            "v.m3u8",
+            0,
+        ),
+        (
+            &["--keys", "@raw+@bad+@none", "v.m3u8"],
+            NO_KEYS,
+            "tshls: BadKeyFile 2\n",
+            1,
+        ),
+        (
+            &["--keys", "@none+@bad", "v.m3u8"],
+            NO_KEYS,
+            "tshls: Unread\n",
+            1,
         ),
         (&["--keys", "00", "v.m3u8"], NO_KEYS, "tshls: BadKey\n", 2),
         (&["--keys", "", "v.m3u8"], NO_KEYS, "tshls: BadKey\n", 2),

@@ -42,6 +42,10 @@ impl FileReader for MemoryFiles {
         }
         Err(FileFault::Unread)
     }
+
+    fn read_front(&self, alloc: Global, path: &str, _most: usize) -> Result<Vec<u8>, FileFault> {
+        self.read(alloc, path)
+    }
 }
 
 impl MemoryFiles {

@@ -1,4 +1,4 @@
-use crate::fixtures::{KEY, no_numbers};
+use crate::fixtures::{KEY, NO_FILES, no_numbers};
 use commands::{
     LadderFault, LadderOptions, LadderWords, NumberWords, PoolWords, read_ladder_options, summary,
 };
@@ -47,7 +47,9 @@ fn two(alloc: Global) -> Result<LadderOptions<'static>, Fail> {
         salt: Some(KEY),
         event: true,
     };
-    Ok(read_ladder_options(alloc, words, no_numbers(), no_pool()).map_err(|_| "options")?)
+    Ok(read_ladder_options(alloc, &NO_FILES, words, no_numbers(), no_pool()).map_err(
+        |_| "options",
+    )?)
 }
 
 /// A rendition's name, its size, and whether it has a salt.
@@ -94,7 +96,14 @@ fn told<'a>(
     salt: Option<&'a str>,
     turns: u64,
 ) -> Option<LadderFault> {
-    read_ladder_options(alloc, words(entries, salt), period(turns), no_pool()).err()
+    read_ladder_options(
+        alloc,
+        &NO_FILES,
+        words(entries, salt),
+        period(turns),
+        no_pool(),
+    )
+    .err()
 }
 
 /// Entries, a salt and a period, and what is told of them.
@@ -144,11 +153,23 @@ fn too_many_keys_before_no_period(rt: HostRuntime) -> Result<(), Fail> {
 fn a_pool_out_of_range(rt: HostRuntime) -> Result<(), Fail> {
     let mut pool = no_pool();
     pool.workers = Some(65);
-    let told = read_ladder_options(rt.alloc(), words(&[A], None), no_numbers(), pool).err();
+    let told = read_ladder_options(
+        rt.alloc(),
+        &NO_FILES,
+        words(&[A], None),
+        no_numbers(),
+        pool,
+    ).err();
     assert!(rt; told == Some(LadderFault::Settings));
     let mut numbers = no_numbers();
     numbers.segment = Some(u64::MAX);
-    let told = read_ladder_options(rt.alloc(), words(&[A], None), numbers, no_pool()).err();
+    let told = read_ladder_options(
+        rt.alloc(),
+        &NO_FILES,
+        words(&[A], None),
+        numbers,
+        no_pool(),
+    ).err();
     assert!(rt; told == Some(LadderFault::Settings));
     Ok(())
 }

@@ -8,6 +8,8 @@ mod fixtures;
 #[cfg(test)]
 mod into_folder;
 #[cfg(test)]
+mod key_files;
+#[cfg(test)]
 mod ladder;
 #[cfg(test)]
 mod one;

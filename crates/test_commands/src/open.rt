@@ -16,7 +16,7 @@ fn opened(alloc: Global, cipher: &CipherOptions, input: &[u8]) -> Result<Vec<u8>
 
 #[test]
 fn opens_what_was_sealed(rt: HostRuntime) -> Result<(), Fail> {
-    let cipher = cipher()?;
+    let cipher = cipher(rt.alloc())?;
     let line = sealed(rt.alloc(), &key_frame())?;
     let packet = opened(rt.alloc(), &cipher, &line).map_err(|_| "packet")?;
     let begins = packet.starts_with(b"474100300140000001e000008080052100010001ffff");
@@ -27,7 +27,7 @@ fn opens_what_was_sealed(rt: HostRuntime) -> Result<(), Fail> {
 
 #[test]
 fn open_refuses_what_is_no_hex(rt: HostRuntime) -> Result<(), Fail> {
-    let cipher = cipher()?;
+    let cipher = cipher(rt.alloc())?;
     let table: [&[u8]; 7] = [
         b"6",
         b"\n\n",
@@ -49,7 +49,7 @@ fn open_refuses_what_is_no_hex(rt: HostRuntime) -> Result<(), Fail> {
 #[test]
 fn open_refuses_what_was_not_sealed(rt: HostRuntime) -> Result<(), Fail> {
     let alloc = rt.alloc();
-    let cipher = cipher()?;
+    let cipher = cipher(rt.alloc())?;
     let table: [(&[u8], OpeningFault); 4] = [
         (b"", OpeningFault::NotBlocks),
         (b"\n", OpeningFault::NotBlocks),
@@ -78,7 +78,7 @@ fn open_refuses_what_was_not_sealed(rt: HostRuntime) -> Result<(), Fail> {
 
 #[test]
 fn open_takes_either_case_and_a_missing_end(rt: HostRuntime) -> Result<(), Fail> {
-    let cipher = cipher()?;
+    let cipher = cipher(rt.alloc())?;
     let table: [&[u8]; 3] = [
         b"69C4E0D86A7B0430d8cdb78070b4c55a",
         b"69c4e0d86a7b0430d8cdb78070b4c55a",
@@ -94,7 +94,7 @@ fn open_takes_either_case_and_a_missing_end(rt: HostRuntime) -> Result<(), Fail>
 #[test]
 fn open_tells_a_failed_read(rt: HostRuntime) -> Result<(), Fail> {
     let alloc = rt.alloc();
-    let cipher = cipher()?;
+    let cipher = cipher(rt.alloc())?;
     let line = sealed(alloc, &key_frame())?;
     let mut input = ReaderSource::new(BrokenReader { bytes: &line });
     let mut output = Vec::new(alloc);
@@ -119,7 +119,7 @@ fn leaves(alloc: Global, cipher: &CipherOptions, line: &[u8], whole: &[u8], room
 
 #[test]
 fn open_leaves_a_beginning(rt: HostRuntime) -> Result<(), Fail> {
-    let cipher = cipher()?;
+    let cipher = cipher(rt.alloc())?;
     let line = sealed(rt.alloc(), &key_frame())?;
     let whole = opened(rt.alloc(), &cipher, &line).map_err(|_| "opening")?;
     let leave = [0, 1, 376].map(|room| leaves(rt.alloc(), &cipher, &line, &whole, room));

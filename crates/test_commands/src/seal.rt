@@ -9,7 +9,7 @@ use std::test::Fail;
 
 /// What `seal` writes of an input with the fixtures' key and vector.
 pub fn sealed(alloc: Global, input: &[u8]) -> Result<Vec<u8>, Fail> {
-    let cipher = cipher()?;
+    let cipher = cipher(alloc)?;
     let mut input = ReaderSource::new(input);
     let mut output = Vec::new(alloc);
     seal(alloc, &cipher.key, &cipher.vector, &mut input, &mut output).map_err(|_| "sealing")?;
@@ -57,7 +57,7 @@ fn a_failed_read_is_unread(rt: HostRuntime) -> Result<(), Fail> {
 fn a_failed_write_leaves_a_beginning(rt: HostRuntime) -> Result<(), Fail> {
     let alloc = rt.alloc();
     let whole = sealed(alloc, &key_frame())?;
-    let cipher = cipher()?;
+    let cipher = cipher(alloc)?;
     for room in [0, 1, 384] {
         let packet = key_frame();
         let mut input = ReaderSource::new(packet.as_slice());

@@ -1,4 +1,4 @@
-use crate::fixtures::{KEY, VECTOR, no_numbers, settings, words};
+use crate::fixtures::{KEY, NO_FILES, VECTOR, no_numbers, settings, words};
 use commands::{
     CheckOptions, CheckWords, CipherFault, CipherWords, DEFAULT_FRAME, DEFAULT_GAP, DEFAULT_MOST,
     DEFAULT_NAME, DEFAULT_PERIOD, DEFAULT_TARGET, DEFAULT_WINDOW, EntryWords, KeyListFault,
@@ -65,7 +65,7 @@ fn a_vector_is_given_in_one_way(rt: HostRuntime) -> Result<(), Fail> {
         ("00", None, Some("00"), Some(CipherFault::BadKey)),
     ];
     for (key, seq, iv, wanted) in table {
-        let told = read_cipher_options(CipherWords { key, seq, iv }).err();
+        let told = read_cipher_options(rt.alloc(), &NO_FILES, CipherWords { key, seq, iv }).err();
         assert!(rt; told == wanted, "at {key}, {seq:?}, {iv:?}");
     }
     Ok(())
@@ -77,7 +77,7 @@ fn checked(alloc: Global, keys: &str) -> Result<(usize, Option<u8>, bool), KeyLi
         keys,
         playlist: "a/v.m3u8",
     };
-    let CheckOptions { keys, playlist } = read_check_options(alloc, words)?;
+    let CheckOptions { keys, playlist } = read_check_options(alloc, &NO_FILES, words)?;
     let last = keys.first().map(|key| key[15]);
     Ok((keys.len(), last, playlist.as_str() == "a/v.m3u8"))
 }
@@ -131,7 +131,7 @@ fn push_keys(keys: &mut String, count: u64) -> Result<(), AllocError> {
 fn fault_of_keys(alloc: Global, count: u64) -> Result<Option<SettingsFault>, AllocError> {
     let mut keys = String::new(alloc);
     push_keys(&mut keys, count)?;
-    Ok(read_settings(alloc, words("1x1", keys.as_str()), no_numbers()).err())
+    Ok(read_settings(alloc, &NO_FILES, words("1x1", keys.as_str()), no_numbers()).err())
 }
 
 #[test]
@@ -146,7 +146,7 @@ fn as_many_keys_as_there_may_be(rt: HostRuntime) -> Result<(), Fail> {
 fn is_taken(alloc: Global, size: &str, program: Option<u64>) -> bool {
     let mut numbers = no_numbers();
     numbers.program = program;
-    let settings = match read_settings(alloc, words(size, KEY), numbers) {
+    let settings = match read_settings(alloc, &NO_FILES, words(size, KEY), numbers) {
         Ok(settings) => settings,
         Err(fault) => return fault != SettingsFault::Settings,
     };

@@ -92,7 +92,7 @@ fn main(rt: HostRuntime) -> ExitCode {
         Ok(words) => words,
         Err(fault) => return ended(&rt, &[], Err(fault)),
     };
-    let answer = match line(rt.alloc(), words.as_slice()) {
+    let answer = match line(rt.alloc(), &rt, words.as_slice()) {
         Ok(Job::Stream(job)) => run(&rt, job),
         Ok(Job::Ladder(job)) => match hold(&rt, job.folder) {
             Ok(_held) => pack_ladder(rt, rt.alloc(), &job, &mut rt.stdout()),

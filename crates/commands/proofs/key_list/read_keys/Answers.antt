@@ -1,23 +1,25 @@
-use Rattle.std.proofs.Common.{◌≡◌, ◌∙◌, map, ap, sym, rules, is_some}
+use Rattle.std.proofs.Common.{◌≡◌, ◌∙◌, IfOk, IfErr, ap, map, rules, subst}
 use Rattle.std.specs.List.{list_all}
-use Rattle.std.proofs.lemmas.Simd.{map-map}
-use Rattle.commands.specs.Hex.{bytes_of_hex}
-use Rattle.commands.specs.KeyLists.{key_texts, are_keys}
-use Rattle.commands.proofs.KeyLists.{all-texts}
+use Rattle.commands.specs.KeyFiles.{IsKeyFault, TellKeys, ToldWord, is_key_word, texts_of, told}
+use Rattle.commands.specs.KeyLists.{key_texts}
+use Rattle.commands.proofs.KeyWords.{counted-good, counted-texts}
 use Rattle.commands.proofs.key_list.read_keys.Goals as goal
 
-pub returns-clause-ok : goal.returns-clause-ok
-returns-clause-ok c =
-    let items : c.deref.result.now ≡ c.in_ok-texts.texts.items = search rules in
-    let texts : map (λ t. t.now) c.deref.result.now ≡ key_texts c.args.text.now = ap (map (λ t. t.now)) items ∙ c.in_ok-texts.ensures in
-    let same : map (λ t. bytes_of_hex t.now) c.deref.result.now ≡ map bytes_of_hex (key_texts c.args.text.now)
-    = sym (map-map bytes_of_hex (λ t. t.now) c.deref.result.now) ∙ ap (map bytes_of_hex) texts in
-    rw same at c.keys_of.ensures.ok
+pub filled-requires-clause-words : goal.filled-requires-clause-words
+filled-requires-clause-words g c =
+    let items : c.deref.result.now ≡ c.args.room.words.items = search rules in
+    ap (λ ws. list_all (λ (w : ToldWord). is_key_word w.text) (map told ws)) items ∙ ap (list_all (λ (w : ToldWord). is_key_word w.text)) c.requires.words
+    ∙ counted-good 1 (key_texts c.args.text.now) ∙ c.requires.good
 
-pub returns-clause-bad : goal.returns-clause-bad
-returns-clause-bad c =
-    let items : c.deref.result.now ≡ c.in_ok-texts.texts.items = search rules in
-    let texts : map (λ t. t.now) c.deref.result.now ≡ key_texts c.args.text.now = ap (map (λ t. t.now)) items ∙ c.in_ok-texts.ensures in
-    let same : list_all (λ t. is_some (bytes_of_hex t.now)) c.deref.result.now ≡ are_keys c.args.text.now
-    = all-texts c.deref.result.now ∙ ap (list_all (λ t. is_some (bytes_of_hex t))) texts in
-    (λ is. sym same ∙ c.keys_of.ensures.bad is, λ no. cc (no, c.are_keys.ensures, c.if-not-are_keys.false))
+pub returns-clause-ok : goal.returns-clause-ok
+returns-clause-ok g c =
+    let items : c.deref.result.now ≡ c.args.room.words.items = search rules in
+    let texts : texts_of (map told c.deref.result.now) ≡ key_texts c.args.text.now
+    = ap (λ ws. texts_of (map told ws)) items ∙ ap texts_of c.requires.words ∙ counted-texts 1 (key_texts c.args.text.now) in
+    subst (λ ts. IfOk c.filled.result (λ keys. TellKeys (g.F.FileReader.gives c.args.files.now) ts keys.items)) texts c.filled.ensures.ok
+
+pub returns-clause-err : goal.returns-clause-err
+returns-clause-err g c =
+    let items : c.deref.result.now ≡ c.args.room.words.items = search rules in
+    subst (λ ws. IfErr c.filled.result (IsKeyFault (g.F.FileReader.gives c.args.files.now) (g.F.FileReader.refuses c.args.files.now) (g.F.FileReader.wants c.args.files.now) ws))
+    (ap (map told) items ∙ c.requires.words) c.filled.ensures.err
