@@ -80,7 +80,7 @@ pub fn pack<S: Source + Drop, O: Outlet + Drop, W: Write, R: Threads + Wait + Sy
         publisher,
         outlet,
         READS,
-        pool.batch.map(|batch| batch as usize),
+        Some(pool.batch.unwrap_or(pool.queue) as usize),
     );
     match answer {
         Err(fault) => PackedLadder {

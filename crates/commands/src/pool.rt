@@ -26,8 +26,7 @@ pub struct Pool {
     /// The most segments that may be on their way, 1 to 256.
     pub queue: u64,
     /// How many segments are closed where a round of sealing begins at the latest, 1 to 256; one for each worker are enough
-    /// once all of the round before is given. Where it isn't told, as many as there are workers, or as the queue holds, if
-    /// that is less.
+    /// once all of the round before is given, and one where no input is ready. Where it isn't told, as many as the queue holds.
     pub batch: Option<u64>,
 }
 
