@@ -58,9 +58,9 @@ pub const PACK: &str = "\
 Each segment and playlist is written to a file of its name in DIR, whole at any time, an older file replaced; nothing else
 there is touched. When all streams have ended one line a rendition is printed, by name: NAME SEGMENTS SECONDS PEAK AVERAGE.
 
-A live stream: give --batch 1, so that a segment is listed while the next one comes in; otherwise it waits until as many are
-closed as there are workers. The paths may be FIFOs of one encoder: they are read ahead, 32 MiB each. A new run begins
-at segment 0 again: draw new keys for it, or a new --salt at random.
+Each stream is read as its bytes come: one that is silent holds up no other, and a segment of a live stream is listed as
+soon as it is sealed. The paths may be FIFOs of one encoder: they are read ahead, 32 MiB each. A new run begins at segment 0
+again: draw new keys for it, or a new --salt at random.
 
 Faults, as 'tshls: NAME NUMBERS' on standard error. R counts the renditions from 0, in the order of the entries; at a fault
 of its stream the others are packed to their ends. What was written before a fault stands.

@@ -54,7 +54,7 @@ const POOL: [NumberOption; 3] = [
     (
         "batch",
         "SEGMENTS",
-        "With how many closed segments a round of sealing begins at the latest, 1 to 256: 1 for a live stream [default: the workers, or the queue where that is less]",
+        "With how many closed segments a round of sealing begins at the latest, 1 to 256; with fewer where no stream has more to read [default: the queue]",
         None,
     ),
 ];
