@@ -1,14 +1,15 @@
 //! No input holds up another.
 
-ghost use Rattle.std.specs.Prelude.{◌≡◌, All, IfOk, OnOk};
+ghost use Rattle.std.specs.Prelude.{◌≡◌, ◌≤◌, All, IfOk, OnOk};
+ghost use Rattle.item_io.specs.declared.limits.TheConstants.{READS};
 
 use crate::fixtures::{rendition, settings};
 use crate::pausing::Pausing;
 use crate::run_jobs::SEVEN;
 use fixture_standard_stream::append_packets;
-use item_io::{FailingOutlet, FailingReader, Item};
+use item_io::{FailingOutlet, FailingReader, Item, READS};
 use ladder_items::{PackFault, Settings};
-use live_board::{Snapshot, board};
+use live_board::{Publisher, Snapshot, board};
 use rounds::{Ran, pack_parallel_reads};
 use std::alloc::{AllocError, Global};
 use std::sync::Wait;
@@ -66,6 +67,25 @@ fn order_of(alloc: Global, items: &[Item]) -> Result<Vec<usize>, AllocError> {
     Ok(order)
 }
 
+/// Packs these sources, of which nothing was read, with this limit of reads.
+fn run<R: Threads + Wait + Sync>(
+    rt: &R,
+    alloc: Global,
+    settings: &Settings,
+    sources: Vec<Pausing>,
+    publisher: Publisher,
+    reads: u64,
+) -> Ran<Pausing, FailingOutlet>
+    requires new { All (λ source. (source.reads ≡ 0) × (source.failures ≡ 0)) sources.items }
+    requires least { 1 ≤ reads }
+    requires most { reads ≤ READS }
+{
+    let outlet = FailingOutlet::new(alloc, 0);
+    pack_parallel_reads(
+        rt, alloc, sources, settings, 1, &FreeGate, publisher, outlet, reads,
+    )
+}
+
 /// Packs seven segments of two renditions, with this limit of reads, and tells the fault, and the order of the segments.
 fn packed<R: Threads + Wait + Sync>(
     rt: &R,
@@ -76,15 +96,13 @@ fn packed<R: Threads + Wait + Sync>(
     let settings = two(alloc)?;
     let sources = sources(alloc, pauses)?;
     let (publisher, _) = board(rt, alloc, nothing_of_two(alloc)?, 1)?;
-    let outlet = FailingOutlet::new(alloc, 0);
+    let reads = reads.max(1).min(READS);
     let Ran {
         sources: _,
         publisher,
         outlet,
         answer,
-    } = pack_parallel_reads(
-        rt, alloc, sources, &settings, 1, &FreeGate, publisher, outlet, reads,
-    );
+    } = run(rt, alloc, &settings, sources, publisher, reads);
     publisher.end(rt);
     Ok((answer.err(), order_of(alloc, outlet.items())?))
 }
