@@ -10,3 +10,4 @@ pub mod SealedTexts
 pub mod SegmentFiles
 pub mod SummaryLines
 pub mod TextFacts
+pub mod Checked
