@@ -43,8 +43,9 @@ impl FileReader for MemoryFiles {
         Err(FileFault::Unread)
     }
 
-    fn read_front(&self, alloc: Global, path: &str, _most: usize) -> Result<Vec<u8>, FileFault> {
-        self.read(alloc, path)
+    /// No key stands in these files.
+    fn read_front(&self, _alloc: Global, _path: &str, _most: usize) -> Result<Vec<u8>, FileFault> {
+        Err(FileFault::Unread)
     }
 }
 

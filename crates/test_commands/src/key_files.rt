@@ -201,20 +201,23 @@ fn keys_of_a_ladder(rt: HostRuntime) -> Result<(), Fail> {
     Ok(())
 }
 
+const GOOD: &str = "b:c:1x1:@ten+@raw:b.ts";
+
+/// Entries, how many workers there are, and the fault of their keys or what comes before it.
+const NO_KEYS: [(&[&str], u64, LadderFault); 8] = [
+    (&[GOOD, "a:c:1x1:@two:a"], 1, LadderFault::BadKeyFile(2)),
+    (&["a:c:1x1:@two:a", GOOD], 1, LadderFault::BadKeyFile(1)),
+    (&[GOOD, "a:c:1x1:@raw+@none:a"], 1, LadderFault::Unread),
+    (&[GOOD, "a:c:1x1:@full:a"], 1, LadderFault::NoMemory),
+    (&["a:c:1x1:@none:a", "x"], 1, LadderFault::BadEntry(2)),
+    (&["a:c:1x1:@:a"], 1, LadderFault::BadEntry(1)),
+    (&["a:c:1x1:@none:a"], 65, LadderFault::Settings),
+    (&[GOOD, "b:c:1x1:@none:a"], 1, LadderFault::Settings),
+];
+
 #[test]
 fn key_files_of_a_ladder_that_give_none(rt: HostRuntime) -> Result<(), Fail> {
-    let good = "b:c:1x1:@ten+@raw:b.ts";
-    let table: [(&[&str], u64, LadderFault); 8] = [
-        (&[good, "a:c:1x1:@two:a"], 1, LadderFault::BadKeyFile(2)),
-        (&["a:c:1x1:@two:a", good], 1, LadderFault::BadKeyFile(1)),
-        (&[good, "a:c:1x1:@raw+@none:a"], 1, LadderFault::Unread),
-        (&[good, "a:c:1x1:@full:a"], 1, LadderFault::NoMemory),
-        (&["a:c:1x1:@none:a", "x"], 1, LadderFault::BadEntry(2)),
-        (&["a:c:1x1:@:a"], 1, LadderFault::BadEntry(1)),
-        (&["a:c:1x1:@none:a"], 65, LadderFault::Settings),
-        (&[good, "b:c:1x1:@none:a"], 1, LadderFault::Settings),
-    ];
-    for (entries, workers, fault) in table {
+    for (entries, workers, fault) in NO_KEYS {
         let told = ladder(rt.alloc(), entries, workers).err();
         assert!(rt; told == Some(fault), "of {entries:?}");
     }
