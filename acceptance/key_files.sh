@@ -131,5 +131,5 @@ shows_no_key() {
         ! grep -qF "$form" "$shown" || { echo "$form is shown"; return 1; }
     done
     ! grep -qP '\x01\x02\x03\x04\x05\x06\x07' "$shown" || { echo 'the bytes are shown'; return 1; }
-    prints 'ok 2 752' check --keys "@$work/keys/raw" "$work/watched/v.m3u8"
+    prints 'ok 2 752' check --keys "@$work/keys/raw+@$work/keys/line" "$work/watched/v.m3u8"
 }
