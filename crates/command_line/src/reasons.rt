@@ -3,7 +3,8 @@ use commands::{
     CheckingFault, CipherFault, KeyListFault, LadderFault, OpeningFault, SealingFault,
     SettingsFault,
 };
-use hls_check::{CheckFault, ListFault, UnpackFault};
+use hls_check::{CheckFault, UnpackFault};
+use media_reading::ListFault;
 use read_ahead::InputFault;
 
 const NO_MEMORY: &str = "out of memory";

@@ -4,7 +4,7 @@ use Rattle.std.proofs.lemmas.Result.{err_from_is_err_and}
 use Rattle.playlist_text.specs.MediaLines.{Listing}
 use Rattle.hls_check.specs.declared.fault.UnpackFault.{UnpackFault}
 use Rattle.hls_check.specs.declared.checking.CheckFault.TheVariants.{Segments}
-use Rattle.hls_check.specs.MediaTexts.{IsListing, listing_text}
+use Rattle.media_reading.specs.MediaTexts.{IsListing, listing_text}
 use Rattle.hls_check.specs.Unpacking.{IsTold, packed}
 use Rattle.commands.specs.declared.checking.CheckingFault.{CheckingFault}
 use Rattle.commands.specs.declared.checking.CheckingFault.TheVariants.{Faulty}

@@ -9,7 +9,7 @@ use Rattle.playlist_text.specs.MediaLines.{Listing}
 use Rattle.item_io.specs.FileNames.{segment_file_name}
 use Rattle.hls_check.specs.declared.checking.Checked.{Checked}
 use Rattle.hls_check.specs.declared.checking.CheckFault.TheVariants.{Text, Segments}
-use Rattle.hls_check.specs.MediaTexts.{IsListing, listing_text, IsUnread}
+use Rattle.media_reading.specs.MediaTexts.{IsListing, listing_text, IsUnread}
 use Rattle.hls_check.specs.Checks.{AreWhole, IsFaulty}
 use Rattle.commands.specs.declared.checking.CheckingFault.{CheckingFault}
 use Rattle.commands.specs.declared.checking.CheckingFault.TheVariants.{Unread, Faulty, Unwritten, NoMemory}

@@ -5,8 +5,9 @@ ghost use Rattle.commands.specs.Checking;
 
 use crate::files::{FileFault, FileReader};
 use crate::output::write_all;
-use hls_check::{CheckFault, Checked, ListFault, Listing, UnpackFault, check_listing, read_media};
+use hls_check::{CheckFault, Checked, UnpackFault, check_listing};
 use item_io::{OutletFault, push_segment_file_name};
+use media_reading::{ListFault, Listing, read_media};
 use playlist_text::push_decimal;
 use std::alloc::{AllocError, Global};
 use std::io::Write;

@@ -1,8 +1,7 @@
 -- Facts of each item, as a list grows.
-use Rattle.std.proofs.Common.{◌≡◌, ◌≢◌, Vec, Global, Option, Some, None, refl, map, ℕ, ◌+◌, ◌-◌, ◌<◌, inl, inr, List, [], ◌∷◌, ◌++◌, length, get_or, sym, ap, ◌∙◌, subst, arith}
+use Rattle.std.proofs.Common.{◌≡◌, Vec, Global, map, ℕ, ◌+◌, ◌-◌, ◌<◌, inl, inr, List, [], ◌∷◌, ◌++◌, length, get_or, sym, ap, ◌∙◌, subst, arith}
 use Rattle.std.proofs.lemmas.Bool.{cases_lt}
 use Rattle.std.proofs.lemmas.List.{get_or_append_left, get_or-append_right, get_or-map, map-append, length-map}
-use Rattle.std.specs.Prelude.{MatchOption}
 
 -- the item behind the others
 pub get_or-last : (xs : List (List ℕ)) (x : List ℕ) (i : ℕ) → length xs ≡ i → x ≡ get_or (xs ++ x ∷ []) i []
@@ -29,11 +28,6 @@ each-pushed Holds old new x i pushed long each last j lt =
     let items = λ (v : Vec ℕ Global). v.items in
     let mapped : map items old ++ x.items ∷ [] ≡ map items new = sym (map-append items old (x ∷ [])) ∙ ap (map items) (sym pushed) in
     subst (λ xs. Holds j (get_or xs j [])) mapped (each-more Holds (map items old) x.items i (length-map old items ∙ long) each last j lt)
-
--- nothing is there
-pub MatchOption-none : {A : Type 0} (o : Option A) (P : Type 0) (Q : A → Type 0) → ((x : A) → o ≢ Some x) → MatchOption o P Q → P
-MatchOption-none None P Q nothing holds = holds
-MatchOption-none (Some x) P Q nothing holds = absurd (nothing x refl)
 
 -- the bytes of a vector among others
 pub items_at : (xs : List (Vec ℕ Global)) (x : Vec ℕ Global) (i : ℕ) → i < length xs → x ≡ get_or xs i x → x.items ≡ get_or (map (λ v. v.items) xs) i []

@@ -2,13 +2,13 @@
 use Rattle.std.specs.Prelude.{◌≡◌, ℕ, List, length}
 use Rattle.std.specs.List.{concat}
 use Rattle.playlist_text.specs.MediaLines.{Listing}
-use Rattle.hls_check.specs.declared.list_fault.ListFault.TheVariants.{NoMemory as NoMemoryForText}
+use Rattle.media_reading.specs.declared.list_fault.ListFault.TheVariants.{NoMemory as NoMemoryForText}
 use Rattle.hls_check.specs.declared.fault.UnpackFault.{UnpackFault}
 use Rattle.hls_check.specs.declared.fault.UnpackFault.TheVariants.{NoMemory as NoMemoryForSegments}
 use Rattle.hls_check.specs.declared.checking.Checked.{Checked}
 use Rattle.hls_check.specs.declared.checking.CheckFault.{CheckFault}
 use Rattle.hls_check.specs.declared.checking.CheckFault.TheVariants.{Text, Segments}
-use Rattle.hls_check.specs.MediaTexts.{IsListing, listing_text, IsUnread}
+use Rattle.media_reading.specs.MediaTexts.{IsListing, listing_text, IsUnread}
 use Rattle.hls_check.specs.Unpacking.{Packed, packed, AllUnpack, IsTold}
 
 -- each entry of a playlist unpacks: so many, to so many bytes

@@ -9,9 +9,7 @@ ghost use Rattle.hls_check.specs.Checks.{AreUnpacked, AreWhole, IsFaulty, IsMemo
 
 use crate::counting::count_bytes;
 use crate::fault::UnpackFault;
-use crate::list_fault::ListFault;
-use crate::listing::Listing;
-use crate::media_text::read_media;
+use media_reading::{ListFault, Listing, read_media};
 use std::alloc::Global;
 use thiserror::Error;
 

@@ -8,8 +8,8 @@ ghost use Rattle.hls_check.specs.Texts.{AreTexts, HaveBytes, IsNotCounted};
 
 use crate::fault::UnpackFault;
 use crate::head::behind_head;
-use crate::listing::Entry;
 use crate::opening::{first_missing, open_entry};
+use media_reading::Entry;
 use psi_tables::one_head_begins_bytes;
 use std::alloc::Global;
 

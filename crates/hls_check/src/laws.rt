@@ -1,17 +1,11 @@
 //! What the words of the contracts mean.
 
 ghost use Rattle.std.specs.Prelude.{◌≡◌, List, map};
-ghost use Rattle.playlist_text.specs.MediaLines.{Entry, Listing};
+ghost use Rattle.playlist_text.specs.MediaLines.{Entry};
 ghost use Rattle.segment_job.specs.Rotation.{KeyRotation, IsRotation};
 ghost use Rattle.segment_job.specs.Segments.{SealedSegment};
 ghost use Rattle.hls_check.specs.Unpacking.{packed, AllUnpack};
 ghost use Rattle.hls_check.specs.Listed.{ListEach};
-ghost use Rattle.hls_check.specs.MediaTexts.{IsListing, listing_text};
-
-/// No text is that of two playlists.
-pub fn a_text_lists_one_playlist()
-    ensures { (l m : Listing) → IsListing l → IsListing m → listing_text l ≡ listing_text m → l ≡ m }
-{}
 
 /// Segments that the keys of a rendition sealed unpack to the bodies of their plans, wherever entries list them by their
 /// numbers and the indexes of their keys. So what is packed comes back.

@@ -6,8 +6,8 @@ ghost use Rattle.hls_check.specs.Unpacking.{packed, IsThere, IsOpen, IsFirstWith
 ghost use Rattle.hls_check.specs.Texts.{AreTexts, IsNoText, IsTheText, OpensAlone};
 
 use crate::fault::UnpackFault;
-use crate::listing::Entry;
 use aes_cbc::{Key, OpenFault, open};
+use media_reading::Entry;
 use playlist_text::salted_vector;
 use std::alloc::{AllocError, Global};
 

@@ -8,8 +8,8 @@ ghost use Rattle.hls_check.specs.Texts.{AreRests, IsNoRest};
 
 use crate::fault::UnpackFault;
 use crate::head::behind_head;
-use crate::listing::{Entry, Listing};
 use crate::opening::{first_missing, open_segments};
+use media_reading::{Entry, Listing};
 use psi_tables::one_head_begins_bytes;
 use std::alloc::Global;
 

@@ -9,7 +9,7 @@ use Rattle.playlist_text.specs.MediaLines.{Entry}
 use Rattle.media_playlist.specs.Rows.{SegmentRow, is_long}
 use Rattle.media_playlist.specs.Lines.{entry_of}
 use Rattle.ladder_items.specs.Shown.{IsNextRow, AreNextRows}
-use Rattle.hls_check.specs.MediaTexts.{AreListed}
+use Rattle.media_reading.specs.MediaTexts.{AreListed}
 use Rattle.round_trip.proofs.Places.{at-drop}
 
 -- the rest of a list, of which the rest of a first part is left

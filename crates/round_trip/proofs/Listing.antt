@@ -24,7 +24,7 @@ use Rattle.ladder_items.specs.Ladder.{is_event, least_listed, HasAll}
 use Rattle.ladder_items.specs.Rows.{row_of, rows_of}
 use Rattle.ingest.specs.Sealable.{IsOfBytes}
 use Rattle.hls_check.specs.Unpacking.{packed, entry_at, bytes_at, Unpacks, AllUnpack}
-use Rattle.hls_check.specs.MediaTexts.{AreListed}
+use Rattle.media_reading.specs.MediaTexts.{AreListed}
 use Rattle.ladder_items.proofs.Elsewhere.{some-at}
 use Rattle.round_trip.proofs.Places.{mapped-at}
 

@@ -34,7 +34,7 @@ use Rattle.ladder_laws.specs.Seen.{of_rendition}
 use Rattle.ingest.specs.Sealable.{IsOfBytes}
 use Rattle.ladder_laws.specs.Openings.{AreOfStreams}
 use Rattle.hls_check.specs.Unpacking.{packed, AllUnpack}
-use Rattle.hls_check.specs.MediaTexts.{AreListed}
+use Rattle.media_reading.specs.MediaTexts.{AreListed}
 use Rattle.round_trip.specs.Returning.{AreMade, IsMade, sealed_bytes, sealed_of, ComesBack}
 use Rattle.ladder_laws.proofs.Salts.{salt-held}
 use Rattle.ladder_items.proofs.Elsewhere.{some-at}

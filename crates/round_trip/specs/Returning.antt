@@ -11,7 +11,7 @@ use Rattle.ladder_items.specs.Ladder.{RenditionValue, Ladder, rendition_at}
 use Rattle.ingest.specs.Streams.{plans_of}
 use Rattle.ladder_laws.specs.Listings.{segments_of}
 use Rattle.hls_check.specs.Unpacking.{packed, AllUnpack}
-use Rattle.hls_check.specs.MediaTexts.{IsListing, IsSalt, listing_text}
+use Rattle.media_reading.specs.MediaTexts.{IsListing, IsSalt, listing_text}
 
 -- a rendition as its type makes it: its name is text, its keys take turns, and its salt has 16 bytes
 pub record IsMade (rendition : RenditionValue) : Type 0 where

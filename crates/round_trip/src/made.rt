@@ -2,7 +2,7 @@
 ghost use Rattle.std.specs.Prelude.{ℕ, ◌<◌, length, All, slice_index_or};
 ghost use Rattle.std.specs.Str.{IsUtf8};
 ghost use Rattle.ladder_items.specs.Ladder.{no_rendition};
-ghost use Rattle.hls_check.specs.MediaTexts.{IsSalt};
+ghost use Rattle.media_reading.specs.MediaTexts.{IsSalt};
 ghost use Rattle.round_trip.specs.Returning.{IsMade, AreMade};
 
 use ladder_items::{Rendition, Settings};

@@ -3,7 +3,8 @@ use commands::{
     CheckingFault, CipherFault, KeyListFault, LadderFault, LadderPackingFault, OpeningFault,
     SealingFault, SettingsFault,
 };
-use hls_check::{CheckFault, ListFault, UnpackFault};
+use hls_check::{CheckFault, UnpackFault};
+use media_reading::ListFault;
 use pipeline::PackFault;
 use read_ahead::InputFault;
 use std::alloc::{AllocError, Global};

@@ -1,7 +1,8 @@
 use crate::fixtures::{FullWriter, settings, stream_bytes};
 use commands::{CheckingFault, FileFault, FileReader, check};
-use hls_check::{CheckFault, ListFault, UnpackFault};
+use hls_check::{CheckFault, UnpackFault};
 use item_io::{Item, MemoryOutlet, ReaderSource};
+use media_reading::ListFault;
 use pipeline::pack_serial;
 use std::alloc::{AllocError, Global};
 use std::fs;

@@ -1,6 +1,6 @@
 //! Lines that are written in another way, left out or doubled.
 use crate::texts::{EVENT, MEDIA, SALTED, fault_changed};
-use hls_check::ListFault;
+use media_reading::ListFault;
 use std::alloc::{AllocError, Global};
 use std::test::Fail;
 

@@ -1,4 +1,4 @@
-//! Tests of `hls_check`: texts that list a playlist, texts that don't, and segments that open or don't.
+//! Tests of `media_reading` and `hls_check`: texts that list a playlist, texts that don't, and segments that open or don't.
 #![tactic(auto)]
 
 #[cfg(test)]

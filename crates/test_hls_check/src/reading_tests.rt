@@ -1,6 +1,6 @@
 //! What is read of texts.
 use crate::texts::{EVENT, MEDIA, SALT, SALTED, changed, fault};
-use hls_check::{ListFault, Listing, read_media};
+use media_reading::{ListFault, Listing, read_media};
 use std::alloc::{AllocError, Global};
 use std::test::Fail;
 

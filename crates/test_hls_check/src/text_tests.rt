@@ -1,5 +1,5 @@
 use crate::texts::MEDIA;
-use hls_check::{Entry, Listing, read_media};
+use media_reading::{Entry, Listing, read_media};
 use playlist_text::{
     push_decimal, push_key_uri, push_line, push_quoted, push_seconds, push_segment_uri,
 };

@@ -1,5 +1,5 @@
 //! Texts of playlists, and what comes of them with a line in another way.
-use hls_check::{ListFault, read_media};
+use media_reading::{ListFault, read_media};
 use std::alloc::{AllocError, Global};
 
 /// The text that lists the segments of the standard stream.

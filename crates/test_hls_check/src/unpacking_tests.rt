@@ -4,9 +4,8 @@ use aes_cbc::{Key, seal};
 use fixture_standard_stream::{
     FRAME, KEY_FRAME, LAST_FRAME, PAT, PMT, SECOND_KEY_FRAME, append_packets,
 };
-use hls_check::{
-    CheckFault, Checked, Entry, ListFault, Listing, UnpackFault, check, check_listing, unpack,
-};
+use hls_check::{CheckFault, Checked, UnpackFault, check, check_listing, unpack};
+use media_reading::{Entry, ListFault, Listing};
 use playlist_text::salted_vector;
 use std::alloc::{AllocError, Global};
 use std::test::Fail;

@@ -1,8 +1,9 @@
 //! What is packed is read back.
 use crate::run::{PLAY, Play, Ran, last_media, played};
 use crate::stream::Video::{Key, Other};
-use hls_check::{Entry, ListFault, Listing, check, read_media};
+use hls_check::check;
 use item_io::Item;
+use media_reading::{Entry, ListFault, Listing, read_media};
 use std::alloc::{AllocError, Global};
 use std::test::Fail;
 

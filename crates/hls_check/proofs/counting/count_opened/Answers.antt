@@ -2,7 +2,7 @@ use Rattle.std.proofs.Common.{◌∙◌, sym, subst, inl, rules}
 use Rattle.std.proofs.lemmas.Option.{MatchOption-at_some}
 use Rattle.hls_check.specs.Unpacking.{BeginsWithHead}
 use Rattle.hls_check.proofs.Wanting.{memory-told}
-use Rattle.hls_check.proofs.Growing.{MatchOption-none}
+use Rattle.media_reading.proofs.Found.{MatchOption-none}
 use Rattle.hls_check.proofs.Counted.{past, headless-here, counted-here}
 use Rattle.hls_check.proofs.counting.count_opened.Goals as goal
 

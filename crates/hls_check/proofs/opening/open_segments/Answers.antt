@@ -3,7 +3,8 @@ use Rattle.std.proofs.lemmas.Option.{MatchOption-at_some}
 use Rattle.hls_check.specs.Unpacking.{packed}
 use Rattle.hls_check.specs.Texts.{OpensAlone}
 use Rattle.hls_check.proofs.Wanting.{memory-told}
-use Rattle.hls_check.proofs.Growing.{each-pushed, MatchOption-none}
+use Rattle.hls_check.proofs.Growing.{each-pushed}
+use Rattle.media_reading.proofs.Found.{MatchOption-none}
 use Rattle.hls_check.proofs.opening.open_segments.Goals as goal
 
 pub returns-in_default-clause-err : goal.returns-in_default-clause-err

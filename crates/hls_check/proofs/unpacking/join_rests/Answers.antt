@@ -4,7 +4,8 @@ use Rattle.std.proofs.lemmas.List.{length-map}
 use Rattle.std.proofs.lemmas.List.Folds.{concat-append}
 use Rattle.std.proofs.lemmas.Option.{MatchOption-at_some}
 use Rattle.hls_check.specs.Unpacking.{BeginsWithHead}
-use Rattle.hls_check.proofs.Growing.{each-more, items_at, MatchOption-none}
+use Rattle.hls_check.proofs.Growing.{each-more, items_at}
+use Rattle.media_reading.proofs.Found.{MatchOption-none}
 use Rattle.hls_check.proofs.unpacking.join_rests.Goals as goal
 
 pub returns-in_default-clause-err : goal.returns-in_default-clause-err

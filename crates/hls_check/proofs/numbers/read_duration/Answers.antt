@@ -1,5 +1,0 @@
-use Rattle.hls_check.proofs.Found.{read-all}
-use Rattle.hls_check.proofs.numbers.read_duration.Goals as goal
-
-pub returns : goal.returns
-returns c = read-all _ c.args.line.now c.read_seconds.result c.read_seconds.ensures.found c.read_seconds.ensures.only

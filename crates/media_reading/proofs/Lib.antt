@@ -1,0 +1,15 @@
+pub mod Spellings
+pub mod Found
+pub mod KeyLines
+pub mod Salts
+pub mod NamesIn
+pub mod Going
+pub mod Stepping
+pub mod Completing
+pub mod OneNumber
+pub mod EntrySteps
+pub mod Running
+pub mod EscapedBytes
+pub mod LineEnds
+pub mod Splitting
+pub mod Taking

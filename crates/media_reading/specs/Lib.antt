@@ -1,0 +1,2 @@
+pub mod MediaTexts
+pub mod State
