@@ -1,0 +1,5 @@
+pub mod Asking
+pub mod Listing
+pub mod Evening
+pub mod Growing
+pub mod Reading

@@ -1,0 +1,4 @@
+pub mod Wanting
+pub mod Restoring
+pub mod Reading
+pub mod Evening

@@ -1,0 +1,141 @@
+//! A rendition goes on from its playlists.
+
+ghost use Rattle.std.specs.Prelude.{◌≡◌, ◌≤◌, ◌⊎◌, false, length, IfOk, IfErr, IfSome, OnOk, IsErrOf, Decides};
+ghost use Rattle.limits.specs.declared.TheConstants.{MOST_TARGET};
+ghost use Rattle.playlist_text.specs.Lines.{text_of};
+ghost use Rattle.media_playlist.specs.Lines.{iframe_lines};
+ghost use Rattle.media_reading.specs.MediaTexts.{IsListing};
+ghost use Rattle.ladder_items.specs.Ladder;
+ghost use Rattle.resume.specs.declared.fault.ResumeFault as TheFault;
+ghost use Rattle.resume.specs.Wanting.{IsWithin, IsRefused, IsAsWanted};
+ghost use Rattle.resume.specs.Restoring.{window_over, MayGoOn, IsRestored};
+
+use crate::fault::ResumeFault;
+use crate::reading_back::read_back;
+use crate::restored::{Restored, Wanted};
+use ladder_items::{Kind, MOST_EARLIER, Playlists};
+use limits::LAST_SEGMENT;
+use media_reading::Listing;
+use std::alloc::{AllocError, Global};
+
+/// What a rendition of this name goes on behind, by what its media playlist lists, the text of its I-frame playlist, and the
+/// sizes of the files of the listed segments in bytes, one for each.
+///
+/// The I-frames are read out of the text, and the text is written again: where it isn't the same, byte for byte, that is
+/// Foreign. So nothing that was read is taken on trust. A playlist that the run doesn't go on from is told before the text is
+/// read: that it has ended, then another target duration, another salt, another kind, and that its numbers are used up.
+pub fn restore(
+    alloc: Global,
+    name: &str,
+    wanted: Wanted,
+    listing: &Listing,
+    frames: &str,
+    sizes: &[u64],
+) -> Result<Restored, ResumeFault>
+    requires { IsListing listing.now }
+    ensures ok { IfOk result (IsRestored name.now wanted listing.now frames.now sizes.now) }
+    ensures refused { (fault : TheFault.ResumeFault) → IsRefused wanted listing.now fault → IsErrOf result fault }
+    ensures err { IfErr result (λ fault. IsRefused wanted listing.now fault
+        ⊎ (IsAsWanted wanted listing.now × ((fault ≡ ResumeFault.Foreign) ⊎ (fault ≡ ResumeFault.NoMemory)))) }
+{
+    look(wanted, listing)?;
+    match restored_of(alloc, name, wanted, listing, frames, sizes)? {
+        Some(restored) => Ok(restored),
+        None => Err(ResumeFault::Foreign),
+    }
+}
+
+/// Whether a run goes on from a playlist.
+fn look(wanted: Wanted, listing: &Listing) -> Result<(), ResumeFault>
+    ensures ok { OnOk result (IsAsWanted wanted listing.now) }
+    ensures err { IfErr result (IsRefused wanted listing.now) }
+{
+    if listing.ended {
+        return Err(ResumeFault::Ended);
+    }
+    if listing.target != wanted.target {
+        return Err(ResumeFault::OtherTarget);
+    }
+    if listing.salt != wanted.salt {
+        return Err(ResumeFault::OtherSalt);
+    }
+    if listing.event != is_event(wanted.kind) {
+        return Err(ResumeFault::OtherKind);
+    }
+    if !is_within(listing) {
+        return Err(ResumeFault::Limit);
+    }
+    Ok(())
+}
+
+fn is_event(kind: Kind) -> bool
+    ensures { result ≡ Ladder.is_event kind }
+{
+    match kind {
+        Kind::Live => false,
+        Kind::Event => true,
+    }
+}
+
+/// Whether a run may go on behind what is listed.
+fn is_within(listing: &Listing) -> bool
+    ensures { Decides result (IsWithin listing.now) }
+{
+    let count = listing.entries.len() as u64;
+    count <= MOST_EARLIER
+        && listing.sequence <= LAST_SEGMENT
+        && listing.discontinuity_sequence <= LAST_SEGMENT
+        && listing.sequence + count <= LAST_SEGMENT
+        && listing.discontinuity_sequence + count <= LAST_SEGMENT
+}
+
+/// What the rendition goes on behind, where the playlists and the files are those of one.
+fn restored_of(
+    alloc: Global,
+    name: &str,
+    wanted: Wanted,
+    listing: &Listing,
+    frames: &str,
+    sizes: &[u64],
+) -> Result<Option<Restored>, AllocError>
+    requires listing { IsListing listing.now }
+    requires wanted { IsAsWanted wanted listing.now }
+    ensures { IfOk result (λ found. IfSome found (IsRestored name.now wanted listing.now frames.now sizes.now)) }
+{
+    if !is_named(listing, name) {
+        return Ok(None);
+    }
+    let Some(restored) = read_back(alloc, listing, frames, sizes)? else {
+        return Ok(None);
+    };
+    if !shows(alloc, name, wanted, &restored, frames)? {
+        return Ok(None);
+    }
+    Ok(Some(restored))
+}
+
+/// Whether a playlist is that of a rendition of this name.
+fn is_named(listing: &Listing, name: &str) -> bool
+    ensures { Decides result (listing.now.name ≡ name.now) }
+{
+    listing.name.as_str() == name
+}
+
+/// Whether playlists of the earlier rows show this text of I-frames.
+fn shows(
+    alloc: Global,
+    name: &str,
+    wanted: Wanted,
+    restored: &Restored,
+    frames: &str,
+) -> Result<bool, AllocError>
+    requires target { (1 ≤ wanted.target) × (wanted.target ≤ MOST_TARGET) }
+    requires may_go_on { MayGoOn wanted restored.now }
+    ensures { IfOk result (λ same. Decides same (frames.now ≡ text_of (iframe_lines (window_over name.now wanted restored.now) false))) }
+{
+    let earlier = &restored.earlier;
+    let window = earlier.len() as u64;
+    let none = Playlists::new(alloc, name, wanted.target, window, wanted.kind, wanted.salt)?;
+    let playlists = none.behind(alloc, restored.gone, earlier)?;
+    Ok(playlists.frames_text(false)?.as_str() == frames)
+}
