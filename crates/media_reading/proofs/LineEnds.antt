@@ -20,7 +20,7 @@ use Rattle.media_reading.proofs.EscapedBytes.{escaped-in}
 use Rattle.media_reading.proofs.Stepping.{both}
 
 -- lines behind others
-joined : (xs ys : List ℕ) → IsLine xs → IsLine ys → IsLine (xs ++ ys)
+pub joined : (xs ys : List ℕ) → IsLine xs → IsLine ys → IsLine (xs ++ ys)
 joined xs ys = All-append (λ b. b ≢ 10) xs ys
 
 -- a byte that is no LF, in front
@@ -32,18 +32,18 @@ written-by : (b : ℕ) (same : Bool) (xs : List ℕ) → b == 10 ≡ same → no
 written-by b true xs test is rest = absurd (false≢true is)
 written-by b false xs test is rest = behind b xs (λ one. false≢true (sym test ∙ eq-eqb b 10 one)) rest
 
-abbrev all_written : List ℕ → Bool
+abbrev pub all_written : List ℕ → Bool
 all_written [] = true
 all_written (b ∷ xs) = not (b == 10) && all_written xs
 
-written : (xs : List ℕ) → all_written xs ≡ true → IsLine xs
+pub written : (xs : List ℕ) → all_written xs ≡ true → IsLine xs
 written [] is = All-nil (λ b. b ≢ 10)
 written (b ∷ xs) is =
     let parts = both (not (b == 10)) (all_written xs) is in
     written-by b (b == 10) xs refl parts.0 (written xs parts.1)
 
 -- numbers
-decimal-line : (n : ℕ) → n < 2 ^ 64 → IsLine (decimal n)
+pub decimal-line : (n : ℕ) → n < 2 ^ 64 → IsLine (decimal n)
 decimal-line n small =
     decimal_by_steps (λ _ ds. IsLine ds) (λ m _. behind (48 + m) [] (λ same. omega (arith, same)) (All-nil (λ b. b ≢ 10)))
     (λ m ds _ front. joined ds ((48 + m % 10) ∷ []) front (behind (48 + m % 10) [] (λ same. omega (arith, same)) (All-nil (λ b. b ≢ 10)))) n small
@@ -52,7 +52,7 @@ six-line : (n : ℕ) → IsLine (six_digits n)
 unfolding six_digits
 six-line n = All-map (λ b. b ≢ 10) (digit n) (5 ∷ 4 ∷ 3 ∷ 2 ∷ 1 ∷ 0 ∷ []) (λ k d lt same. omega (arith, same))
 
-duration-line : (micros : ℕ) → micros < 2 ^ 64 → IsLine (duration_line micros)
+pub duration-line : (micros : ℕ) → micros < 2 ^ 64 → IsLine (duration_line micros)
 unfolding duration_line seconds
 duration-line micros small =
     joined (codes "#EXTINF:" ++ (decimal (micros / 1_000_000) ++ 46 ∷ six_digits (micros % 1_000_000))) (codes ",")
@@ -62,7 +62,7 @@ duration-line micros small =
     (written (codes ",") refl)
 
 -- names
-escaped-line : (name : List ℕ) → IsLine (escaped name)
+pub escaped-line : (name : List ℕ) → IsLine (escaped name)
 escaped-line name = λ k d lt. (escaped-in name k d lt).0
 
 end-line : (salt : Option (List ℕ)) (n : ℕ) → IsLine (key_end salt n)
@@ -81,7 +81,7 @@ key-line name salt n key small =
     (decimal-line key (omega (arith, small))))
     (end-line salt n))
 
-segment-line : (name : List ℕ) (n : ℕ) → n < 2 ^ 33 → IsLine (segment_uri name n)
+pub segment-line : (name : List ℕ) (n : ℕ) → n < 2 ^ 33 → IsLine (segment_uri name n)
 unfolding segment_uri
 segment-line name n small =
     joined (escaped name ++ codes "." ++ decimal n) (codes ".ts")
@@ -89,13 +89,13 @@ segment-line name n small =
     (written (codes ".ts") refl)
 
 -- lists of lines
-no-lines : All IsLine []
+pub no-lines : All IsLine []
 no-lines = All-nil IsLine
 
-and-line : (x : List ℕ) (xs : List (List ℕ)) → IsLine x → All IsLine xs → All IsLine (x ∷ xs)
+pub and-line : (x : List ℕ) (xs : List (List ℕ)) → IsLine x → All IsLine xs → All IsLine (x ∷ xs)
 and-line x xs = All-cons IsLine x xs
 
-and-lines : (xs ys : List (List ℕ)) → All IsLine xs → All IsLine ys → All IsLine (xs ++ ys)
+pub and-lines : (xs ys : List (List ℕ)) → All IsLine xs → All IsLine ys → All IsLine (xs ++ ys)
 and-lines xs ys = All-append IsLine xs ys
 
 -- the lines of the head
@@ -112,13 +112,13 @@ head-IsLine t s d one two three =
     (and-line (discontinuity_sequence_line d) []
     (joined (codes "#EXT-X-DISCONTINUITY-SEQUENCE:") (decimal d) (written (codes "#EXT-X-DISCONTINUITY-SEQUENCE:") refl) (decimal-line d (omega (arith, three)))) no-lines))))
 
-type-IsLine : (b : Bool) → All IsLine (type_lines b)
+pub type-IsLine : (b : Bool) → All IsLine (type_lines b)
 unfolding type_lines
 type-IsLine true = and-line (codes "#EXT-X-PLAYLIST-TYPE:EVENT") [] (written (codes "#EXT-X-PLAYLIST-TYPE:EVENT") refl) no-lines
 type-IsLine false = no-lines
 
 -- the lines of an entry
-discontinuity-IsLine : (b : Bool) → All IsLine (discontinuity_lines b)
+pub discontinuity-IsLine : (b : Bool) → All IsLine (discontinuity_lines b)
 unfolding discontinuity_lines
 discontinuity-IsLine true = and-line (codes "#EXT-X-DISCONTINUITY") [] (written (codes "#EXT-X-DISCONTINUITY") refl) no-lines
 discontinuity-IsLine false = no-lines

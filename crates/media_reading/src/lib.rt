@@ -11,4 +11,5 @@ mod reading;
 pub use laws::a_text_lists_one_playlist;
 pub use list_fault::ListFault;
 pub use listing::{Entry, LAST_LISTED, Listing};
-pub use media_text::read_media;
+pub use media_text::{read_media, split_line};
+pub use numbers::{read_duration, read_tagged};

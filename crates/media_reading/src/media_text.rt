@@ -48,7 +48,7 @@ pub fn read_media(alloc: Global, text: &str) -> Result<Listing, ListFault>
 }
 
 /// The first line of a text, without its LF, and what stands behind it; None where there is no LF.
-fn split_line(text: &[u8]) -> Option<(&[u8], &[u8])>
+pub fn split_line(text: &[u8]) -> Option<(&[u8], &[u8])>
     ensures { MatchOption result (IsLine text.now) (λ parts. IsLine parts.0.now × (text.now ≡ parts.0.now ++ 10 ∷ parts.1.now)) }
 {
     let place = text.iter().position(|b| *b == b'\n')?;

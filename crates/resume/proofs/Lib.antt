@@ -3,3 +3,8 @@ pub mod Listing
 pub mod Evening
 pub mod Growing
 pub mod Reading
+pub mod PickedLines
+pub mod PickedRows
+pub mod Between
+pub mod FrameText
+pub mod Complete

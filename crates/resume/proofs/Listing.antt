@@ -14,7 +14,7 @@ use Rattle.resume.specs.declared.restored.Wanted.{Wanted}
 use Rattle.resume.specs.Restoring.{RestoredValue, window_over, window_behind, IsRestored}
 use Rattle.resume.proofs.Asking.{first-zero}
 
-abbrev made : List ℕ → ℕ → ℕ → ℕ → Bool → Option (List ℕ) → List Entry → Bool → Listing
+abbrev pub made : List ℕ → ℕ → ℕ → ℕ → Bool → Option (List ℕ) → List Entry → Bool → Listing
 made name target sequence discontinuities event salt entries ended = record {
   name = name;
   target = target;

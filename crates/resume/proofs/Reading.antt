@@ -48,6 +48,7 @@ may-go-on wanted l sizes r listing is read =
       next = omega (arith, read.next, read.gone_rows);
       few = omega (arith, count, is.within.few);
       follow = next-rows-same l.target wanted.target l.sequence r.gone.rows r.earlier r.earlier (sym is.target) read.gone_rows refl read.rows.follow;
+      lie_within = read.rows.lie_within;
       turns = listed-keys l.target l.sequence r.earlier listed;
       limit = omega (arith, count, read.next, is.within.next);
       discontinuities = omega (arith, count, read.gone_discontinuities, is.within.discontinuities);

@@ -26,7 +26,8 @@ AreEven kind found = (i j : ℕ) (a b : Option RestoredValue) → slice_get foun
 
 -- rendition r is the first that doesn't go with one before it
 pub record IsUneven (kind : Kind) (found : List (Option RestoredValue)) (r : ℕ) : Type 0 where
-  pub before : (i j : ℕ) (a b : Option RestoredValue) → i < r → j < r → slice_get found i ≡ Some a → slice_get found j ≡ Some b → GoTogether kind a b
+  pub before : (i j : ℕ) (a b : Option RestoredValue) → i < r → j < r → slice_get found i ≡ Some a → slice_get found j ≡ Some b →
+      GoTogether kind a b
   pub other : ℕ
   pub is_before : other < r
   pub at_other : Option RestoredValue

@@ -2,6 +2,7 @@
 use Rattle.std.specs.Prelude.{◌≡◌, ℕ, ◌+◌, ◌<◌, ◌≤◌, ◌^◌, false, List, ◌++◌, map, length, All}
 use Rattle.playlist_text.specs.Lines.{text_of}
 use Rattle.playlist_text.specs.MediaLines.{Listing}
+use Rattle.media_playlist.specs.declared.row.FrameRow.{FrameRow}
 use Rattle.media_playlist.specs.declared.row.Gone.{Gone}
 use Rattle.media_playlist.specs.Rows.{SegmentRow}
 use Rattle.media_playlist.specs.Listed.{Pushed}
@@ -43,16 +44,21 @@ window_behind name wanted r window more = record {
   rows = r.earlier ++ more;
 }
 
--- A run may go on behind these rows: they follow on one another behind what is gone, their keys are of those that may be, and
--- no count is past the last number.
+-- an I-frame lies within a file of this size
+abbrev pub LiesWithin : ℕ → FrameRow → Type 0
+LiesWithin size frame = frame.offset + frame.len ≤ size
+
+-- A run may go on behind these rows: they follow on one another behind what is gone, their I-frames lie within their files, their
+-- keys are of those that may be, and no count is past the last number.
 pub record MayGoOn (wanted : Wanted) (r : RestoredValue) : Type 0 where
   pub next : r.next ≡ r.gone.rows + length r.earlier
   pub few : length r.earlier ≤ MOST_EARLIER
   pub follow : AreNextRows wanted.target r.gone.rows r.earlier
+  pub lie_within : All (λ row. All (LiesWithin row.size) row.frames) r.earlier
   pub turns : All (λ row. row.key < MOST_KEYS) r.earlier
   pub limit : r.next ≤ LAST_SEGMENT
   pub discontinuities : r.gone.discontinuities + length r.earlier ≤ LAST_SEGMENT
-  pub frames : r.gone.frames < 2 ^ 64
+  pub frames : r.gone.frames < 2 ^ 63
   pub all : HasAll wanted.kind r.gone
 
 -- These rows, of which the files have these sizes, are what the rendition goes on behind: a window over them lists just what

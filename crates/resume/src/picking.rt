@@ -1,84 +1,126 @@
 //! The I-frames of an I-frame playlist. What is read here is trusted only once the whole text was written again.
 
+ghost use Rattle.std.specs.Prelude.{◌≡◌, ◌==◌, ◌++◌, ◌-◌, ◌<◌, ◌≤◌, ◌^◌, List, ℕ, All, IfOk, OnOk, IsSomeAnd, length, take, drop, slice_index_or};
+ghost use Rattle.std.specs.List.{before_first};
+ghost use Rattle.playlist_text.specs.Lines.{text_of};
+ghost use Rattle.media_reading.specs.MediaTexts.{IsLine};
+ghost use Rattle.resume.specs.Picking.{no_picks, pick_line, pick_lines, len_in, offset_in};
+ghost use Rattle.media_playlist.specs.Rows.{SegmentRow};
+ghost use Rattle.resume.specs.Picked.{picks_of};
+ghost use Rattle.resume.specs.Reading.{ArePicked};
+
 use ladder_items::FrameRow;
+use media_reading::{read_duration, read_tagged, split_line};
 use std::alloc::{AllocError, Global};
 
 /// The number of the first I-frame, the I-frames of all segments, and where those of each segment begin among them.
 #[derive(Drop)]
 pub struct Picked {
     pub first: u64,
-    pub frames: Vec<FrameRow>,
+    frames: Vec<FrameRow>,
     starts: Vec<usize>,
     micros: u64,
+    uri_next: bool,
 }
 
 impl Picked {
-    fn new(alloc: Global) -> Picked {
+    fn new(alloc: Global) -> Picked
+        ensures { picks_of result ≡ no_picks }
+    {
         Picked {
             first: 0,
             frames: Vec::new(alloc),
             starts: Vec::new(alloc),
             micros: 0,
+            uri_next: false,
         }
     }
 
     /// Takes a line: behind each one of a key stand the I-frames of a segment.
-    fn take(&mut self, line: &str) -> Result<(), AllocError> {
-        if line.starts_with("#EXT-X-KEY:") {
+    #[tactic(auto, unfolding(crate::specs::Picking::pick_line))]
+    fn take(&mut self, line: &[u8]) -> Result<(), AllocError>
+        ensures { OnOk result (picks_of self.new ≡ pick_line (picks_of self.old) line.now) }
+    {
+        if self.uri_next {
+            self.uri_next = false;
+        } else if line.starts_with(b"#EXTINF:") {
+            self.micros = read_duration(line).unwrap_or(0);
+        } else if line.starts_with(b"#EXT-X-BYTERANGE:") {
+            let (len, offset) = read_range(line);
+            self.frames.push(FrameRow {
+                offset,
+                len,
+                micros: self.micros,
+            })?;
+            self.uri_next = true;
+        } else if line.starts_with(b"#EXT-X-KEY:") {
             self.starts.push(self.frames.len())?;
-            return Ok(());
-        }
-        if let Some(number) = line.strip_prefix("#EXT-X-MEDIA-SEQUENCE:") {
-            self.first = number_of(number);
-            return Ok(());
-        }
-        if let Some(seconds) = line.strip_prefix("#EXTINF:") {
-            self.micros = micros_of(seconds);
-            return Ok(());
-        }
-        if let Some(range) = line.strip_prefix("#EXT-X-BYTERANGE:") {
-            self.frames.push(frame_of(range, self.micros))?;
+        } else if line.starts_with(b"#EXT-X-MEDIA-SEQUENCE:") {
+            self.first = read_tagged(line, b"#EXT-X-MEDIA-SEQUENCE:", u64::MAX).unwrap_or(0);
         }
         Ok(())
     }
 
     /// The I-frames of the segment at a place.
-    pub fn at(&self, place: usize) -> Option<&[FrameRow]> {
-        let (_, starts) = self.starts.split_at_checked(place)?;
-        let (start, behind) = starts.split_first()?;
-        let end = behind.first().copied().unwrap_or(self.frames.len());
-        self.frames.get(*start..end)
+    pub fn at(&self, place: usize) -> Option<&[FrameRow]>
+        requires { place < 2 ^ 32 }
+        ensures { (first : ℕ) (rows : List SegmentRow) (d : SegmentRow) → ArePicked (picks_of self.now) first rows → place < length rows →
+            IsSomeAnd result (λ frames. frames.now ≡ (slice_index_or rows place d).frames) }
+    {
+        let count = self.frames.len();
+        let start = number_at(&self.starts, place, count);
+        let end = number_at(&self.starts, place + 1, count);
+        part(&self.frames, start, end)
     }
 }
 
+/// The number at a place, or another one behind the last.
+fn number_at(numbers: &[usize], place: usize, other: usize) -> usize
+    ensures { result ≡ slice_index_or numbers.now place other }
+{
+    numbers.get(place).copied().unwrap_or(other)
+}
+
+/// The I-frames from one place up to another.
+fn part(frames: &[FrameRow], start: usize, end: usize) -> Option<&[FrameRow]>
+    ensures { start ≤ end → end ≤ length frames.now → IsSomeAnd result (λ part. part.now ≡ take (end - start) (drop start frames.now)) }
+{
+    if end < start || frames.len() < end {
+        return None;
+    }
+    Some(&frames[start..end])
+}
+
 /// Picks the I-frames out of a text.
-pub fn pick(alloc: Global, text: &str) -> Result<Picked, AllocError> {
+pub fn pick(alloc: Global, text: &str) -> Result<Picked, AllocError>
+    ensures { IfOk result (λ picked. (lines : List (List ℕ)) → All IsLine lines → text.now ≡ text_of lines →
+        picks_of picked ≡ pick_lines no_picks lines) }
+{
     let mut picked = Picked::new(alloc);
-    for line in text.lines() {
+    let mut rest = text.as_bytes();
+    'line: while let Some((line, behind)) = split_line(rest) {
         picked.take(line)?;
+        rest = behind;
     }
     Ok(picked)
 }
 
-fn number_of(text: &str) -> u64 {
-    text.parse::<u64>().unwrap_or(0)
+/// How long an I-frame is and where it begins, in a line that tells it.
+fn read_range(line: &[u8]) -> (u64, u64)
+    ensures len { result.0 ≡ len_in line.now }
+    ensures offset { result.1 ≡ offset_in line.now }
+{
+    let (front, back) = at_sign(line);
+    let len = read_tagged(front, b"#EXT-X-BYTERANGE:", u64::MAX).unwrap_or(0);
+    let offset = read_tagged(back, b"@", u64::MAX).unwrap_or(0);
+    (len, offset)
 }
 
-fn micros_of(seconds: &str) -> u64 {
-    let Some((whole, part)) = seconds.split_once('.') else {
-        return 0;
-    };
-    let digits = part.strip_suffix(",").unwrap_or("");
-    number_of(whole)
-        .saturating_mul(1_000_000)
-        .saturating_add(number_of(digits))
-}
-
-fn frame_of(range: &str, micros: u64) -> FrameRow {
-    let (len, offset) = range.split_once('@').unwrap_or(("", ""));
-    FrameRow {
-        offset: number_of(offset),
-        len: number_of(len),
-        micros,
-    }
+/// What stands before the first @ in a line, and the rest.
+fn at_sign(line: &[u8]) -> (&[u8], &[u8])
+    ensures front { result.0.now ≡ before_first (λ b. b == 64) line.now }
+    ensures back { result.1.now ≡ drop (length (before_first (λ b. b == 64) line.now)) line.now }
+{
+    let place = line.iter().position(|b| *b == b'@').unwrap_or(line.len());
+    line.split_at(place)
 }

@@ -1,10 +1,15 @@
 //! The rows of what a media playlist lists.
 
-ghost use Rattle.std.specs.Prelude.{◌≡◌, ◌+◌, ◌<◌, ◌≤◌, ◌^◌, length, IfOk, IfSome, Decides};
+ghost use Rattle.std.specs.Prelude.{◌≡◌, ◌+◌, ◌≤◌, ℕ, List, All, length, IfOk, IfSome, IsSomeAnd, Decides};
+ghost use Rattle.media_playlist.specs.Rows.{SegmentRow};
+ghost use Rattle.media_reading.specs.MediaTexts.{IsListing};
+ghost use Rattle.resume.specs.declared.restored.Wanted as TheWanted;
+ghost use Rattle.resume.specs.Restoring.{RestoredValue, LiesWithin, IsRestored};
+ghost use Rattle.resume.specs.Picked.{picks_of};
 ghost use Rattle.limits.specs.declared.TheConstants.{LAST_SEGMENT};
 ghost use Rattle.media_playlist.specs.Lines.{entry_of};
 ghost use Rattle.ladder_items.specs.Shown.{IsNextRow, IsSmallFrame};
-ghost use Rattle.resume.specs.Reading.{AreRowsOf, IsReadBack};
+ghost use Rattle.resume.specs.Reading.{AreRowsOf, IsReadBack, ArePicked};
 
 use crate::picking::{Picked, pick};
 use crate::restored::Restored;
@@ -22,10 +27,16 @@ pub fn read_back(
     frames: &str,
     sizes: &[u64],
 ) -> Result<Option<Restored>, AllocError>
-    requires { listing.now.sequence + length listing.now.entries ≤ LAST_SEGMENT }
-    ensures { IfOk result (λ found. IfSome found (IsReadBack listing.now sizes.now)) }
+    requires listing { IsListing listing.now }
+    requires within { listing.now.sequence + length listing.now.entries ≤ LAST_SEGMENT }
+    ensures read { IfOk result (λ found. IfSome found (IsReadBack listing.now sizes.now)) }
+    ensures whole { (name : List ℕ) (wanted : TheWanted.Wanted) (r : RestoredValue) →
+        IsRestored name wanted listing.now frames.now sizes.now r → IfOk result (λ found. IsSomeAnd found (λ it. it ≡ r)) }
 {
     let picked = pick(alloc, frames)?;
+    if picked.first >= 1 << 63 {
+        return Ok(None);
+    }
     let Some(earlier) = read_rows(alloc, listing, &picked, sizes)? else {
         return Ok(None);
     };
@@ -47,7 +58,9 @@ fn read_rows(
     sizes: &[u64],
 ) -> Result<Option<Vec<Row>>, AllocError>
     requires { listing.now.sequence + length listing.now.entries ≤ LAST_SEGMENT }
-    ensures { IfOk result (λ found. IfSome found (λ rows. AreRowsOf listing.now sizes.now rows.items)) }
+    ensures read { IfOk result (λ found. IfSome found (λ rows. AreRowsOf listing.now sizes.now rows.items)) }
+    ensures whole { (first : ℕ) (rows : List SegmentRow) → AreRowsOf listing.now sizes.now rows →
+        ArePicked (picks_of picked.now) first rows → IfOk result (λ found. IsSomeAnd found (λ it. it.items ≡ rows)) }
 {
     if sizes.len() != listing.entries.len() {
         return Ok(None);
@@ -58,7 +71,7 @@ fn read_rows(
             return Ok(None);
         };
         let row = row_of(alloc, *entry, sizes[place], frames)?;
-        if !is_next(listing.target, listing.sequence + place as u64, &row) {
+        if !may_follow(listing.target, listing.sequence + place as u64, &row) {
             return Ok(None);
         }
         rows.push(row)?;
@@ -70,6 +83,7 @@ fn read_rows(
 fn row_of(alloc: Global, entry: Entry, size: u64, frames: &[FrameRow]) -> Result<Row, AllocError>
     ensures entry { IfOk result (λ row. entry_of row ≡ entry) }
     ensures size { IfOk result (λ row. row.size ≡ size) }
+    ensures frames { IfOk result (λ row. row.frames ≡ frames.now) }
 {
     Ok(Row {
         number: entry.number,
@@ -79,6 +93,20 @@ fn row_of(alloc: Global, entry: Entry, size: u64, frames: &[FrameRow]) -> Result
         discontinuity: entry.discontinuity,
         frames: Vec::from_slice(alloc, frames)?,
     })
+}
+
+/// Whether a row may have this number and come behind those before it, and its I-frames lie within its file.
+fn may_follow(target: u64, number: u64, row: &Row) -> bool
+    ensures { Decides result (IsNextRow target number row.now × All (LiesWithin row.now.size) row.now.frames) }
+{
+    is_next(target, number, row) && row.frames.iter().all(|frame| lies_within(row.size, *frame))
+}
+
+/// Whether an I-frame lies within a file of this size.
+fn lies_within(size: u64, frame: FrameRow) -> bool
+    ensures { Decides result (LiesWithin size frame) }
+{
+    frame.len <= size && frame.offset <= size - frame.len
 }
 
 /// Whether a row may have this number and come behind those before it.

@@ -1,6 +1,6 @@
 //! A rendition goes on from its playlists.
 
-ghost use Rattle.std.specs.Prelude.{◌≡◌, ◌≤◌, ◌⊎◌, false, length, IfOk, IfErr, IfSome, OnOk, IsErrOf, Decides};
+ghost use Rattle.std.specs.Prelude.{◌≡◌, ◌≤◌, ◌⊎◌, false, length, IfOk, IfErr, IfSome, IsSomeAnd, MatchResult, OnOk, IsErrOf, Decides};
 ghost use Rattle.limits.specs.declared.TheConstants.{MOST_TARGET};
 ghost use Rattle.playlist_text.specs.Lines.{text_of};
 ghost use Rattle.media_playlist.specs.Lines.{iframe_lines};
@@ -8,7 +8,7 @@ ghost use Rattle.media_reading.specs.MediaTexts.{IsListing};
 ghost use Rattle.ladder_items.specs.Ladder;
 ghost use Rattle.resume.specs.declared.fault.ResumeFault as TheFault;
 ghost use Rattle.resume.specs.Wanting.{IsWithin, IsRefused, IsAsWanted};
-ghost use Rattle.resume.specs.Restoring.{window_over, MayGoOn, IsRestored};
+ghost use Rattle.resume.specs.Restoring.{RestoredValue, window_over, MayGoOn, IsRestored};
 
 use crate::fault::ResumeFault;
 use crate::reading_back::read_back;
@@ -22,8 +22,9 @@ use std::alloc::{AllocError, Global};
 /// sizes of the files of the listed segments in bytes, one for each.
 ///
 /// The I-frames are read out of the text, and the text is written again: where it isn't the same, byte for byte, that is
-/// Foreign. So nothing that was read is taken on trust. A playlist that the run doesn't go on from is told before the text is
-/// read: that it has ended, then another target duration, another salt, another kind, and that its numbers are used up.
+/// Foreign, as it is where an I-frame doesn't lie within its file. So nothing that was read is taken on trust, and all that a
+/// packager wrote is taken. A playlist that the run doesn't go on from is told before the text is read: that it has ended,
+/// then another target duration, another salt, another kind, and that its numbers are used up.
 pub fn restore(
     alloc: Global,
     name: &str,
@@ -34,6 +35,10 @@ pub fn restore(
 ) -> Result<Restored, ResumeFault>
     requires { IsListing listing.now }
     ensures ok { IfOk result (IsRestored name.now wanted listing.now frames.now sizes.now) }
+
+    // What the texts are those of is the answer, or there was no memory for it.
+    ensures whole { (r : RestoredValue) → IsRestored name.now wanted listing.now frames.now sizes.now r →
+        MatchResult result (λ found. found ≡ r) (λ fault. fault ≡ ResumeFault.NoMemory) }
     ensures refused { (fault : TheFault.ResumeFault) → IsRefused wanted listing.now fault → IsErrOf result fault }
     ensures err { IfErr result (λ fault. IsRefused wanted listing.now fault
         ⊎ (IsAsWanted wanted listing.now × ((fault ≡ ResumeFault.Foreign) ⊎ (fault ≡ ResumeFault.NoMemory)))) }
@@ -100,7 +105,9 @@ fn restored_of(
 ) -> Result<Option<Restored>, AllocError>
     requires listing { IsListing listing.now }
     requires wanted { IsAsWanted wanted listing.now }
-    ensures { IfOk result (λ found. IfSome found (IsRestored name.now wanted listing.now frames.now sizes.now)) }
+    ensures restored { IfOk result (λ found. IfSome found (IsRestored name.now wanted listing.now frames.now sizes.now)) }
+    ensures whole { (r : RestoredValue) → IsRestored name.now wanted listing.now frames.now sizes.now r →
+        IfOk result (λ found. IsSomeAnd found (λ it. it ≡ r)) }
 {
     if !is_named(listing, name) {
         return Ok(None);

@@ -54,7 +54,9 @@ fn goes_on(
         discontinuities: breaks,
     };
     assert!(rt;
-        from.gone == gone && from.next == count && from.earlier.len() as u64 == count - rows
+        from.gone == gone
+            && from.next == count
+            && from.earlier.len() as u64 == count.saturating_sub(rows)
     );
     for (i, earlier) in from.earlier.iter().enumerate() {
         let number = rows + i as u64;
@@ -65,9 +67,11 @@ fn goes_on(
         return Err(ResumeFault::NoMemory);
     };
     assert_alike(rt, &whole, &later, true)?;
-    for number in count..count + 20 {
-        assert!(rt; give(rt, alloc, &mut whole, number, number + 1).is_ok());
-        assert!(rt; give(rt, alloc, &mut later, number, number + 1).is_ok());
+    for i in 0..20 {
+        let number = count.saturating_add(i);
+        let behind = number.saturating_add(1);
+        assert!(rt; give(rt, alloc, &mut whole, number, behind).is_ok());
+        assert!(rt; give(rt, alloc, &mut later, number, behind).is_ok());
         assert_alike(rt, &whole, &later, number % 2 == 0)?;
     }
     Ok(())

@@ -1,0 +1,38 @@
+use Rattle.std.proofs.Common.{◌≢◌, [], ◌∷◌, ◌++◌, sym, ap, ◌∙◌, append-nil}
+use Rattle.std.proofs.lemmas.List.Elements.{All-nil, All-cons, All-append}
+use Rattle.std.proofs.lemmas.Option.{MatchOption-at_some, MatchOption-at_none}
+use Rattle.playlist_text.specs.Lines.{text_of}
+use Rattle.playlist_text.proofs.TextLines.{text_of-nil}
+use Rattle.media_reading.specs.MediaTexts.{IsLine}
+use Rattle.media_reading.proofs.Splitting.{text-more, lines-same}
+use Rattle.resume.specs.Picking.{no_picks, pick_lines}
+use Rattle.resume.specs.Picked.{picks_of}
+use Rattle.resume.proofs.PickedLines.{picks-more}
+use Rattle.resume.proofs.picking.pick.Goals as goal
+
+pub line-init : goal.line-init
+unfolding pick_lines
+line-init c = record {
+  lines = [];
+  whole = ap (λ x. x ++ c.as_bytes-rest.result.now) text_of-nil ∙ c.as_bytes-rest.ensures.value;
+  each = All-nil IsLine;
+  picked = c.new-picked.ensures;
+}
+
+pub line-preserved : goal.line-preserved
+line-preserved c =
+    let held = c.line.invariant in
+    let parts = MatchOption-at_some _ _ _ c.in-Some.is c.split_line.ensures in
+    record {
+      lines = held.lines ++ c.in-Some.line.now ∷ [];
+      whole = text-more held.lines c.in-Some.line.now c.in-Some.behind.now c.line.rest.now c.args.text.now held.whole parts.1;
+      each = All-append IsLine held.lines (c.in-Some.line.now ∷ []) held.each (All-cons IsLine c.in-Some.line.now [] parts.0 (All-nil IsLine));
+      picked = c.in_ok-take.ensures ∙ picks-more no_picks (picks_of c.line.picked) held.lines c.in-Some.line.now held.picked;
+    }
+
+pub returns : goal.returns
+returns c = λ lines each is.
+    let held = c.line.invariant in
+    let open_end : IsLine c.line.rest.now = MatchOption-at_none _ _ c.in_default.is c.split_line.ensures in
+    let same = lines-same held.lines lines c.line.rest.now [] held.each each open_end (All-nil (λ b. b ≢ 10)) (held.whole ∙ is ∙ sym (append-nil (text_of lines))) in
+    held.picked ∙ ap (pick_lines no_picks) same.0
