@@ -1,9 +1,13 @@
+pub mod Results
 pub mod Names
 pub mod Placing
 pub mod Kills
 pub mod Rolling
+pub mod Pruning
+pub mod OtherMoves
 pub mod PowerLoss
 pub mod Stops
 pub mod Losses
+pub mod PruningLosses
 pub mod Playing
 pub mod Finding

@@ -5,6 +5,7 @@ pub mod Puts
 pub mod Prefixes
 pub mod StagedFiles
 pub mod Rolling
+pub mod Pruning
 pub mod Playing
 pub mod PowerLoss
 pub mod Syncing

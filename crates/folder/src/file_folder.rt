@@ -64,6 +64,8 @@ impl<R: Files> Folder for FileFolder<R> {
 
     ghost made = { λ f. file_moves f };
 
+    ghost pruned = { λ f. [] };
+
     fn write(&mut self, name: &str, bytes: &[u8]) -> Result<(), FolderFault> {
         let path = self.path_of(name)?;
         match write_anew(&self.files, path.as_path(), bytes, self.syncs) {
@@ -93,7 +95,9 @@ impl<R: Files> Folder for FileFolder<R> {
 
     fn remove(&mut self, name: &str) -> Result<(), FolderFault> {
         let path = self.path_of(name)?;
-        if fs::remove_file(&self.files, path.as_path()).is_err() {
+        if let Err(fault) = fs::remove_file(&self.files, path.as_path())
+            && fault.kind() != io::ErrorKind::NotFound
+        {
             return Err(FolderFault);
         }
         note_remove(&mut self.made, name);

@@ -1,4 +1,4 @@
-ghost use Rattle.std.specs.Prelude.{◌≡◌, ◌++◌, ◌∷◌, [], List, IfOk, OnOk, OnErr};
+ghost use Rattle.std.specs.Prelude.{◌≡◌, ◌++◌, ◌∷◌, [], ℕ, List, IfOk, OnOk, OnErr};
 ghost use Rattle.folder.specs.Moves.{Move, Write, Rename, Remove, Looked, Sync};
 ghost use Rattle.folder.specs.Kills.{IsFailedWrite};
 
@@ -13,29 +13,37 @@ pub trait Folder {
     /// `KillMayLeave` says what is left then.
     ghost made: { Self → List Move };
 
+    /// The names of the files that were taken away besides, unknown to whoever puts files into it: by no method of this trait.
+    ghost pruned: { Self → List (List ℕ) };
+
     /// Writes a file anew, whether there is one of its name or not.
     fn write(&mut self, name: &str, bytes: &[u8]) -> Result<(), FolderFault>
         ensures made { OnOk result (made self.new ≡ made self.old ++ Write name.now bytes.now ∷ []) }
         ensures cut_off { OnErr result ((more : List Move) × (made self.new ≡ made self.old ++ more) ×
-            IsFailedWrite name.now bytes.now more) };
+            IsFailedWrite name.now bytes.now more) }
+        ensures pruned { pruned self.new ≡ pruned self.old };
 
     /// Gives a file another name, in one step. A file that has that name is replaced (POSIX rename(2)).
     fn rename(&mut self, old: &str, new: &str) -> Result<(), FolderFault>
         ensures made { OnOk result (made self.new ≡ made self.old ++ Rename old.now new.now ∷ []) }
-        ensures kept { OnErr result (made self.new ≡ made self.old) };
+        ensures kept { OnErr result (made self.new ≡ made self.old) }
+        ensures pruned { pruned self.new ≡ pruned self.old };
 
-    /// Removes a file (POSIX unlink(2)).
+    /// Removes a file (POSIX unlink(2)). There may be none of its name.
     fn remove(&mut self, name: &str) -> Result<(), FolderFault>
         ensures made { OnOk result (made self.new ≡ made self.old ++ Remove name.now ∷ []) }
-        ensures kept { OnErr result (made self.new ≡ made self.old) };
+        ensures kept { OnErr result (made self.new ≡ made self.old) }
+        ensures pruned { pruned self.new ≡ pruned self.old };
 
     /// Whether there is a file of a name.
     fn has(&mut self, name: &str) -> Result<bool, FolderFault>
         ensures made { IfOk result (λ there. made self.new ≡ made self.old ++ Looked name.now there ∷ []) }
-        ensures kept { OnErr result (made self.new ≡ made self.old) };
+        ensures kept { OnErr result (made self.new ≡ made self.old) }
+        ensures pruned { pruned self.new ≡ pruned self.old };
 
     /// Waits until all that was done to the folder is on the disk (POSIX fsync(2)).
     fn sync(&mut self) -> Result<(), FolderFault>
         ensures made { OnOk result (made self.new ≡ made self.old ++ Sync ∷ []) }
-        ensures kept { OnErr result (made self.new ≡ made self.old) };
+        ensures kept { OnErr result (made self.new ≡ made self.old) }
+        ensures pruned { pruned self.new ≡ pruned self.old };
 }

@@ -5,6 +5,7 @@ ghost use Rattle.folder.specs.Kills.{KillMayLeave};
 ghost use Rattle.folder.specs.Puts.{Put, MayBePut, after_puts, moves_of, placings, put_names, staged_after};
 ghost use Rattle.folder.specs.Prefixes.{HasPrefix, IsFailedPut};
 ghost use Rattle.folder.specs.Rolling.{AreSeen, rolling_moves};
+ghost use Rattle.folder.specs.Pruning.{AreFromHidden, IsPrunedAt, IsPrunedAtLoss};
 ghost use Rattle.folder.specs.Playing.{AreListedInTurn, IsPlayablePrefix, Lists};
 ghost use Rattle.folder.specs.PowerLoss.{PowerLossMayLeave, disk_after, synced_moves_of, synced_placings};
 
@@ -73,4 +74,13 @@ pub fn all_are_on_the_disk()
         Shows (standing files (synced_moves_of puts)) (after_puts files puts) }
     ensures disk { (files : Files) (puts : List Put) → MayBePut [] puts → staged_after [] puts ≡ [] →
         (left : Files) → disk_after files (Same files) (synced_moves_of puts) left → Shows left (after_puts files puts) }
+{}
+
+/// Where old files are taken away from a folder, each kill leaves what it would have left without that, but that files which
+/// were taken away before may be missing. So does each loss of power.
+pub fn each_kill_leaves_all_but_what_was_pruned()
+    ensures kill { (files : Files) (moves : List Move) → AreFromHidden moves →
+        (left : Files) → KillMayLeave files moves left → IsPrunedAt files moves left }
+    ensures power { (files : Files) (moves : List Move) → AreFromHidden moves →
+        (left : Files) → PowerLossMayLeave files (Same files) moves left → IsPrunedAtLoss files moves left }
 {}

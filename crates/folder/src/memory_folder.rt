@@ -52,6 +52,8 @@ impl Folder for MemoryFolder {
 
     ghost made = { λ f. moves_in_memory f };
 
+    ghost pruned = { λ f. [] };
+
     fn write(&mut self, name: &str, bytes: &[u8]) -> Result<(), FolderFault> {
         if self.fails() {
             return Err(FolderFault);

@@ -1,5 +1,7 @@
-ghost use Rattle.std.specs.Prelude.{◌≡◌, ◌+◌, ◌<◌, ◌^◌, ◌∷◌, [], true, false, IsErr, OnOk, OnErr};
+ghost use Rattle.std.specs.Prelude.{◌≡◌, ◌+◌, ◌<◌, ◌^◌, ◌∷◌, ◌++◌, [], true, false, IsErr, OnOk, OnErr};
 ghost use Rattle.folder.specs.FileFolders.{file_moves};
+ghost use Rattle.folder.specs.Moves.{Remove};
+ghost use Rattle.folder.specs.Pruning.{other_moves};
 ghost use Rattle.item_io.specs.Items.{item_value};
 ghost use Rattle.item_io.specs.FileNames.{is_named};
 ghost use Rattle.item_io.specs.FolderMoves.{HoldsFiles, HoldsFilesUpTo, new_outlet};
@@ -10,7 +12,7 @@ use crate::fault::OutletFault;
 use crate::folder_put::put_file;
 use crate::item::Item;
 use crate::outlet::Outlet;
-use folder::{FileFolder, Folder, StagedFile};
+use folder::{FileFolder, Folder, PruningFolder, StagedFile};
 use std::alloc::Global;
 use std::fs::Files;
 use std::marker::Model;
@@ -86,12 +88,37 @@ impl<F: Folder> FolderOutlet<F> {
         }
     }
 
+    /// Counts a put that failed before anything was done to the folder: from there on every put fails.
+    pub fn refuse(&mut self) -> OutletFault
+        requires { self.old.failures < 2 ^ 63 }
+        ensures { self.new ≡ record self.old { failures = self.old.failures + 1 } }
+    {
+        self.failures += 1;
+        OutletFault
+    }
+
     /// The folder, with what was done to it.
     pub fn into_folder(self) -> F
         ensures { result ≡ self.folder }
     {
         let FolderOutlet { folder, .. } = self;
         folder
+    }
+}
+
+impl<F: Folder> FolderOutlet<PruningFolder<F>> {
+    /// Takes away a file that is served: what the outlet holds, and what became of it, is told without that. There may be none
+    /// of its name.
+    pub fn prune(&mut self, name: &str) -> Result<(), OutletFault>
+        ensures made { OnOk result (F.made self.new.folder ≡ F.made self.old.folder ++ Remove name.now ∷ []) }
+        ensures kept { OnErr result (F.made self.new.folder ≡ F.made self.old.folder) }
+        ensures others { other_moves (F.made self.new.folder) ≡ other_moves (F.made self.old.folder) }
+        ensures same { self.new ≡ record self.old { folder = self.new.folder } }
+    {
+        if self.folder.prune(name).is_err() {
+            return Err(OutletFault);
+        }
+        Ok(())
     }
 }
 
@@ -119,6 +146,7 @@ impl<F: Folder> Outlet for FolderOutlet<F> {
         ensures stays { 0 < self.old.failures → IsErr result }
         ensures syncs { self.new.syncs ≡ self.old.syncs }
         ensures untouched { 0 < self.old.failures → self.new.folder ≡ self.old.folder }
+        ensures pruned { F.pruned self.new.folder ≡ F.pruned self.old.folder }
     {
         if self.failures > 0 {
             self.failures += 1;

@@ -27,6 +27,7 @@ pub(crate) fn put_file<F: Folder>(
     ensures stopped { OnErr result (IsBegunPut syncs (F.made folder.old) (F.made folder.new)
         (staged_names staged.old.items) (put_of (item_value item.now))) }
     ensures named { OnOk result (is_named (item_value item.now) ≡ true) }
+    ensures pruned { F.pruned folder.new ≡ F.pruned folder.old }
 {
     if !is_named(item) {
         return Err(OutletFault);
@@ -74,6 +75,7 @@ fn place_block<F: Folder>(
 ) -> Result<(), OutletFault>
     ensures ok { OnOk result (F.made folder.new ≡ F.made folder.old ++ renaming_block syncs (staged_names staged.now)) }
     ensures err { OnErr result (IsBegun (F.made folder.old) (F.made folder.new) (renaming_block syncs (staged_names staged.now))) }
+    ensures pruned { F.pruned folder.new ≡ F.pruned folder.old }
 {
     if sync_if(folder, syncs).is_err() {
         return Err(OutletFault);
@@ -92,6 +94,7 @@ fn place_each<F: Folder>(
 ) -> Result<(), OutletFault>
     ensures ok { OnOk result (F.made folder.new ≡ F.made folder.old ++ renaming_each syncs (staged_names staged.now)) }
     ensures err { OnErr result (IsBegun (F.made folder.old) (F.made folder.new) (renaming_each syncs (staged_names staged.now))) }
+    ensures pruned { F.pruned folder.new ≡ F.pruned folder.old }
 {
     for file in staged {
         if place(folder, file, syncs).is_err() {
@@ -105,6 +108,7 @@ fn place_each<F: Folder>(
 fn place<F: Folder>(folder: &mut F, file: &StagedFile, syncs: bool) -> Result<(), OutletFault>
     ensures ok { OnOk result (F.made folder.new ≡ F.made folder.old ++ renaming (staged_file_names file.now) ∷ syncing syncs) }
     ensures err { OnErr result (IsBegun (F.made folder.old) (F.made folder.new) (renaming (staged_file_names file.now) ∷ syncing syncs)) }
+    ensures pruned { F.pruned folder.new ≡ F.pruned folder.old }
 {
     if folder
         .rename(file.part.as_str(), file.name.as_str())
@@ -120,6 +124,7 @@ fn sync_if<F: Folder>(folder: &mut F, syncs: bool) -> Result<(), OutletFault>
     ensures ok { OnOk result (F.made folder.new ≡ F.made folder.old ++ syncing syncs) }
     ensures err { OnErr result (F.made folder.new ≡ F.made folder.old) }
     ensures should { OnErr result (syncs ≡ true) }
+    ensures pruned { F.pruned folder.new ≡ F.pruned folder.old }
 {
     if !syncs {
         return Ok(());

@@ -1,0 +1,92 @@
+ghost use Rattle.std.specs.Prelude.{◌≡◌, ◌++◌, ◌∷◌, [], true, IsErr, OnErr, OnOk};
+ghost use Rattle.folder.specs.Moves.{Remove, is_hidden};
+ghost use Rattle.folder.specs.Pruning.{other_moves, pruned_names};
+
+use crate::fault::FolderFault;
+use crate::folder::Folder;
+use std::marker::Model;
+
+/// A folder from which old files are taken away by `prune`, and which doesn't count that among the moves made: whoever puts
+/// files into it need not know. Contracts see it as the folder below, whose moves are all that was done.
+///
+/// Files are written under hidden names, those that begin with a point, and renamed from there: a file that is served is taken
+/// away by `prune` alone, and `write` and `remove` refuse its name.
+#[derive(Drop)]
+pub struct PruningFolder<F> {
+    folder: F,
+}
+
+impl<F> Model for PruningFolder<F> {
+    ghost Value = { F };
+
+    ghost view = { λ p. p.folder };
+}
+
+impl<F: Folder> PruningFolder<F> {
+    /// Over a folder.
+    pub fn new(folder: F) -> PruningFolder<F>
+        ensures { result ≡ folder }
+    {
+        PruningFolder { folder }
+    }
+
+    /// Takes away a file that is served. One that is hidden is refused.
+    pub fn prune(&mut self, name: &str) -> Result<(), FolderFault>
+        ensures made { OnOk result (F.made self.new ≡ F.made self.old ++ Remove name.now ∷ []) }
+        ensures kept { OnErr result (F.made self.new ≡ F.made self.old) }
+        ensures others { other_moves (F.made self.new) ≡ other_moves (F.made self.old) }
+        ensures hidden { is_hidden name.now ≡ true → IsErr result }
+    {
+        if is_hidden(name) {
+            return Err(FolderFault);
+        }
+        self.folder.remove(name)
+    }
+
+    /// The folder below.
+    pub fn into_folder(self) -> F
+        ensures { result ≡ self }
+    {
+        let PruningFolder { folder } = self;
+        folder
+    }
+}
+
+impl<F: Folder> Folder for PruningFolder<F> {
+    ghost made = { λ p. other_moves (F.made p) };
+
+    ghost pruned = { λ p. pruned_names (F.made p) };
+
+    fn write(&mut self, name: &str, bytes: &[u8]) -> Result<(), FolderFault> {
+        if !is_hidden(name) {
+            return Err(FolderFault);
+        }
+        self.folder.write(name, bytes)
+    }
+
+    fn rename(&mut self, old: &str, new: &str) -> Result<(), FolderFault> {
+        self.folder.rename(old, new)
+    }
+
+    fn remove(&mut self, name: &str) -> Result<(), FolderFault> {
+        if !is_hidden(name) {
+            return Err(FolderFault);
+        }
+        self.folder.remove(name)
+    }
+
+    fn has(&mut self, name: &str) -> Result<bool, FolderFault> {
+        self.folder.has(name)
+    }
+
+    fn sync(&mut self) -> Result<(), FolderFault> {
+        self.folder.sync()
+    }
+}
+
+/// Whether a name begins with a point: then nobody is served the file.
+fn is_hidden(name: &str) -> bool
+    ensures { result ≡ is_hidden name.now }
+{
+    name.as_bytes().first() == Some(&b'.')
+}
