@@ -1,7 +1,7 @@
 //! Which settings are allowed.
 use crate::run::{CUT, WELL, rendition, run};
 use cutter::CutSettings;
-use pipeline::{Gone, Kind, PackFault, Rendition, Settings};
+use pipeline::{FrameRow, Gone, Kind, PackFault, Rendition, Row, Settings};
 use std::alloc::Global;
 use std::test::Fail;
 
@@ -117,6 +117,67 @@ fn a_run_begins_behind_what_came_before(rt: HostRuntime) -> Result<(), Fail> {
             behind(rt.alloc(), kind, first, gone)?,
             allowed,
             "{kind:?} {first} {gone:?}"
+        );
+    }
+    Ok(())
+}
+
+/// A row of one I-frame that lasts as long.
+fn one_row(alloc: Global, number: u64, key: u64, micros: u64) -> Result<Row, Fail> {
+    let mut frames = Vec::new(alloc);
+    frames.push(FrameRow {
+        offset: 376,
+        len: 188,
+        micros,
+    })?;
+    Ok(Row {
+        number,
+        size: 940,
+        micros,
+        key,
+        discontinuity: false,
+        frames,
+    })
+}
+
+/// Whether a rendition is allowed whose first segment is number 7, behind five that are gone and the rows of two others.
+fn behind_rows(alloc: Global, numbers: [u64; 2], key: u64, micros: u64) -> Result<bool, Fail> {
+    let first_run = rendition(alloc, "v", 1, 1, None)?;
+    let mut earlier = Vec::new(alloc);
+    for number in numbers {
+        earlier.push(one_row(alloc, number, key, micros)?)?;
+    }
+    let gone = Gone {
+        rows: 5,
+        frames: 9,
+        discontinuities: 1,
+    };
+    let behind = Rendition {
+        keys: first_run.keys.behind(7),
+        gone,
+        earlier,
+        ..first_run
+    };
+    alone(alloc, behind, CUT, 5, 4)
+}
+
+#[test]
+fn earlier_rows_follow_on_one_another(rt: HostRuntime) -> Result<(), Fail> {
+    let table = [
+        ([5, 6], 0, 6_000_000, true),
+        ([5, 6], 4_095, 6_499_999, true),
+        ([5, 6], 4_096, 6_000_000, false),
+        ([5, 6], 0, 6_500_000, false),
+        ([5, 6], 0, 0, false),
+        ([5, 7], 0, 6_000_000, false),
+        ([6, 7], 0, 6_000_000, false),
+        ([5, 5], 0, 6_000_000, false),
+    ];
+    for (numbers, key, micros, allowed) in table {
+        assert_eq!(rt;
+            behind_rows(rt.alloc(), numbers, key, micros)?,
+            allowed,
+            "{numbers:?} {key} {micros}"
         );
     }
     Ok(())
