@@ -5,6 +5,7 @@ pub mod Kills
 pub mod Rolling
 pub mod Pruning
 pub mod OtherMoves
+pub mod FromHidden
 pub mod PowerLoss
 pub mod Stops
 pub mod Losses

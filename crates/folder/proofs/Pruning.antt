@@ -2,8 +2,8 @@
 use Rattle.std.specs.Prelude.{if◌then◌else◌, not}
 use Rattle.std.specs.Str.{bytes_eq}
 use Rattle.std.proofs.lemmas.Slice.Eq.{bytes_eq-Decides}
-use Rattle.std.proofs.Common.{◌≡◌, ◌≢◌, ℕ, Bool, true, false, Option, Some, None, List, [], ◌∷◌, ◌++◌, refl, sym, ap, ◌∙◌, subst, inl, inr, ◌⊎◌}
-use Rattle.folder.specs.Moves.{Files, Looked, Move, Remove, Rename, Same, Sync, Write, is_hidden, moved, standing, with_file}
+use Rattle.std.proofs.Common.{◌≡◌, ℕ, Bool, true, false, Option, Some, None, List, [], ◌∷◌, ◌++◌, refl, sym, ap, ◌∙◌, subst, inl, inr, ◌⊎◌}
+use Rattle.folder.specs.Moves.{Files, Looked, Move, Remove, Rename, Same, Sync, Write, is_hidden, moved, with_file}
 use Rattle.folder.specs.Kills.{CutOff, KillMayLeave}
 use Rattle.folder.specs.Pruning.{AreAt, AreFromHidden, IsPrunedAt, SameBut, WasPruned, is_pruning, other_moves, unless_pruning}
 

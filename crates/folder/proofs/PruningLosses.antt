@@ -1,8 +1,8 @@
 -- What a loss of power leaves of a folder from which old files are taken away.
 use Rattle.std.specs.Prelude.{not}
-use Rattle.std.proofs.Common.{◌≡◌, ℕ, Bool, true, false, Option, Some, None, List, [], ◌∷◌, ◌++◌, refl, sym, ap, ◌∙◌, subst, inl, inr, ◌⊎◌}
+use Rattle.std.proofs.Common.{◌≡◌, ℕ, Bool, true, false, Some, None, List, [], ◌∷◌, ◌++◌, refl, sym, ap, subst, inl, inr, ◌⊎◌}
 use Rattle.folder.specs.Moves.{Files, Looked, Move, Remove, Rename, Same, Sync, Write, is_hidden, moved, with_file}
-use Rattle.folder.specs.PowerLoss.{IsTorn, PowerLossMayLeave, disk_after, disk_behind}
+use Rattle.folder.specs.PowerLoss.{PowerLossMayLeave, disk_after, disk_behind}
 use Rattle.folder.specs.Pruning.{AreFromHidden, IsPrunedAtLoss, SameBut, WasPruned, is_pruning, other_moves, unless_pruning}
 use Rattle.folder.proofs.Pruning.{SameBut-with_file, SameBut-Same, SameBut-more, SameBut-pruned, same-hidden, SameBut-renamed}
 
@@ -67,12 +67,21 @@ follows-write Gone a b a_disk b_disk name bytes follows c (d, on_disk, reach) =
     let f = follows d on_disk in
     elim reach [
       | inl same ↦ (f.0, (f.0, f.1, inl (λ n. refl)), SameBut-Same Gone c d f.0 same f.2)
-      | inr (inl wrote) ↦ (with_file f.0 name (Some bytes), (f.0, f.1, inr (inl (λ n. refl))),
-          SameBut-Same Gone c (with_file d name (Some bytes)) (with_file f.0 name (Some bytes)) wrote (SameBut-with_file Gone d f.0 name (Some bytes) f.2))
-      | inr (inr (inl (torn, is))) ↦ (with_file f.0 name (Some torn), (f.0, f.1, inr (inr (inl (torn, λ n. refl)))),
-          SameBut-Same Gone c (with_file d name (Some torn)) (with_file f.0 name (Some torn)) is (SameBut-with_file Gone d f.0 name (Some torn) f.2))
-      | inr (inr (inr is)) ↦ (with_file f.0 name None, (f.0, f.1, inr (inr (inr (λ n. refl)))),
-          SameBut-Same Gone c (with_file d name None) (with_file f.0 name None) is (SameBut-with_file Gone d f.0 name None f.2))
+      | inr (inl wrote) ↦ (
+        with_file f.0 name (Some bytes),
+        (f.0, f.1, inr (inl (λ n. refl))),
+        SameBut-Same Gone c (with_file d name (Some bytes)) (with_file f.0 name (Some bytes)) wrote (SameBut-with_file Gone d f.0 name (Some bytes) f.2),
+      )
+      | inr (inr (inl (torn, is))) ↦ (
+        with_file f.0 name (Some torn),
+        (f.0, f.1, inr (inr (inl (torn, λ n. refl)))),
+        SameBut-Same Gone c (with_file d name (Some torn)) (with_file f.0 name (Some torn)) is (SameBut-with_file Gone d f.0 name (Some torn) f.2),
+      )
+      | inr (inr (inr is)) ↦ (
+        with_file f.0 name None,
+        (f.0, f.1, inr (inr (inr (λ n. refl)))),
+        SameBut-Same Gone c (with_file d name None) (with_file f.0 name None) is (SameBut-with_file Gone d f.0 name None f.2),
+      )
     ]
 
 follows-rename : (Gone : List ℕ → Type 0) (a b : Files) (a_disk b_disk : Files → Type 0) (old new : List ℕ) → ((name : List ℕ) → Gone name → is_hidden name ≡ false) → is_hidden old ≡ true →
@@ -81,8 +90,11 @@ follows-rename Gone a b a_disk b_disk old new shown hidden follows c (d, on_disk
     let f = follows d on_disk in
     elim reach [
       | inl same ↦ (f.0, (f.0, f.1, inl (λ n. refl)), SameBut-Same Gone c d f.0 same f.2)
-      | inr did ↦ (moved f.0 (Rename old new), (f.0, f.1, inr (λ n. refl)),
-          SameBut-Same Gone c (moved d (Rename old new)) (moved f.0 (Rename old new)) did (SameBut-renamed Gone d f.0 old new f.2 (same-hidden Gone d f.0 old f.2 shown hidden)))
+      | inr did ↦ (
+        moved f.0 (Rename old new),
+        (f.0, f.1, inr (λ n. refl)),
+        SameBut-Same Gone c (moved d (Rename old new)) (moved f.0 (Rename old new)) did (SameBut-renamed Gone d f.0 old new f.2 (same-hidden Gone d f.0 old f.2 shown hidden)),
+      )
     ]
 
 follows-remove : (Gone : List ℕ → Type 0) (a b : Files) (a_disk b_disk : Files → Type 0) (name : List ℕ) → Follows Gone a_disk b_disk →
@@ -91,8 +103,11 @@ follows-remove Gone a b a_disk b_disk name follows c (d, on_disk, reach) =
     let f = follows d on_disk in
     elim reach [
       | inl same ↦ (f.0, (f.0, f.1, inl (λ n. refl)), SameBut-Same Gone c d f.0 same f.2)
-      | inr did ↦ (with_file f.0 name None, (f.0, f.1, inr (λ n. refl)),
-          SameBut-Same Gone c (with_file d name None) (with_file f.0 name None) did (SameBut-with_file Gone d f.0 name None f.2))
+      | inr did ↦ (
+        with_file f.0 name None,
+        (f.0, f.1, inr (λ n. refl)),
+        SameBut-Same Gone c (with_file d name None) (with_file f.0 name None) did (SameBut-with_file Gone d f.0 name None f.2),
+      )
     ]
 
 -- a file that is taken away is on the disk still, or not

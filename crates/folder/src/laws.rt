@@ -5,7 +5,8 @@ ghost use Rattle.folder.specs.Kills.{KillMayLeave};
 ghost use Rattle.folder.specs.Puts.{Put, MayBePut, after_puts, moves_of, placings, put_names, staged_after};
 ghost use Rattle.folder.specs.Prefixes.{HasPrefix, IsFailedPut};
 ghost use Rattle.folder.specs.Rolling.{AreSeen, rolling_moves};
-ghost use Rattle.folder.specs.Pruning.{AreFromHidden, IsPrunedAt, IsPrunedAtLoss};
+ghost use Rattle.folder.specs.Pruning.{AreFromHidden, IsPrunedAt, IsPrunedAtLoss, other_moves};
+ghost use Rattle.folder.specs.Syncing.{moves_when};
 ghost use Rattle.folder.specs.Playing.{AreListedInTurn, IsPlayablePrefix, Lists};
 ghost use Rattle.folder.specs.PowerLoss.{PowerLossMayLeave, disk_after, synced_moves_of, synced_placings};
 
@@ -74,6 +75,12 @@ pub fn all_are_on_the_disk()
         Shows (standing files (synced_moves_of puts)) (after_puts files puts) }
     ensures disk { (files : Files) (puts : List Put) → MayBePut [] puts → staged_after [] puts ≡ [] →
         (left : Files) → disk_after files (Same files) (synced_moves_of puts) left → Shows left (after_puts files puts) }
+{}
+
+/// Files that are put are renamed from hidden names alone, synced or not, whatever is taken away besides.
+pub fn files_come_from_hidden_names()
+    ensures { (syncs : Bool) (puts : List Put) (moves : List Move) → MayBePut [] puts → other_moves moves ≡ moves_when syncs puts →
+        AreFromHidden moves }
 {}
 
 /// Where old files are taken away from a folder, each kill leaves what it would have left without that, but that files which

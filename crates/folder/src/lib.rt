@@ -32,10 +32,9 @@ pub use folder::Folder;
 pub use ghost_move::GhostMove;
 pub use laws::{
     all_are_on_the_disk, all_are_there, each_kill_leaves_a_prefix,
-    each_kill_leaves_all_but_what_was_pruned,
-    each_kill_of_a_failed_put_leaves_a_prefix,
+    each_kill_leaves_all_but_what_was_pruned, each_kill_of_a_failed_put_leaves_a_prefix,
     each_loss_of_power_behind_a_failed_put_leaves_a_prefix, each_loss_of_power_leaves_a_prefix,
-    rolling_forward_leaves_whole_blocks, what_is_left_is_playable,
+    files_come_from_hidden_names, rolling_forward_leaves_whole_blocks, what_is_left_is_playable,
 };
 pub use memory_folder::MemoryFolder;
 pub use memory_move::MemoryMove;

@@ -18,7 +18,7 @@ use Rattle.folder.proofs.Losses.{all-on-disk, all-there-synced, each-killed-stop
 use Rattle.item_io.proofs.Fitting.{blocks-fit, given-fit, puts-append}
 
 -- kills, synced or not
-kill-when : (syncs : Bool) (files : Files) (puts : List Put) → MayBePut [] puts → (left : Files) → KillMayLeave files (moves_when syncs puts) left → HasPrefix files puts left
+pub kill-when : (syncs : Bool) (files : Files) (puts : List Put) → MayBePut [] puts → (left : Files) → KillMayLeave files (moves_when syncs puts) left → HasPrefix files puts left
 kill-when true = each-kill-synced
 kill-when false = each-kill
 

@@ -13,10 +13,11 @@ loop-file-preserved g c =
     let so_far = take n c.args.block.now in
     let made = g.F.Folder.made c.args.folder.now in
     let now = g.F.Folder.made c.roll_one.new.folder in
-    let next : take (n + 1) c.args.block.now ≡ so_far ++ c.file-item.result ∷ [] = search (rules, take_more) in
-    (subst (λ (l : List StagedFile). IsRolled made now (staged_names l)) (sym next)
-    (rolled-more made (g.F.Folder.made c.loop-file.folder) now so_far c.file-item.result c.in-Ok._placed c.loop-file.invariant.0 c.in-Ok.ensures.rolled),
-    c.in-Ok.ensures.pruned ∙ c.loop-file.invariant.1)
+    let next : take (n + 1) c.args.block.now ≡ so_far ++ c.file-item.result ∷ [] = search (rules, take_more) in (
+      subst (λ (l : List StagedFile). IsRolled made now (staged_names l)) (sym next)
+          (rolled-more made (g.F.Folder.made c.loop-file.folder) now so_far c.file-item.result c.in-Ok._placed c.loop-file.invariant.0 c.in-Ok.ensures.rolled),
+      c.in-Ok.ensures.pruned ∙ c.loop-file.invariant.1,
+    )
 
 -- those before it, and a look
 pub returns-in_default-clause-stopped : goal.returns-in_default-clause-stopped

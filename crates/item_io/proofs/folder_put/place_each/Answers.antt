@@ -19,11 +19,12 @@ loop-file-preserved g c =
     let staged = c.args.staged.now in
     let within : n < length staged = search rules in
     let one : suc n ≡ n + 1 = omega arith in
-    let ok : g.F.Folder.made c.place.new.folder ≡ g.F.Folder.made c.loop-file.folder ++ renaming (staged_file_names c.file-item.result) ∷ syncing c.args.syncs = search rules in
-    (ok
-    ∙ ap (λ f. g.F.Folder.made c.loop-file.folder ++ renaming (staged_file_names f) ∷ syncing c.args.syncs) c.file-item.is
-    ∙ ap (λ l. l ++ renaming (staged_file_names (get_or staged n c.file-item.result)) ∷ syncing c.args.syncs) c.loop-file.invariant.0
-    ∙ append_assoc (g.F.Folder.made c.args.folder.now) (renaming_each c.args.syncs (staged_names (take n staged))) (renaming (staged_file_names (get_or staged n c.file-item.result)) ∷ syncing c.args.syncs)
-    ∙ ap (λ l. g.F.Folder.made c.args.folder.now ++ l) (sym (renamed-next c.args.syncs n staged c.file-item.result within))
-    ∙ ap (λ k. g.F.Folder.made c.args.folder.now ++ renaming_each c.args.syncs (staged_names (take k staged))) one,
-    c.place.ensures.pruned ∙ c.loop-file.invariant.1)
+    let ok : g.F.Folder.made c.place.new.folder ≡ g.F.Folder.made c.loop-file.folder ++ renaming (staged_file_names c.file-item.result) ∷ syncing c.args.syncs = search rules in (
+      ok
+          ∙ ap (λ f. g.F.Folder.made c.loop-file.folder ++ renaming (staged_file_names f) ∷ syncing c.args.syncs) c.file-item.is
+          ∙ ap (λ l. l ++ renaming (staged_file_names (get_or staged n c.file-item.result)) ∷ syncing c.args.syncs) c.loop-file.invariant.0
+          ∙ append_assoc (g.F.Folder.made c.args.folder.now) (renaming_each c.args.syncs (staged_names (take n staged))) (renaming (staged_file_names (get_or staged n c.file-item.result)) ∷ syncing c.args.syncs)
+          ∙ ap (λ l. g.F.Folder.made c.args.folder.now ++ l) (sym (renamed-next c.args.syncs n staged c.file-item.result within))
+          ∙ ap (λ k. g.F.Folder.made c.args.folder.now ++ renaming_each c.args.syncs (staged_names (take k staged))) one,
+      c.place.ensures.pruned ∙ c.loop-file.invariant.1,
+    )

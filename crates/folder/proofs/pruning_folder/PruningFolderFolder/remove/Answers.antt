@@ -1,5 +1,5 @@
 use Rattle.std.specs.Prelude.{not}
-use Rattle.std.proofs.Common.{◌∙◌, ap, refl, sym}
+use Rattle.std.proofs.Common.{◌∙◌, ap, sym}
 use Rattle.folder.specs.Moves.{Remove}
 use Rattle.folder.specs.Pruning.{pruned_names}
 use Rattle.folder.proofs.Results.{OnErr-map, OnOk-map, either-way}

@@ -1,5 +1,5 @@
 use Rattle.std.proofs.Common.{ap, refl, sym}
-use Rattle.folder.specs.Moves.{Looked, Remove, Rename, Sync, Write}
+use Rattle.folder.specs.Moves.{Sync}
 use Rattle.folder.specs.Pruning.{other_moves, pruned_names}
 use Rattle.folder.proofs.Results.{OnErr-map, OnOk-map, either-way}
 use Rattle.folder.proofs.OtherMoves.{another, none-by}

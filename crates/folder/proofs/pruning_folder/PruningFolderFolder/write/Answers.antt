@@ -1,4 +1,3 @@
-use Rattle.std.specs.Prelude.{not}
 use Rattle.std.proofs.Common.{◌≡◌, ◌∙◌, true, refl, sym}
 use Rattle.folder.specs.Moves.{Write, is_hidden}
 use Rattle.folder.proofs.Results.{OnErr-map, OnOk-map, either-way}

@@ -1,0 +1,164 @@
+-- What a keeping outlet holds.
+use Rattle.std.specs.Prelude.{length}
+use Rattle.std.specs.List.{Contains}
+use Rattle.std.proofs.Common.{arith, ◌≡◌, ℕ, zero, suc, ◌+◌, ◌<◌, Bool, true, false, List, [], ◌∷◌, ◌++◌, sym, ap, ◌∙◌, subst, inl, inr, append-nil}
+use Rattle.std.proofs.lemmas.List.Elements.{Contains-append_cases}
+use Rattle.folder.specs.Moves.{Move, is_hidden}
+use Rattle.folder.specs.Pruning.{other_moves, pruned_names, unless_hidden}
+use Rattle.folder.proofs.OtherMoves.{pruned_names-append}
+use Rattle.item_io.specs.Items.{ItemValue, FramesItem, MasterItem, MediaItem, SegmentItem}
+use Rattle.item_io.specs.FileNames.{segment_file_name}
+use Rattle.item_io.specs.Outlets.{BreaksOff, Grows, Held, with_items}
+use Rattle.item_io.specs.FolderMoves.{FolderState, HoldsFiles, HoldsFilesUpTo}
+use Rattle.item_io.proofs.Growing.{Grows-nil}
+use Rattle.keeping.specs.Keepings.{AreAsOf, AreGone, AreNotedBy, GoBehind, IsGone, KeepingState, KeepingValue, KeptBy, KeptUpTo, LetsGo, keeping_at, removals}
+use Rattle.keeping.proofs.Telling.{AreSame, gone-all-same, noted-all-same, told-behind, told-more}
+
+-- what was gone is gone still
+gone-still : (old new : List KeepingValue) (name : List ℕ) → AreSame old new → IsGone old name → IsGone new name
+gone-still old new name same gone =
+    let one = same.each gone.r in
+    record {
+      r = gone.r;
+      n = gone.n;
+      one = omega (arith, gone.one, same.len);
+      gone = omega (arith, gone.gone, one.more);
+      named = gone.named ∙ ap (λ (text : List ℕ). segment_file_name text ((keeping_at old gone.r).base + gone.n)) (sym one.name)
+          ∙ ap (λ (b : ℕ). segment_file_name (keeping_at new gone.r).name (b + gone.n)) (sym one.base);
+    }
+
+pub all-gone-still : (names names_then : List (List ℕ)) (old new : List KeepingValue) → names_then ≡ names → AreSame old new → AreGone names old → AreGone names_then new
+all-gone-still names names_then old new is same gone name has = gone-still old new name same (gone name (subst (λ (l : List (List ℕ)). Contains l name) is has))
+
+-- what has one name
+one-name : (name other : List ℕ) → Contains (name ∷ []) other → other ≡ name
+one-name name other (zero, within, is) = sym is
+one-name name other (suc k, within, is) = absurd (omega (arith, within))
+
+in-removals-more : (t : Bool) (name other : List ℕ) (number n : ℕ) → let s = segment_file_name name number in
+    (Contains (pruned_names (removals name (number + 1) n)) other → (k : ℕ) × (k < n) × (other ≡ segment_file_name name (number + 1 + k))) →
+    Contains (unless_hidden t s (pruned_names (removals name (number + 1) n))) other → (k : ℕ) × (k < suc n) × (other ≡ segment_file_name name (number + k))
+in-removals-more true name other number n later has =
+    let l = later has in
+    (suc l.0, omega (arith, l.1), l.2 ∙ ap (segment_file_name name) (omega arith))
+in-removals-more false name other number n later has =
+    elim (Contains-append_cases (segment_file_name name number ∷ []) (pruned_names (removals name (number + 1) n)) other has) [
+      | inl here ↦ (0, omega arith, one-name (segment_file_name name number) other here ∙ ap (segment_file_name name) (omega arith))
+      | inr behind ↦ let l = later behind in (suc l.0, omega (arith, l.1), l.2 ∙ ap (segment_file_name name) (omega arith))
+    ]
+
+-- what is among some that are taken away
+in-removals : (name other : List ℕ) (number n : ℕ) → Contains (pruned_names (removals name number n)) other → (k : ℕ) × (k < n) × (other ≡ segment_file_name name (number + k))
+in-removals name other number zero (k, within, is) = absurd (omega (arith, within))
+in-removals name other number (suc n) has =
+    in-removals-more (is_hidden (segment_file_name name number)) name other number n (in-removals name other (number + 1) n) has
+
+gone-of : (r : ℕ) (old new : List KeepingValue) (made made_then : List Move) → r < length old → AreAsOf r old new (λ before now. LetsGo before now made made_then) → AreSame old new →
+    AreGone (pruned_names made) old → AreGone (pruned_names made_then) new
+gone-of r old new made made_then within did same gone name has =
+    let k = keeping_at old r in
+    let went = did.is in
+    let split : pruned_names made_then ≡ pruned_names made ++ pruned_names (removals k.name (k.base + k.gone) went.count) =
+    ap pruned_names went.made_are ∙ pruned_names-append made (removals k.name (k.base + k.gone) went.count) in
+    elim (Contains-append_cases (pruned_names made) (pruned_names (removals k.name (k.base + k.gone) went.count)) name (subst (λ (l : List (List ℕ)). Contains l name) split has)) [
+      | inl before ↦ gone-still old new name same (gone name before)
+      | inr now ↦
+          let one = in-removals k.name name (k.base + k.gone) went.count now in
+          record {
+            r = r;
+            n = k.gone + one.0;
+            one = omega (arith, within, did.len);
+            gone = omega (arith, one.1, ap (λ (x : KeepingValue). x.gone) went.now);
+            named = one.2 ∙ ap (segment_file_name k.name) (omega arith)
+                ∙ ap (λ (x : KeepingValue). segment_file_name x.name (x.base + (k.gone + one.0))) (sym went.now);
+          }
+    ]
+
+-- segments that go behind an item
+gone-behind : (item : ItemValue) (old new : List KeepingValue) (made made_then : List Move) → GoBehind item old new made made_then → AreGone (pruned_names made) old → AreGone (pruned_names made_then) new
+gone-behind (SegmentItem s) old new made made_then went gone = all-gone-still (pruned_names made) (pruned_names made_then) old new (ap pruned_names went.1) (gone-all-same (SegmentItem s) old new made made_then went) gone
+gone-behind (MediaItem p) old new made made_then went gone = all-gone-still (pruned_names made) (pruned_names made_then) old new (ap pruned_names went.1) (gone-all-same (MediaItem p) old new made made_then went) gone
+gone-behind (FramesItem p) old new made made_then (inl (within, did)) gone = gone-of p.rendition old new made made_then within did (gone-all-same (FramesItem p) old new made made_then (inl (within, did))) gone
+gone-behind (FramesItem p) old new made made_then (inr (beyond, is, same)) gone =
+    all-gone-still (pruned_names made) (pruned_names made_then) old new (ap pruned_names same) (gone-all-same (FramesItem p) old new made made_then (inr (beyond, is, same))) gone
+gone-behind (MasterItem text) old new made made_then went gone = all-gone-still (pruned_names made) (pruned_names made_then) old new (ap pruned_names went.1) (gone-all-same (MasterItem text) old new made made_then went) gone
+
+-- the files of an outlet
+abbrev Holds : {F : Type 0} → (F → List Move) → FolderState F → Held → Type 0
+Holds made f = HoldsFiles f.syncs (other_moves (made f.folder)) f.staged f.failures
+
+-- a put was refused before anything was done
+failed-files : (syncs : Bool) (made : List Move) (staged : _) (f : ℕ) (held : Held) → HoldsFiles syncs made staged f held → HoldsFiles syncs made staged (f + 1) held
+failed-files syncs made staged f held h = record {
+  marked = h.marked;
+  next = h.next;
+  more = h.more;
+  made_are = h.made_are;
+  stopped = h.stopped;
+  none = λ none. absurd (omega (arith, none));
+  staged_are = λ none. absurd (omega (arith, none));
+}
+
+pub refused : {F : Type 0} (made : F → List Move) (o : KeepingState F) (renditions : List KeepingValue) → renditions ≡ o.renditions →
+    Grows (KeptBy made o) (KeptBy made (record { files = record o.files { failures = o.files.failures + 1 }; renditions = renditions; lags = o.lags })) []
+refused {F} made o renditions is = record {
+  follows = λ held h. (Grows-nil (KeptBy made (record { files = record o.files { failures = o.files.failures + 1 }; renditions = renditions; lags = o.lags }))).follows held (record {
+    files = failed-files o.files.syncs (other_moves (made o.files.folder)) o.files.staged o.files.failures held h.files;
+    told = λ none. absurd (omega (arith, none));
+    gone = subst (AreGone (pruned_names (made o.files.folder))) (sym is) h.gone;
+  });
+}
+
+pub refused-first : {F : Type 0} (made : F → List Move) (o : KeepingState F) (renditions : List KeepingValue) (item : ItemValue) → renditions ≡ o.renditions → o.files.failures ≡ 0 →
+    BreaksOff (KeptBy made o) (KeptUpTo made (record { files = record o.files { failures = o.files.failures + 1 }; renditions = renditions; lags = o.lags })) [] item
+refused-first {F} made o renditions item is well = record {
+  follows = λ held h. subst (λ (items : List ItemValue). KeptUpTo made (record { files = record o.files { failures = o.files.failures + 1 }; renditions = renditions; lags = o.lags }) (record { before = held.before; items = items }) item)
+      (sym (append-nil held.items)) (record {
+        files = record { marked = h.files.marked; more = h.files.more; made_are = h.files.made_are; stopped = inl (inl (h.files.none well)) };
+        gone = subst (AreGone (pruned_names (made o.files.folder))) (sym is) h.gone;
+      });
+}
+
+-- a put failed in the folder
+pub put-failed : {F : Type 0} (made : F → List Move) (o n : KeepingState F) (item : ItemValue) → AreNotedBy item o.renditions n.renditions →
+    Grows (Holds made o.files) (Holds made n.files) [] → n.files.failures ≡ o.files.failures + 1 → pruned_names (made n.files.folder) ≡ pruned_names (made o.files.folder) →
+    Grows (KeptBy made o) (KeptBy made n) []
+put-failed made o n item noted grows more same = record {
+  follows = λ held h. record {
+    files = grows.follows held h.files;
+    told = λ none. absurd (omega (arith, none, more));
+    gone = all-gone-still (pruned_names (made o.files.folder)) (pruned_names (made n.files.folder)) o.renditions n.renditions same (noted-all-same item o.renditions n.renditions noted) h.gone;
+  };
+}
+
+pub put-broke : {F : Type 0} (made : F → List Move) (o n : KeepingState F) (item : ItemValue) → AreNotedBy item o.renditions n.renditions →
+    BreaksOff (Holds made o.files) (HoldsFilesUpTo n.files.syncs (other_moves (made n.files.folder))) [] item → pruned_names (made n.files.folder) ≡ pruned_names (made o.files.folder) →
+    BreaksOff (KeptBy made o) (KeptUpTo made n) [] item
+put-broke made o n item noted breaks same = record {
+  follows = λ held h. record {
+    files = breaks.follows held h.files;
+    gone = all-gone-still (pruned_names (made o.files.folder)) (pruned_names (made n.files.folder)) o.renditions n.renditions same (noted-all-same item o.renditions n.renditions noted) h.gone;
+  };
+}
+
+-- an item was put, and segments went behind it
+pub put-well : {F : Type 0} (made : F → List Move) (o m n : KeepingState F) (item : ItemValue) → AreNotedBy item o.renditions m.renditions →
+    Grows (Holds made o.files) (Holds made m.files) (item ∷ []) → m.files.failures ≡ o.files.failures → pruned_names (made m.files.folder) ≡ pruned_names (made o.files.folder) →
+    GoBehind item m.renditions n.renditions (made m.files.folder) (made n.files.folder) → other_moves (made n.files.folder) ≡ other_moves (made m.files.folder) → n.files ≡ record m.files { folder = n.files.folder } →
+    Grows (KeptBy made o) (KeptBy made n) (item ∷ [])
+put-well {F} made o m n item noted grows well same behind others is = record {
+  follows = λ held h.
+      let failures : n.files.failures ≡ m.files.failures = ap (λ (f : FolderState F). f.failures) is in
+      let held_now : Holds made n.files (with_items held (item ∷ [])) =
+      subst (λ (f : FolderState F). HoldsFiles f.syncs (other_moves (made n.files.folder)) f.staged f.failures (with_items held (item ∷ []))) (sym is)
+      (subst (λ (moves : List Move). HoldsFiles m.files.syncs moves m.files.staged m.files.failures (with_items held (item ∷ []))) (sym others) (grows.follows held h.files)) in
+      record {
+        files = held_now;
+        told = λ none.
+            let before : o.files.failures ≡ 0 = omega (arith, none, failures, well) in
+            told-behind item (held.items ++ item ∷ []) m.renditions n.renditions (made m.files.folder) (made n.files.folder) behind
+            (told-more held.items item o.renditions m.renditions noted (h.told before));
+        gone = gone-behind item m.renditions n.renditions (made m.files.folder) (made n.files.folder) behind
+            (all-gone-still (pruned_names (made o.files.folder)) (pruned_names (made m.files.folder)) o.renditions m.renditions same (noted-all-same item o.renditions m.renditions noted) h.gone);
+      };
+}

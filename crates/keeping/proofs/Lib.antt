@@ -1,0 +1,4 @@
+pub mod Removing
+pub mod Telling
+pub mod Keeps
+pub mod Left

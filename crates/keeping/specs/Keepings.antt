@@ -1,0 +1,162 @@
+-- Segments that are taken away from a folder once no player can want them (RFC 8216, 6.2.2).
+use Rattle.std.specs.Prelude.{◌≡◌, ◌≢◌, ◌⊎◌, ℕ, zero, suc, ◌+◌, ◌-◌, ◌<◌, ◌≤◌, ◌==◌, Bool, true, false, not, ◌&&◌, Some, List, [], ◌∷◌, ◌++◌, length, slice_get, slice_index_or}
+use Rattle.std.specs.List.{Contains}
+use Rattle.playlist_text.specs.MediaLines.{Entry, Listing}
+use Rattle.folder.specs.Moves.{Files, Move, Remove}
+use Rattle.folder.specs.Kills.{KillMayLeave}
+use Rattle.folder.specs.Puts.{Names}
+use Rattle.folder.specs.Prefixes.{HasPrefix}
+use Rattle.folder.specs.Pruning.{SameBut, other_moves, pruned_names}
+use Rattle.item_io.specs.Items.{ItemValue, PlaylistValue, SegmentItem, MediaItem, FramesItem, MasterItem}
+use Rattle.item_io.specs.Outlets.{Held}
+use Rattle.item_io.specs.FolderMoves.{FolderState, HoldsFiles, HoldsFilesUpTo, puts_of}
+use Rattle.item_io.specs.FileNames.{segment_file_name}
+use Rattle.media_reading.specs.MediaTexts.{IsListing, listing_text}
+use Rattle.retention.specs.declared.step.Step.{Step}
+use Rattle.retention.specs.Steps.{IsKeptFrom, Kept, MayGo}
+
+-- a rendition whose segments are taken away: its name, the number of its first segment, how many were taken away, and its retention
+pub record KeepingValue : Type 0 where
+  pub name : List ℕ
+  pub base : ℕ
+  pub gone : ℕ
+  pub kept : Kept
+
+-- The step of a media playlist: how long its last segment lasts, and the place of its first one.
+pub record IsStepOf (base : ℕ) (text : List ℕ) (step : Step) : Type 0 where
+  pub listing : Listing
+  pub sound : IsListing listing
+  pub is_text : text ≡ listing_text listing
+  pub last : Entry
+  pub is_last : slice_get listing.entries (length listing.entries - 1) ≡ Some last
+  pub micros : step.micros ≡ last.micros
+  pub first : listing.sequence ≡ base + step.first
+
+-- it was told the next playlist
+pub record IsNoted (old new : KeepingValue) (text : List ℕ) : Type 0 where
+  pub step : Step
+  pub is_step : IsStepOf old.base text step
+  pub now : new ≡ record old { kept = record old.kept { steps = old.kept.steps ++ step ∷ [] } }
+
+-- some segments of a rendition are taken away, from this number on
+abbrev pub removals : List ℕ → ℕ → ℕ → List Move
+removals name number zero = []
+removals name number (suc n) = Remove (segment_file_name name number) ∷ removals name (number + 1) n
+
+-- Some of those that may go were taken away, from the first one on that wasn't before.
+pub record LetsGo (old new : KeepingValue) (made made_then : List Move) : Type 0 where
+  pub count : ℕ
+  pub now : new ≡ record old { gone = old.gone + count }
+  pub may_go : (n : ℕ) → n < old.gone + count → MayGo old.kept.least old.kept.steps n
+  pub made_are : made_then ≡ made ++ removals old.name (old.base + old.gone) count
+
+abbrev pub no_keeping : KeepingValue
+no_keeping = record { name = []; base = 0; gone = 0; kept = record { least = 0; steps = [] } }
+
+abbrev pub keeping_at : List KeepingValue → ℕ → KeepingValue
+keeping_at renditions r = slice_index_or renditions r no_keeping
+
+-- it became of rendition r as `Is` says, and each other one is as it was
+pub record AreAsOf (r : ℕ) (old new : List KeepingValue) (Is : KeepingValue → KeepingValue → Type 0) : Type 0 where
+  pub len : length new ≡ length old
+  pub is : Is (keeping_at old r) (keeping_at new r)
+  pub others : (o : ℕ) → o ≢ r → keeping_at new o ≡ keeping_at old o
+
+-- where there is a rendition r it became so of it
+abbrev pub IfAny : ℕ → List KeepingValue → List KeepingValue → (KeepingValue → KeepingValue → Type 0) → Type 0 → Type 0
+IfAny r old new Is Same = ((r < length old) × AreAsOf r old new Is) ⊎ ((length old ≤ r) × (new ≡ old) × Same)
+
+-- A media playlist is noted for its rendition, unless it is the last, which lists no new segment.
+abbrev pub NotedUnless : Bool → PlaylistValue → List KeepingValue → List KeepingValue → Type 0
+NotedUnless true p old new = new ≡ old
+NotedUnless false p old new = IfAny p.rendition old new (λ before now. IsNoted before now p.text) (Unit {0})
+
+abbrev pub AreNotedBy : ItemValue → List KeepingValue → List KeepingValue → Type 0
+AreNotedBy (SegmentItem s) old new = new ≡ old
+AreNotedBy (MediaItem p) old new = NotedUnless p.ended p old new
+AreNotedBy (FramesItem p) old new = new ≡ old
+AreNotedBy (MasterItem text) old new = new ≡ old
+
+-- Behind the I-frame playlist, the last item of a block, segments of its rendition are taken away.
+abbrev pub GoBehind : ItemValue → List KeepingValue → List KeepingValue → List Move → List Move → Type 0
+GoBehind (SegmentItem s) old new made made_then = (new ≡ old) × (made_then ≡ made)
+GoBehind (MediaItem p) old new made made_then = (new ≡ old) × (made_then ≡ made)
+GoBehind (FramesItem p) old new made made_then = IfAny p.rendition old new (λ before now. LetsGo before now made made_then) (made_then ≡ made)
+GoBehind (MasterItem text) old new made made_then = (new ≡ old) × (made_then ≡ made)
+
+-- none of its segments is left that may go
+abbrev pub AllWent : ItemValue → List KeepingValue → Type 0
+AllWent (SegmentItem s) renditions = Unit {0}
+AllWent (MediaItem p) renditions = Unit {0}
+AllWent (FramesItem p) renditions = p.rendition < length renditions →
+    IsKeptFrom (keeping_at renditions p.rendition).kept.least (keeping_at renditions p.rendition).kept.steps (keeping_at renditions p.rendition).gone
+AllWent (MasterItem text) renditions = Unit {0}
+
+-- the texts of a rendition's media playlists, but for the last
+abbrev pub with_text : Bool → List ℕ → List (List ℕ) → List (List ℕ)
+with_text true text texts = text ∷ texts
+with_text false text texts = texts
+
+abbrev pub texts_of : ℕ → List ItemValue → List (List ℕ)
+texts_of r [] = []
+texts_of r (SegmentItem s ∷ items) = texts_of r items
+texts_of r (MediaItem p ∷ items) = with_text (not p.ended && (p.rendition == r)) p.text (texts_of r items)
+texts_of r (FramesItem p ∷ items) = texts_of r items
+texts_of r (MasterItem text ∷ items) = texts_of r items
+
+-- the steps of these playlists, one each
+abbrev pub AreStepsOf : ℕ → List (List ℕ) → List Step → Type 0
+AreStepsOf base [] [] = Unit {0}
+AreStepsOf base (text ∷ texts) (step ∷ steps) = IsStepOf base text step × AreStepsOf base texts steps
+AreStepsOf base [] (step ∷ steps) = ⊥
+AreStepsOf base (text ∷ texts) [] = ⊥
+
+-- each retention was told the media playlists of its rendition among these items
+abbrev pub AreTold : List KeepingValue → List ItemValue → Type 0
+AreTold renditions items = (r : ℕ) → r < length renditions →
+    AreStepsOf (keeping_at renditions r).base (texts_of r items) (keeping_at renditions r).kept.steps
+
+-- each of these names is that of a segment that was taken away
+pub record IsGone (renditions : List KeepingValue) (name : List ℕ) : Type 0 where
+  pub r : ℕ
+  pub n : ℕ
+  pub one : r < length renditions
+  pub gone : n < (keeping_at renditions r).gone
+  pub named : name ≡ segment_file_name (keeping_at renditions r).name ((keeping_at renditions r).base + n)
+
+abbrev pub AreGone : List (List ℕ) → List KeepingValue → Type 0
+AreGone names renditions = (name : List ℕ) → Contains names name → IsGone renditions name
+
+-- a keeping outlet, as contracts see it: the outlet of files, its renditions, and whether a segment that might go couldn't be removed
+pub record KeepingState (F : Type 0) : Type 0 where
+  pub files : FolderState F
+  pub renditions : List KeepingValue
+  pub lags : Bool
+
+-- The folder's moves, but for what was taken away, are those of the items held; what was taken away are segments that might go, by the
+-- media playlists held.
+pub record HoldsKept (syncs : Bool) (made : List Move) (staged : List Names) (failures : ℕ) (renditions : List KeepingValue) (held : Held) : Type 0 where
+  pub files : HoldsFiles syncs (other_moves made) staged failures held
+  pub told : failures ≡ 0 → AreTold renditions held.items
+  pub gone : AreGone (pruned_names made) renditions
+
+pub record HoldsKeptUpTo (syncs : Bool) (made : List Move) (renditions : List KeepingValue) (held : Held) (item : ItemValue) : Type 0 where
+  pub files : HoldsFilesUpTo syncs (other_moves made) held item
+  pub gone : AreGone (pruned_names made) renditions
+
+-- what a keeping outlet holds
+abbrev pub KeptBy : {F : Type 0} → (F → List Move) → KeepingState F → Held → Type 0
+KeptBy made o = HoldsKept o.files.syncs (made o.files.folder) o.files.staged o.files.failures o.renditions
+
+abbrev pub KeptUpTo : {F : Type 0} → (F → List Move) → KeepingState F → Held → ItemValue → Type 0
+KeptUpTo made o = HoldsKeptUpTo o.files.syncs (made o.files.folder) o.renditions
+
+-- a prefix of these items is left, but that segments which were taken away may be missing
+pub record IsLeftBut (items : List ItemValue) (renditions : List KeepingValue) (files left : Files) : Type 0 where
+  pub whole : Files
+  pub prefix : HasPrefix files (puts_of items) whole
+  pub but : SameBut (IsGone renditions) left whole
+
+-- Whatever stood in the folder before these moves: so it is wherever a kill stops them.
+abbrev pub EachKillLeavesBut : List Move → List ItemValue → List KeepingValue → Type 0
+EachKillLeavesBut made items renditions = (files : Files) (left : Files) → KillMayLeave files made left → IsLeftBut items renditions files left

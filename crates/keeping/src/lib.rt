@@ -1,0 +1,13 @@
+//! An outlet of a folder from which segments go that no playlist lists any more.
+//!
+//! A [`KeepingOutlet`] puts each item into the folder, as a `FolderOutlet` does, and behind each block takes those segments of
+//! its rendition away that may go: [`Keeping`] tells which, by the media playlists that it was told (RFC 8216, 6.2.2).
+#![tactic(auto)]
+
+mod keeping;
+mod laws;
+mod outlet;
+
+pub use keeping::Keeping;
+pub use laws::given_items_are_left_but_what_went;
+pub use outlet::KeepingOutlet;

@@ -1,0 +1,133 @@
+ghost use Rattle.std.specs.Prelude.{◌≡◌, ◌+◌, ◌<◌, ◌^◌, ◌∷◌, [], false, OnErr, OnOk};
+ghost use Rattle.folder.specs.Pruning.{other_moves};
+ghost use Rattle.item_io.specs.Items.{item_value};
+ghost use Rattle.item_io.specs.Outlets.{BreaksOff, Grows};
+ghost use Rattle.item_io.specs.Views.{outlet_view};
+ghost use Rattle.keeping.specs.Keepings.{AllWent, AreNotedBy, GoBehind, KeptBy, KeptUpTo};
+
+use crate::keeping::Keeping;
+use folder::{Folder, PruningFolder};
+use item_io::{FolderOutlet, Item, Outlet, OutletFault};
+use std::alloc::Global;
+use std::marker::Model;
+
+/// An outlet that puts each item into a file of a folder, and behind each block of a rendition takes its segments away that may
+/// go: those that no playlist has listed for their own duration and that of the longest playlist so far (RFC 8216, 6.2.2), in
+/// the stream's own time. What can't be removed is tried again behind the next block of its rendition.
+///
+/// A put fails where a `FolderOutlet` fails, and where a media playlist isn't one, or doesn't go on from the one before.
+#[derive(Drop)]
+pub struct KeepingOutlet<F> {
+    files: FolderOutlet<PruningFolder<F>>,
+    alloc: Global,
+    renditions: Vec<Keeping>,
+    lags: bool,
+}
+
+impl<F> Model for KeepingOutlet<F> {
+    ghost use Rattle.keeping.specs.Keepings.{KeepingState};
+
+    ghost Value = { KeepingState F };
+
+    ghost view = { λ o. record { files = o.files; renditions = o.renditions.items; lags = o.lags } };
+}
+
+impl<F: Folder> KeepingOutlet<F> {
+    /// Over an outlet of files. Rendition r of the items is the one at place r here; what has none there is only put.
+    pub fn new(
+        files: FolderOutlet<PruningFolder<F>>,
+        alloc: Global,
+        renditions: Vec<Keeping>,
+    ) -> KeepingOutlet<F>
+        ensures { result ≡ record { files = files; renditions = renditions.items; lags = false } }
+    {
+        KeepingOutlet {
+            files,
+            alloc,
+            renditions,
+            lags: false,
+        }
+    }
+
+    /// Whether a segment that might go behind the last item couldn't be removed.
+    pub fn lags(&self) -> bool
+        ensures { result ≡ self.now.lags }
+    {
+        self.lags
+    }
+
+    /// The outlet of files.
+    pub fn into_files(self) -> FolderOutlet<PruningFolder<F>>
+        ensures { result ≡ self.files }
+    {
+        let KeepingOutlet { files, .. } = self;
+        files
+    }
+}
+
+impl<F: Folder> Outlet for KeepingOutlet<F> {
+    ghost output = { outlet_view (KeptBy F.made) (KeptUpTo F.made) (λ o. o.files.failures) };
+
+    fn put(&mut self, item: &Item) -> Result<(), OutletFault>
+        requires { self.old.files.failures < 2 ^ 63 }
+        ensures grown { OnOk result (Grows (KeptBy F.made self.old) (KeptBy F.made self.new) (item_value item.now ∷ [])) }
+        ensures ok { OnOk result (self.new.files.failures ≡ self.old.files.failures) }
+        ensures kept { OnErr result (Grows (KeptBy F.made self.old) (KeptBy F.made self.new) []) }
+        ensures refused { OnErr result (self.old.files.failures ≡ 0 →
+            BreaksOff (KeptBy F.made self.old) (KeptUpTo F.made self.new) [] (item_value item.now)) }
+        ensures failed { OnErr result (self.new.files.failures ≡ self.old.files.failures + 1) }
+
+        // All that might go went behind the last item of a block, unless one couldn't be removed.
+        ensures went { OnOk result (self.new.lags ≡ false → AllWent (item_value item.now) self.new.renditions) }
+    {
+        if note(&mut self.renditions, self.alloc, item).is_err() {
+            return Err(self.files.refuse());
+        }
+        if let Err(fault) = self.files.put(item) {
+            return Err(fault);
+        }
+        self.lags = let_go(&mut self.renditions, self.alloc, &mut self.files, item).is_err();
+        Ok(())
+    }
+}
+
+/// Notes an item for its rendition, if it is a media playlist with a new segment.
+fn note(renditions: &mut Vec<Keeping>, alloc: Global, item: &Item) -> Result<(), OutletFault>
+    ensures ok { OnOk result (AreNotedBy (item_value item.now) renditions.old.items renditions.new.items) }
+    ensures err { OnErr result (renditions.new.items ≡ renditions.old.items) }
+{
+    let Item::Media {
+        rendition,
+        ended: false,
+        text,
+        ..
+    } = item
+    else {
+        return Ok(());
+    };
+    if *rendition >= renditions.len() {
+        return Ok(());
+    }
+    renditions[*rendition].note(alloc, text)
+}
+
+/// Behind the last item of a block of a rendition, takes those of its segments away that may go.
+fn let_go<F: Folder>(
+    renditions: &mut Vec<Keeping>,
+    alloc: Global,
+    files: &mut FolderOutlet<PruningFolder<F>>,
+    item: &Item,
+) -> Result<(), OutletFault>
+    ensures gone { GoBehind (item_value item.now) renditions.old.items renditions.new.items (F.made files.old.folder) (F.made files.new.folder) }
+    ensures went { OnOk result (AllWent (item_value item.now) renditions.new.items) }
+    ensures others { other_moves (F.made files.new.folder) ≡ other_moves (F.made files.old.folder) }
+    ensures same { files.new ≡ record files.old { folder = files.new.folder } }
+{
+    let Item::Frames { rendition, .. } = item else {
+        return Ok(());
+    };
+    if *rendition >= renditions.len() {
+        return Ok(());
+    }
+    renditions[*rendition].let_go(alloc, files)
+}

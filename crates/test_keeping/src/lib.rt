@@ -1,0 +1,7 @@
+//! Tests of segments that go once no player can want them.
+#![tactic(auto)]
+
+#[cfg(test)]
+mod going;
+#[cfg(test)]
+mod stream;
