@@ -10,7 +10,7 @@ use std::alloc::{AllocError, Global};
 use std::env;
 use std::process::ExitCode;
 use std::sync::atomic::{AtomicU64, Ordering};
-use std::sync::{Mutex, Wait};
+use std::sync::{Arc, Mutex, Wait};
 use std::thread::{self, Threads};
 use std::time::{Clock, Duration};
 
@@ -31,14 +31,15 @@ fn snapshot(alloc: Global, count: u64, bytes: u64) -> Result<Snapshot, AllocErro
     let mut shown = Snapshot {
         counts: Vec::new(alloc),
         ended: Vec::new(alloc),
+        totals: Vec::new(alloc),
         media: Vec::new(alloc),
         frames: Vec::new(alloc),
         master: String::new(alloc),
     };
     shown.counts.push(count)?;
     shown.ended.push(false)?;
-    shown.media.push(text)?;
-    shown.frames.push(String::new(alloc))?;
+    shown.media.push(Arc::new(alloc, text)?)?;
+    shown.frames.push(Arc::new(alloc, String::new(alloc))?)?;
     Ok(shown)
 }
 

@@ -4,21 +4,26 @@ ghost use Rattle.std.specs.Prelude.{◌≡◌};
 
 use live_board::{BoardFault, HeldPublisher, Publisher, Snapshot, Viewer, board};
 use std::alloc::{AllocError, Global};
-use std::sync::Wait;
+use std::sync::{Arc, Wait};
 
 /// A snapshot of one rendition with so many segments.
 fn counted(alloc: Global, count: u64) -> Result<Snapshot, AllocError> {
     let mut shown = Snapshot {
         counts: Vec::new(alloc),
         ended: Vec::new(alloc),
+        totals: Vec::new(alloc),
         media: Vec::new(alloc),
         frames: Vec::new(alloc),
         master: String::new(alloc),
     };
     shown.counts.push(count)?;
     shown.ended.push(false)?;
-    shown.media.push(format!(in alloc; "media {count}")?)?;
-    shown.frames.push(format!(in alloc; "frames {count}")?)?;
+    shown
+        .media
+        .push(Arc::new(alloc, format!(in alloc; "media {count}")?)?)?;
+    shown
+        .frames
+        .push(Arc::new(alloc, format!(in alloc; "frames {count}")?)?)?;
     Ok(shown)
 }
 

@@ -1,5 +1,5 @@
 -- What a rendition shows of the rows of its segments: two playlists, and their bit rates.
-use Rattle.std.specs.Prelude.{ℕ, ◌+◌, Bool, Option, Some, List, ◌++◌, map, length, ◌≡◌, ◌<◌, ◌≤◌, ◌^◌, false, All, slice_get}
+use Rattle.std.specs.Prelude.{ℕ, ◌+◌, Bool, Option, Some, List, ◌++◌, map, length, sum_by, ◌≡◌, ◌<◌, ◌≤◌, ◌^◌, false, All, slice_get}
 use Rattle.std.specs.List.{flat_map}
 use Rattle.playlist_text.specs.Lines.{text_of}
 use Rattle.media_playlist.specs.declared.row.FrameRow.{FrameRow}
@@ -42,6 +42,10 @@ frames_text shown ended = text_of (iframe_lines (in_window shown) ended)
 -- a segment as a row of bytes and microseconds
 abbrev pub segment_rate : SegmentRow → Span
 segment_rate row = record { size = row.size; micros = row.micros }
+
+-- the bytes of some segments together
+abbrev pub bytes_of : List SegmentRow → ℕ
+bytes_of rows = sum_by (λ row. row.size) rows
 
 -- an I-frame as a row of bytes and microseconds
 abbrev pub frame_rate : FrameRow → Span

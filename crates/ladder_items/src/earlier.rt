@@ -64,7 +64,7 @@ pub fn push_rows(alloc: Global, playlists: &mut Playlists, rows: &[Row]) -> Resu
 {
     for row in rows {
         let copy = copy_of(alloc, row)?;
-        if playlists.push(copy).is_err() {
+        if playlists.push_row(copy).is_err() {
             return Err(AllocError);
         }
     }

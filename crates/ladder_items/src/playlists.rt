@@ -1,22 +1,28 @@
-ghost use Rattle.std.specs.Prelude.{◌≡◌, ◌+◌, ◌*◌, ◌<◌, ◌≤◌, ◌^◌, [], ◌∷◌, ◌++◌, true, false, length, map, All, IfOk, IfErr, OnOk, OnErr};
+ghost use Rattle.std.specs.Prelude.{◌≡◌, ◌+◌, ◌*◌, ◌<◌, ◌≤◌, ◌^◌, [], ◌∷◌, ◌++◌, true, false, length, map, All, IfOk, IfErr, IfSome, OnOk, OnErr};
+ghost use Rattle.std.specs.Arc.{arc_value};
 ghost use Rattle.std.specs.String.{string_bytes};
+ghost use Rattle.playlist_text.specs.Lines.{text_of};
 ghost use Rattle.bandwidth.specs.Peaks.{peak_of, average_of};
 ghost use Rattle.media_playlist.specs.Listed.{duration, nothing_gone};
 ghost use Rattle.media_playlist.specs.Gone.{IsSmall};
+ghost use Rattle.media_playlist.specs.Lines.{iframe_lines, media_lines};
 ghost use Rattle.ladder_items.specs.declared.fault.PackFault.TheVariants.{NoMemory};
 ghost use Rattle.ladder_items.specs.Ladder.{is_event, least_listed};
-ghost use Rattle.ladder_items.specs.Shown.{IsNextRow, IsSmallFrame, AreNextRows, frame_rate, segment_rates, frame_rates, known};
+ghost use Rattle.ladder_items.specs.Shown.{IsNextRow, IsSmallFrame, AreNextRows, frame_rate, segment_rates, frame_rates, bytes_of, known};
 ghost use Rattle.ladder_items.specs.Shown;
+ghost use Rattle.ladder_items.specs.Masters.{peak_shown, average_shown};
 ghost use Rattle.ladder_items.specs.declared.settings.TheConstants.{MOST_EARLIER};
 ghost use Rattle.limits.specs.declared.TheConstants.{MOST_TARGET};
 
 use crate::earlier::push_rows;
 use crate::fault::PackFault;
+use crate::master::rate;
 use crate::settings::Kind;
 use bandwidth::{Meter, Peak};
 use media_playlist::{FrameRow, Gone, Row, Window};
 use std::alloc::{AllocError, Global};
 use std::marker::Model;
+use std::sync::Arc;
 
 /// The playlists of a rendition, and the bit rates of its segments and of its I-frames.
 ///
@@ -32,6 +38,12 @@ pub struct Playlists {
     earlier: u64,
     /// How long the run's own segments last together.
     micros: u128,
+    /// How many bytes they have together.
+    bytes: u128,
+    /// The text of the media playlist while it goes on, where it was kept.
+    media: Option<Arc<String>>,
+    /// That of the I-frame playlist.
+    iframes: Option<Arc<String>>,
     ended: bool,
 }
 
@@ -77,6 +89,9 @@ impl Playlists {
             frames: Meter::new(alloc, target),
             earlier: 0,
             micros: 0,
+            bytes: 0,
+            media: None,
+            iframes: None,
             ended: false,
         })
     }
@@ -92,10 +107,13 @@ impl Playlists {
         ensures { IfOk result (λ new. new ≡ record self { gone = gone; earlier = earlier.now }) }
     {
         let mut playlists = self;
+        playlists.media = None;
+        playlists.iframes = None;
         playlists.window = playlists.window.behind(gone);
         push_rows(alloc, &mut playlists, earlier)?;
         playlists.earlier = playlists.window.row_count();
         playlists.micros = 0;
+        playlists.bytes = 0;
         Ok(playlists)
     }
 
@@ -108,15 +126,41 @@ impl Playlists {
         ensures err { OnErr result (self.new ≡ record self.old { ended = true }) }
         ensures fault { IfErr result (λ fault. fault ≡ NoMemory) }
     {
+        self.push_row(row)?;
+        self.keep_texts();
+        Ok(())
+    }
+
+    /// Takes the row of the next segment as `push` does, and keeps no texts.
+    pub(crate) fn push_row(&mut self, row: Row) -> Result<(), PackFault>
+        requires going { self.old.ended ≡ false }
+        requires few { length (known self.old) < 2 ^ 32 + MOST_EARLIER }
+        requires next { IsNextRow self.old.target (self.old.gone.rows + length (known self.old)) row }
+        ensures pushed { OnOk result (self.new ≡ record self.old { rows = self.old.rows ++ row ∷ [] }) }
+        ensures err { OnErr result (self.new ≡ record self.old { ended = true }) }
+        ensures fault { IfErr result (λ fault. fault ≡ NoMemory) }
+    {
         self.ended = true;
+        self.media = None;
+        self.iframes = None;
         self.segments.push(row.size, row.micros)?;
         push_frames(&mut self.frames, &row.frames)?;
         self.micros += u128::from(row.micros);
+        self.bytes += u128::from(row.size);
         if self.window.push(row).is_err() {
             return Err(PackFault::NoMemory);
         }
         self.ended = false;
         Ok(())
+    }
+
+    /// Writes both texts once, to be shared by all who want them until the next row comes. Where there is no memory they aren't
+    /// kept, and are written when they are wanted.
+    fn keep_texts(&mut self)
+        ensures { self.new ≡ self.old }
+    {
+        self.media = kept_media(&self.window);
+        self.iframes = kept_iframes(&self.window);
     }
 
     /// How many segments the run gave.
@@ -141,18 +185,52 @@ impl Playlists {
         self.micros
     }
 
+    /// How many bytes the segments of the run have together.
+    pub fn bytes(&self) -> u128
+        requires { self.now.ended ≡ false }
+        ensures { result ≡ bytes_of self.now.rows }
+    {
+        self.bytes
+    }
+
     /// The text of the media playlist, ended or not.
     pub fn media_text(&self, ended: bool) -> Result<String, AllocError>
         ensures { IfOk result (λ text. string_bytes text ≡ Shown.media_text self.now ended) }
     {
-        self.window.media_text(ended)
+        match &self.media {
+            Some(text) if !ended => text.as_ref().clone(),
+            _ => self.window.media_text(ended),
+        }
     }
 
     /// The text of the I-frame playlist, ended or not.
     pub fn frames_text(&self, ended: bool) -> Result<String, AllocError>
         ensures { IfOk result (λ text. string_bytes text ≡ Shown.frames_text self.now ended) }
     {
-        self.window.iframe_text(ended)
+        match &self.iframes {
+            Some(text) if !ended => text.as_ref().clone(),
+            _ => self.window.iframe_text(ended),
+        }
+    }
+
+    /// The text of the media playlist, ended or not, as it was kept where it was.
+    pub fn shared_media_text(&self, ended: bool) -> Result<Arc<String>, AllocError>
+        ensures { IfOk result (λ text. string_bytes (arc_value text) ≡ Shown.media_text self.now ended) }
+    {
+        match &self.media {
+            Some(text) if !ended => Arc::try_clone(text),
+            _ => arc_of(self.window.media_text(ended)?),
+        }
+    }
+
+    /// The text of the I-frame playlist, ended or not, as it was kept where it was.
+    pub fn shared_frames_text(&self, ended: bool) -> Result<Arc<String>, AllocError>
+        ensures { IfOk result (λ text. string_bytes (arc_value text) ≡ Shown.frames_text self.now ended) }
+    {
+        match &self.iframes {
+            Some(text) if !ended => Arc::try_clone(text),
+            _ => arc_of(self.window.iframe_text(ended)?),
+        }
     }
 
     /// The peak bit rate of the known segments. None stands for no segments.
@@ -171,6 +249,22 @@ impl Playlists {
         self.segments.average()
     }
 
+    /// The peak bit rate of the known segments, in bits per second; 0 of none.
+    pub fn peak_rate(&self) -> u64
+        requires { self.now.ended ≡ false }
+        ensures { result ≡ peak_shown self.now }
+    {
+        rate(self.peak())
+    }
+
+    /// The average bit rate of the known segments, in bits per second; 0 of none.
+    pub fn average_rate(&self) -> u64
+        requires { self.now.ended ≡ false }
+        ensures { result ≡ average_shown self.now }
+    {
+        self.average().unwrap_or(0)
+    }
+
     /// The peak bit rate of their I-frames. None stands for no I-frames.
     pub fn frame_peak(&self) -> Option<Peak>
         requires { self.now.ended ≡ false }
@@ -186,6 +280,29 @@ impl Playlists {
     {
         self.frames.average()
     }
+}
+
+/// A text to be shared.
+fn arc_of(text: String) -> Result<Arc<String>, AllocError>
+    ensures { IfOk result (λ shared. arc_value shared ≡ text) }
+{
+    Ok(Arc::new(*text.allocator(), text)?)
+}
+
+/// The text of the media playlist of a window that goes on, where there is memory for it.
+fn kept_media(window: &Window) -> Option<Arc<String>>
+    ensures { IfSome result (λ text. string_bytes (arc_value text) ≡ text_of (media_lines window.now false)) }
+{
+    let text = window.media_text(false).ok()?;
+    arc_of(text).ok()
+}
+
+/// That of its I-frame playlist.
+fn kept_iframes(window: &Window) -> Option<Arc<String>>
+    ensures { IfSome result (λ text. string_bytes (arc_value text) ≡ text_of (iframe_lines window.now false)) }
+{
+    let text = window.iframe_text(false).ok()?;
+    arc_of(text).ok()
 }
 
 /// A window that was pushed nothing.

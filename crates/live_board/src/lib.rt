@@ -18,10 +18,12 @@ mod rule;
 mod shown;
 mod snapshot;
 mod steps;
+mod totals;
 mod viewer;
 
 pub use fault::BoardFault;
 pub use held::HeldPublisher;
 pub use publisher::{MOST_VIEWERS, Publisher, board};
 pub use snapshot::Snapshot;
+pub use totals::Totals;
 pub use viewer::{View, Viewer};

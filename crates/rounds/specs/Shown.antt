@@ -2,6 +2,7 @@
 use Rattle.std.specs.Prelude.{◌≡◌, ◌⊎◌, ℕ, ◌+◌, ◌≤◌, List, [], ◌++◌, false, length, replicate, sum, Option}
 use Rattle.live_board.specs.Snapshots.{Known, SnapshotFacts}
 use Rattle.live_board.specs.Counts.{counts_shown}
+use Rattle.live_board.specs.declared.totals.Totals.{Totals}
 use Rattle.ingest.specs.declared.lane.Stop.{Stop}
 use Rattle.ladder_items.specs.declared.fault.PackFault.{PackFault}
 use Rattle.ladder_items.specs.declared.fault.PackFault.TheVariants.{NoMemory, Settings as SettingsFault}
@@ -19,9 +20,13 @@ use Rattle.rounds.specs.declared.run.setup.Endpoints.{Endpoints}
 use Rattle.rounds.specs.Courses.{IsCutShown, Start}
 use Rattle.limits.specs.declared.TheConstants.{LEAST, MOST_WORKERS}
 
+-- what no segments are together
+abbrev pub no_totals : Totals
+no_totals = record { micros = 0; bytes = 0; peak = 0; average = 0 }
+
 -- no rendition has a segment or an end, and no playlist a text
 abbrev pub none_shown : ℕ → SnapshotFacts
-none_shown n = record { counts = replicate n 0; ended = replicate n false; media = replicate n []; frames = replicate n []; master = [] }
+none_shown n = record { counts = replicate n 0; ended = replicate n false; totals = replicate n no_totals; media = replicate n []; frames = replicate n []; master = [] }
 
 -- 1 to 64 workers, and the publisher shows as many renditions as the settings have, of which none has a segment
 abbrev pub FitsThreads : Ladder → ℕ → List ℕ → Type 0

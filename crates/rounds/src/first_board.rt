@@ -1,15 +1,24 @@
 //! The board on which a run publishes, before anything has been given.
 
 ghost use Rattle.std.specs.Prelude.{◌≡◌, ◌≤◌, IfOk, OnErr, [], Err, length, map, false, replicate, ◌⊎◌, All};
+ghost use Rattle.std.specs.Arc.{arc_value};
 ghost use Rattle.std.specs.String.{string_bytes};
 ghost use Rattle.live_board.specs.Counts.{counts_shown};
 ghost use Rattle.live_board.specs.declared.fault.BoardFault.TheVariants.{NoMemory, NoPlace};
 ghost use Rattle.rounds.specs.Shown.{none_shown};
 ghost use Rattle.live_board.specs.declared.publisher.TheConstants.{MOST_VIEWERS};
 
-use live_board::{BoardFault, Publisher, Snapshot, Viewer, board};
+use live_board::{BoardFault, Publisher, Snapshot, Totals, Viewer, board};
 use std::alloc::{AllocError, Global};
-use std::sync::Wait;
+use std::sync::{Arc, Wait};
+
+/// What no segments are together.
+const NO_TOTALS: Totals = Totals {
+    micros: 0,
+    bytes: 0,
+    peak: 0,
+    average: 0,
+};
 
 /// A board with `viewers` viewers on which none of `renditions` renditions has a segment yet: where a run publishes its snapshots.
 ///
@@ -38,13 +47,16 @@ fn nothing_shown(alloc: Global, renditions: usize) -> Result<Snapshot, AllocErro
 {
     let mut counts = Vec::new(alloc);
     let mut ended = Vec::new(alloc);
+    let mut totals = Vec::new(alloc);
     for _ in 0..renditions {
         counts.push(0)?;
         ended.push(false)?;
+        totals.push(NO_TOTALS)?;
     }
     Ok(Snapshot {
         counts,
         ended,
+        totals,
         media: no_texts(alloc, renditions)?,
         frames: no_texts(alloc, renditions)?,
         master: String::new(alloc),
@@ -52,12 +64,12 @@ fn nothing_shown(alloc: Global, renditions: usize) -> Result<Snapshot, AllocErro
 }
 
 /// `count` empty texts.
-fn no_texts(alloc: Global, count: usize) -> Result<Vec<String>, AllocError>
-    ensures { IfOk result (λ texts. map string_bytes texts.items ≡ replicate count []) }
+fn no_texts(alloc: Global, count: usize) -> Result<Vec<Arc<String>>, AllocError>
+    ensures { IfOk result (λ texts. map (λ t. string_bytes (arc_value t)) texts.items ≡ replicate count []) }
 {
     let mut texts = Vec::new(alloc);
     for _ in 0..count {
-        texts.push(String::new(alloc))?;
+        texts.push(Arc::new(alloc, String::new(alloc))?)?;
     }
     Ok(texts)
 }

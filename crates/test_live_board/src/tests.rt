@@ -1,26 +1,39 @@
 ghost use Rattle.std.specs.Prelude.{◌≡◌, ◌++◌, ◌∷◌, [], OnOk, OnErr};
 
-use live_board::{BoardFault, HeldPublisher, Publisher, Snapshot, Viewer, board};
+use live_board::{BoardFault, HeldPublisher, Publisher, Snapshot, Totals, Viewer, board};
 use std::alloc::{AllocError, Global};
-use std::sync::Wait;
+use std::sync::{Arc, Wait};
 use std::test::Fail;
 use std::thread::{self, JoinHandle, Threads};
+
+/// Totals that tell a count, each in its own way.
+fn totals_of(count: u64) -> Totals {
+    Totals {
+        micros: u128::from(count) * 4,
+        bytes: u128::from(count) * 3,
+        peak: count,
+        average: count / 2,
+    }
+}
 
 /// A snapshot with these counts, whose texts tell them too.
 fn counted(alloc: Global, counts: &[u64]) -> Result<Snapshot, AllocError> {
     let mut all = Vec::new(alloc);
     let mut ended = Vec::new(alloc);
+    let mut totals = Vec::new(alloc);
     let mut media = Vec::new(alloc);
     let mut frames = Vec::new(alloc);
     for &count in counts {
         all.push(count)?;
         ended.push(count == 100)?;
-        media.push(format!(in alloc; "media {count}")?)?;
-        frames.push(format!(in alloc; "frames {count}")?)?;
+        totals.push(totals_of(count))?;
+        media.push(Arc::new(alloc, format!(in alloc; "media {count}")?)?)?;
+        frames.push(Arc::new(alloc, format!(in alloc; "frames {count}")?)?)?;
     }
     Ok(Snapshot {
         counts: all,
         ended,
+        totals,
         media,
         frames,
         master: format!(in alloc; "master {}", counts.len())?,
@@ -85,12 +98,14 @@ fn a_told_viewer_sees_the_last_until_the_end(rt: HostRuntime) -> Result<(), Fail
     Ok(())
 }
 
-/// The counts and the ends of a snapshot, its first media and its last I-frame playlist, and its master.
+/// The counts and the ends of a snapshot, its last totals, its first media and its last I-frame playlist, and its master.
 fn told(alloc: Global, shown: &Snapshot) -> Result<String, AllocError> {
     let media = shown.media.first().map(|text| text.as_str());
     let frames = shown.frames.last().map(|text| text.as_str());
+    let totals = shown.totals.last().copied();
+    let times = totals.map(|all| (all.micros, all.bytes, all.peak, all.average));
     format!(in alloc;
-        "{:?} {:?} {media:?} {frames:?} {}",
+        "{:?} {:?} {times:?} {media:?} {frames:?} {}",
         shown.counts.as_slice(),
         shown.ended.as_slice(),
         shown.master
@@ -123,7 +138,7 @@ fn a_view_shows_the_texts_of_its_snapshot(rt: HostRuntime) -> Result<(), Fail> {
     }
     assert_eq!(rt;
         text?.as_str(),
-        "[100, 7] [true, false] Some(\"media 100\") Some(\"frames 7\") master 2"
+        "[100, 7] [true, false] Some((28, 21, 7, 3)) Some(\"media 100\") Some(\"frames 7\") master 2"
     );
     Ok(())
 }

@@ -29,6 +29,7 @@ fn nothing_of_two(alloc: Global) -> Result<Snapshot, AllocError> {
     Ok(Snapshot {
         counts: Vec::from_array(alloc, [0, 0])?,
         ended: Vec::from_array(alloc, [false, false])?,
+        totals: Vec::new(alloc),
         media: Vec::new(alloc),
         frames: Vec::new(alloc),
         master: String::new(alloc),

@@ -110,6 +110,7 @@ pub(crate) fn nothing(alloc: Global) -> Result<Snapshot, AllocError> {
     Ok(Snapshot {
         counts: Vec::from_array(alloc, [0])?,
         ended: Vec::from_array(alloc, [false])?,
+        totals: Vec::new(alloc),
         media: Vec::new(alloc),
         frames: Vec::new(alloc),
         master: String::new(alloc),

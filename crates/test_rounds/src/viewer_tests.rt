@@ -5,7 +5,7 @@ use item_io::Item;
 use ladder_items::Settings;
 use live_board::{HeldPublisher, Snapshot, Viewer, board};
 use std::alloc::Global;
-use std::sync::Wait;
+use std::sync::{Arc, Wait};
 use std::test::Fail;
 use std::thread::{self, JoinHandle, Threads};
 use work_desk::FreeGate;
@@ -17,7 +17,7 @@ const VIEWERS: usize = 4;
 const TIMES: u64 = 20;
 
 /// The first text of some, no text where there is none.
-fn first(texts: &[String]) -> &str {
+fn first(texts: &[Arc<String>]) -> &str {
     match texts.first() {
         Some(text) => text.as_str(),
         None => "",
@@ -52,17 +52,33 @@ fn texts_at(items: &[Item], wanted: u64, with_end: bool) -> (&str, &str, &str) {
     texts
 }
 
-/// Whether a snapshot has the texts of its count.
+/// How many bytes so many segments have.
+fn bytes_at(items: &[Item], wanted: u64) -> u128 {
+    let mut sum: u128 = 0;
+    for item in items {
+        if let Item::Segment { number, bytes, .. } = item
+            && *number < wanted
+        {
+            sum = sum.saturating_add(bytes.len() as u128);
+        }
+    }
+    sum
+}
+
+/// Whether a snapshot has the bytes and the texts of its count.
 fn has_its_texts(snapshot: &Snapshot, items: &[Item]) -> bool {
     let count = snapshot.counts.first().copied().unwrap_or(0);
     let ended = snapshot.ended.first().copied().unwrap_or(false);
     let (media, frames, master) = texts_at(items, count, ended);
-    first(&snapshot.media) == media
+    let bytes = snapshot.totals.first().map_or(0, |all| all.bytes);
+    bytes == bytes_at(items, count)
+        && first(&snapshot.media) == media
         && first(&snapshot.frames) == frames
         && snapshot.master.as_str() == master
 }
 
-/// Looks until the rendition ended, and tells whether no count fell and each snapshot had the texts of its count.
+/// Looks until the rendition ended, and tells whether no count fell and each snapshot had the bytes and the texts of its
+/// count.
 fn sees_the_run(viewer: Viewer, items: &[Item]) -> bool {
     let mut viewer = viewer;
     let mut last = 0;

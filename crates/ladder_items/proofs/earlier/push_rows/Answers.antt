@@ -3,8 +3,8 @@ use Rattle.std.proofs.lemmas.Option.{slice_get_read}
 use Rattle.ladder_items.proofs.RowsBefore.{next-of}
 use Rattle.ladder_items.proofs.earlier.push_rows.Goals as goal
 
-pub push-requires-clause-next : goal.push-requires-clause-next
-push-requires-clause-next c =
+pub push_row-requires-clause-next : goal.push_row-requires-clause-next
+push_row-requires-clause-next c =
     let rows = c.args.rows.now in
     let row = c.row-item.result in
     next-of rows c.loop-row.row-index row c.in_ok-copy.copy c.args.playlists.now c.loop-row.playlists c.requires.none c.loop-row.invariant c.loop-row.auto.row-index-end c.requires.follow
