@@ -1,0 +1,46 @@
+-- The metrics of a run.
+use Rattle.std.specs.Prelude.{ℕ, List, ◌++◌, codes}
+use Rattle.playlist_text.specs.Numbers.{seconds}
+use Rattle.metrics.specs.Format.{head_text}
+use Rattle.metrics.specs.Samples.{SampleFacts, column_text, faults_text}
+use Rattle.metrics.specs.declared.column.Column.{Column}
+use Rattle.metrics.specs.declared.column.Column.TheVariants.{Segments, Time, Bytes, Peak, Average, Quiet, Ended}
+
+-- a metric with a sample of each rendition
+unfoldable pub metric : List ℕ → List ℕ → List ℕ → Column → List SampleFacts → List ℕ
+metric name kind help column samples = head_text name kind help ++ column_text name column samples
+
+-- when the run began, in microseconds since 1970
+unfoldable pub start_text : ℕ → List ℕ
+start_text start =
+    head_text (codes "tshls_start_time_seconds") (codes "gauge") (codes "When the run began, in seconds since 1970.")
+    ++ codes "tshls_start_time_seconds " ++ seconds start ++ codes "\n"
+
+-- what only grows
+unfoldable pub counters : List SampleFacts → List ℕ
+counters samples =
+    metric (codes "tshls_segments_total") (codes "counter") (codes "Segments that were written and listed.") Segments samples
+    ++ metric (codes "tshls_stream_seconds_total") (codes "counter") (codes "How long the segments last together.") Time samples
+    ++ metric (codes "tshls_segment_bytes_total") (codes "counter") (codes "How many bytes the segments have together.") Bytes samples
+
+-- the bit rates
+unfoldable pub rates : List SampleFacts → List ℕ
+rates samples =
+    metric (codes "tshls_peak_bitrate") (codes "gauge") (codes "The peak bit rate that the master playlist lists, in bits per second.") Peak samples
+    ++ metric (codes "tshls_average_bitrate") (codes "gauge") (codes "The average bit rate that the master playlist lists, in bits per second.") Average samples
+
+-- how renditions stand
+unfoldable pub states : List SampleFacts → List ℕ
+states samples =
+    metric (codes "tshls_quiet_seconds") (codes "gauge") (codes "For how long no segment came.") Quiet samples
+    ++ metric (codes "tshls_ended") (codes "gauge") (codes "Whether the end of the playlist was written.") Ended samples
+
+-- the faults of renditions
+unfoldable pub fault_text : List SampleFacts → List ℕ
+fault_text samples =
+    head_text (codes "tshls_fault") (codes "gauge") (codes "1 for a rendition that ended by a fault.")
+    ++ faults_text (codes "tshls_fault") samples
+
+-- all metrics of a run that began then
+abbrev pub metrics_text : ℕ → List SampleFacts → List ℕ
+metrics_text start samples = start_text start ++ counters samples ++ rates samples ++ states samples ++ fault_text samples

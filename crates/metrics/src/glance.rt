@@ -1,0 +1,64 @@
+//! The numbers of a board's last snapshot.
+
+ghost use Rattle.std.specs.Prelude.{◌≡◌, IfOk};
+ghost use Rattle.ghost_list.specs.Lists.{IsBeginning};
+ghost use Rattle.metrics.specs.Glances.{IsCopyOf, IsOfTheLast};
+
+use live_board::{Snapshot, Totals, Viewer};
+use std::alloc::{AllocError, Global};
+use thiserror::Error;
+
+/// What a board said of each rendition at one moment.
+#[derive(Debug, Drop)]
+pub struct Glance {
+    /// How many segments it had.
+    pub counts: Vec<u64>,
+    /// Whether it had ended.
+    pub ended: Vec<bool>,
+    /// What its segments were together.
+    pub totals: Vec<Totals>,
+}
+
+/// Why nothing was seen.
+#[derive(Clone, Copy, Debug, PartialEq, Eq, Error)]
+pub enum GlanceFault {
+    /// The publisher is gone.
+    #[error("the board has ended")]
+    Gone,
+    /// There was no memory.
+    #[error("out of memory")]
+    NoMemory,
+}
+
+impl From<AllocError> for GlanceFault {
+    fn from(_error: AllocError) -> GlanceFault {
+        GlanceFault::NoMemory
+    }
+}
+
+/// A copy of a snapshot's numbers.
+fn copied(alloc: Global, snapshot: &Snapshot) -> Result<Glance, AllocError>
+    ensures { IfOk result (IsCopyOf snapshot.now) }
+{
+    Ok(Glance {
+        counts: Vec::from_slice(alloc, &snapshot.counts)?,
+        ended: Vec::from_slice(alloc, &snapshot.ended)?,
+        totals: Vec::from_slice(alloc, &snapshot.totals)?,
+    })
+}
+
+/// Copies the numbers of the last snapshot that a viewer can see, all of one moment. The view is closed by then, so that the
+/// publisher waits for nothing that is done with them.
+pub fn look(alloc: Global, viewer: Viewer) -> (Viewer, Result<Glance, GlanceFault>)
+    ensures grows { IsBeginning viewer.list result.0.list }
+    ensures board { result.0.board ≡ viewer.board }
+    ensures last { IfOk result.1 (IsOfTheLast result.0.list) }
+{
+    match viewer.view() {
+        Ok(view) => match copied(alloc, view.snapshot()) {
+            Ok(seen) => (view.close(), Ok(seen)),
+            Err(_) => (view.close(), Err(GlanceFault::NoMemory)),
+        },
+        Err(viewer) => (viewer, Err(GlanceFault::Gone)),
+    }
+}
