@@ -1,8 +1,9 @@
-"""Runs a program on random ladders, and compares what it does with the rules as they are written: fuzz.py PROGRAM COUNT [SEED].
+"""Runs a program on random ladders, and compares what it does with the rules as they are written: fuzz.py PROGRAM COUNT [SEED [pauses]].
 
 So many seeds are played, from SEED on, which is 1 where none is given: `one` of each stream, `pack` of all of them, and `check`
 of what lies in the folder then; at times `pack` is run again and killed, or a file is refused. Streams come through pipes in
-random pieces. Where something differs, the inputs are kept.
+random pieces. With `pauses` behind SEED all streams of `pack` come through FIFOs, whose writers pause at random. Where something
+differs, the inputs are kept.
 """
 
 import collections
@@ -43,8 +44,8 @@ def has_all(folder, wanted):
 class Game:
     """A seed: its ladder, a folder for what is made of it, and what differs."""
 
-    def __init__(self, program, seed, folder):
-        self.program, self.seed, self.folder = program, seed, folder
+    def __init__(self, program, seed, folder, has_pauses):
+        self.program, self.seed, self.folder, self.has_pauses = program, seed, folder, has_pauses
         self.chance = random.Random(seed)
         self.ladder = random_ladder(self.chance)
         self.told, self.differences = collections.Counter(), []
@@ -69,7 +70,7 @@ class Game:
                 return
         if process.returncode != answer.status:
             self.differs(f"status {process.returncode} in place of {answer.status}", words)
-        if fault.decode(errors="replace") != answer.fault:
+        if not answer.is_told(fault.decode(errors="replace")):
             self.differs(f"standard error {fault[:200]} in place of {answer.fault!r}", words)
         if output != answer.output:
             self.differs(f"standard output {difference(output, answer.output)}", words)
@@ -82,12 +83,12 @@ class Game:
     def lay(self, number, entry):
         """Where the stream of an entry is, and the thread that feeds it where it is a FIFO."""
         path = self.folder / f"{number}.ts"
-        if entry.kind == "file":
+        if entry.kind == "file" and not self.has_pauses:
             path.write_bytes(entry.data)
         elif entry.kind == "folder":
             path.mkdir(exist_ok=True)
-        elif entry.kind == "fifo":
-            return path, fuzz_pipes.fifo_of(path, self.chance, entry.data)
+        elif entry.kind in ("file", "fifo"):
+            return path, fuzz_pipes.fifo_of(path, self.chance, entry.data, self.has_pauses)
         return path, None
 
     def pack_words(self, folder):
@@ -107,14 +108,14 @@ class Game:
         fuzz_pipes.end(fifos)
         self.compare(packed, wanted, words)
         if renditions and self.chance.random() < 0.3:
-            self.chance.choice((self.play_killed, self.play_refused))(wanted, renditions)
+            self.chance.choice((self.play_killed, self.play_refused))(wanted, renditions, answer.fault)
         for rows, options in renditions:
             self.segments += len(rows)
             self.most = max(self.most, len(rows))
             if not self.differences:
                 self.judge(*fuzz_check.asked(self.chance, packed, rows, options))
 
-    def play_killed(self, wanted, renditions):
+    def play_killed(self, wanted, renditions, _told):
         killed = self.folder / "killed"
         killed.mkdir()
         words, fifos = self.pack_words(killed)
@@ -127,13 +128,14 @@ class Game:
         for wrong in fuzz_cut_short.faults(killed, wanted, renditions):
             self.differs(f"killed, {wrong}", words)
 
-    def play_refused(self, wanted, renditions):
-        """The files may not be as long as one of the segments."""
+    def play_refused(self, wanted, renditions, told):
+        """The files may not be as long as one of the segments. Before that faults of streams may have been told."""
         refused = self.folder / "refused"
         refused.mkdir()
         words, fifos = self.pack_words(refused)
         longest = self.chance.choice([row.size for rows, _ in renditions for row in rows]) - 1
-        self.judge(words, fuzz_wanted.refusal(1, "Outlet"), limit=("prlimit", f"--fsize={longest}"))
+        answer = fuzz_wanted.refusal(1, "Outlet")._replace(before=told)
+        self.judge(words, answer, limit=("prlimit", f"--fsize={longest}"))
         fuzz_pipes.end(fifos)
         begun = [f"{name} is there" for name in os.listdir(refused) if name.startswith(".")]
         for wrong in begun + fuzz_cut_short.faults(refused, wanted, renditions):
@@ -163,13 +165,13 @@ class Game:
         return kept
 
 
-def played(program, seed):
+def played(program, seed, has_pauses):
     base = "/dev/shm" if os.access("/dev/shm", os.W_OK) else None
     with tempfile.TemporaryDirectory(dir=base) as folder:
-        game = Game(program, seed, pathlib.Path(folder))
+        game = Game(program, seed, pathlib.Path(folder), has_pauses)
         game.play()
         if game.differences:
-            again = f"{sys.argv[0]} {program} 1 {seed}"
+            again = f"{sys.argv[0]} {program} 1 {seed}" + " pauses" * has_pauses
             print(f"seed {seed}, again by {again}, inputs in {game.keep()}", *game.differences, sep="\n  ", flush=True)
     return game
 
@@ -179,7 +181,7 @@ def main():
     begin = int(sys.argv[3]) if len(sys.argv) > 3 else 1
     told, wrong, segments, listing = collections.Counter(), 0, 0, 0
     for seed in range(begin, begin + count):
-        game = played(program, seed)
+        game = played(program, seed, sys.argv[4:] == ["pauses"])
         told += game.told
         wrong += bool(game.differences)
         segments += game.segments

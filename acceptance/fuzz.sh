@@ -4,10 +4,11 @@
 check_fuzz() {
     check 'fuzz: 300 random ladders' plays_random_ladders 300
     check 'fuzz: each answer came up, and most ladders were cut' gave_each_answer
+    check 'fuzz: 60 random ladders, whose writers pause' plays_random_ladders 60 1001 pauses
 }
 
 plays_random_ladders() {
-    python3 "$here/fuzz.py" "$program" "$1" >"$work/fuzz" 2>&1 || { head -3 "$work/fuzz"; tail -1 "$work/fuzz"; return 1; }
+    python3 "$here/fuzz.py" "$program" "$@" >"$work/fuzz" 2>&1 || { head -3 "$work/fuzz"; tail -1 "$work/fuzz"; return 1; }
 }
 
 # What a run of the fuzzer has to come by, so that it isn't one of empty streams.

@@ -4,6 +4,7 @@ import contextlib
 import fcntl
 import os
 import threading
+import time
 
 
 def pieces(chance, data):
@@ -16,12 +17,19 @@ def pieces(chance, data):
     return result
 
 
-def feed(descriptor, parts):
+def pauses_of(chance, parts):
+    """How long the writer pauses before each piece: up to 20 ms, before few of them."""
+    return [chance.uniform(0, 0.02) * (chance.random() < 0.04) for _ in parts]
+
+
+def feed(descriptor, parts, pauses):
     """Writes the pieces to a pipe, which keeps them apart where the system can, until its reader is gone."""
     with contextlib.suppress(OSError):
         fcntl.fcntl(descriptor, fcntl.F_SETFL, os.O_DIRECT)
     try:
-        for part in parts:
+        for part, pause in zip(parts, pauses):
+            if pause:
+                time.sleep(pause)
             os.write(descriptor, part)
     except BrokenPipeError:
         pass
@@ -29,8 +37,8 @@ def feed(descriptor, parts):
         os.close(descriptor)
 
 
-def feed_fifo(path, parts):
-    feed(os.open(path, os.O_WRONLY), parts)
+def feed_fifo(path, parts, pauses):
+    feed(os.open(path, os.O_WRONLY), parts, pauses)
 
 
 def started(target, *arguments):
@@ -42,14 +50,16 @@ def started(target, *arguments):
 def pipe_of(chance, data):
     """The end of a pipe to read the data from, and the thread that feeds it."""
     read_end, write_end = os.pipe()
-    return read_end, started(feed, write_end, pieces(chance, data))
+    parts = pieces(chance, data)
+    return read_end, started(feed, write_end, parts, [0] * len(parts))
 
 
-def fifo_of(path, chance, data):
+def fifo_of(path, chance, data, has_pauses):
     """The thread that feeds a FIFO, which is made where it isn't there."""
     if not path.exists():
         os.mkfifo(path)
-    return started(feed_fifo, path, pieces(chance, data))
+    parts = pieces(chance, data)
+    return started(feed_fifo, path, parts, pauses_of(chance, parts) if has_pauses else [0] * len(parts))
 
 
 def end(fifos):

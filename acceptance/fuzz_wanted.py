@@ -22,17 +22,29 @@ RANGES = {
     "workers": (1, 64),
     "queue": (1, 256),
     "batch": (1, 256),
+    "stall": (1, 86400),
+    "ahead": (1, 65536),
 }
 
 
 class Answer(NamedTuple):
     status: int
+    # A line for each fault. Those of streams come as they stand, so in any order.
     fault: str
     output: bytes = b""
+    # Lines of streams that may have been told before a fault stopped the run.
+    before: str = ""
 
     def tells(self):
-        """The name of its fault, or that there is none."""
+        """The name of its first fault, or that there is none."""
         return self.fault.split()[1] if self.fault else "none"
+
+    def is_told(self, text):
+        """Whether standard error tells these faults, each once."""
+        told, faults = text.splitlines(True), self.fault.splitlines(True)
+        stopped = told[: -len(faults)] if self.before else []
+        are_known = set(stopped) <= set(self.before.splitlines(True))
+        return are_known and len(set(told)) == len(told) and sorted(told[len(stopped) :]) == sorted(faults)
 
 
 def refusal(status, *words):
@@ -105,7 +117,7 @@ def one(ladder, entry):
             lines.append(line + "\n")
     except segments.Fault as told:
         name, *numbers = told.args
-        status, fault, _ = refusal(1, name, 0, *numbers)
+        status, fault, *_ = refusal(1, name, 0, *numbers)
     return Answer(status, fault, "".join(lines).encode())
 
 
@@ -126,7 +138,7 @@ def pack(ladder, folder):
     if packed:
         ladders.write_text(folder / "master.m3u8", playlists.master(packed))
     if faults:
-        return Answer(1, faults[0] + "\n"), packed
+        return Answer(1, "".join(fault + "\n" for fault in faults)), packed
     by_name = sorted(packed, key=lambda rendition: rendition[1].name.encode())
     return Answer(0, "", "".join(ladders.summary_line(*rendition) + "\n" for rendition in by_name).encode()), packed
 

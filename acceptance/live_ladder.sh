@@ -3,7 +3,8 @@
 
 check_live_ladder() {
     check 'pack: a live ladder of three, watched' packs_live "${LIVE_SECONDS:-30}"
-    check 'pack: one of three inputs is silent, faster, or before the others' plays_silence
+    check 'pack: one of three inputs is silent, faster, or before the others' plays_silence silence.py
+    check 'pack: one of three inputs is silent for too long, or has a fault' plays_silence stalls.py
 }
 
 # encodes_live SECONDS FOLDER: 6 Mbit/s, 800 and 60 kbit/s at the encoder's own flags, a key frame every second.
@@ -40,5 +41,5 @@ packs_live() {
 }
 
 plays_silence() {
-    python3 "$here/silence.py" "$program" >"$work/silence" 2>&1 || { tail -1 "$work/silence"; return 1; }
+    python3 "$here/$1" "$program" >"$work/silence" 2>&1 || { tail -1 "$work/silence"; return 1; }
 }

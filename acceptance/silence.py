@@ -186,4 +186,5 @@ def main():
     print(f"listed {worst * 1000:.0f} ms late at the worst")
 
 
-main()
+if __name__ == "__main__":
+    main()

@@ -91,12 +91,14 @@ word name = record (new_rule name) { value_names = 1; required = true }
 abbrev pub check_options : List Rule
 check_options = needed (text_option (codes "keys")) ∷ word (codes "playlist") ∷ []
 
--- the threads that seal
+-- the threads that seal, and reading ahead
 abbrev pub pool_options : List Rule
 pool_options =
     with_default (codes "4") (number_option (codes "workers"))
     ∷ with_default (codes "16") (number_option (codes "queue"))
     ∷ number_option (codes "batch")
+    ∷ number_option (codes "stall")
+    ∷ number_option (codes "ahead")
     ∷ []
 
 -- one word or more, one for each rendition

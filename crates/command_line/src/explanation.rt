@@ -155,6 +155,14 @@ fn write_packing<W: fmt::Write>(
 ) -> fmt::Result {
     match fault {
         PackFault::Settings => write_settings(f, options),
+        PackFault::Read(r) if pool_words(options).stall.is_some() => {
+            write_stream(
+                f,
+                options,
+                r,
+                "a read failed, or nothing came for --stall seconds",
+            )
+        }
         PackFault::Read(r) => write_stream(f, options, r, "a read failed"),
         PackFault::ReadLimit(r) => {
             write_stream(

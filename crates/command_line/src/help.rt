@@ -58,16 +58,17 @@ pub const PACK: &str = "\
 Each segment and playlist is written to a file of its name in DIR, whole at any time, an older file replaced; nothing else
 there is touched. When all streams have ended one line a rendition is printed, by name: NAME SEGMENTS SECONDS PEAK AVERAGE.
 
-Each stream is read as its bytes come: one that is silent holds up no other, and a segment of a live stream is listed as
-soon as it is sealed. The paths may be FIFOs of one encoder: they are read ahead, 32 MiB each. A new run begins at segment 0
-again: draw new keys for it, or a new --salt at random.
+Each stream is read as its bytes come: one that is silent, or a FIFO that nobody opens, holds up no other, and a segment of
+a live stream is listed as soon as it is sealed. The paths may be FIFOs of one encoder: they are read ahead, 32 MiB each, or
+as --ahead says. A new run begins at segment 0 again: draw new keys for it, or a new --salt at random.
 
-Faults, as 'tshls: NAME NUMBERS' on standard error. R counts the renditions from 0, in the order of the entries; at a fault
-of its stream the others are packed to their ends. What was written before a fault stands.
+Faults, as 'tshls: NAME NUMBERS' on standard error. R counts the renditions from 0, in the order of the entries; a fault
+of its stream is told at once, and the others are packed to their ends. What was written before a fault stands.
   LongSegment R N  This segment would last longer than the target: see 'tshls one --help'
   NoProgram R      No tables                                    NoStart R      No key frame to begin at
   BigSegment R N   This segment has more packets than --most    Limit R        The last number or time is passed
-  Read R           The stream couldn't be read                  ReadLimit R    2^40 reads didn't come to its end
+  Read R           It couldn't be read, or gave nothing for --stall seconds
+  ReadLimit R      2^40 reads didn't come to its end
   BadEntry N       Entry N, counted from 1, hasn't four colons, or its size isn't WIDTHxHEIGHT, or a key is neither
                    32 hex digits nor @FILE
   BadKeyFile N     A key file of entry N, counted from 1, is neither 16 bytes nor 32 hex digits with at most one line end

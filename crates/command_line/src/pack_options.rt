@@ -11,7 +11,7 @@ use clap::{Arg, ArgAction, ArgMatches, Command};
 use commands::{LadderWords, PoolWords};
 use std::alloc::{AllocError, Global};
 
-/// The command with the options of a ladder and of the threads that seal it, with its entries, and with the numbers of a packager.
+/// The command with the options of a ladder, of the threads that seal it and of reading it ahead, with its entries, and with the numbers of a packager.
 pub fn with_ladder<'a>(alloc: Global, command: Command<'a>) -> Result<Command<'a>, AllocError>
     ensures { IfOk result (λ made. GetsOptions command.entry ladder_options made) }
 {
@@ -37,8 +37,8 @@ fn with_sync<'a>(alloc: Global, command: Command<'a>) -> Result<Command<'a>, All
     command.arg(sync)
 }
 
-/// The numbers of the threads that seal.
-const POOL: [NumberOption; 3] = [
+/// The numbers of the threads that seal, and of reading ahead.
+const POOL: [NumberOption; 5] = [
     (
         "workers",
         "NUMBER",
@@ -55,6 +55,18 @@ const POOL: [NumberOption; 3] = [
         "batch",
         "SEGMENTS",
         "With how many closed segments a round of sealing begins at the latest, 1 to 256; with fewer where no stream has more to read [default: the queue]",
+        None,
+    ),
+    (
+        "stall",
+        "SECONDS",
+        "A stream that gives nothing for so long can't be read, 1 to 86400 [default: it is waited for]",
+        None,
+    ),
+    (
+        "ahead",
+        "MIB",
+        "How much is read ahead of all streams together, 1 to 65536 [default: 32 for each]",
         None,
     ),
 ];
@@ -112,15 +124,19 @@ pub fn sync_word(options: &ArgMatches<'_>) -> bool
     options.get_flag("sync")
 }
 
-/// The numbers of the threads that seal, as they were given.
+/// The numbers of the threads that seal, and of reading ahead, as they were given.
 pub fn pool_words(options: &ArgMatches<'_>) -> PoolWords
     ensures workers { IsGivenNumber (found_of options.now) (codes "workers") result.workers }
     ensures queue { IsGivenNumber (found_of options.now) (codes "queue") result.queue }
     ensures batch { IsGivenNumber (found_of options.now) (codes "batch") result.batch }
+    ensures stall { IsGivenNumber (found_of options.now) (codes "stall") result.stall }
+    ensures ahead { IsGivenNumber (found_of options.now) (codes "ahead") result.ahead }
 {
     PoolWords {
         workers: given_number(options, "workers"),
         queue: given_number(options, "queue"),
         batch: given_number(options, "batch"),
+        stall: given_number(options, "stall"),
+        ahead: given_number(options, "ahead"),
     }
 }

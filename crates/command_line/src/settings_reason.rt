@@ -17,6 +17,8 @@ fn range_of(option: Ranged) -> (&'static str, &'static str) {
         Ranged::Workers => ("--workers", "1 to 64"),
         Ranged::Queue => ("--queue", "1 to 256 segments"),
         Ranged::Batch => ("--batch", "1 to 256 segments"),
+        Ranged::Stall => ("--stall", "1 to 86400 seconds"),
+        Ranged::Ahead => ("--ahead", "1 to 65536 MiB"),
     }
 }
 

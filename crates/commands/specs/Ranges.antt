@@ -3,8 +3,9 @@ use Rattle.std.specs.Prelude.{ℕ, ◌≤◌}
 use Rattle.std.specs.Option.{unwrap_or}
 use Rattle.commands.specs.declared.numbers.Numbers.{Numbers}
 use Rattle.commands.specs.declared.outside.Ranged.{Ranged}
-use Rattle.commands.specs.declared.outside.Ranged.TheVariants.{Target, Segment, Window, Frame, Gap, Most, Program, Workers, Queue, Batch}
+use Rattle.commands.specs.declared.outside.Ranged.TheVariants.{Target, Segment, Window, Frame, Gap, Most, Program, Workers, Queue, Batch, Stall, Ahead}
 use Rattle.commands.specs.declared.pool.Pool.{Pool}
+use Rattle.commands.specs.declared.pool.TheConstants.{MOST_STALL, MOST_AHEAD}
 use Rattle.limits.specs.declared.TheConstants.{LEAST, MOST_TARGET, MOST_WINDOW, MOST_FRAME, MOST_GAP, MOST_PACKETS, MOST_PROGRAM, MOST_WORKERS, MOST_QUEUE}
 
 -- a number from 1 to the most that an option takes
@@ -23,6 +24,8 @@ IsWithin Program numbers pool = IsUpTo (unwrap_or numbers.program LEAST) MOST_PR
 IsWithin Workers numbers pool = IsUpTo pool.workers MOST_WORKERS
 IsWithin Queue numbers pool = IsUpTo pool.queue MOST_QUEUE
 IsWithin Batch numbers pool = IsUpTo (unwrap_or pool.batch LEAST) MOST_QUEUE
+IsWithin Stall numbers pool = IsUpTo (unwrap_or pool.stall LEAST) MOST_STALL
+IsWithin Ahead numbers pool = IsUpTo (unwrap_or pool.ahead LEAST) MOST_AHEAD
 
 -- so are the numbers of all options
 pub record AreWithin (numbers : Numbers) (pool : Pool) : Type 0 where
@@ -36,3 +39,5 @@ pub record AreWithin (numbers : Numbers) (pool : Pool) : Type 0 where
   pub workers : IsWithin Workers numbers pool
   pub queue : IsWithin Queue numbers pool
   pub batch : IsWithin Batch numbers pool
+  pub stall : IsWithin Stall numbers pool
+  pub ahead : IsWithin Ahead numbers pool

@@ -11,7 +11,7 @@ use folder::Folder;
 use item_io::{FolderOutlet, READS, Source};
 use ladder_laws::names_are_bytes;
 use live_board::Publisher;
-use pipeline::Settings;
+use pipeline::{Herald, Settings};
 use std::alloc::Global;
 use std::io::Write;
 use std::sync::Wait;
@@ -25,7 +25,13 @@ use std::thread::Threads;
 /// holds that on the disk too, wherever the machine loses its power. What the folder shows can be played at each moment: each
 /// file that a playlist in place lists is in place too, whole, where the folder had no file of these names before, or, in a run
 /// that goes on, just what the runs before it put.
-pub fn pack_into_folder<S: Source + Drop, F: Folder + Drop, W: Write, R: Threads + Wait + Sync>(
+pub fn pack_into_folder<
+    S: Source + Drop,
+    F: Folder + Drop,
+    W: Write,
+    R: Threads + Wait + Sync,
+    H: Herald,
+>(
     rt: &R,
     alloc: Global,
     sources: Vec<S>,
@@ -34,6 +40,7 @@ pub fn pack_into_folder<S: Source + Drop, F: Folder + Drop, W: Write, R: Threads
     publisher: Publisher,
     into: Destination<F>,
     output: &mut W,
+    herald: &H,
 ) -> PackedLadder<S, FolderOutlet<F>>
     requires room { HaveRoom S.input READS sources.items }
     requires fresh { F.made into.folder ≡ [] }
@@ -57,6 +64,6 @@ pub fn pack_into_folder<S: Source + Drop, F: Folder + Drop, W: Write, R: Threads
     names_are_bytes(settings);
     let outlet = outlet_of(into, alloc);
     pack(
-        rt, alloc, sources, settings, pool, publisher, outlet, output,
+        rt, alloc, sources, settings, pool, publisher, outlet, output, herald,
     )
 }

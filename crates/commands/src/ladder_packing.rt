@@ -12,7 +12,7 @@ use crate::pool::Pool;
 use crate::summaries::summary;
 use item_io::{Outlet, READS, Source};
 use live_board::Publisher;
-use pipeline::{PackFault, Ran, Report, Settings, pack_in_batches};
+use pipeline::{Herald, PackFault, Ran, Report, Settings, pack_heralded};
 use std::alloc::Global;
 use std::io::Write;
 use std::sync::Wait;
@@ -45,8 +45,9 @@ pub struct PackedLadder<S, O> {
 /// The command `pack`: packs a ladder on many threads, one source for each rendition, puts its segments and playlists into the
 /// outlet, and writes a line for each rendition when all of it is packed.
 ///
-/// Before the whole ladder is packed nothing is written. What was put before a fault stands.
-pub fn pack<S: Source + Drop, O: Outlet + Drop, W: Write, R: Threads + Wait + Sync>(
+/// Before the whole ladder is packed nothing is written. What was put before a fault stands. The herald is told of a rendition's
+/// fault as soon as it stands.
+pub fn pack<S: Source + Drop, O: Outlet + Drop, W: Write, R: Threads + Wait + Sync, H: Herald>(
     rt: &R,
     alloc: Global,
     sources: Vec<S>,
@@ -55,6 +56,7 @@ pub fn pack<S: Source + Drop, O: Outlet + Drop, W: Write, R: Threads + Wait + Sy
     publisher: Publisher,
     outlet: O,
     output: &mut W,
+    herald: &H,
 ) -> PackedLadder<S, O>
     requires room { HaveRoom S.input READS sources.items }
     requires failures { O.output.failures outlet < 2 ^ 63 }
@@ -70,7 +72,7 @@ pub fn pack<S: Source + Drop, O: Outlet + Drop, W: Write, R: Threads + Wait + Sy
         publisher,
         outlet,
         answer,
-    } = pack_in_batches(
+    } = pack_heralded(
         rt,
         alloc,
         sources,
@@ -81,6 +83,7 @@ pub fn pack<S: Source + Drop, O: Outlet + Drop, W: Write, R: Threads + Wait + Sy
         outlet,
         READS,
         Some(pool.batch.unwrap_or(pool.queue) as usize),
+        herald,
     );
     match answer {
         Err(fault) => PackedLadder {

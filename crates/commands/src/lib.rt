@@ -49,7 +49,7 @@ pub use numbers::{
 pub use opening::{OpeningFault, open};
 pub use outside::{Ranged, first_outside};
 pub use packing::{Packed, one};
-pub use pool::{DEFAULT_QUEUE, DEFAULT_WORKERS, Pool, PoolWords};
+pub use pool::{DEFAULT_QUEUE, DEFAULT_WORKERS, MOST_AHEAD, MOST_STALL, Pool, PoolWords};
 pub use ranges::limits_are_these;
 pub use sealing::{SealingFault, seal};
 pub use settings::{PackingWords, SettingsFault, read_settings};

@@ -3,10 +3,11 @@ ghost use Rattle.std.specs.Prelude.{◌≡◌, None, IfSome, Decides};
 ghost use Rattle.std.specs.Option.{unwrap_or};
 ghost use Rattle.commands.specs.declared.numbers.Numbers.{Numbers as NumbersValue};
 ghost use Rattle.commands.specs.Ranges.{IsUpTo, IsWithin, AreWithin};
+ghost use Rattle.commands.specs.declared.pool.TheConstants.{MOST_AHEAD, MOST_STALL};
 ghost use Rattle.limits.specs.declared.TheConstants.{LEAST, MOST_QUEUE, MOST_WORKERS};
 
 use crate::numbers::Numbers;
-use crate::pool::Pool;
+use crate::pool::{MOST_AHEAD, MOST_STALL, Pool};
 use limits::{
     LEAST, MOST_FRAME, MOST_GAP, MOST_PACKETS, MOST_PROGRAM, MOST_QUEUE, MOST_TARGET, MOST_WINDOW,
     MOST_WORKERS,
@@ -25,6 +26,8 @@ pub enum Ranged {
     Workers,
     Queue,
     Batch,
+    Stall,
+    Ahead,
 }
 
 fn is_up_to(number: u64, most: u64) -> bool
@@ -63,12 +66,14 @@ pub fn first_outside(numbers: &Numbers, pool: Pool) -> Option<Ranged>
     first_outside_of_pool(pool)
 }
 
-/// The same of the threads that seal.
+/// The same of the threads that seal, and of reading ahead.
 fn first_outside_of_pool(pool: Pool) -> Option<Ranged>
     ensures some { IfSome result (λ option. (numbers : NumbersValue) → ¬ IsWithin option numbers pool) }
     ensures workers { result ≡ None → IsUpTo pool.workers MOST_WORKERS }
     ensures queue { result ≡ None → IsUpTo pool.queue MOST_QUEUE }
     ensures batch { result ≡ None → IsUpTo (unwrap_or pool.batch LEAST) MOST_QUEUE }
+    ensures stall { result ≡ None → IsUpTo (unwrap_or pool.stall LEAST) MOST_STALL }
+    ensures ahead { result ≡ None → IsUpTo (unwrap_or pool.ahead LEAST) MOST_AHEAD }
 {
     if !is_up_to(pool.workers, MOST_WORKERS) {
         return Some(Ranged::Workers);
@@ -78,6 +83,12 @@ fn first_outside_of_pool(pool: Pool) -> Option<Ranged>
     }
     if !is_up_to(pool.batch.unwrap_or(LEAST), MOST_QUEUE) {
         return Some(Ranged::Batch);
+    }
+    if !is_up_to(pool.stall.unwrap_or(LEAST), MOST_STALL) {
+        return Some(Ranged::Stall);
+    }
+    if !is_up_to(pool.ahead.unwrap_or(LEAST), MOST_AHEAD) {
+        return Some(Ranged::Ahead);
     }
     None
 }

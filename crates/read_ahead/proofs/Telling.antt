@@ -86,3 +86,7 @@ module _ {I : Type 0} where
 
   pub some_more : (told more : List (Message I)) (x : Message I) → more ≡ told ++ x ∷ [] → 0 < length more
   some_more told more x order = omega (arith, ap length order, length-append told (x ∷ []))
+
+  -- what was told last, by another name
+  pub in_order : (told more : List (Message I)) (message x : Message I) → more ≡ told ++ message ∷ [] → message ≡ x → more ≡ told ++ x ∷ []
+  in_order told more message x order is = order ∙ ap (λ (y : Message I). told ++ y ∷ []) is

@@ -1,7 +1,8 @@
 -- Fair turns: sources that are read in turn and are behind by very different numbers of bytes catch up together.
-use Rattle.std.specs.Prelude.{ℕ, ◌+◌, ◌-◌, ◌/◌, List, [], ◌∷◌, max, nat_lt, nat_le, ◌==◌, ◌&&◌, ◌||◌, not, Bool, if◌then◌else◌}
+use Rattle.std.specs.Prelude.{ℕ, ◌+◌, ◌-◌, ◌*◌, ◌/◌, ◌^◌, List, [], ◌∷◌, Option, None, Some, min, max, nat_lt, nat_le, ◌==◌, ◌&&◌, ◌||◌, not, Bool, if◌then◌else◌}
 use Rattle.read_ahead.specs.declared.backlog.Backlog.{Backlog}
 use Rattle.item_io.specs.declared.limits.TheConstants.{PIECE}
+use Rattle.read_ahead.specs.declared.limits.TheConstants.{BLOCK, ROOM}
 
 -- so many things in parts of this size: how many parts they are, the last of which may be smaller
 abbrev pub parts : ℕ → ℕ → ℕ
@@ -20,3 +21,9 @@ share bytes turns = max 1 (parts bytes turns)
 abbrev pub is_full : ℕ → ℕ → ℕ → Backlog → Bool
 is_full room blocks count backlog =
     (not backlog.left) && (not (backlog.bytes == 0)) && (nat_le blocks backlog.blocks || nat_lt room (backlog.bytes + count))
+
+-- the room of each of so many inputs: their part of the MiB that all may take together, and a block at least; 32 MiB where no bound
+-- is asked for
+abbrev pub room_for : Option ℕ → ℕ → ℕ
+room_for None inputs = ROOM
+room_for (Some ahead) inputs = max BLOCK (min (ahead * 2 ^ 20) (2 ^ 64 - 1) / max inputs 1)

@@ -8,8 +8,10 @@ use crate::waiting::wait_ready;
 use item_io::{ReadFault, Source};
 use std::marker::Model;
 use std::sync::Wait;
+use std::time::Clock;
 
-/// A source of what another thread reads ahead. A read waits until a byte lies ready, or the end.
+/// A source of what another thread reads ahead. A read waits until a byte lies ready, or the end; where the input is silent for too
+/// long, it fails.
 pub struct Ahead<R: Wait, I: Contents> {
     rt: R,
     incoming: Incoming<I>,
@@ -27,7 +29,7 @@ impl<R: Wait, I: Contents> Model for Ahead<R, I> {
     ghost invariant = { λ s. IsSound I.holds s.incoming };
 }
 
-impl<R: Wait, I: Contents> Ahead<R, I> {
+impl<R: Wait + Clock, I: Contents> Ahead<R, I> {
     /// The source of what comes of an input.
     pub fn new(rt: R, incoming: Incoming<I>) -> Ahead<R, I>
         requires { IsSound I.holds incoming }
@@ -43,13 +45,14 @@ impl<R: Wait, I: Contents> Ahead<R, I> {
         }
     }
 
-    /// Whether the input is open: false where it can't be opened, none while that isn't known. No clause says which.
-    pub fn is_open(&mut self) -> Option<bool>
+    /// Whether it can be begun with the input: false where that can't be opened, none while that isn't known. An input that may
+    /// wait for a writer `was_awaited` long enough. No clause says which.
+    pub fn is_open(&mut self, was_awaited: bool) -> Option<bool>
         ensures { self.new ≡ self.old }
     {
         if matches!(self.incoming.phase, Phase::Opening) {
             if self.incoming.consumer.is_empty() {
-                return None;
+                return (was_awaited && self.incoming.may_wait).then_some(true);
             }
             self.incoming.wait_open(&self.rt);
         }
@@ -67,7 +70,7 @@ impl<R: Wait, I: Contents> Ahead<R, I> {
     }
 }
 
-impl<R: Wait + Copy, I: Contents> Source for Ahead<R, I> {
+impl<R: Wait + Clock + Copy, I: Contents> Source for Ahead<R, I> {
     ghost input = { source_view (λ s. s.left) (λ s. s.reads) (λ s. s.failures) };
 
     fn read(&mut self, buffer: &mut [u8]) -> Result<usize, ReadFault> {
@@ -102,8 +105,12 @@ impl<R: Wait + Copy, I: Contents> Source for Ahead<R, I> {
 
     /// Whether a byte lies ready, or the end, or a failure.
     fn is_ready(&mut self) -> bool {
+        let _ = self.is_open(true);
         let number = self.incoming.number;
-        !self.incoming.backlogs.is_left(&self.rt, number) && self.incoming.is_ready()
+        if self.incoming.backlogs.is_left(&self.rt, number) {
+            return false;
+        }
+        self.incoming.is_ready() || self.incoming.backlogs.is_silent(&self.rt, number)
     }
 
     /// Waits until one of these sources is ready. They are of one call of `open_all`.

@@ -2,18 +2,24 @@
 ghost use Rattle.std.specs.Prelude.{◌<◌};
 
 use crate::backlog::Backlog;
-use crate::limits::{BLOCKS, ROOM};
+use crate::limits::{BLOCKS, Limits};
 use crate::shares::{share_of, turns_of};
 use std::alloc::{AllocError, Global};
 use std::sync::{Arc, Condvar, Mutex, Wait};
+use std::time::{Clock, Duration, Instant};
 
 /// What stands under the lock.
 #[derive(Drop)]
 struct Counts {
     backlogs: Vec<Backlog>,
+    /// Since when the thread of an input waits for its bytes, if it does.
+    since: Vec<Option<Instant>>,
     /// How often something came of an input, from the first number on again behind the last.
     news: u64,
 }
+
+/// The least time that is waited for news of inputs which may fall silent, in milliseconds.
+const LEAST_WAIT: u64 = 1;
 
 /// The backlogs of all inputs, by number.
 #[derive(Drop)]
@@ -23,24 +29,42 @@ pub struct Backlogs {
     came: Condvar,
     /// Of an input bytes were taken, or no more are given.
     taken: Vec<Condvar>,
+    /// The most bytes of an input that lie ready, but for a block that was put where none did.
+    room: usize,
+    /// An input that gives nothing for so long is silent.
+    stall: Option<Duration>,
 }
 
 impl Backlogs {
-    /// So many inputs, of which none gave anything yet.
-    pub fn new(alloc: Global, count: usize) -> Result<Arc<Backlogs, Global>, AllocError> {
+    /// So many inputs, of which none gave anything yet. Their threads begin to wait for them.
+    pub fn new<R: Clock>(
+        rt: &R,
+        alloc: Global,
+        count: usize,
+        limits: Limits,
+    ) -> Result<Arc<Backlogs, Global>, AllocError> {
+        let now = Instant::now(rt).ok();
         let mut backlogs = Vec::with_capacity(alloc, count)?;
+        let mut since = Vec::with_capacity(alloc, count)?;
         let mut taken = Vec::with_capacity(alloc, count)?;
         for _ in 0..count {
             backlogs.push(Backlog::new())?;
+            since.push(now)?;
             taken.push(Condvar::new())?;
         }
-        let counts = Mutex::new(Counts { backlogs, news: 0 });
+        let counts = Mutex::new(Counts {
+            backlogs,
+            since,
+            news: 0,
+        });
         Ok(Arc::new(
             alloc,
             Backlogs {
                 counts,
                 came: Condvar::new(),
                 taken,
+                room: limits.room(count),
+                stall: limits.stall,
             },
         )?)
     }
@@ -55,7 +79,7 @@ impl Backlogs {
             let Some(backlog) = counts.backlogs.get_mut(number) else {
                 return false;
             };
-            if !backlog.is_full(ROOM, BLOCKS, count) {
+            if !backlog.is_full(self.room, BLOCKS, count) {
                 backlog.put(count);
                 return !backlog.left;
             }
@@ -76,11 +100,80 @@ impl Backlogs {
         self.counts.lock(rt).news
     }
 
-    /// Waits until something came since then.
-    pub fn wait_past<R: Wait>(&self, rt: &R, seen: u64) {
+    /// Waits until something came since then, or an input may have fallen silent.
+    pub fn wait_past<R: Wait + Clock>(&self, rt: &R, seen: u64) {
+        let counts = self.counts.lock(rt);
+        let Some(patience) = self.patience(rt, &counts) else {
+            let _ = self
+                .came
+                .wait_while(rt, counts, |counts| counts.news == seen);
+            return;
+        };
         let _ = self
             .came
-            .wait_while(rt, self.counts.lock(rt), |counts| counts.news == seen);
+            .wait_timeout_while(rt, counts, patience, |counts| counts.news == seen);
+    }
+
+    /// Waits until something came since then, but not longer than this.
+    pub fn wait_for<R: Wait + Clock>(&self, rt: &R, seen: u64, most: Duration) {
+        let _ = self.came.wait_timeout_while(
+            rt,
+            self.counts.lock(rt),
+            most,
+            |counts| counts.news == seen,
+        );
+    }
+
+    /// How long no input falls silent that is given. None where none ever does.
+    fn patience<R: Clock>(&self, rt: &R, counts: &Counts) -> Option<Duration> {
+        let stall = self.stall?;
+        let now = Instant::now(rt).ok()?;
+        let mut least = stall;
+        for number in 0..counts.backlogs.len() {
+            if let Some(Some(since)) = counts.since.get(number)
+                && !counts.backlogs[number].left
+            {
+                least = least.min(stall.saturating_sub(now.duration_since(*since)));
+            }
+        }
+        Some(least.max(Duration::from_millis(LEAST_WAIT)))
+    }
+
+    /// The thread of an input begins to wait for its next bytes, or still waits for its first ones.
+    pub fn begin_wait<R: Wait + Clock>(&self, rt: &R, number: usize) {
+        if self.stall.is_none() {
+            return;
+        }
+        let now = Instant::now(rt).ok();
+        if let Some(since) = self.counts.lock(rt).since.get_mut(number)
+            && since.is_none()
+        {
+            *since = now;
+        }
+    }
+
+    /// Something came of the input that its thread waited for.
+    pub fn end_wait<R: Wait>(&self, rt: &R, number: usize) {
+        if self.stall.is_none() {
+            return;
+        }
+        if let Some(since) = self.counts.lock(rt).since.get_mut(number) {
+            *since = None;
+        }
+    }
+
+    /// Whether an input gave nothing for too long.
+    pub fn is_silent<R: Wait + Clock>(&self, rt: &R, number: usize) -> bool {
+        let Some(stall) = self.stall else {
+            return false;
+        };
+        let Some(Some(since)) = self.counts.lock(rt).since.get(number).copied() else {
+            return false;
+        };
+        match since.elapsed(rt) {
+            Ok(time) => time >= stall,
+            Err(_) => false,
+        }
     }
 
     /// A block of an input was begun.
@@ -106,7 +199,7 @@ impl Backlogs {
         let mut counts = self.counts.lock(rt);
         if let Some(backlog) = counts.backlogs.get_mut(number) {
             backlog.give(count);
-            if backlog.bytes <= ROOM - ROOM / 16 {
+            if backlog.bytes <= self.room - self.room / 16 {
                 self.wake(number);
             }
         }

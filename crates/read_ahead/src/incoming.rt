@@ -1,5 +1,5 @@
 //! What comes of an input: the bytes that its thread told, in the order in which it told them.
-ghost use Rattle.std.specs.Prelude.{◌≡◌, ◌≢◌, ◌+◌, ◌-◌, ◌≤◌, ◌<◌, [], ◌∷◌, ◌++◌, ◌⊎◌, true, false, length, take, drop, min, IfOk, OnErr};
+ghost use Rattle.std.specs.Prelude.{◌≡◌, ◌≢◌, ◌+◌, ◌-◌, ◌≤◌, ◌<◌, [], ◌∷◌, ◌++◌, ◌⊎◌, true, false, length, take, drop, min, None, IfOk, IfSome, OnErr};
 ghost use Rattle.std.specs.Io.KnownBytes.{Consumes, IsAtEnd, Keeps};
 ghost use Rattle.rtrb.specs.Ring.{received};
 ghost use Rattle.read_ahead.specs.Messages.{MayFollow};
@@ -13,6 +13,7 @@ use item_io::ReadFault;
 use rtrb::Consumer;
 use std::alloc::Global;
 use std::sync::{Arc, Wait};
+use std::time::Clock;
 
 /// What is known of an input.
 #[derive(Clone, Copy, PartialEq, Eq)]
@@ -37,6 +38,8 @@ pub struct Incoming<I: Contents> {
     /// The block that bytes are taken of, from the byte `at` on.
     pub front: Vec<u8>,
     pub at: usize,
+    /// Whether its opening may wait for a writer.
+    pub may_wait: bool,
     pub phase: Phase,
 }
 
@@ -69,19 +72,32 @@ impl<I: Contents> Incoming<I> {
         ensures phase { self.new.phase ≢ Opening }
     {
         if !matches!(self.phase, Phase::Ended) {
-            self.phase = Phase::Failed;
+            self.fail();
         }
     }
 
-    /// Waits until the input is open, or can't be opened.
-    pub fn wait_open<R: Wait>(&mut self, rt: &R)
+    /// No more is given behind the front block, and that is a failure.
+    fn fail(&mut self)
+        requires { IsSound I.holds self.old }
+        ensures sound { IsSound I.holds self.new }
+        ensures same { rest_of I.holds self.new ≡ rest_of I.holds self.old }
+        ensures phase { self.new.phase ≡ Failed }
+    {
+        self.phase = Phase::Failed;
+    }
+
+    /// Waits until the input is open, or can't be opened, or is silent for too long.
+    pub fn wait_open<R: Wait + Clock>(&mut self, rt: &R)
         requires sound { IsSound I.holds self.old }
         requires opening { self.old.phase ≡ Opening }
         ensures sound { IsSound I.holds self.new }
         ensures same { rest_of I.holds self.new ≡ rest_of I.holds self.old }
         ensures phase { self.new.phase ≢ Opening }
     {
-        match wait_message(rt, &self.backlogs, &mut self.consumer) {
+        let Some(message) = wait_message(rt, &self.backlogs, self.number, &mut self.consumer) else {
+            return self.fail();
+        };
+        match message {
             Message::Opened => self.phase = Phase::Going,
             Message::Refused => self.phase = Phase::Failed,
             Message::Asked(_) => self.phase = Phase::Failed,
@@ -91,8 +107,8 @@ impl<I: Contents> Incoming<I> {
         }
     }
 
-    /// Waits for what is told next, and takes it.
-    fn wait_next<R: Wait>(&mut self, rt: &R)
+    /// Waits for what is told next, and takes it. An input that is silent for too long has failed.
+    fn wait_next<R: Wait + Clock>(&mut self, rt: &R)
         requires sound { IsSound I.holds self.old }
         requires used { self.old.at ≡ length self.old.front.items }
         requires going { self.old.phase ≡ Going }
@@ -101,7 +117,10 @@ impl<I: Contents> Incoming<I> {
         ensures some { (self.new.at < length self.new.front.items) ⊎ (self.new.phase ≢ Going) }
         ensures phase { self.new.phase ≢ Opening }
     {
-        match wait_message(rt, &self.backlogs, &mut self.consumer) {
+        let Some(message) = wait_message(rt, &self.backlogs, self.number, &mut self.consumer) else {
+            return self.fail();
+        };
+        match message {
             Message::Bytes(block) => {
                 self.front = block;
                 self.at = 0;
@@ -116,7 +135,7 @@ impl<I: Contents> Incoming<I> {
     }
 
     /// Waits until a byte can be given, or none comes any more.
-    pub fn go_on<R: Wait>(&mut self, rt: &R)
+    pub fn go_on<R: Wait + Clock>(&mut self, rt: &R)
         requires { IsSound I.holds self.old }
         ensures sound { IsSound I.holds self.new }
         ensures same { rest_of I.holds self.new ≡ rest_of I.holds self.old }
@@ -147,7 +166,7 @@ impl<I: Contents> Incoming<I> {
     }
 
     /// Takes bytes of the front block, and goes on to the next one if the front is used up and it lies ready. Answers how many.
-    fn take_some<R: Wait>(&mut self, rt: &R, buffer: &mut [u8]) -> usize
+    fn take_some<R: Wait + Clock>(&mut self, rt: &R, buffer: &mut [u8]) -> usize
         requires sound { IsSound I.holds self.old }
         requires phase { self.old.phase ≢ Opening }
         ensures sound { IsSound I.holds self.new }
@@ -164,7 +183,7 @@ impl<I: Contents> Incoming<I> {
     }
 
     /// Fills a buffer as far as bytes lie ready, and answers how many they are; where none do, the end or the failure.
-    pub fn give<R: Wait>(&mut self, rt: &R, buffer: &mut [u8]) -> Result<usize, ReadFault>
+    pub fn give<R: Wait + Clock>(&mut self, rt: &R, buffer: &mut [u8]) -> Result<usize, ReadFault>
         requires sound { IsSound I.holds self.old }
         requires phase { self.old.phase ≢ Opening }
         requires some { (self.old.at < length self.old.front.items) ⊎ (self.old.phase ≢ Going) }
@@ -184,7 +203,7 @@ impl<I: Contents> Incoming<I> {
     }
 
     /// Fills a buffer as far as bytes lie ready, of which there are some, and answers how many they are.
-    fn fill<R: Wait>(&mut self, rt: &R, buffer: &mut [u8]) -> usize
+    fn fill<R: Wait + Clock>(&mut self, rt: &R, buffer: &mut [u8]) -> usize
         requires sound { IsSound I.holds self.old }
         requires phase { self.old.phase ≢ Opening }
         requires some { self.old.at < length self.old.front.items }
@@ -213,19 +232,24 @@ fn copy_some(bytes: &[u8], at: usize, buffer: &mut [u8]) -> usize
     count
 }
 
-/// Waits for what is told next.
-fn wait_message<R: Wait, I: Contents>(
+/// Waits for what is told next of the input of this number. None where it's silent for too long.
+fn wait_message<R: Wait + Clock, I: Contents>(
     rt: &R,
     backlogs: &Backlogs,
+    number: usize,
     consumer: &mut Consumer<Message<I>, Global, InOrder<I>>,
-) -> Message<I>
-    ensures order { received consumer.new ≡ received consumer.old ++ result ∷ [] }
-    ensures allowed { MayFollow I.holds (received consumer.old) result }
+) -> Option<Message<I>>
+    ensures order { IfSome result (λ message. received consumer.new ≡ received consumer.old ++ message ∷ []) }
+    ensures allowed { IfSome result (MayFollow I.holds (received consumer.old)) }
+    ensures none { result ≡ None → received consumer.new ≡ received consumer.old }
 {
     for _ in rt.forever() {
         let seen = backlogs.news(rt);
         if let Ok(message) = consumer.pop() {
-            return message;
+            return Some(message);
+        }
+        if backlogs.is_silent(rt, number) {
+            return None;
         }
         backlogs.wait_past(rt, seen);
     }

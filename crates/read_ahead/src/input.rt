@@ -14,6 +14,11 @@ pub trait Input: Contents {
     /// What reads it once it's open.
     type Reader: Read + Drop;
 
+    /// Whether opening it may wait for a writer. No clause says.
+    fn may_wait(&self) -> bool {
+        false
+    }
+
     /// Opens it; None where it can't be opened. Of a FIFO it waits for a writer.
     fn open(self) -> Option<Self::Reader>
         ensures { IfSome result (λ reader. Self.Reader.remaining reader ≡ Self.holds self) };

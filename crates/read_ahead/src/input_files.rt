@@ -4,8 +4,10 @@ ghost use Rattle.std.specs.String.{string_bytes};
 
 use crate::input::{Contents, Input};
 use std::alloc::{AllocError, Global};
+use std::fs;
 use std::fs::File;
 use std::io::Read;
+use std::os::unix::fs::FileTypeExt;
 
 /// What opens inputs by their paths.
 pub trait InputFiles {
@@ -14,6 +16,9 @@ pub trait InputFiles {
 
     /// The bytes that the input at a path has, where they are told.
     ghost holds: { Self → List ℕ → Option (List ℕ) };
+
+    /// Whether the input at a path is a FIFO, whose opening waits for a writer. No clause says.
+    fn is_fifo(&self, path: &str) -> bool;
 
     /// Opens the input at a path; None where it can't be opened. Of a FIFO it waits for a writer.
     fn open(&self, path: &str) -> Option<Self::Reader>
@@ -25,6 +30,13 @@ impl InputFiles for HostRuntime {
     type Reader = File;
 
     ghost holds = { λ _ _. None };
+
+    fn is_fifo(&self, path: &str) -> bool {
+        match fs::metadata(self, path) {
+            Ok(metadata) => metadata.file_type().is_fifo(),
+            Err(_) => false,
+        }
+    }
 
     fn open(&self, path: &str) -> Option<File> {
         File::open(self, path).ok()
@@ -46,6 +58,10 @@ impl<F: InputFiles> Contents for InputAt<F> {
 
 impl<F: InputFiles + Drop> Input for InputAt<F> {
     type Reader = F::Reader;
+
+    fn may_wait(&self) -> bool {
+        self.files.is_fifo(self.path.as_str())
+    }
 
     fn open(self) -> Option<F::Reader> {
         let InputAt { files, path } = self;

@@ -20,4 +20,5 @@ mod waiting;
 pub use ahead::Ahead;
 pub use input::{Contents, Input, OpenInput};
 pub use input_files::{InputAt, InputFiles};
+pub use limits::Limits;
 pub use starting::{InputFault, open_all, open_paths};

@@ -1,6 +1,10 @@
-//! How much is read ahead at the most.
+//! How much is read ahead at the most, and how long an input is waited for.
+ghost use Rattle.std.specs.Prelude.{◌≡◌};
+ghost use Rattle.read_ahead.specs.Shares.{room_for};
 
-/// The most bytes of an input that lie ready, but for a block that was put where none did.
+use std::time::Duration;
+
+/// The most bytes of an input that lie ready where no other bound is asked for, but for a block that was put where none did.
 pub const ROOM: usize = 32 << 20;
 
 /// The most blocks of an input that lie ready.
@@ -11,3 +15,28 @@ pub const SLOTS: usize = BLOCKS + 8;
 
 /// The most bytes that an input is asked for at once.
 pub const BLOCK: usize = 64 << 10;
+
+/// How long the writers of all FIFOs are waited for before it begins without them, in milliseconds.
+pub const MOMENT: u64 = 100;
+
+/// How inputs are read ahead.
+#[derive(Clone, Copy, Debug, Drop)]
+pub struct Limits {
+    /// An input that gives nothing for so long fails. If absent, it is waited for as long as it takes.
+    pub stall: Option<Duration>,
+    /// The most MiB that lie ready of all inputs together. If absent, 32 of each.
+    pub ahead: Option<u64>,
+}
+
+impl Limits {
+    /// The most bytes that lie ready of each of so many inputs, but for a block that was put where none did.
+    pub fn room(self, inputs: usize) -> usize
+        ensures { result ≡ room_for self.ahead inputs }
+    {
+        let Some(ahead) = self.ahead else {
+            return ROOM;
+        };
+        let bytes = ahead.saturating_mul(1 << 20) as usize;
+        (bytes / inputs.max(1)).max(BLOCK)
+    }
+}

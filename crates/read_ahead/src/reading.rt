@@ -13,6 +13,7 @@ use item_io::{ReadFault, read_some};
 use std::alloc::{AllocError, Global};
 use std::io::Read;
 use std::sync::Wait;
+use std::time::Clock;
 
 /// Why nothing more is told of an input.
 #[derive(Clone, Copy)]
@@ -24,7 +25,7 @@ pub enum Stop {
 }
 
 /// Opens an input, and tells all that it gives.
-pub fn open_and_read<R: Wait, I: Input>(rt: &R, alloc: Global, sender: Sender<I>, input: I)
+pub fn open_and_read<R: Wait + Clock, I: Input>(rt: &R, alloc: Global, sender: Sender<I>, input: I)
     requires { Asks (sent sender.producer) input }
 {
     let mut sender = sender;
@@ -39,7 +40,12 @@ pub fn open_and_read<R: Wait, I: Input>(rt: &R, alloc: Global, sender: Sender<I>
 
 /// Tells all that an open input gives, and its end or a failure. Want of memory is a failed read. Once no more of it is given, its
 /// bytes are thrown away, so that its writer isn't held up.
-fn read_ahead<R: Wait, I: Input>(rt: &R, alloc: Global, sender: Sender<I>, reader: I::Reader)
+fn read_ahead<R: Wait + Clock, I: Input>(
+    rt: &R,
+    alloc: Global,
+    sender: Sender<I>,
+    reader: I::Reader,
+)
     requires { Tells I.holds (sent sender.producer) (I.Reader.remaining reader) }
 {
     let mut sender = sender;
@@ -66,7 +72,7 @@ fn tell_failure<R: Wait, I: Input>(rt: &R, sender: Sender<I>)
 }
 
 /// Tells all that an input gives, up to its end, by reads into this buffer.
-fn copy_by<R: Wait, I: Input>(
+fn copy_by<R: Wait + Clock, I: Input>(
     rt: &R,
     alloc: Global,
     sender: &mut Sender<I>,
@@ -80,7 +86,10 @@ fn copy_by<R: Wait, I: Input>(
     ensures open { IsOpen (sent sender.new.producer) }
 {
     for _ in rt.forever() {
-        let count = read_some(reader, buffer)?;
+        sender.begin_wait(rt);
+        let read = read_some(reader, buffer);
+        sender.end_wait(rt);
+        let count = read?;
         if count == 0 {
             return Ok(Stop::AtEnd);
         }

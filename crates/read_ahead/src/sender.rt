@@ -9,6 +9,7 @@ use rtrb::{Producer, PushError};
 use std::alloc::Global;
 use std::sync::{Arc, Wait};
 use std::thread;
+use std::time::Clock;
 
 /// The end of a thread that reads an input. `sent` of its producer is what was told.
 #[derive(Drop)]
@@ -41,6 +42,16 @@ impl<I: Contents> Sender<I> {
     {
         push(rt, &mut self.producer, message);
         self.backlogs.tell(rt);
+    }
+
+    /// The next bytes of the input are waited for from now on.
+    pub fn begin_wait<R: Wait + Clock>(&self, rt: &R) {
+        self.backlogs.begin_wait(rt, self.number);
+    }
+
+    /// They came, or none do.
+    pub fn end_wait<R: Wait>(&self, rt: &R) {
+        self.backlogs.end_wait(rt, self.number);
     }
 
     /// Waits until there is room for a block of so many bytes. False where no more of the input is given.

@@ -10,7 +10,7 @@ use crate::backlogs::Backlogs;
 use crate::incoming::{Incoming, Phase};
 use crate::input::{Contents, Input};
 use crate::input_files::{InputAt, InputFiles, inputs_at};
-use crate::limits::SLOTS;
+use crate::limits::{Limits, SLOTS};
 use crate::message::{InOrder, Message};
 use crate::reading::open_and_read;
 use crate::sender::Sender;
@@ -21,6 +21,7 @@ use std::snapshot::Snapshot;
 use std::sync::{Arc, Wait};
 use std::thread;
 use std::thread::Threads;
+use std::time::Clock;
 use thiserror::Error;
 
 /// Why inputs can't be read ahead.
@@ -45,29 +46,34 @@ impl From<AllocError> for InputFault {
 /// Opens the input at each path in a thread of its own, which then reads it ahead, and waits until all are open. Where one
 /// can't be opened, others may wait for their writers as long as the program runs.
 pub fn open_paths<
-    R: Threads + Wait + Copy + Send + Drop + 'static,
+    R: Threads + Wait + Clock + Copy + Send + Drop + 'static,
     F: InputFiles + Copy + Send + Drop + 'static,
->(rt: R, alloc: Global, files: F, paths: &[&str]) -> Result<Vec<Ahead<R, InputAt<F>>>, InputFault>
+>(
+    rt: R,
+    alloc: Global,
+    files: F,
+    paths: &[&str],
+    limits: Limits,
+) -> Result<Vec<Ahead<R, InputAt<F>>>, InputFault>
 where
     F::Reader: Send + 'static,
     ensures left { IfOk result (λ sources. map (λ source. source.left) sources.items ≡ map (λ path. F.holds files path.now) paths.now) }
     ensures unread { IfOk result (λ sources. All (λ source. (source.reads ≡ 0) × (source.failures ≡ 0)) sources.items) }
 {
-    open_all(rt, alloc, inputs_at(alloc, files, paths)?)
+    open_all(rt, alloc, inputs_at(alloc, files, paths)?, limits)
 }
 
 /// Opens each input in a thread of its own, which then reads it ahead, and waits until all are open.
-pub fn open_all<R: Threads + Wait + Copy + Send + Drop + 'static, I: Input + Drop + Send + 'static>(
-    rt: R,
-    alloc: Global,
-    inputs: Vec<I>,
-) -> Result<Vec<Ahead<R, I>>, InputFault>
+pub fn open_all<
+    R: Threads + Wait + Clock + Copy + Send + Drop + 'static,
+    I: Input + Drop + Send + 'static,
+>(rt: R, alloc: Global, inputs: Vec<I>, limits: Limits) -> Result<Vec<Ahead<R, I>>, InputFault>
 where
     I::Reader: Send + 'static,
     ensures left { IfOk result (λ sources. map (λ source. source.left) sources.items ≡ map I.holds inputs.items) }
     ensures unread { IfOk result (λ sources. All (λ source. (source.reads ≡ 0) × (source.failures ≡ 0)) sources.items) }
 {
-    let backlogs = Backlogs::new(alloc, inputs.len())?;
+    let backlogs = Backlogs::new(&rt, alloc, inputs.len(), limits)?;
     let mut sources = start_all(rt, alloc, &backlogs, inputs)?;
     if wait_open(&rt, &backlogs, &mut sources) {
         Ok(sources)
@@ -77,7 +83,10 @@ where
 }
 
 /// Starts a thread for each input, and answers their sources.
-fn start_all<R: Threads + Wait + Copy + Send + Drop + 'static, I: Input + Drop + Send + 'static>(
+fn start_all<
+    R: Threads + Wait + Clock + Copy + Send + Drop + 'static,
+    I: Input + Drop + Send + 'static,
+>(
     rt: R,
     alloc: Global,
     backlogs: &Arc<Backlogs, Global>,
@@ -97,7 +106,7 @@ where
 }
 
 /// Starts a thread that opens an input and reads it ahead, and answers its source.
-fn start<R: Threads + Wait + Copy + Send + 'static, I: Input + Drop + Send + 'static>(
+fn start<R: Threads + Wait + Clock + Copy + Send + 'static, I: Input + Drop + Send + 'static>(
     rt: R,
     alloc: Global,
     backlogs: &Arc<Backlogs, Global>,
@@ -110,6 +119,7 @@ where
     ensures reads { IfOk result (λ source. source.reads ≡ 0) }
     ensures failures { IfOk result (λ source. source.failures ≡ 0) }
 {
+    let may_wait = input.may_wait();
     let (mut producer, mut consumer) = RingBuffer::with_protocol::<Global, InOrder<I>>(
         alloc, SLOTS,
     )?;
@@ -129,13 +139,14 @@ where
         number,
         front: Vec::new(alloc),
         at: 0,
+        may_wait,
         phase: Phase::Opening,
     };
     Ok(Ahead::new(rt, incoming))
 }
 
 /// What the thread of an input does.
-fn run<R: Wait, I: Input>(
+fn run<R: Wait + Clock, I: Input>(
     rt: &R,
     alloc: Global,
     producer: Producer<Message<I>, Global, InOrder<I>>,

@@ -4,34 +4,53 @@ ghost use Rattle.std.specs.Prelude.{◌≡◌, ◌<◌, length};
 use crate::ahead::Ahead;
 use crate::backlogs::Backlogs;
 use crate::input::Contents;
+use crate::limits::MOMENT;
 use item_io::Source;
+use std::io;
 use std::sync::Wait;
+use std::time::{Clock, Duration, Instant};
 
-/// Waits until all inputs are open, and answers true; false as soon as one can't be opened.
-pub fn wait_open<R: Wait, I: Contents>(
+/// Waits until all inputs are open, and answers true; false as soon as one can't be opened. Those that may wait for their writers are
+/// waited for a moment.
+pub fn wait_open<R: Wait + Clock, I: Contents>(
     rt: &R,
     backlogs: &Backlogs,
     sources: &mut [Ahead<R, I>],
 ) -> bool
     ensures { sources.new ≡ sources.old }
 {
+    let begun = Instant::now(rt);
     for _ in rt.forever() {
         let seen = backlogs.news(rt);
-        if let Some(open) = are_open(sources) {
+        if let Some(open) = are_open(sources, is_over(rt, &begun)) {
             return open;
         }
-        backlogs.wait_past(rt, seen);
+        backlogs.wait_for(rt, seen, Duration::from_millis(MOMENT));
     }
     unreachable!()
 }
 
-/// Whether all inputs are open: false where one can't be opened, none while that isn't known.
-fn are_open<R: Wait, I: Contents>(sources: &mut [Ahead<R, I>]) -> Option<bool>
+/// Whether the moment since then is over, as far as the clock can be read.
+fn is_over<R: Clock>(rt: &R, begun: &io::Result<Instant>) -> bool {
+    let Ok(begun) = begun else {
+        return true;
+    };
+    match begun.elapsed(rt) {
+        Ok(time) => time >= Duration::from_millis(MOMENT),
+        Err(_) => true,
+    }
+}
+
+/// Whether it can be begun with all inputs: false where one can't be opened, none while that isn't known.
+fn are_open<R: Wait + Clock, I: Contents>(
+    sources: &mut [Ahead<R, I>],
+    were_awaited: bool,
+) -> Option<bool>
     ensures { sources.new ≡ sources.old }
 {
     let mut answer = Some(true);
     for number in 0..sources.len() {
-        match sources[number].is_open() {
+        match sources[number].is_open(were_awaited) {
             Some(true) => {}
             Some(false) => return Some(false),
             None => answer = None,
@@ -41,7 +60,7 @@ fn are_open<R: Wait, I: Contents>(sources: &mut [Ahead<R, I>]) -> Option<bool>
 }
 
 /// Waits until one of these sources is ready.
-pub fn wait_ready<R: Wait + Copy, I: Contents>(rt: &R, sources: &mut [Ahead<R, I>])
+pub fn wait_ready<R: Wait + Clock + Copy, I: Contents>(rt: &R, sources: &mut [Ahead<R, I>])
     requires { 0 < length sources.old }
     ensures { sources.new ≡ sources.old }
 {
@@ -56,7 +75,7 @@ pub fn wait_ready<R: Wait + Copy, I: Contents>(rt: &R, sources: &mut [Ahead<R, I
 }
 
 /// Whether one of these sources is ready.
-fn is_any_ready<R: Wait + Copy, I: Contents>(sources: &mut [Ahead<R, I>]) -> bool
+fn is_any_ready<R: Wait + Clock + Copy, I: Contents>(sources: &mut [Ahead<R, I>]) -> bool
     ensures { sources.new ≡ sources.old }
 {
     for number in 0..sources.len() {

@@ -3,3 +3,4 @@ pub mod Courses
 pub mod Rounds
 pub mod Shown
 pub mod Begun
+pub mod Heralds

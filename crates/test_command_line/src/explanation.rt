@@ -86,6 +86,26 @@ const RANGES: [(&str, &str, &str); 12] = [
         "  --batch is outside its range, 1 to 256 segments\n",
     ),
     (
+        "--stall",
+        "0",
+        "  --stall is outside its range, 1 to 86400 seconds\n",
+    ),
+    (
+        "--stall",
+        "86401",
+        "  --stall is outside its range, 1 to 86400 seconds\n",
+    ),
+    (
+        "--ahead",
+        "0",
+        "  --ahead is outside its range, 1 to 65536 MiB\n",
+    ),
+    (
+        "--ahead",
+        "65537",
+        "  --ahead is outside its range, 1 to 65536 MiB\n",
+    ),
+    (
         "--period",
         "0",
         "  --period is 0: a key seals at least one segment\n",

@@ -1,7 +1,7 @@
 use super::words::told;
 use commands::{
     DEFAULT_FRAME, DEFAULT_GAP, DEFAULT_MOST, DEFAULT_NAME, DEFAULT_PERIOD, DEFAULT_QUEUE,
-    DEFAULT_TARGET, DEFAULT_WINDOW, DEFAULT_WORKERS,
+    DEFAULT_TARGET, DEFAULT_WINDOW, DEFAULT_WORKERS, MOST_AHEAD, MOST_STALL,
 };
 use limits::{
     LEAST, MOST_FRAME, MOST_GAP, MOST_KEYS, MOST_PACKETS, MOST_PIXELS, MOST_PROGRAM, MOST_QUEUE,
@@ -96,6 +96,8 @@ fn of_a_pool(rt: HostRuntime) -> Result<(), Fail> {
         ("--workers <NUMBER>", MOST_WORKERS),
         ("--queue <SEGMENTS>", MOST_QUEUE),
         ("--batch <SEGMENTS>", MOST_QUEUE),
+        ("--stall <SECONDS>", MOST_STALL),
+        ("--ahead <MIB>", MOST_AHEAD),
         ("--target <SECONDS>", MOST_TARGET),
     ];
     for (option, most) in table {

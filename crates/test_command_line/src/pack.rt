@@ -3,13 +3,20 @@ use command_line::{Job, LadderJob, line};
 use std::alloc::{AllocError, Global};
 use std::test::Fail;
 
-/// What a job asks for: its folder, whether it is synced, the numbers of its pool and its paths.
+/// What a job asks for: its folder, whether it is synced, the numbers of its pool, how it is read where that is bounded, and its
+/// paths.
 fn text_of(alloc: Global, job: &LadderJob<'_>) -> Result<String, AllocError> {
     let pool = job.options.pool;
     let batch = pool.batch.unwrap_or(0);
     let synced = if job.syncs { " synced" } else { "" };
     let (workers, queue) = (pool.workers, pool.queue);
     let mut text = format!(in alloc; "{}{synced} {workers} {queue} {batch}", job.folder)?;
+    if let Some(stall) = pool.stall {
+        text.push_str(format!(in alloc; " stall {stall}")?.as_str())?;
+    }
+    if let Some(ahead) = pool.ahead {
+        text.push_str(format!(in alloc; " ahead {ahead}")?.as_str())?;
+    }
     for path in &job.options.paths {
         text.push_str(" ")?;
         text.push_str(path)?;
@@ -51,11 +58,28 @@ const POOL: [&str; 9] = [
 ];
 
 /// Words, and what they ask for or print.
-const LADDERS: [(&[&str], &str); 12] = [
+const LADDERS: [(&[&str], &str); 17] = [
     (&["--out", "hls", V], "hls 4 16 0 a.ts"),
     (&[W, V, "--out", "hls"], "hls 4 16 0 b:c d a.ts"),
     (&POOL, "a 2 3 1 a.ts"),
     (&["--sync", "--out", "hls", V], "hls synced 4 16 0 a.ts"),
+    (
+        &["--out", "hls", "--stall", "86400", V],
+        "hls 4 16 0 stall 86400 a.ts",
+    ),
+    (
+        &["--out", "hls", "--ahead", "65536", V],
+        "hls 4 16 0 ahead 65536 a.ts",
+    ),
+    (
+        &["--out", "hls", "--stall", "5", "--ahead", "64", V],
+        "hls 4 16 0 stall 5 ahead 64 a.ts",
+    ),
+    (
+        &["--out", "hls", "--stall", "86401", V],
+        "tshls: Settings\n",
+    ),
+    (&["--out", "hls", "--ahead", "0", V], "tshls: Settings\n"),
     (&["--out", "hls", V, "w:c:2x1"], "tshls: BadEntry 2\n"),
     (&["--out", "hls", "--salt", "0", V], "tshls: BadVector\n"),
     (&["--out", "hls", "--workers", "0", V], "tshls: Settings\n"),

@@ -4,7 +4,7 @@ use crate::fixtures::{settings, stream_bytes};
 use commands::{Destination, PackedLadder, Pool, pack_into_folder};
 use folder::MemoryFolder;
 use item_io::FailingReader;
-use pipeline::opening_board;
+use pipeline::{Nobody, opening_board};
 use std::alloc::Global;
 use std::sync::Wait;
 use std::test::Fail;
@@ -34,6 +34,8 @@ fn packed<R: Threads + Wait + Sync>(
         workers: 2,
         queue: 16,
         batch: None,
+        stall: None,
+        ahead: None,
     };
     let (publisher, _viewers) = opening_board(rt, alloc, 1, 1)?;
     let into = Destination {
@@ -55,6 +57,7 @@ fn packed<R: Threads + Wait + Sync>(
         publisher,
         into,
         &mut output,
+        &Nobody,
     );
     publisher.end(rt);
     let is_well = answer.is_ok();

@@ -178,6 +178,8 @@ fn ladder<'a>(
         workers: Some(workers),
         queue: None,
         batch: None,
+        stall: None,
+        ahead: None,
     };
     read_ladder_options(alloc, &FILES, words, no_numbers(), pool)
 }

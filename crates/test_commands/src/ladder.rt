@@ -30,6 +30,8 @@ fn no_pool() -> PoolWords {
         workers: None,
         queue: None,
         batch: None,
+        stall: None,
+        ahead: None,
     }
 }
 

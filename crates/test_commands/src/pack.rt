@@ -1,7 +1,7 @@
 use crate::fixtures::{FullWriter, settings, stream_bytes};
 use commands::{LadderPackingFault, PackedLadder, Pool, pack};
 use item_io::{FailingOutlet, FailingReader};
-use pipeline::{PackFault, Report, opening_board};
+use pipeline::{Nobody, PackFault, Report, opening_board};
 use std::alloc::Global;
 use std::io::Write;
 use std::sync::Wait;
@@ -29,6 +29,8 @@ fn packed<W: Write, R: Threads + Wait + Sync>(
         workers: 2,
         queue: 16,
         batch: None,
+        stall: None,
+        ahead: None,
     };
     let (publisher, _viewers) = opening_board(rt, alloc, 1, 1)?;
     let PackedLadder {
@@ -45,6 +47,7 @@ fn packed<W: Write, R: Threads + Wait + Sync>(
         publisher,
         FailingOutlet::new(alloc, 0),
         output,
+        &Nobody,
     );
     publisher.end(rt);
     Ok(Told {

@@ -6,6 +6,8 @@ mod fixtures;
 #[cfg(test)]
 mod gates;
 #[cfg(test)]
+mod herald_tests;
+#[cfg(test)]
 mod pause_tests;
 #[cfg(test)]
 mod pausing;

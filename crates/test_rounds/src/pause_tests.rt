@@ -18,14 +18,14 @@ use std::thread::Threads;
 use work_desk::FreeGate;
 
 /// The settings of two renditions.
-fn two(alloc: Global) -> Result<Settings, Fail> {
+pub(crate) fn two(alloc: Global) -> Result<Settings, Fail> {
     let mut settings = settings(alloc)?;
     settings.renditions.push(rendition(alloc, "w")?)?;
     Ok(settings)
 }
 
 /// A snapshot of two renditions without a segment.
-fn nothing_of_two(alloc: Global) -> Result<Snapshot, AllocError> {
+pub(crate) fn nothing_of_two(alloc: Global) -> Result<Snapshot, AllocError> {
     Ok(Snapshot {
         counts: Vec::from_array(alloc, [0, 0])?,
         ended: Vec::from_array(alloc, [false, false])?,

@@ -1,29 +1,34 @@
-ghost use Rattle.std.specs.Prelude.{◌≡◌, [], IfOk};
+ghost use Rattle.std.specs.Prelude.{◌≡◌, ◌*◌, [], IfOk, option_map};
+ghost use Rattle.core.specs.Duration.{as_nanos};
 ghost use Rattle.folder.specs.FileFolders.{file_moves};
 
 use command_line::{Fault, LadderJob};
-use commands::{Destination, PackedLadder, pack_into_folder};
+use commands::{Destination, PackedLadder, Pool, pack_into_folder};
 use folder::FileFolder;
-use pipeline::opening_board;
-use read_ahead::{InputFiles, open_paths};
+use pipeline::{Herald, opening_board};
+use read_ahead::{InputFiles, Limits, open_paths};
 use std::alloc::{AllocError, Global};
 use std::fs::Files;
 use std::io::Write;
 use std::sync::Wait;
 use std::thread::Threads;
+use std::time::{Clock, Duration};
 
-/// Packs a ladder of files into a folder. All paths are open before anything is written.
+/// Packs a ladder of files into a folder. All paths but those of FIFOs that have no writer are open before anything is
+/// written. The herald is told of a rendition's fault as soon as it stands.
 pub fn pack_ladder<
-    R: InputFiles + Files + Threads + Wait + Copy + Send + Sync + Drop + 'static,
+    R: InputFiles + Files + Threads + Wait + Clock + Copy + Send + Sync + Drop + 'static,
     W: Write,
->(rt: R, alloc: Global, job: &LadderJob<'_>, output: &mut W) -> Result<(), Fault>
+    H: Herald,
+>(rt: R, alloc: Global, job: &LadderJob<'_>, output: &mut W, herald: &H) -> Result<(), Fault>
 where
     R::Reader: Send + 'static,
     R::File: Send + 'static,
     R::Dir: Send + 'static,
 {
     let settings = &job.options.settings;
-    let sources = open_paths(rt, alloc, rt, job.options.paths.as_slice())?;
+    let limits = limits_of(job.options.pool);
+    let sources = open_paths(rt, alloc, rt, job.options.paths.as_slice(), limits)?;
     let into = destination(rt, alloc, job)?;
     let (publisher, _viewers) = opening_board(&rt, alloc, settings.renditions.len(), 1)?;
     let PackedLadder {
@@ -40,10 +45,26 @@ where
         publisher,
         into,
         output,
+        herald,
     );
     publisher.end(&rt);
     answer?;
     Ok(())
+}
+
+/// How the inputs are read ahead.
+fn limits_of(pool: Pool) -> Limits
+    ensures stall { option_map as_nanos result.stall ≡ option_map (λ seconds. seconds * 1_000_000_000) pool.stall }
+    ensures ahead { result.ahead ≡ pool.ahead }
+{
+    let stall = match pool.stall {
+        Some(seconds) => Some(Duration::from_secs(seconds)),
+        None => None,
+    };
+    Limits {
+        stall,
+        ahead: pool.ahead,
+    }
 }
 
 /// The folder that the files go to, to which nothing was done yet.

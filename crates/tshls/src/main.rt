@@ -2,14 +2,19 @@
 #![tactic(auto)]
 
 mod ladder;
+mod telling;
 
 use crate::ladder::pack_ladder;
-use command_line::{Fault, Job, StreamJob, explain, line};
+use crate::telling::{Teller, tell};
+use command_line::{Fault, Job, LadderJob, StreamJob, line};
 use commands::{Packed, check, one, open, seal};
 use item_io::ReaderSource;
-use std::fs::{File, TryLockError};
-use std::io::IsTerminal;
+use read_ahead::InputFiles;
+use std::fs::{File, Files, TryLockError};
 use std::process::ExitCode;
+use std::sync::Wait;
+use std::thread::Threads;
+use std::time::Clock;
 use std::{env, io};
 
 /// Why the words of the command line can't be had.
@@ -58,17 +63,35 @@ fn run(rt: &HostRuntime, job: StreamJob) -> Result<(), Fault> {
     Ok(())
 }
 
-/// Tells how the program ends. At a terminal a fault is explained by a second line.
+/// Packs a ladder, and tells how that ends. A fault that was told as it stood isn't told once more.
+fn pack<R: Threads + Wait + Clock + Files + InputFiles + Copy + Send + Sync + Drop + 'static>(
+    rt: R,
+    host: &HostRuntime,
+    words: &[String],
+    job: &LadderJob<'_>,
+) -> ExitCode
+where
+    R::Reader: Send + 'static,
+    R::File: Send + 'static,
+    R::Dir: Send + 'static,
+{
+    let teller = Teller::new(rt, *host, words);
+    let answer = match hold(host, job.folder) {
+        Ok(_held) => pack_ladder(rt, host.alloc(), job, &mut host.stdout(), &teller),
+        Err(fault) => Err(fault),
+    };
+    match answer {
+        Err(fault) if teller.has_told(&fault) => ExitCode::from(fault.status()),
+        answer => ended(host, words, answer),
+    }
+}
+
+/// Tells how the program ends.
 fn ended(rt: &HostRuntime, words: &[String], answer: Result<(), Fault>) -> ExitCode {
     match answer {
         Ok(()) => ExitCode::SUCCESS,
         Err(fault) => {
-            let _ = rt.eprint(&fault);
-            if rt.stderr().is_terminal()
-                && let Ok(Some(text)) = explain(rt.alloc(), words, &fault)
-            {
-                let _ = rt.eprint(&text);
-            }
+            tell(rt, words, &fault);
             ExitCode::from(fault.status())
         }
     }
@@ -94,10 +117,7 @@ fn main(rt: HostRuntime) -> ExitCode {
     };
     let answer = match line(rt.alloc(), &rt, words.as_slice()) {
         Ok(Job::Stream(job)) => run(&rt, job),
-        Ok(Job::Ladder(job)) => match hold(&rt, job.folder) {
-            Ok(_held) => pack_ladder(rt, rt.alloc(), &job, &mut rt.stdout()),
-            Err(fault) => Err(fault),
-        },
+        Ok(Job::Ladder(job)) => return pack(rt, &rt, words.as_slice(), &job),
         Err(fault) => Err(fault),
     };
     ended(&rt, words.as_slice(), answer)

@@ -1,13 +1,20 @@
 ghost use Rattle.std.specs.Prelude.{◌≡◌, All, IfOk, IfSome};
 
 use crate::input::{Contents, OpenInput};
-use crate::{Ahead, open_all};
+use crate::{Ahead, Limits, open_all};
 use item_io::Source;
 use std::alloc::{AllocError, Global};
 use std::io;
 use std::io::{ErrorKind, Read};
 use std::sync::{Arc, Condvar, Mutex, Wait};
 use std::thread::Threads;
+use std::time::Clock;
+
+/// Inputs are waited for as long as it takes, and 32 MiB are read ahead of each.
+pub(super) const UNBOUNDED: Limits = Limits {
+    stall: None,
+    ahead: None,
+};
 
 /// Something that one thread waits for and another one brings.
 #[derive(Drop)]
@@ -128,14 +135,14 @@ impl<R: Wait> Read for Held<R> {
 
 /// The source of one reader.
 pub(super) fn source_of<
-    R: Threads + Wait + Copy + Send + Drop + 'static,
+    R: Threads + Wait + Clock + Copy + Send + Drop + 'static,
     Q: Read + Drop + Send + 'static,
 >(rt: R, alloc: Global, reader: Q) -> Result<Option<Ahead<R, OpenInput<Q>>>, AllocError>
     ensures { IfOk result (λ some. IfSome some (λ source. (source.reads ≡ 0) × (source.failures ≡ 0))) }
 {
     let mut inputs = Vec::new(alloc);
     inputs.push(OpenInput { reader })?;
-    match open_all(rt, alloc, inputs) {
+    match open_all(rt, alloc, inputs, UNBOUNDED) {
         Ok(mut sources) => Ok(sources.pop()),
         Err(_) => Err(AllocError),
     }
@@ -143,7 +150,7 @@ pub(super) fn source_of<
 
 /// The sources of two readers.
 pub(super) fn sources_of<
-    R: Threads + Wait + Copy + Send + Drop + 'static,
+    R: Threads + Wait + Clock + Copy + Send + Drop + 'static,
     Q: Read + Drop + Send + 'static,
 >(
     rt: R,
@@ -156,7 +163,7 @@ pub(super) fn sources_of<
     let mut inputs = Vec::new(alloc);
     inputs.push(OpenInput { reader: first })?;
     inputs.push(OpenInput { reader: second })?;
-    let Ok(mut sources) = open_all(rt, alloc, inputs) else {
+    let Ok(mut sources) = open_all(rt, alloc, inputs, UNBOUNDED) else {
         return Err(AllocError);
     };
     let Some(second) = pop_unread(&mut sources) else {
@@ -169,7 +176,9 @@ pub(super) fn sources_of<
 }
 
 /// The last of some sources that weren't read.
-fn pop_unread<R: Wait, I: Contents>(sources: &mut Vec<Ahead<R, I>>) -> Option<Ahead<R, I>>
+pub(super) fn pop_unread<R: Wait, I: Contents>(
+    sources: &mut Vec<Ahead<R, I>>,
+) -> Option<Ahead<R, I>>
     requires { All (λ source. (source.reads ≡ 0) × (source.failures ≡ 0)) sources.old.items }
     ensures rest { All (λ source. (source.reads ≡ 0) × (source.failures ≡ 0)) sources.new.items }
     ensures last { IfSome result (λ source. (source.reads ≡ 0) × (source.failures ≡ 0)) }

@@ -1,4 +1,4 @@
-use super::fixtures::{Event, Given, Held, drain, pattern_of, source_of, sources_of};
+use super::fixtures::{Event, Given, Held, UNBOUNDED, drain, pattern_of, source_of, sources_of};
 use crate::input::OpenInput;
 use crate::open_all;
 use item_io::Source;
@@ -124,7 +124,7 @@ fn waiting_ends_where_one_is_ready(rt: HostRuntime) -> Result<(), Fail> {
     inputs.push(OpenInput { reader: silent })?;
     inputs.push(OpenInput { reader: other })?;
     let mut ready = Vec::new(rt.alloc());
-    if let Ok(mut sources) = open_all(rt, rt.alloc(), inputs) {
+    if let Ok(mut sources) = open_all(rt, rt.alloc(), inputs, UNBOUNDED) {
         Source::wait_any(&mut sources);
         for source in sources.iter_mut() {
             ready.push(source.is_ready())?;

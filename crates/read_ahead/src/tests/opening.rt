@@ -1,4 +1,4 @@
-use super::fixtures::drain;
+use super::fixtures::{UNBOUNDED, drain};
 use crate::{InputFault, open_paths};
 use std::fs;
 use std::test::Fail;
@@ -6,7 +6,7 @@ use std::test::Fail;
 #[test]
 fn a_path_that_cannot_be_opened(rt: HostRuntime) -> Result<(), Fail> {
     for paths in [["missing", "."], [".", "missing"], ["missing", "gone"]] {
-        let opened = open_paths(rt, rt.alloc(), rt, &paths);
+        let opened = open_paths(rt, rt.alloc(), rt, &paths, UNBOUNDED);
         assert_eq!(rt; opened.err(), Some(InputFault::Unread), "{paths:?}");
     }
     Ok(())
@@ -17,7 +17,7 @@ fn a_folder_fails_and_a_file_goes_on(rt: HostRuntime) -> Result<(), Fail> {
     fs::write(&rt, "pattern", b"\x00\x01\x02\x03".as_slice())?;
     let mut counts = Vec::new(rt.alloc());
     let mut failures = Vec::new(rt.alloc());
-    if let Ok(sources) = open_paths(rt, rt.alloc(), rt, &[".", "pattern"]) {
+    if let Ok(sources) = open_paths(rt, rt.alloc(), rt, &[".", "pattern"], UNBOUNDED) {
         for source in sources {
             let mut source = source;
             let given = drain(rt.alloc(), &mut source, 100)?;
@@ -33,7 +33,7 @@ fn a_folder_fails_and_a_file_goes_on(rt: HostRuntime) -> Result<(), Fail> {
 #[test]
 fn no_paths_give_no_sources(rt: HostRuntime) -> Result<(), Fail> {
     let mut count = None;
-    if let Ok(sources) = open_paths(rt, rt.alloc(), rt, &[]) {
+    if let Ok(sources) = open_paths(rt, rt.alloc(), rt, &[], UNBOUNDED) {
         count = Some(sources.len());
     }
     assert_eq!(rt; count, Some(0));

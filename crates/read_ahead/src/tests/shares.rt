@@ -1,17 +1,20 @@
 use crate::backlog::Backlog;
 use crate::backlogs::Backlogs;
+use crate::limits::Limits;
+use crate::tests::fixtures::UNBOUNDED;
 use item_io::PIECE;
 use std::alloc::{AllocError, Global};
 use std::sync::{Arc, Wait};
 use std::test::Fail;
+use std::time::Clock;
 
 /// Backlogs of so many bytes.
 fn backlogs_of(
-    rt: &impl Wait,
+    rt: &(impl Wait + Clock),
     alloc: Global,
     ready: &[usize],
 ) -> Result<Arc<Backlogs, Global>, AllocError> {
-    let backlogs = Backlogs::new(alloc, ready.len())?;
+    let backlogs = Backlogs::new(rt, alloc, ready.len(), UNBOUNDED)?;
     for number in 0..ready.len() {
         backlogs.put(rt, number, ready[number]);
     }
@@ -84,6 +87,24 @@ fn a_block_waits_for_room(rt: HostRuntime) -> Result<(), Fail> {
             left: false,
         };
         assert_eq!(rt; backlog.is_full(100, 4, count), full, "{bytes}, {count}");
+    }
+    Ok(())
+}
+
+#[test]
+fn inputs_share_what_is_read_ahead(rt: HostRuntime) -> Result<(), Fail> {
+    for (ahead, inputs, room) in [
+        (None, 1, 32 << 20),
+        (None, 32, 32 << 20),
+        (Some(1), 1, 1 << 20),
+        (Some(1), 16, 64 << 10),
+        (Some(1), 32, 64 << 10),
+        (Some(64), 3, (64 << 20) / 3),
+        (Some(65_536), 1, 65_536 << 20),
+        (Some(8), 0, 8 << 20),
+    ] {
+        let limits = Limits { stall: None, ahead };
+        assert_eq!(rt; limits.room(inputs), room, "{ahead:?} of {inputs}");
     }
     Ok(())
 }

@@ -12,6 +12,7 @@ use crate::giving::broadcast::Broadcast;
 use crate::run::between::BetweenRounds;
 use crate::run::course::Course;
 use crate::run::first::First;
+use crate::run::herald::Herald;
 use crate::run::ran::{Ran, give_back};
 use crate::run::reporting::answer_of;
 use crate::run::rounds_loop::run_rounds;
@@ -69,11 +70,13 @@ fn set_out<'r, S: Source, O: Outlet, R: Wait>(
 }
 
 /// Packs where the run fits.
-pub fn pack_fitted<S: Source + Drop, O: Outlet + Drop, G: Gate + Sync, R: Threads + Wait + Sync>(
-    setup: &Setup<'_, G, R>,
-    first: First,
-    endpoints: Endpoints<S, O>,
-) -> Ran<S, O>
+pub fn pack_fitted<
+    S: Source + Drop,
+    O: Outlet + Drop,
+    G: Gate + Sync,
+    R: Threads + Wait + Sync,
+    H: Herald,
+>(setup: &Setup<'_, G, R>, first: First, endpoints: Endpoints<S, O>, herald: &H) -> Ran<S, O>
     requires most { endpoints.reads ≤ READS }
     requires room { HaveRoom S.input endpoints.reads endpoints.sources.items }
     requires failures { O.output.failures endpoints.outlet < 2 ^ 63 }
@@ -84,7 +87,7 @@ pub fn pack_fitted<S: Source + Drop, O: Outlet + Drop, G: Gate + Sync, R: Thread
     ensures board { result.publisher.board ≡ endpoints.publisher.board }
 {
     let (between, spare, keys) = set_out(setup.rt, first, endpoints);
-    let (between, answer) = run_rounds(setup, &keys, spare, between);
+    let (between, answer) = run_rounds(setup, &keys, spare, between, herald);
     let BetweenRounds { broadcast, books } = between;
     if let Err(fault) = answer {
         return give_back(broadcast, Err(fault));

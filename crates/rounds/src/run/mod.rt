@@ -6,6 +6,7 @@ pub mod course;
 pub mod first;
 pub mod fitted;
 pub mod fitting;
+pub mod herald;
 pub mod pace;
 pub mod packing;
 pub mod ran;

@@ -9,6 +9,7 @@ ghost use Rattle.rounds.specs.Shown.{EndsAway, EndsFaulted, EndsPacked, Fits, Fi
 use crate::run::first::{First, beginning};
 use crate::run::fitted::pack_fitted;
 use crate::run::fitting::fits;
+use crate::run::herald::{Herald, Nobody};
 use crate::run::pace::Pace;
 use crate::run::ran::Ran;
 use crate::run::setup::{Endpoints, Setup};
@@ -122,6 +123,43 @@ pub fn pack_in_batches<
     ensures fits { OnOk result.answer (Fits settings.now (length sources.items) workers (counts_shown publisher.list)) }
     ensures breach { IfErr result.answer (EndsAway S.input O.output settings.now workers (start_of sources.items outlet publisher reads) result) }
 {
+    pack_heralded(
+        rt, alloc, sources, settings, workers, gate, publisher, outlet, reads, batch, &Nobody,
+    )
+}
+
+/// Packs as `pack_in_batches` does, and tells the herald of each rendition's fault as soon as it stands: before the calling thread
+/// waits for an input again, or, while a round is sealed, when the round is given. A fault of the whole run, and ReadLimit, are told by
+/// the answer alone.
+pub fn pack_heralded<
+    S: Source + Drop,
+    O: Outlet + Drop,
+    G: Gate + Sync,
+    R: Threads + Wait + Sync,
+    H: Herald,
+>(
+    rt: &R,
+    alloc: Global,
+    sources: Vec<S>,
+    settings: &Settings,
+    workers: usize,
+    gate: &G,
+    publisher: Publisher,
+    outlet: O,
+    reads: u64,
+    batch: Option<usize>,
+    herald: &H,
+) -> Ran<S, O>
+    requires least { 1 ≤ reads }
+    requires most { reads ≤ READS }
+    requires room { HaveRoom S.input reads sources.items }
+    requires failures { O.output.failures outlet < 2 ^ 63 }
+    ensures ok { IfOk result.answer (EndsPacked S.input O.output settings.now workers (start_of sources.items outlet publisher reads) result) }
+    ensures fault { IfErr result.answer (EndsFaulted S.input O.output settings.now workers (start_of sources.items outlet publisher reads) result) }
+    ensures board { result.publisher.board ≡ publisher.board }
+    ensures fits { OnOk result.answer (Fits settings.now (length sources.items) workers (counts_shown publisher.list)) }
+    ensures breach { IfErr result.answer (EndsAway S.input O.output settings.now workers (start_of sources.items outlet publisher reads) result) }
+{
     let endpoints = Endpoints {
         sources,
         outlet,
@@ -144,7 +182,7 @@ pub fn pack_in_batches<
                 gate,
                 pace: Pace::new(workers, settings.queue as usize, batch),
             };
-            pack_fitted(&setup, first, endpoints)
+            pack_fitted(&setup, first, endpoints, herald)
         }
         Err(fault) => turn_away(fault, settings, workers, endpoints),
     }

@@ -6,6 +6,7 @@ ghost use Rattle.rounds.specs.Courses.{HasClosed, IsRun, ReadsMore, ReadsOn, Rea
 ghost use Rattle.item_io.specs.declared.limits.TheConstants.{PIECE, READS};
 
 use crate::run::course::Course;
+use crate::run::herald::{Herald, Telling};
 use crate::run::pace::Pace;
 use ingest::Lane;
 use item_io::{Outlet, Source};
@@ -112,12 +113,14 @@ impl<S: Source, O: Outlet> Course<S, O> {
         Ok(any)
     }
 
-    /// Reads until `least` plans are closed, or one and no source is ready, or nothing is left to read. Waits for sources meanwhile.
-    pub fn read_more<R: Wait>(
+    /// Reads until `least` plans are closed, or one and no source is ready, or nothing is left to read. Waits for sources
+    /// meanwhile, and tells the faults that stand by then.
+    pub fn read_more<R: Wait, H: Herald>(
         &mut self,
         rt: &R,
         least: usize,
         buffer: &mut [u8],
+        telling: &mut Telling<'_, H>,
     ) -> Result<(), AllocError>
         requires some { 0 < length buffer.old }
         requires short { length buffer.old ≤ PIECE }
@@ -137,6 +140,7 @@ impl<S: Source, O: Outlet> Course<S, O> {
             if self.has_closed(1) {
                 return Ok(());
             }
+            self.tell_faults(telling);
             self.wait();
         }
         unreachable!()

@@ -8,6 +8,7 @@ ghost use Rattle.rounds.specs.Showing.{counts_of};
 
 use crate::round::starting::run_round;
 use crate::run::between::BetweenRounds;
+use crate::run::herald::{Herald, Telling};
 use crate::run::pace::Pace;
 use crate::run::reading::any_closed;
 use crate::run::setup::Setup;
@@ -66,10 +67,11 @@ fn swap_spools<'r, S: Source, O: Outlet, R: Wait>(
 }
 
 /// Reads until there is something for a round, while no round is under way.
-fn read_between<'r, S: Source, O: Outlet, R: Wait>(
+fn read_between<'r, S: Source, O: Outlet, R: Wait, H: Herald>(
     rt: &R,
     pace: Pace,
     between: BetweenRounds<'r, S, O, R>,
+    telling: &mut Telling<'_, H>,
 ) -> (BetweenRounds<'r, S, O, R>, Result<(), AllocError>)
     requires on { IsRun S.input O.output between.broadcast.course }
     ensures ok { OnOk result.1 (ReadsOn S.input O.output between.entry.broadcast.course result.0.broadcast.course) }
@@ -84,19 +86,29 @@ fn read_between<'r, S: Source, O: Outlet, R: Wait>(
         books,
     } = between;
     let mut buffer = [0; PIECE];
-    let read = broadcast.course.read_more(rt, pace.least, &mut buffer);
+    let read = broadcast
+        .course
+        .read_more(rt, pace.least, &mut buffer, telling);
     (BetweenRounds { broadcast, books }, read)
 }
 
 /// Goes from round to round until everything is given.
 ///
 /// Before each round, the ends are given of the renditions that have nothing left to give. Where nothing is closed for a round
-/// then, it reads until something is.
-pub fn run_rounds<'r, S: Source + Drop, O: Outlet + Drop, G: Gate + Sync, R: Threads + Wait + Sync>(
+/// then, it reads until something is. A rendition's fault is told as soon as it stands.
+pub fn run_rounds<
+    'r,
+    S: Source + Drop,
+    O: Outlet + Drop,
+    G: Gate + Sync,
+    R: Threads + Wait + Sync,
+    H: Herald,
+>(
     setup: &Setup<'_, G, R>,
     keys: &[Keys],
     spare: Vec<Spool>,
     between: BetweenRounds<'r, S, O, R>,
+    herald: &H,
 ) -> (BetweenRounds<'r, S, O, R>, Result<(), PackFault>)
     requires each { length spare.items ≡ length setup.now.settings.now.renditions }
     requires on { IsSomeBetween S.input O.output setup.now.settings.now between.broadcast }
@@ -111,7 +123,9 @@ pub fn run_rounds<'r, S: Source + Drop, O: Outlet + Drop, G: Gate + Sync, R: Thr
 {
     let mut between = between;
     let mut spare = spare;
+    let mut telling = Telling::new(herald);
     for _ in setup.rt.forever() {
+        between.broadcast.course.tell_faults(&mut telling);
         let (now, answer) = give_due_ends(setup.alloc, setup.settings, between);
         between = now;
         if let Err(fault) = answer {
@@ -121,7 +135,7 @@ pub fn run_rounds<'r, S: Source + Drop, O: Outlet + Drop, G: Gate + Sync, R: Thr
             if between.broadcast.course.rests() {
                 break;
             }
-            let (now, read) = read_between(setup.rt, setup.pace, between);
+            let (now, read) = read_between(setup.rt, setup.pace, between, &mut telling);
             between = now;
             if let Err(_) = read {
                 return (between, Err(PackFault::NoMemory));

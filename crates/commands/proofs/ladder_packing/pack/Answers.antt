@@ -5,13 +5,13 @@ use Rattle.commands.proofs.LadderEnds.{summary-fits, summary-unwritten}
 use Rattle.commands.proofs.ladder_packing.pack.Goals as goal
 
 pub returns-in-Err-clause-breach : goal.returns-in-Err-clause-breach
-returns-in-Err-clause-breach g c = IfErr-at_err _ c.in-Err.is c.pack_in_batches-sources.ensures.breach
+returns-in-Err-clause-breach g c = IfErr-at_err _ c.in-Err.is c.pack_heralded-sources.ensures.breach
 
 pub returns-in-Ok-clause-fault : goal.returns-in-Ok-clause-fault
 returns-in-Ok-clause-fault g c =
-    summary-unwritten _ _ _ _ _ _ _ c.in-Ok.report (IfOk-at_ok _ c.in-Ok.is c.pack_in_batches-sources.ensures.ok) c.write_summary.result c.write_summary.ensures.fault
+    summary-unwritten _ _ _ _ _ _ _ c.in-Ok.report (IfOk-at_ok _ c.in-Ok.is c.pack_heralded-sources.ensures.ok) c.write_summary.result c.write_summary.ensures.fault
 
 pub returns-in-Ok-clause-breach : goal.returns-in-Ok-clause-breach
 returns-in-Ok-clause-breach g c =
-    let run = run_of g.S.Source.input g.O.Outlet.output (2 ^ 40) c.args.sources.items c.pack_in_batches-sources.result.sources.items c.args.outlet c.pack_in_batches-sources.result.outlet in
-    summary-fits run c.args.settings.now c.args.pool.workers c.args.publisher.list c.pack_in_batches-sources.result.publisher.list _ _ c.in-Ok.report (IfOk-at_ok _ c.in-Ok.is c.pack_in_batches-sources.ensures.fits) c.write_summary.result c.write_summary.ensures.fault
+    let run = run_of g.S.Source.input g.O.Outlet.output (2 ^ 40) c.args.sources.items c.pack_heralded-sources.result.sources.items c.args.outlet c.pack_heralded-sources.result.outlet in
+    summary-fits run c.args.settings.now c.args.pool.workers c.args.publisher.list c.pack_heralded-sources.result.publisher.list _ _ c.in-Ok.report (IfOk-at_ok _ c.in-Ok.is c.pack_heralded-sources.ensures.fits) c.write_summary.result c.write_summary.ensures.fault

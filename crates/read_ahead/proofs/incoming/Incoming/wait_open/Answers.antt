@@ -1,15 +1,15 @@
 use Rattle.rtrb.specs.Ring.{received}
 use Rattle.std.proofs.Common.{refl, drop}
 use Rattle.read_ahead.specs.declared.message.Message.TheVariants.{Opened, Refused}
-use Rattle.read_ahead.proofs.Telling.{next_plain}
+use Rattle.read_ahead.proofs.Telling.{in_order, next_plain}
 use Rattle.read_ahead.proofs.incoming.Incoming.wait_open.Goals as goal
 
 pub returns-in-Opened-clause-same : goal.returns-in-Opened-clause-same
 returns-in-Opened-clause-same g c =
     let s = c.args.self.now in
-    next_plain g.I.Contents.holds (received s.consumer) (received c.wait_message.new.consumer) Opened (drop s.at s.front.items) c.in-Opened.ensures.order c.requires.sound.some refl
+    next_plain g.I.Contents.holds (received s.consumer) (received c.wait_message.new.consumer) Opened (drop s.at s.front.items) (in_order (received s.consumer) (received c.wait_message.new.consumer) c.in-Some.message Opened c.in-Some.ensures.order c.in-Opened.is) c.requires.sound.some refl
 
 pub returns-in-Refused-clause-same : goal.returns-in-Refused-clause-same
 returns-in-Refused-clause-same g c =
     let s = c.args.self.now in
-    next_plain g.I.Contents.holds (received s.consumer) (received c.wait_message.new.consumer) Refused (drop s.at s.front.items) c.in-Refused.ensures.order c.requires.sound.some refl
+    next_plain g.I.Contents.holds (received s.consumer) (received c.wait_message.new.consumer) Refused (drop s.at s.front.items) (in_order (received s.consumer) (received c.wait_message.new.consumer) c.in-Some.message Refused c.in-Some.ensures.order c.in-Refused.is) c.requires.sound.some refl

@@ -3,7 +3,7 @@ use Rattle.std.specs.Prelude.{IfErr}
 use Rattle.ladder_items.specs.declared.fault.PackFault.{PackFault}
 use Rattle.ladder_items.specs.declared.report.Report.{Report}
 use Rattle.rounds.specs.Shown.{EndsAway, start_of}
-use Rattle.rounds.proofs.run.packing.pack_in_batches.Goals as goal
+use Rattle.rounds.proofs.run.packing.pack_heralded.Goals as goal
 
 pub returns-in-Err-clause-breach : goal.returns-in-Err-clause-breach
 returns-in-Err-clause-breach g c =

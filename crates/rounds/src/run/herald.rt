@@ -1,0 +1,101 @@
+//! Faults are told when they stand, while the other renditions are packed on.
+
+ghost use Rattle.std.specs.Prelude.{◌≡◌, ◌<◌, None, Some, false, true, IfSome, slice_index_or, slice_set};
+ghost use Rattle.rounds.specs.Heralds.{fault_of, Untold};
+ghost use Rattle.ladder_items.specs.Packed.{told_of_cut};
+
+use crate::run::course::Course;
+use ingest::{Stop, StreamFault};
+use ladder_items::PackFault;
+
+/// Who is told of a rendition's fault as soon as it stands. What a run gives doesn't depend on it.
+pub trait Herald {
+    /// A rendition gives no more, since it has this fault: no read of it follows. It's told once.
+    fn tell(&self, fault: PackFault);
+}
+
+/// Nobody: faults are told by the answer of the run alone.
+#[derive(Clone, Copy, Debug, Drop)]
+pub struct Nobody;
+
+impl Herald for Nobody {
+    fn tell(&self, _fault: PackFault) {}
+}
+
+/// As many renditions as a ladder has at the most.
+const RENDITIONS: usize = 32;
+
+/// Whose fault was told, by rendition.
+#[derive(Drop)]
+pub struct Telling<'h, H> {
+    herald: &'h H,
+    told: [bool; RENDITIONS],
+}
+
+impl<'h, H: Herald> Telling<'h, H> {
+    /// Nothing was told yet.
+    pub fn new(herald: &'h H) -> Telling<'h, H> {
+        Telling {
+            herald,
+            told: [false; RENDITIONS],
+        }
+    }
+
+    /// Tells the fault of rendition `r`, if it stopped by one that wasn't told yet.
+    fn tell(&mut self, r: usize, stop: Option<Stop>)
+        requires { r < RENDITIONS }
+    {
+        if let Some(fault) = self.untold(r, stop) {
+            self.herald.tell(fault);
+        }
+    }
+
+    /// The fault by which rendition `r` stopped, unless it was told: it counts as told from now on.
+    fn untold(&mut self, r: usize, stop: Option<Stop>) -> Option<PackFault>
+        requires { r < RENDITIONS }
+        ensures some { IfSome result (λ fault. Untold self.old.told r stop fault) }
+        ensures told { IfSome result (λ fault. self.new.told ≡ slice_set self.old.told r true) }
+        ensures none { result ≡ None → slice_index_or self.old.told r true ≡ false → fault_of r stop ≡ None }
+    {
+        if self.told[r] {
+            return None;
+        }
+        let fault = fault_of(r, stop)?;
+        self.told[r] = true;
+        Some(fault)
+    }
+}
+
+/// The fault by which rendition `r` stopped.
+fn fault_of(r: usize, stop: Option<Stop>) -> Option<PackFault>
+    ensures { result ≡ fault_of r stop }
+{
+    match stop {
+        None => None,
+        Some(Stop::Good(_)) => None,
+        Some(Stop::Read) => Some(PackFault::Read(r)),
+        Some(Stop::Cut(fault)) => Some(cut_fault(r, fault)),
+    }
+}
+
+/// The fault of a rendition's stream.
+fn cut_fault(r: usize, fault: StreamFault) -> PackFault
+    ensures { result ≡ told_of_cut r fault }
+{
+    match fault {
+        StreamFault::NoProgram => PackFault::NoProgram(r),
+        StreamFault::NoStart => PackFault::NoStart(r),
+        StreamFault::LongSegment(number) => PackFault::LongSegment(r, number),
+        StreamFault::BigSegment(number) => PackFault::BigSegment(r, number),
+        StreamFault::Limit => PackFault::Limit(r),
+    }
+}
+
+impl<S, O> Course<S, O> {
+    /// Tells the faults of all renditions that weren't told yet.
+    pub fn tell_faults<H: Herald>(&self, telling: &mut Telling<'_, H>) {
+        for r in 0..self.lanes.len().min(RENDITIONS) {
+            telling.tell(r, self.lanes[r].stop);
+        }
+    }
+}
