@@ -1,7 +1,8 @@
 //! Which segments stand behind which block.
-use crate::stream::{Files, Put, outlet, put_block, put_lists, standing};
+use crate::stream::{Files, Put, outlet, push_block, push_lists, put_all, standing};
 use folder::MemoryFolder;
-use std::alloc::Global;
+use item_io::Item;
+use std::alloc::{AllocError, Global};
 use std::test::Fail;
 
 const LIVE: Put<'static> = Put {
@@ -23,14 +24,22 @@ fn folder_of(files: Files) -> MemoryFolder {
     files.into_files().into_folder().into_folder()
 }
 
-/// The segments that stand once so many blocks were put from number `base` on, of which move `fails` failed.
-fn left(alloc: Global, put: Put<'_>, base: u64, blocks: u64, fails: u64) -> Result<String, Fail> {
-    let mut files = outlet(alloc, &["v"], base, fails)?;
-    for number in base..base + blocks {
-        put_block(&mut files, alloc, put, base, number)?;
+/// So many blocks from number `base` on.
+fn blocks(alloc: Global, put: Put<'_>, base: u64, count: u64) -> Result<Vec<Item>, AllocError> {
+    let mut items = Vec::new(alloc);
+    for place in 0..count {
+        push_block(&mut items, alloc, put, base, base.saturating_add(place))?;
     }
+    Ok(items)
+}
+
+/// The segments that stand once so many blocks were put from number `base` on, of which move `fails` failed.
+fn left(alloc: Global, put: Put<'_>, base: u64, count: u64, fails: u64) -> Result<String, Fail> {
+    let items = blocks(alloc, put, base, count)?;
+    let mut files = outlet(alloc, &["v"], base, fails)?;
+    put_all(&mut files, &items);
     let folder = folder_of(files);
-    Ok(standing(&folder, alloc, "v", base + blocks)?)
+    Ok(standing(&folder, alloc, "v", base.saturating_add(count))?)
 }
 
 /// Playlists of two seconds: a segment may go three seconds, its own and two more, behind the first that doesn't list it.
@@ -70,10 +79,8 @@ fn what_cant_be_removed_goes_behind_the_next_block(rt: HostRuntime) -> Result<()
     Ok(())
 }
 
-#[test]
-fn a_rendition_goes_by_its_own_playlists(rt: HostRuntime) -> Result<(), Fail> {
-    let alloc = rt.alloc();
-    let mut files = outlet(alloc, &["v", "w"], 0, 0)?;
+/// The blocks of three renditions in turn, of which an outlet of two doesn't know the third.
+fn blocks_of_three(alloc: Global) -> Result<Vec<Item>, AllocError> {
     let wide = Put {
         rendition: 1,
         name: "w",
@@ -85,52 +92,69 @@ fn a_rendition_goes_by_its_own_playlists(rt: HostRuntime) -> Result<(), Fail> {
         name: "x",
         ..LIVE
     };
+    let mut items = Vec::new(alloc);
     for number in 0..8 {
         for put in [LIVE, wide, unknown] {
-            assert!(rt; put_block(&mut files, alloc, put, 0, number)?);
+            push_block(&mut items, alloc, put, 0, number)?;
         }
     }
+    Ok(items)
+}
+
+const STANDING: [(&str, &str); 3] = [
+    ("v", "3 4 5 6 7 "),
+    ("w", "1 2 3 4 5 6 7 "),
+    ("x", "0 1 2 3 4 5 6 7 "),
+];
+
+#[test]
+fn a_rendition_goes_by_its_own_playlists(rt: HostRuntime) -> Result<(), Fail> {
+    let items = blocks_of_three(rt.alloc())?;
+    let mut files = outlet(rt.alloc(), &["v", "w"], 0, 0)?;
+    assert_eq!(rt; put_all(&mut files, &items), 0);
     let folder = folder_of(files);
-    let found = [
-        standing(&folder, alloc, "v", 8)?,
-        standing(&folder, alloc, "w", 8)?,
-        standing(&folder, alloc, "x", 8)?,
-    ];
-    assert_eq!(rt;
-        [found[0].as_str(), found[1].as_str(), found[2].as_str()],
-        ["3 4 5 6 7 ", "1 2 3 4 5 6 7 ", "0 1 2 3 4 5 6 7 "]
-    );
+    for (name, wanted) in STANDING {
+        let found = standing(&folder, rt.alloc(), name, 8)?;
+        assert_eq!(rt; found.as_str(), wanted, "{name}");
+    }
     Ok(())
 }
 
-/// Whether a text is put as the playlist behind segment 0, and then the block of segment 1.
-fn taken(alloc: Global, text: &str) -> Result<[bool; 2], Fail> {
+/// How many puts fail of these items.
+fn failures(alloc: Global, items: &[Item]) -> Result<u64, Fail> {
     let mut files = outlet(alloc, &["v"], 0, 0)?;
-    let first = put_lists(&mut files, alloc, LIVE, text)?;
-    Ok([first, put_block(&mut files, alloc, LIVE, 0, 0)?])
+    Ok(put_all(&mut files, items))
 }
 
-const HEAD: &str = "#EXTM3U\n";
+/// A text in place of the playlists behind segment 0, and then its block.
+fn begun_by(alloc: Global, text: &str) -> Result<Vec<Item>, AllocError> {
+    let mut items = Vec::new(alloc);
+    push_lists(&mut items, alloc, LIVE, text)?;
+    push_block(&mut items, alloc, LIVE, 0, 0)?;
+    Ok(items)
+}
 
 #[test]
 fn what_is_no_playlist_is_refused(rt: HostRuntime) -> Result<(), Fail> {
-    for text in ["", HEAD, "none"] {
-        assert_eq!(rt; taken(rt.alloc(), text)?, [false, false], "{text}");
+    for text in ["", "#EXTM3U\n", "none"] {
+        let items = begun_by(rt.alloc(), text)?;
+        assert_eq!(rt; failures(rt.alloc(), &items)?, 5, "{text}");
     }
     Ok(())
+}
+
+/// Five blocks, the last of a wider window; then one that lists a segment which the one before had dropped, and another one.
+fn going_back(alloc: Global) -> Result<Vec<Item>, AllocError> {
+    let mut items = Vec::new(alloc);
+    for (number, window) in [(0, 2), (1, 2), (2, 2), (3, 2), (4, 3), (5, 5), (5, 2)] {
+        push_block(&mut items, alloc, Put { window, ..LIVE }, 0, number)?;
+    }
+    Ok(items)
 }
 
 #[test]
 fn a_playlist_that_goes_back_is_refused(rt: HostRuntime) -> Result<(), Fail> {
-    let alloc = rt.alloc();
-    let mut files = outlet(alloc, &["v"], 0, 0)?;
-    let wide = Put { window: 3, ..LIVE };
-    for number in 0..4 {
-        assert!(rt; put_block(&mut files, alloc, LIVE, 0, number)?);
-    }
-    assert!(rt; put_block(&mut files, alloc, wide, 0, 4)?);
-    let back = Put { window: 5, ..LIVE };
-    assert!(rt; !put_block(&mut files, alloc, back, 0, 5)?);
-    assert!(rt; !put_block(&mut files, alloc, LIVE, 0, 5)?);
+    let items = going_back(rt.alloc())?;
+    assert_eq!(rt; failures(rt.alloc(), &items)?, 5);
     Ok(())
 }

@@ -1,4 +1,6 @@
 //! A live rendition whose segments last one second each.
+ghost use Rattle.std.specs.Prelude.{◌≡◌, IfOk};
+
 use folder::{MemoryFolder, PruningFolder};
 use item_io::{FolderOutlet, Item, Outlet};
 use keeping::{Keeping, KeepingOutlet};
@@ -8,7 +10,9 @@ pub type Files = KeepingOutlet<MemoryFolder>;
 
 /// The outlet of some renditions whose first segments have number `base`, over a folder of which move `fails` fails, counted
 /// from 1: none for 0.
-pub fn outlet(alloc: Global, names: &[&str], base: u64, fails: u64) -> Result<Files, AllocError> {
+pub fn outlet(alloc: Global, names: &[&str], base: u64, fails: u64) -> Result<Files, AllocError>
+    ensures { IfOk result (λ outlet. outlet.files.failures ≡ 0) }
+{
     let mut renditions = Vec::new(alloc);
     for name in names {
         let name = String::from_str(alloc, name)?;
@@ -51,47 +55,60 @@ pub struct Put<'a> {
     pub kind: &'a str,
 }
 
-/// Puts the block of segment `number`, and answers whether that went well.
-pub fn put_block(
-    files: &mut Files,
+/// Appends the block of segment `number`.
+pub fn push_block(
+    items: &mut Vec<Item>,
     alloc: Global,
     put: Put<'_>,
     base: u64,
     number: u64,
-) -> Result<bool, AllocError> {
-    let first = base.max((number + 1).saturating_sub(put.window));
+) -> Result<(), AllocError> {
+    let first = base.max(number.saturating_add(1).saturating_sub(put.window));
     let list = text(alloc, put.name, first, number, put.kind)?;
-    let segment = Item::Segment {
+    items.push(Item::Segment {
         rendition: put.rendition,
         number,
         name: String::from_str(alloc, put.name)?,
         bytes: Vec::from_array(alloc, [71, 0])?,
-    };
-    Ok(files.put(&segment).is_ok() && put_lists(files, alloc, put, &list)?)
+    })?;
+    push_lists(items, alloc, put, &list)
 }
 
-/// Puts the two playlists of a block.
-pub fn put_lists(
-    files: &mut Files,
+/// Appends the two playlists of a block.
+pub fn push_lists(
+    items: &mut Vec<Item>,
     alloc: Global,
     put: Put<'_>,
     list: &str,
-) -> Result<bool, AllocError> {
-    let media = Item::Media {
+) -> Result<(), AllocError> {
+    items.push(Item::Media {
         rendition: put.rendition,
         count: 1,
         ended: false,
         name: String::from_str(alloc, put.name)?,
         text: String::from_str(alloc, list)?,
-    };
-    let frames = Item::Frames {
+    })?;
+    items.push(Item::Frames {
         rendition: put.rendition,
         count: 1,
         ended: false,
         name: String::from_str(alloc, put.name)?,
         text: String::from_str(alloc, list)?,
-    };
-    Ok(files.put(&media).is_ok() && files.put(&frames).is_ok())
+    })?;
+    Ok(())
+}
+
+/// Puts all items, and answers how many puts failed.
+pub fn put_all<O: Outlet>(outlet: &mut O, items: &[Item]) -> u64
+    requires { O.output.failures outlet.old ≡ 0 }
+{
+    let mut failures = 0;
+    for item in items {
+        if outlet.put(item).is_err() {
+            failures += 1;
+        }
+    }
+    failures
 }
 
 /// The numbers of a rendition's segments that stand in the folder, of those below `end`, each with a space.
