@@ -22,6 +22,7 @@ check_pack() {
     check_holding
     check_served_ladder
     check_live_ladder
+    check_metrics
 }
 
 # packs_into FOLDER WORDS..: into a new folder, and the program tells no fault.

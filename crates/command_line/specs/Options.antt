@@ -107,7 +107,7 @@ entries = record (word (codes "entries")) { range = Some (record { start_inclusi
 
 -- the options of `pack`
 abbrev pub ladder_options : List Rule
-ladder_options = needed (text_option (codes "out")) ∷ flag (codes "sync") ∷ pool_options ++ entries ∷ form_options ++ packing_options
+ladder_options = needed (text_option (codes "out")) ∷ flag (codes "sync") ∷ text_option (codes "metrics") ∷ pool_options ++ entries ∷ form_options ++ packing_options
 
 -- a command of these options, of which none is for the commands below it
 abbrev pub command_of : List ℕ → List Rule → Shape

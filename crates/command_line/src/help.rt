@@ -62,6 +62,10 @@ Each stream is read as its bytes come: one that is silent, or a FIFO that nobody
 a live stream is listed as soon as it is sealed. The paths may be FIFOs of one encoder: they are read ahead, 32 MiB each, or
 as --ahead says. A new run begins at segment 0 again: draw new keys for it, or a new --salt at random.
 
+--metrics FILE is for node_exporter, which collects the *.prom files of a folder: for each rendition its segments, their time
+and bytes, its rates, for how long no segment came, whether it ended, and by which fault. Where FILE can't be written,
+'tshls: Metrics' is told once, and the run goes on.
+
 Faults, as 'tshls: NAME NUMBERS' on standard error. R counts the renditions from 0, in the order of the entries; a fault
 of its stream is told at once, and the others are packed to their ends. What was written before a fault stands.
   LongSegment R N  This segment would last longer than the target: see 'tshls one --help'

@@ -12,7 +12,7 @@ use crate::options::{
     with_cipher_options, with_stream,
 };
 use crate::pack_options::{
-    entry_words, folder_word, ladder_words, pool_words, sync_word, with_ladder,
+    entry_words, folder_word, ladder_words, metrics_word, pool_words, sync_word, with_ladder,
 };
 use clap::error::ErrorKind;
 use clap::{ArgMatches, Command};
@@ -52,6 +52,8 @@ pub struct LadderJob<'a> {
     pub folder: &'a str,
     /// Whether the folder is synced.
     pub syncs: bool,
+    /// The file that the run's metrics are written to.
+    pub metrics: Option<&'a str>,
 }
 
 /// The job that the words of a command line ask for, the program's name first. Where they name files of keys, those are read
@@ -117,6 +119,7 @@ fn ladder_job<'a, F: FileReader>(
         options: ladder,
         folder: folder_word(options),
         syncs: sync_word(options),
+        metrics: metrics_word(options),
     })
 }
 

@@ -1,7 +1,7 @@
 //! The options of `pack`: how help shows them, and the words that were given.
 ghost use Rattle.std.specs.Prelude.{◌≡◌, ◌∷◌, [], codes, map, option_map, IfOk};
 ghost use Rattle.clap.specs.Words.{first_value, found_of};
-ghost use Rattle.command_line.specs.Options.{GetsOptions, entries, flag, ladder_options};
+ghost use Rattle.command_line.specs.Options.{GetsOptions, entries, flag, ladder_options, text_option};
 ghost use Rattle.command_line.specs.Words.{IsFlagOf, IsGivenNumber, text_of, texts_of};
 
 use crate::options::{
@@ -18,6 +18,7 @@ pub fn with_ladder<'a>(alloc: Global, command: Command<'a>) -> Result<Command<'a
     let out = "The folder that the files are written to, which has to be there";
     let command = command.arg(text(alloc, "out", "DIR", out).required(true))?;
     let command = with_sync(alloc, command)?;
+    let command = with_metrics(alloc, command)?;
     let command = with_numbers(alloc, command, &POOL)?;
     let command = with_entries(alloc, command)?;
     let command = with_forms(alloc, command)?;
@@ -35,6 +36,15 @@ fn with_sync<'a>(alloc: Global, command: Command<'a>) -> Result<Command<'a>, All
             "Wait until each file is on the disk: a machine that loses its power then keeps all that was listed",
         );
     command.arg(sync)
+}
+
+/// The command with the option that names a file of metrics.
+fn with_metrics<'a>(alloc: Global, command: Command<'a>) -> Result<Command<'a>, AllocError>
+    ensures { IfOk result (λ made. GetsOptions command.entry (text_option (codes "metrics") ∷ []) made) }
+{
+    let help =
+        "A file that is replaced every five seconds and at the end: the run's numbers, in the text format of Prometheus";
+    command.arg(text(alloc, "metrics", "FILE", help))
 }
 
 /// The numbers of the threads that seal, and of reading ahead.
@@ -122,6 +132,13 @@ pub fn sync_word(options: &ArgMatches<'_>) -> bool
     ensures { IsFlagOf (found_of options.now) (codes "sync") result }
 {
     options.get_flag("sync")
+}
+
+/// The file of metrics, where one is named.
+pub fn metrics_word<'a>(options: &ArgMatches<'a>) -> Option<&'a str>
+    ensures { option_map (λ t. t.now) result ≡ first_value (found_of options.now) (codes "metrics") }
+{
+    options.get_str("metrics")
 }
 
 /// The numbers of the threads that seal, and of reading ahead, as they were given.

@@ -19,5 +19,5 @@ pub struct Sample<'a> {
     /// Whether its end was written.
     pub ended: bool,
     /// The name of the fault that it ended by, if any.
-    pub fault: Option<&'a str>,
+    pub fault: Option<&'static str>,
 }

@@ -24,7 +24,7 @@ const NO_TOTALS: Totals = Totals {
 const UNSEEN: Seen = Seen { count: 0, at: 0 };
 
 /// The fault of rendition `r`, if it is that one's.
-fn fault_of<'a>(fault: Option<(usize, &'a str)>, r: usize) -> Option<&'a str>
+fn fault_of(fault: Option<(usize, &'static str)>, r: usize) -> Option<&'static str>
     ensures { option_map (λ t. t.now) result ≡ fault_at fault.entry r }
 {
     match fault {
@@ -40,7 +40,7 @@ fn sample<'a>(
     glance: &Glance,
     seen: &[Seen],
     now: u128,
-    fault: Option<(usize, &'a str)>,
+    fault: Option<(usize, &'static str)>,
     r: usize,
 ) -> Sample<'a>
     ensures { facts_of result ≡ told_of name.now glance.now seen.now now fault.entry r }
@@ -68,7 +68,7 @@ pub fn samples<'a>(
     glance: &Glance,
     seen: &[Seen],
     now: u128,
-    fault: Option<(usize, &'a str)>,
+    fault: Option<(usize, &'static str)>,
 ) -> Result<Vec<Sample<'a>>, AllocError>
     ensures { IfOk result (λ samples. map facts_of samples.items ≡ map (told_at (map (λ t. t.now) names.now) glance.now seen.now now fault.entry) (range_with_len 0 (length names.now))) }
 {

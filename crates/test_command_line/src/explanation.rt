@@ -34,7 +34,7 @@ fn of_packing(fault: PackFault) -> Fault {
 }
 
 /// Options, numbers outside their ranges, and what is said of them.
-const RANGES: [(&str, &str, &str); 12] = [
+const RANGES: [(&str, &str, &str); 16] = [
     (
         "--target",
         "3601",

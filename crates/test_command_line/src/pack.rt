@@ -3,8 +3,8 @@ use command_line::{Job, LadderJob, line};
 use std::alloc::{AllocError, Global};
 use std::test::Fail;
 
-/// What a job asks for: its folder, whether it is synced, the numbers of its pool, how it is read where that is bounded, and its
-/// paths.
+/// What a job asks for: its folder, whether it is synced, the numbers of its pool, how it is read where that is bounded, its paths
+/// and its file of metrics.
 fn text_of(alloc: Global, job: &LadderJob<'_>) -> Result<String, AllocError> {
     let pool = job.options.pool;
     let batch = pool.batch.unwrap_or(0);
@@ -19,6 +19,10 @@ fn text_of(alloc: Global, job: &LadderJob<'_>) -> Result<String, AllocError> {
     }
     for path in &job.options.paths {
         text.push_str(" ")?;
+        text.push_str(path)?;
+    }
+    if let Some(path) = job.metrics {
+        text.push_str(" to ")?;
         text.push_str(path)?;
     }
     Ok(text)
@@ -58,7 +62,7 @@ const POOL: [&str; 9] = [
 ];
 
 /// Words, and what they ask for or print.
-const LADDERS: [(&[&str], &str); 17] = [
+const LADDERS: [(&[&str], &str); 18] = [
     (&["--out", "hls", V], "hls 4 16 0 a.ts"),
     (&[W, V, "--out", "hls"], "hls 4 16 0 b:c d a.ts"),
     (&POOL, "a 2 3 1 a.ts"),
@@ -80,6 +84,10 @@ const LADDERS: [(&[&str], &str); 17] = [
         "tshls: Settings\n",
     ),
     (&["--out", "hls", "--ahead", "0", V], "tshls: Settings\n"),
+    (
+        &["--metrics", "m.prom", "--out", "hls", V],
+        "hls 4 16 0 a.ts to m.prom",
+    ),
     (&["--out", "hls", V, "w:c:2x1"], "tshls: BadEntry 2\n"),
     (&["--out", "hls", "--salt", "0", V], "tshls: BadVector\n"),
     (&["--out", "hls", "--workers", "0", V], "tshls: Settings\n"),

@@ -1,7 +1,8 @@
 ghost use Rattle.std.specs.Prelude.{◌≡◌, ◌*◌, [], IfOk, option_map};
-ghost use Rattle.core.specs.Duration.{as_nanos};
+ghost use Rattle.std.specs.Duration.{as_nanos};
 ghost use Rattle.folder.specs.FileFolders.{file_moves};
 
+use crate::watching::Watching;
 use command_line::{Fault, LadderJob};
 use commands::{Destination, PackedLadder, Pool, pack_into_folder};
 use folder::FileFolder;
@@ -9,7 +10,7 @@ use pipeline::{Herald, opening_board};
 use read_ahead::{InputFiles, Limits, open_paths};
 use std::alloc::{AllocError, Global};
 use std::fs::Files;
-use std::io::Write;
+use std::io::{Eprint, Write};
 use std::sync::Wait;
 use std::thread::Threads;
 use std::time::{Clock, Duration};
@@ -17,7 +18,7 @@ use std::time::{Clock, Duration};
 /// Packs a ladder of files into a folder. All paths but those of FIFOs that have no writer are open before anything is
 /// written. The herald is told of a rendition's fault as soon as it stands.
 pub fn pack_ladder<
-    R: InputFiles + Files + Threads + Wait + Clock + Copy + Send + Sync + Drop + 'static,
+    R: InputFiles + Files + Clock + Eprint + Threads + Wait + Copy + Send + Sync + Drop + 'static,
     W: Write,
     H: Herald,
 >(rt: R, alloc: Global, job: &LadderJob<'_>, output: &mut W, herald: &H) -> Result<(), Fault>
@@ -30,7 +31,8 @@ where
     let limits = limits_of(job.options.pool);
     let sources = open_paths(rt, alloc, rt, job.options.paths.as_slice(), limits)?;
     let into = destination(rt, alloc, job)?;
-    let (publisher, _viewers) = opening_board(&rt, alloc, settings.renditions.len(), 1)?;
+    let (publisher, viewers) = opening_board(&rt, alloc, settings.renditions.len(), 1)?;
+    let watching = Watching::begin(rt, alloc, &settings.renditions, job.metrics, viewers);
     let PackedLadder {
         sources: _,
         publisher,
@@ -47,6 +49,9 @@ where
         output,
         herald,
     );
+    if let Some(watching) = watching {
+        watching.end(&rt, alloc, answer.as_ref().err());
+    }
     publisher.end(&rt);
     answer?;
     Ok(())

@@ -2,7 +2,9 @@
 #![tactic(auto)]
 
 mod ladder;
+mod metrics_file;
 mod telling;
+mod watching;
 
 use crate::ladder::pack_ladder;
 use crate::telling::{Teller, tell};
@@ -11,6 +13,7 @@ use commands::{Packed, check, one, open, seal};
 use item_io::ReaderSource;
 use read_ahead::InputFiles;
 use std::fs::{File, Files, TryLockError};
+use std::io::Eprint;
 use std::process::ExitCode;
 use std::sync::Wait;
 use std::thread::Threads;
@@ -64,12 +67,9 @@ fn run(rt: &HostRuntime, job: StreamJob) -> Result<(), Fault> {
 }
 
 /// Packs a ladder, and tells how that ends. A fault that was told as it stood isn't told once more.
-fn pack<R: Threads + Wait + Clock + Files + InputFiles + Copy + Send + Sync + Drop + 'static>(
-    rt: R,
-    host: &HostRuntime,
-    words: &[String],
-    job: &LadderJob<'_>,
-) -> ExitCode
+fn pack<
+    R: Threads + Wait + Clock + Eprint + Files + InputFiles + Copy + Send + Sync + Drop + 'static,
+>(rt: R, host: &HostRuntime, words: &[String], job: &LadderJob<'_>) -> ExitCode
 where
     R::Reader: Send + 'static,
     R::File: Send + 'static,

@@ -1,0 +1,275 @@
+//! Watches a run: a thread with a viewer of its board writes its metrics to a file. The run waits for nothing of it.
+
+use crate::metrics_file::replace;
+use commands::LadderPackingFault;
+use live_board::Viewer;
+use metrics::{Glance, Seen, look, metrics_text, samples, seen_again};
+use pipeline::{PackFault, Rendition};
+use std::alloc::{AllocError, Global};
+use std::fs::Files;
+use std::io::{self, Eprint};
+use std::sync::{Arc, Condvar, Mutex, Wait};
+use std::thread::{self, JoinHandle, Threads};
+use std::time::{Clock, Duration, Instant, SystemTime, UNIX_EPOCH};
+
+/// How often the metrics are written, in seconds.
+const TICK: u64 = 5;
+
+/// What is told, once, where they can't be.
+const UNWRITTEN: &str = "tshls: Metrics\n";
+
+/// By which the thread is stopped.
+#[derive(Drop)]
+struct Stop {
+    is_over: Mutex<bool>,
+    told: Condvar,
+}
+
+impl Stop {
+    /// Waits for a tick, or until it's over. Whether it is.
+    fn wait<R: Wait + Clock>(&self, rt: &R) -> bool {
+        let tick = Duration::from_secs(TICK);
+        let is_over = self.is_over.lock(rt);
+        let waited = self
+            .told
+            .wait_timeout_while(rt, is_over, tick, |is_over| !*is_over);
+        *waited.0
+    }
+
+    /// It's over.
+    fn tell<R: Wait>(&self, rt: &R) {
+        let mut is_over = self.is_over.lock(rt);
+        *is_over = true;
+        self.told.notify_all();
+    }
+}
+
+/// What is written of a run, and where to.
+#[derive(Drop)]
+struct Writer {
+    path: String,
+    names: Vec<String>,
+    /// Microseconds from 1970 to the run's beginning.
+    start: u128,
+    /// When it began; none where there is no clock.
+    begun: Option<Instant>,
+    seen: Vec<Seen>,
+    /// Whether it was told that the metrics can't be written.
+    has_told: bool,
+}
+
+impl Writer {
+    /// Of a run that begins now.
+    fn new<R: Clock>(
+        rt: &R,
+        alloc: Global,
+        renditions: &[Rendition],
+        path: &str,
+    ) -> Result<Writer, AllocError> {
+        let mut names = Vec::new(alloc);
+        let mut seen = Vec::new(alloc);
+        for rendition in renditions {
+            names.push(rendition.name.clone()?)?;
+            seen.push(Seen { count: 0, at: 0 })?;
+        }
+        Ok(Writer {
+            path: String::from_str(alloc, path)?,
+            names,
+            start: since_1970(rt),
+            begun: Instant::now(rt).ok(),
+            seen,
+            has_told: false,
+        })
+    }
+
+    /// Writes what was seen of a run, and the fault that it ended by.
+    fn write<R: Files + Clock + Eprint>(
+        &mut self,
+        rt: &R,
+        alloc: Global,
+        glance: &Glance,
+        fault: Option<(usize, &'static str)>,
+    ) {
+        let written = match self.text(rt, alloc, glance, fault) {
+            Ok(text) => replace(rt, alloc, &self.path, &text),
+            Err(_) => Err(io::Error::from(io::ErrorKind::OutOfMemory)),
+        };
+        if written.is_err() {
+            self.tell_once(rt);
+        }
+    }
+
+    /// The metrics of what was seen now.
+    fn text<R: Clock>(
+        &mut self,
+        rt: &R,
+        alloc: Global,
+        glance: &Glance,
+        fault: Option<(usize, &'static str)>,
+    ) -> Result<Vec<u8>, AllocError> {
+        let now = since(rt, self.begun);
+        self.seen = seen_again(alloc, &self.seen, &glance.counts, now)?;
+        let mut names: Vec<&str> = Vec::new(alloc);
+        for name in &self.names {
+            names.push(name.as_str())?;
+        }
+        let all = samples(alloc, &names, glance, &self.seen, now, fault)?;
+        metrics_text(alloc, self.start, &all)
+    }
+
+    /// Tells that the metrics can't be written, the first time.
+    fn tell_once<R: Eprint>(&mut self, rt: &R) {
+        if !self.has_told {
+            self.has_told = true;
+            let _ = rt.eprint(UNWRITTEN);
+        }
+    }
+}
+
+/// Microseconds since 1970; 0 where there is no clock.
+fn since_1970<R: Clock>(rt: &R) -> u128 {
+    let Ok(now) = SystemTime::now(rt) else {
+        return 0;
+    };
+    match now.duration_since(UNIX_EPOCH) {
+        Ok(time) => time.as_micros(),
+        Err(_) => 0,
+    }
+}
+
+/// Microseconds since then; 0 where there is no clock.
+fn since<R: Clock>(rt: &R, begun: Option<Instant>) -> u128 {
+    let Some(begun) = begun else {
+        return 0;
+    };
+    match begun.elapsed(rt) {
+        Ok(time) => time.as_micros(),
+        Err(_) => 0,
+    }
+}
+
+/// Looks at the board, and then writes what it saw. It holds no view while it writes.
+fn look_and_write<R: Files + Clock + Eprint>(
+    rt: &R,
+    alloc: Global,
+    viewer: Viewer,
+    writer: &mut Writer,
+    fault: Option<(usize, &'static str)>,
+) -> Viewer {
+    let (viewer, seen) = look(alloc, viewer);
+    match seen {
+        Ok(glance) => writer.write(rt, alloc, &glance, fault),
+        Err(_) => writer.tell_once(rt),
+    }
+    viewer
+}
+
+/// What the thread does: it looks at each tick, until it's stopped.
+fn watch<R: Files + Clock + Eprint + Wait>(
+    rt: &R,
+    alloc: Global,
+    viewer: Viewer,
+    writer: Writer,
+    stop: &Stop,
+) -> (Viewer, Writer) {
+    let mut viewer = viewer;
+    let mut writer = writer;
+    for _ in rt.forever() {
+        viewer = look_and_write(rt, alloc, viewer, &mut writer, None);
+        if stop.wait(rt) {
+            break;
+        }
+    }
+    (viewer, writer)
+}
+
+/// A run that is watched.
+#[derive(Drop)]
+pub struct Watching {
+    stop: Arc<Stop>,
+    thread: JoinHandle<(Viewer, Writer)>,
+}
+
+impl Watching {
+    /// Watches a run of these renditions that is about to begin. None where there is no memory or no thread for it.
+    fn start<R: Files + Clock + Eprint + Threads + Wait + Copy + Send + Drop + 'static>(
+        rt: R,
+        alloc: Global,
+        renditions: &[Rendition],
+        path: &str,
+        viewer: Viewer,
+    ) -> Option<Watching>
+    where
+        R::File: Send + 'static,
+        R::Dir: Send + 'static,
+    {
+        let stop = Arc::new(
+            alloc,
+            Stop {
+                is_over: Mutex::new(false),
+                told: Condvar::new(),
+            },
+        )
+        .ok()?;
+        let theirs = Arc::try_clone(&stop).ok()?;
+        let writer = Writer::new(&rt, alloc, renditions, path).ok()?;
+        let thread = thread::spawn(&rt, move || watch(&rt, alloc, viewer, writer, &theirs)).ok()?;
+        Some(Watching { stop, thread })
+    }
+
+    /// As `start`, if there is a path and a viewer. Where it can't be watched, that is told, and the run goes on.
+    pub fn begin<R: Files + Clock + Eprint + Threads + Wait + Copy + Send + Drop + 'static>(
+        rt: R,
+        alloc: Global,
+        renditions: &[Rendition],
+        path: Option<&str>,
+        viewers: Vec<Viewer>,
+    ) -> Option<Watching>
+    where
+        R::File: Send + 'static,
+        R::Dir: Send + 'static,
+    {
+        let path = path?;
+        let mut viewers = viewers;
+        let watching = match viewers.pop() {
+            Some(viewer) => Watching::start(rt, alloc, renditions, path, viewer),
+            None => None,
+        };
+        if watching.is_none() {
+            let _ = rt.eprint(UNWRITTEN);
+        }
+        watching
+    }
+
+    /// Stops, and writes the last metrics of a run that ended so. Its board has to be there still.
+    pub fn end<R: Files + Clock + Eprint + Threads + Wait>(
+        self,
+        rt: &R,
+        alloc: Global,
+        fault: Option<&LadderPackingFault>,
+    ) {
+        let Watching { stop, thread } = self;
+        stop.tell(rt);
+        let (viewer, mut writer) = thread.join(rt);
+        let faulted = match fault {
+            Some(LadderPackingFault::Packing(fault)) => faulted(*fault),
+            _ => None,
+        };
+        let _viewer = look_and_write(rt, alloc, viewer, &mut writer, faulted);
+    }
+}
+
+/// The rendition that ended by a fault, and its name.
+fn faulted(fault: PackFault) -> Option<(usize, &'static str)> {
+    match fault {
+        PackFault::Read(r) => Some((r, "Read")),
+        PackFault::ReadLimit(r) => Some((r, "ReadLimit")),
+        PackFault::NoProgram(r) => Some((r, "NoProgram")),
+        PackFault::NoStart(r) => Some((r, "NoStart")),
+        PackFault::LongSegment(r, _) => Some((r, "LongSegment")),
+        PackFault::BigSegment(r, _) => Some((r, "BigSegment")),
+        PackFault::Limit(r) => Some((r, "Limit")),
+        PackFault::Held(r, _) => Some((r, "Held")),
+        PackFault::Settings | PackFault::Outlet | PackFault::NoMemory => None,
+    }
+}
