@@ -1,6 +1,6 @@
 """The files that `tshls pack` is to leave of a ladder, by the rules as they are written: ladder.py FOLDER OPTIONS.. ENTRIES..
 
-Prints the summary. A rendition's fault of its stream is told on standard error, with status 1, that of the first one.
+Prints the summary. The faults of the renditions' streams are told on standard error, a line each, with status 1.
 """
 
 import pathlib
@@ -68,7 +68,7 @@ def main():
     if variants:
         write_text(folder / "master.m3u8", playlists.master(variants))
     if faults:
-        sys.exit(faults[0])
+        sys.exit("\n".join(faults))
     for rows, told in sorted(variants, key=lambda variant: variant[1].name.encode()):
         print(summary_line(rows, told))
 

@@ -58,6 +58,8 @@ packs_ladder() {
     mkdir "$work/ladder"
     timeout 120 "$program" pack --out "$work/ladder" "${options[@]}" "$@" >"$work/out" 2>"$work/err" || status=$?
     [ $status -eq $wanted_status ] || { echo "status $status in place of $wanted_status, $(cat "$work/err")"; return 1; }
+    # faults are told as they stand, so in any order
+    sort -o "$work/err" "$work/err" && sort -o "$work/wanted_fault" "$work/wanted_fault" || return
     is_equal 'standard error' "$work/err" "$work/wanted_fault" && is_equal 'standard output' "$work/out" "$work/wanted" &&
         is_same_folder "$work/ladder" "$work/wanted_ladder"
 }
