@@ -4,7 +4,7 @@
 check_fuzz() {
     check 'fuzz: 300 random ladders' plays_random_ladders 300
     check 'fuzz: each answer came up, and most ladders were cut' gave_each_answer
-    check 'fuzz: 60 random ladders, whose writers pause' plays_random_ladders 60 1001 pauses
+    check 'fuzz: 300 random ladders, whose writers pause' plays_random_ladders 300 1001 pauses
 }
 
 plays_random_ladders() {
