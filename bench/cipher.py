@@ -39,13 +39,16 @@ fn text(alloc: Global) -> Result<Vec<u8>, AllocError> {
 
 fn main(rt: HostRuntime) -> io::Result<()> {
     let key = Key::new([0, 1, 2, 3, 4, 5, 6, 7, 8, 9, 10, 11, 12, 13, 14, 15]);
+    let second_key = Key::new([1; 16]);
+    let third_key = Key::new([2; 16]);
+    let fourth_key = Key::new([3; 16]);
     let vector = [0; 16];
     let mut first = text(rt.alloc())?;
     let mut second = text(rt.alloc())?;
     let mut third = text(rt.alloc())?;
     let mut fourth = text(rt.alloc())?;
-    let two = (&key, &key);
-    let four = (&key, &key, &key, &key);
+    let two = (&key, &second_key);
+    let four = (&key, &second_key, &third_key, &fourth_key);
     for line in rt.lines(rt.alloc()) {
         match line?.as_str() {
             "seal" => first = seal(rt.alloc(), &key, &vector, &first)?,

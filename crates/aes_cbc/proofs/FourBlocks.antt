@@ -7,7 +7,7 @@ use Rattle.aes_cbc.specs.Opening.{inv_cbc}
 use Rattle.aes_cbc.proofs.ChainInverse.{inv_cbc_more}
 
 -- the block at i is appended
-one_more : (k before : List ℕ) (cs : List (List ℕ)) (i j : ℕ) (done next all : List ℕ) → i < length cs → j ≡ i + 1
+pub one_more : (k before : List ℕ) (cs : List (List ℕ)) (i j : ℕ) (done next all : List ℕ) → i < length cs → j ≡ i + 1
     → all ≡ done ++ next → next ≡ xor_bytes (inv_aes k (get_or cs i [])) before
     → all ++ concat (inv_cbc k (get_or cs i []) (drop j cs)) ≡ done ++ concat (inv_cbc k before (drop i cs))
 one_more k before cs i j done next all lt after appended is =

@@ -5,6 +5,7 @@ ghost use Rattle.std.specs.List.{concat};
 ghost use Rattle.aes_cbc.specs.Chain.{cbc, blocks};
 
 use crate::key::Key;
+use crate::pairs::{first_of, joined, second_of};
 use std::simd::prelude::*;
 
 /// Encrypts two texts of as many whole blocks where they lie.
@@ -19,21 +20,16 @@ pub(crate) fn encrypt_two_chains(
     ensures first { first.new ≡ concat (cbc keys.entry.0.now (slice_index_or vectors.now 0 []) (blocks first.old)) }
     ensures second { second.new ≡ concat (cbc keys.entry.1.now (slice_index_or vectors.now 1 []) (blocks second.old)) }
 {
-    let (first_key, second_key) = keys;
-    let mut first_last = u8x16::from_array(vectors[0]);
-    let mut second_last = u8x16::from_array(vectors[1]);
+    let mut last = joined(u8x16::from_array(vectors[0]), u8x16::from_array(vectors[1]));
     'block: for i in 0..first.len() / 16 {
-        let first_block = u8x16::from_array(first.as_chunks::<16>().0[i]);
-        let second_block = u8x16::from_array(second.as_chunks::<16>().0[i]);
-        let next = first_key.encrypt_two(
-            second_key,
-            first_block ^ first_last,
-            second_block ^ second_last,
+        let blocks = joined(
+            u8x16::from_array(first.as_chunks::<16>().0[i]),
+            u8x16::from_array(second.as_chunks::<16>().0[i]),
         );
-        first[16 * i..16 * i + 16].copy_from_slice(&next.0.to_array());
-        second[16 * i..16 * i + 16].copy_from_slice(&next.1.to_array());
-        first_last = next.0;
-        second_last = next.1;
+        let next = Key::encrypt_two(keys, blocks ^ last);
+        first[16 * i..16 * i + 16].copy_from_slice(&first_of(next));
+        second[16 * i..16 * i + 16].copy_from_slice(&second_of(next));
+        last = next;
     }
 }
 
@@ -55,29 +51,23 @@ pub(crate) fn encrypt_four_chains(
     ensures third { third.new ≡ concat (cbc keys.entry.2.now (slice_index_or vectors.now 2 []) (blocks third.old)) }
     ensures fourth { fourth.new ≡ concat (cbc keys.entry.3.now (slice_index_or vectors.now 3 []) (blocks fourth.old)) }
 {
-    let mut first_last = u8x16::from_array(vectors[0]);
-    let mut second_last = u8x16::from_array(vectors[1]);
-    let mut third_last = u8x16::from_array(vectors[2]);
-    let mut fourth_last = u8x16::from_array(vectors[3]);
+    let mut front_last = joined(u8x16::from_array(vectors[0]), u8x16::from_array(vectors[1]));
+    let mut back_last = joined(u8x16::from_array(vectors[2]), u8x16::from_array(vectors[3]));
     'block: for i in 0..first.len() / 16 {
-        let first_block = u8x16::from_array(first.as_chunks::<16>().0[i]);
-        let second_block = u8x16::from_array(second.as_chunks::<16>().0[i]);
-        let third_block = u8x16::from_array(third.as_chunks::<16>().0[i]);
-        let fourth_block = u8x16::from_array(fourth.as_chunks::<16>().0[i]);
-        let next = Key::encrypt_four(
-            keys,
-            first_block ^ first_last,
-            second_block ^ second_last,
-            third_block ^ third_last,
-            fourth_block ^ fourth_last,
+        let front = joined(
+            u8x16::from_array(first.as_chunks::<16>().0[i]),
+            u8x16::from_array(second.as_chunks::<16>().0[i]),
         );
-        first[16 * i..16 * i + 16].copy_from_slice(&next.0.to_array());
-        second[16 * i..16 * i + 16].copy_from_slice(&next.1.to_array());
-        third[16 * i..16 * i + 16].copy_from_slice(&next.2.to_array());
-        fourth[16 * i..16 * i + 16].copy_from_slice(&next.3.to_array());
-        first_last = next.0;
-        second_last = next.1;
-        third_last = next.2;
-        fourth_last = next.3;
+        let back = joined(
+            u8x16::from_array(third.as_chunks::<16>().0[i]),
+            u8x16::from_array(fourth.as_chunks::<16>().0[i]),
+        );
+        let next = Key::encrypt_four(keys, front ^ front_last, back ^ back_last);
+        first[16 * i..16 * i + 16].copy_from_slice(&first_of(next.0));
+        second[16 * i..16 * i + 16].copy_from_slice(&second_of(next.0));
+        third[16 * i..16 * i + 16].copy_from_slice(&first_of(next.1));
+        fourth[16 * i..16 * i + 16].copy_from_slice(&second_of(next.1));
+        front_last = next.0;
+        back_last = next.1;
     }
 }

@@ -9,62 +9,62 @@ use crate::tower::halves;
 use std::simd::prelude::*;
 
 /// The inverse of the S-box's affine map, in the tower, at the low half of a byte.
-const ENTERED_LOW: [u8; 16] = [
+pub(crate) const ENTERED_LOW: [u8; 16] = [
     232, 183, 188, 227, 236, 179, 184, 231, 242, 173, 166, 249, 246, 169, 162, 253,
 ];
 
 /// What the high half adds.
-const ENTERED_HIGH: [u8; 16] = [
+pub(crate) const ENTERED_HIGH: [u8; 16] = [
     0, 101, 5, 96, 230, 131, 227, 134, 148, 241, 145, 244, 114, 23, 119, 18,
 ];
 
 /// What the left half adds to 7 times the inverse S-box, as the next round takes it.
-const SEVEN_LEFT: [u8; 16] = [
+pub(crate) const SEVEN_LEFT: [u8; 16] = [
     0, 6, 82, 188, 197, 145, 238, 195, 121, 186, 45, 43, 84, 127, 151, 232,
 ];
 
 /// What the right half adds.
-const SEVEN_RIGHT: [u8; 16] = [
+pub(crate) const SEVEN_RIGHT: [u8; 16] = [
     0, 136, 125, 19, 68, 177, 110, 204, 87, 155, 162, 42, 245, 223, 57, 230,
 ];
 
 /// What the left half adds to twice the inverse S-box.
-const TWICE_LEFT: [u8; 16] = [
+pub(crate) const TWICE_LEFT: [u8; 16] = [
     0, 148, 50, 12, 193, 103, 62, 85, 205, 152, 107, 255, 166, 89, 243, 170,
 ];
 
 /// What the right half adds.
-const TWICE_RIGHT: [u8; 16] = [
+pub(crate) const TWICE_RIGHT: [u8; 16] = [
     0, 46, 142, 33, 47, 143, 175, 1, 14, 15, 174, 128, 160, 32, 161, 129,
 ];
 
 /// What the left half adds to 4 times the inverse S-box.
-const FOUR_LEFT: [u8; 16] = [
+pub(crate) const FOUR_LEFT: [u8; 16] = [
     0, 116, 55, 124, 140, 207, 75, 248, 240, 8, 179, 199, 67, 132, 187, 63,
 ];
 
 /// What the right half adds.
-const FOUR_RIGHT: [u8; 16] = [
+pub(crate) const FOUR_RIGHT: [u8; 16] = [
     0, 130, 17, 200, 126, 237, 217, 252, 182, 74, 37, 167, 147, 52, 111, 91,
 ];
 
 /// What the left half adds to 9 times the inverse S-box.
-const NINE_LEFT: [u8; 16] = [
+pub(crate) const NINE_LEFT: [u8; 16] = [
     0, 214, 134, 154, 83, 3, 28, 133, 201, 76, 153, 79, 80, 31, 213, 202,
 ];
 
 /// What the right half adds.
-const NINE_RIGHT: [u8; 16] = [
+pub(crate) const NINE_RIGHT: [u8; 16] = [
     0, 73, 215, 236, 137, 23, 59, 192, 101, 165, 251, 178, 158, 44, 94, 114,
 ];
 
 /// What the left half adds to the inverse S-box.
-const LAST_LEFT: [u8; 16] = [
+pub(crate) const LAST_LEFT: [u8; 16] = [
     0, 64, 249, 126, 83, 234, 135, 19, 45, 62, 148, 212, 185, 109, 170, 199,
 ];
 
 /// What the right half adds.
-const LAST_RIGHT: [u8; 16] = [
+pub(crate) const LAST_RIGHT: [u8; 16] = [
     0, 29, 68, 147, 15, 86, 215, 18, 156, 142, 197, 216, 89, 129, 75, 202,
 ];
 

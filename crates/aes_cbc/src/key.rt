@@ -1,16 +1,21 @@
 //! A key of AES-128 with its round keys.
 
-ghost use Rattle.std.specs.Prelude.{◌≡◌};
+ghost use Rattle.std.specs.Prelude.{◌≡◌, ◌+◌, ◌<◌, ◌++◌, map, take, drop};
 ghost use Rattle.aes_cbc.specs.Block.{IsBlock};
 ghost use Rattle.aes_cbc.specs.Cipher.{aes};
+ghost use Rattle.aes_cbc.specs.KeyExpansion.{round_key};
+ghost use Rattle.aes_cbc.specs.Tower.{keyed, last_keyed};
 ghost use Rattle.aes_cbc.specs.InverseCipher.{inv_aes};
+ghost use Rattle.aes_cbc.specs.Pairs.{ArePair};
 
 use crate::inverse_round::{inv_round, last_inv_round};
 use crate::inverse_sbox::entered;
+use crate::pairs::joined;
 use crate::round::{last_round, round};
 use crate::sbox::last_keyed;
 use crate::schedule::{RoundKey, mixing_keys, round_keys, unmixing_keys};
 use crate::tower::into_tower;
+use crate::{pair_inverse_round, pair_inverse_sbox, pair_round, pair_tower};
 use std::marker::Model;
 use std::simd::prelude::*;
 
@@ -74,60 +79,47 @@ impl Key {
         last_round(state, self.last_key)
     }
 
-    /// The cipher blocks of two blocks side by side, the second under the other key.
+    /// The cipher blocks of two blocks side by side, each under its own key.
     #[inline(always)]
-    pub(crate) fn encrypt_two(&self, other: &Key, first: u8x16, second: u8x16) -> (u8x16, u8x16)
-        ensures first { result.0 ≡ aes self.now first }
-        ensures second { result.1 ≡ aes other.now second }
-        ensures first_block { IsBlock result.0 }
-        ensures second_block { IsBlock result.1 }
+    pub(crate) fn encrypt_two(keys: (&Key, &Key), blocks: u8x32) -> u8x32
+        ensures ciphers { ArePair result (aes keys.entry.0.now (take 16 blocks)) (aes keys.entry.1.now (drop 16 blocks)) }
+        ensures first { IsBlock (take 16 result) }
+        ensures second { IsBlock (drop 16 result) }
     {
-        let mut first_state = into_tower(first ^ u8x16::from_array(self.bytes));
-        let mut second_state = into_tower(second ^ u8x16::from_array(other.bytes));
+        let mut state = pair_tower::into_tower(blocks ^ both_keys(keys.0, keys.1));
         'round: for i in 0..9 {
-            first_state = round(first_state, self.mixing_keys[i].lanes);
-            second_state = round(second_state, other.mixing_keys[i].lanes);
+            let next = pair_round::round(state, both_mixing_keys(keys.0, keys.1, i));
+            state = next;
         }
-        (
-            last_round(first_state, self.last_key),
-            last_round(second_state, other.last_key),
-        )
+        pair_round::last_round(state, both_last_keys(keys.0, keys.1))
     }
 
-    /// The cipher blocks of four blocks side by side, each under its own key.
+    /// The cipher blocks of four blocks, two and two side by side, each under its own key.
     #[inline(always)]
     pub(crate) fn encrypt_four(
         keys: (&Key, &Key, &Key, &Key),
-        first: u8x16,
-        second: u8x16,
-        third: u8x16,
-        fourth: u8x16,
-    ) -> (u8x16, u8x16, u8x16, u8x16)
-        ensures first { result.0 ≡ aes keys.entry.0.now first }
-        ensures second { result.1 ≡ aes keys.entry.1.now second }
-        ensures third { result.2 ≡ aes keys.entry.2.now third }
-        ensures fourth { result.3 ≡ aes keys.entry.3.now fourth }
-        ensures first_block { IsBlock result.0 }
-        ensures second_block { IsBlock result.1 }
-        ensures third_block { IsBlock result.2 }
-        ensures fourth_block { IsBlock result.3 }
+        front: u8x32,
+        back: u8x32,
+    ) -> (u8x32, u8x32)
+        ensures front { ArePair result.0 (aes keys.entry.0.now (take 16 front)) (aes keys.entry.1.now (drop 16 front)) }
+        ensures back { ArePair result.1 (aes keys.entry.2.now (take 16 back)) (aes keys.entry.3.now (drop 16 back)) }
+        ensures first { IsBlock (take 16 result.0) }
+        ensures second { IsBlock (drop 16 result.0) }
+        ensures third { IsBlock (take 16 result.1) }
+        ensures fourth { IsBlock (drop 16 result.1) }
     {
         let (first_key, second_key, third_key, fourth_key) = keys;
-        let mut first_state = into_tower(first ^ u8x16::from_array(first_key.bytes));
-        let mut second_state = into_tower(second ^ u8x16::from_array(second_key.bytes));
-        let mut third_state = into_tower(third ^ u8x16::from_array(third_key.bytes));
-        let mut fourth_state = into_tower(fourth ^ u8x16::from_array(fourth_key.bytes));
+        let mut front_state = pair_tower::into_tower(front ^ both_keys(first_key, second_key));
+        let mut back_state = pair_tower::into_tower(back ^ both_keys(third_key, fourth_key));
         'round: for i in 0..9 {
-            first_state = round(first_state, first_key.mixing_keys[i].lanes);
-            second_state = round(second_state, second_key.mixing_keys[i].lanes);
-            third_state = round(third_state, third_key.mixing_keys[i].lanes);
-            fourth_state = round(fourth_state, fourth_key.mixing_keys[i].lanes);
+            let front_keys = both_mixing_keys(first_key, second_key, i);
+            let back_keys = both_mixing_keys(third_key, fourth_key, i);
+            front_state = pair_round::round(front_state, front_keys);
+            back_state = pair_round::round(back_state, back_keys);
         }
         (
-            last_round(first_state, first_key.last_key),
-            last_round(second_state, second_key.last_key),
-            last_round(third_state, third_key.last_key),
-            last_round(fourth_state, fourth_key.last_key),
+            pair_round::last_round(front_state, both_last_keys(first_key, second_key)),
+            pair_round::last_round(back_state, both_last_keys(third_key, fourth_key)),
         )
     }
 
@@ -181,6 +173,43 @@ impl Key {
         )
     }
 
+    /// The same of eight blocks, two and two side by side.
+    #[inline(always)]
+    pub(crate) fn decrypt_eight(
+        &self,
+        first: u8x32,
+        second: u8x32,
+        third: u8x32,
+        fourth: u8x32,
+    ) -> (u8x32, u8x32, u8x32, u8x32)
+        ensures first { ArePair result.0 (inv_aes self.now (take 16 first)) (inv_aes self.now (drop 16 first)) }
+        ensures second { ArePair result.1 (inv_aes self.now (take 16 second)) (inv_aes self.now (drop 16 second)) }
+        ensures third { ArePair result.2 (inv_aes self.now (take 16 third)) (inv_aes self.now (drop 16 third)) }
+        ensures fourth { ArePair result.3 (inv_aes self.now (take 16 fourth)) (inv_aes self.now (drop 16 fourth)) }
+    {
+        let tenth_keys = joined(self.tenth_key, self.tenth_key);
+        let mut first_state = pair_inverse_sbox::entered(first ^ tenth_keys);
+        let mut second_state = pair_inverse_sbox::entered(second ^ tenth_keys);
+        let mut third_state = pair_inverse_sbox::entered(third ^ tenth_keys);
+        let mut fourth_state = pair_inverse_sbox::entered(fourth ^ tenth_keys);
+        'round: for i in 0..9 {
+            let round_key = self.unmixing_keys[i].lanes;
+            let round_keys = joined(round_key, round_key);
+            first_state = pair_inverse_round::inv_round(first_state, round_keys);
+            second_state = pair_inverse_round::inv_round(second_state, round_keys);
+            third_state = pair_inverse_round::inv_round(third_state, round_keys);
+            fourth_state = pair_inverse_round::inv_round(fourth_state, round_keys);
+        }
+        let last_key = u8x16::from_array(self.bytes);
+        let last_keys = joined(last_key, last_key);
+        (
+            pair_inverse_round::last_inv_round(first_state, last_keys),
+            pair_inverse_round::last_inv_round(second_state, last_keys),
+            pair_inverse_round::last_inv_round(third_state, last_keys),
+            pair_inverse_round::last_inv_round(fourth_state, last_keys),
+        )
+    }
+
     /// The cipher block of `block` (FIPS 197, 5.1).
     pub fn encrypt_block(&self, block: &[u8; 16]) -> [u8; 16]
         ensures { result ≡ aes self.now block.now }
@@ -195,4 +224,34 @@ impl Key {
     {
         self.decrypt_lanes(u8x16::from_array(*block)).to_array()
     }
+}
+
+/// Two keys side by side.
+#[inline(always)]
+fn both_keys(first: &Key, second: &Key) -> u8x32
+    ensures both { ArePair result first.now second.now }
+    ensures first { IsBlock first.now }
+    ensures second { IsBlock second.now }
+{
+    joined(
+        u8x16::from_array(first.bytes),
+        u8x16::from_array(second.bytes),
+    )
+}
+
+/// Their round keys `i + 1`, as rounds that mix take them.
+#[inline(always)]
+fn both_mixing_keys(first: &Key, second: &Key, i: usize) -> u8x32
+    requires { i < 9 }
+    ensures { result ≡ map keyed (round_key first.now (i + 1)) ++ map keyed (round_key second.now (i + 1)) }
+{
+    joined(first.mixing_keys[i].lanes, second.mixing_keys[i].lanes)
+}
+
+/// Their last round keys, as the last round takes them.
+#[inline(always)]
+fn both_last_keys(first: &Key, second: &Key) -> u8x32
+    ensures { result ≡ map last_keyed (round_key first.now 10) ++ map last_keyed (round_key second.now 10) }
+{
+    joined(first.last_key, second.last_key)
 }

@@ -7,20 +7,22 @@ use crate::lanes::{high_halves, look_up, low_halves};
 use std::simd::prelude::*;
 
 /// What the low half of a byte adds to it in the tower.
-const TOWER_LOW: [u8; 16] = [
+pub(crate) const TOWER_LOW: [u8; 16] = [
     0, 112, 42, 90, 152, 232, 178, 194, 8, 120, 34, 82, 144, 224, 186, 202,
 ];
 
 /// What the high half adds.
-const TOWER_HIGH: [u8; 16] = [
+pub(crate) const TOWER_HIGH: [u8; 16] = [
     0, 77, 124, 49, 125, 48, 1, 76, 129, 204, 253, 176, 252, 177, 128, 205,
 ];
 
 /// The inverses in GF(2^4), and 128 for that of 0.
-const INVERSES: [u8; 16] = [128, 1, 8, 13, 15, 6, 5, 14, 2, 12, 11, 10, 9, 3, 7, 4];
+pub(crate) const INVERSES: [u8; 16] = [128, 1, 8, 13, 15, 6, 5, 14, 2, 12, 11, 10, 9, 3, 7, 4];
 
 /// The inverses times a constant of the tower.
-const SCALED_INVERSES: [u8; 16] = [128, 7, 11, 15, 6, 10, 4, 1, 9, 8, 5, 2, 12, 14, 13, 3];
+pub(crate) const SCALED_INVERSES: [u8; 16] = [
+    128, 7, 11, 15, 6, 10, 4, 1, 9, 8, 5, 2, 12, 14, 13, 3,
+];
 
 /// The bytes in the tower.
 #[inline(always)]

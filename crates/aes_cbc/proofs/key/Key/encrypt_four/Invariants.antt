@@ -1,12 +1,10 @@
-use Rattle.std.proofs.Common.{◌≡◌, map}
+use Rattle.std.proofs.Common.{◌≡◌, ◌++◌, map, take, drop}
 use Rattle.aes_cbc.specs.Cipher.{state_after}
 use Rattle.aes_cbc.specs.Tower.{tower}
 use Rattle.aes_cbc.proofs.key.Key.encrypt_four.Given as goal
 
 abbrev pub invariant-round : goal.invariant-round
 invariant-round l = record {
-  first_is : l.first_state ≡ map tower (state_after l.fn.keys.0.now l.fn.first l.i);
-  second_is : l.second_state ≡ map tower (state_after l.fn.keys.1.now l.fn.second l.i);
-  third_is : l.third_state ≡ map tower (state_after l.fn.keys.2.now l.fn.third l.i);
-  fourth_is : l.fourth_state ≡ map tower (state_after l.fn.keys.3.now l.fn.fourth l.i);
+  front_is : l.front_state ≡ map tower (state_after l.fn.keys.0.now (take 16 l.fn.front) l.i ++ state_after l.fn.keys.1.now (drop 16 l.fn.front) l.i);
+  back_is : l.back_state ≡ map tower (state_after l.fn.keys.2.now (take 16 l.fn.back) l.i ++ state_after l.fn.keys.3.now (drop 16 l.fn.back) l.i);
 }

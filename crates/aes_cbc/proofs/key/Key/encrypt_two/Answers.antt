@@ -1,58 +1,31 @@
-use Rattle.std.proofs.Common.{◌≡◌, ◌+◌, ◌∙◌, map, subst, sym, ap, arith}
+use Rattle.std.proofs.Common.{◌≡◌, take, drop, subst, sym, arith}
 use Rattle.aes_cbc.specs.Block.{IsBlock}
-use Rattle.aes_cbc.specs.KeyExpansion.{round_key}
-use Rattle.aes_cbc.specs.Cipher.{state_after, aes}
-use Rattle.aes_cbc.specs.Tower.{tower, keyed, last_keyed}
-use Rattle.aes_cbc.proofs.CipherRounds.{state_after_next}
-use Rattle.aes_cbc.proofs.CipherInverse.{state_after-IsBlock, aes-IsBlock}
-use Rattle.aes_cbc.proofs.RoundKeyBlocks.{round_key-IsBlock}
-use Rattle.aes_cbc.proofs.LaneSums.{lanes_block}
-use Rattle.aes_cbc.proofs.EncryptionRounds.{start_state}
+use Rattle.aes_cbc.proofs.CipherInverse.{aes-IsBlock}
+use Rattle.aes_cbc.proofs.PairSums.{front_block, back_block}
+use Rattle.aes_cbc.proofs.PairStates.{start_states, next_states, last_states}
 use Rattle.aes_cbc.proofs.key.Key.encrypt_two.Goals as goal
 
 pub round-init : goal.round-init
-round-init c = record {
-  first_is = start_state c.args.self.now c.args.first _ _ c.self.view_is c.into_tower-first_state.ensures;
-  second_is = start_state c.args.other.now c.args.second _ _ c.other.view_is c.into_tower-second_state.ensures;
-}
+round-init c = start_states c.args.keys.0.now c.args.keys.1.now c.args.blocks _ _ c.both_keys.ensures.both c.into_tower-state.ensures
 
 pub round-preserved : goal.round-preserved
 round-preserved c =
-    let i = c.round.i in
-    let of_first_key : IsBlock c.args.self.now = subst IsBlock c.self.view_is c.self.invariant.block in
-    let of_first : IsBlock c.args.first = lanes_block c.args.first c.fits-first.0 c.fits-first.1 in
-    let first_lanes = c.self.invariant.mixing i _ (omega arith) ∙ ap (λ k. map keyed (round_key k (i + 1))) c.self.view_is in
-    let of_second_key : IsBlock c.args.other.now = subst IsBlock c.other.view_is c.other.invariant.block in
-    let of_second : IsBlock c.args.second = lanes_block c.args.second c.fits-second.0 c.fits-second.1 in
-    let second_lanes = c.other.invariant.mixing i _ (omega arith) ∙ ap (λ k. map keyed (round_key k (i + 1))) c.other.view_is in
-    record {
-      first_is =
-          c.round-first_state.ensures (state_after c.args.self.now c.args.first i) (round_key c.args.self.now (i + 1)) (state_after-IsBlock c.args.self.now c.args.first i of_first_key of_first) (round_key-IsBlock c.args.self.now (i + 1) of_first_key) c.round.invariant.first_is first_lanes
-          ∙ ap (map tower) (sym (state_after_next c.args.self.now c.args.first i));
-      second_is =
-          c.round-second_state.ensures (state_after c.args.other.now c.args.second i) (round_key c.args.other.now (i + 1)) (state_after-IsBlock c.args.other.now c.args.second i of_second_key of_second) (round_key-IsBlock c.args.other.now (i + 1) of_second_key) c.round.invariant.second_is second_lanes
-          ∙ ap (map tower) (sym (state_after_next c.args.other.now c.args.second i));
-    }
+    let key = c.both_keys.ensures in
+    next_states c.args.keys.0.now c.args.keys.1.now (take 16 c.args.blocks) (drop 16 c.args.blocks) c.round.i _ _ _ key.first key.second
+    (front_block c.args.blocks c.fits-blocks.0 c.fits-blocks.1) (back_block c.args.blocks c.fits-blocks.0 c.fits-blocks.1)
+    c.round-next.ensures c.round.invariant c.both_mixing_keys.ensures
 
 pub returns : goal.returns
-unfolding aes
 returns c =
+    let key = c.both_keys.ensures in
+    let of_first : IsBlock (take 16 c.args.blocks) = front_block c.args.blocks c.fits-blocks.0 c.fits-blocks.1 in
+    let of_second : IsBlock (drop 16 c.args.blocks) = back_block c.args.blocks c.fits-blocks.0 c.fits-blocks.1 in
     let nine : c.round.i ≡ 9 = omega arith in
-    let of_first_key : IsBlock c.args.self.now = subst IsBlock c.self.view_is c.self.invariant.block in
-    let of_first : IsBlock c.args.first = lanes_block c.args.first c.fits-first.0 c.fits-first.1 in
-    let first_lanes = c.self.invariant.last ∙ ap (λ k. map last_keyed (round_key k 10)) c.self.view_is in
-    let first_state = rw nine at c.round.invariant.first_is in
-    let first_cipher : c.last_round.result ≡ aes c.args.self.now c.args.first
-    = c.last_round.ensures (state_after c.args.self.now c.args.first 9) (round_key c.args.self.now 10) (state_after-IsBlock c.args.self.now c.args.first 9 of_first_key of_first) (round_key-IsBlock c.args.self.now 10 of_first_key) first_state first_lanes in
-    let of_second_key : IsBlock c.args.other.now = subst IsBlock c.other.view_is c.other.invariant.block in
-    let of_second : IsBlock c.args.second = lanes_block c.args.second c.fits-second.0 c.fits-second.1 in
-    let second_lanes = c.other.invariant.last ∙ ap (λ k. map last_keyed (round_key k 10)) c.other.view_is in
-    let second_state = rw nine at c.round.invariant.second_is in
-    let second_cipher : c.last_round-2.result ≡ aes c.args.other.now c.args.second
-    = c.last_round-2.ensures (state_after c.args.other.now c.args.second 9) (round_key c.args.other.now 10) (state_after-IsBlock c.args.other.now c.args.second 9 of_second_key of_second) (round_key-IsBlock c.args.other.now 10 of_second_key) second_state second_lanes in
+    let ciphers =
+    last_states c.args.keys.0.now c.args.keys.1.now (take 16 c.args.blocks) (drop 16 c.args.blocks) _ _ _ key.first key.second of_first of_second
+    c.last_round.ensures (rw nine at c.round.invariant) c.both_last_keys.ensures in
     record {
-      first = first_cipher;
-      first_block = subst IsBlock (sym first_cipher) (aes-IsBlock c.args.self.now c.args.first of_first_key of_first);
-      second = second_cipher;
-      second_block = subst IsBlock (sym second_cipher) (aes-IsBlock c.args.other.now c.args.second of_second_key of_second);
+      ciphers = ciphers;
+      first = subst IsBlock (sym ciphers.first) (aes-IsBlock c.args.keys.0.now (take 16 c.args.blocks) key.first of_first);
+      second = subst IsBlock (sym ciphers.second) (aes-IsBlock c.args.keys.1.now (drop 16 c.args.blocks) key.second of_second);
     }

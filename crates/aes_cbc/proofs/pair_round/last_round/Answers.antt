@@ -1,0 +1,9 @@
+use Rattle.std.proofs.Common.{◌++◌, ◌∙◌, ◌<◌}
+use Rattle.std.proofs.lemmas.List.Elements.{All-append}
+use Rattle.aes_cbc.proofs.PairRounds.{both_last_combined, last_of_two}
+use Rattle.aes_cbc.proofs.pair_round.last_round.Goals as goal
+
+pub returns : goal.returns
+returns c = λ s t k l hs ht hk hl es ek.
+    let last = c.last_substituted.ensures (s ++ t) (All-append (λ b. b < 256) s t hs.bytes ht.bytes) es in
+    (λ i. both_last_combined (last i) (ek i)) ∙ last_of_two s t k l hs ht hk hl
