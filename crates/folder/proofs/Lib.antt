@@ -12,3 +12,4 @@ pub mod Losses
 pub mod PruningLosses
 pub mod Playing
 pub mod Finding
+pub mod Naming

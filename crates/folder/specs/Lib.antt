@@ -14,3 +14,6 @@ pub mod FileFolders
 pub mod MemoryMoves
 pub mod MemoryFolders
 pub mod MemoryFinds
+pub mod Reads
+pub mod MemoryNames
+pub mod MemoryNamed

@@ -53,8 +53,18 @@ impl<R> FileFolder<R> {
         }
     }
 
+    /// The folder's path.
+    pub(crate) fn path(&self) -> &str {
+        self.path.as_str()
+    }
+
+    /// The files of the system.
+    pub(crate) fn files(&self) -> &R {
+        &self.files
+    }
+
     /// The path of a file.
-    fn path_of(&self, name: &str) -> Result<PathBuf, AllocError> {
+    pub(crate) fn path_of(&self, name: &str) -> Result<PathBuf, AllocError> {
         Path::new(self.path.as_str()).join(self.alloc, name)
     }
 }

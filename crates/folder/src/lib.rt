@@ -9,20 +9,26 @@
 //! [`each_kill_leaves_a_prefix`] of the files, whole, and the rest of a block that was cut off can be placed later
 //! ([`roll_forward`]).
 //!
+//! A [`FolderReader`] tells which files are there, and reads them.
+//!
 //! There are two folders: [`FileFolder`] is one of the file system, and is trusted to do what it notes in the list;
 //! [`MemoryFolder`] is for tests, and is proved.
 #![tactic(auto)]
 
 mod fault;
 mod file_folder;
+mod file_reader;
 mod folder;
 mod ghost_move;
 mod laws;
 mod memory_find;
 mod memory_folder;
 mod memory_move;
+mod memory_reader;
 mod notes;
 mod pruning_folder;
+mod read_fault;
+mod reader;
 mod roll;
 mod staged_file;
 
@@ -39,5 +45,7 @@ pub use laws::{
 pub use memory_folder::MemoryFolder;
 pub use memory_move::MemoryMove;
 pub use pruning_folder::PruningFolder;
+pub use read_fault::FolderReadFault;
+pub use reader::FolderReader;
 pub use roll::roll_forward;
 pub use staged_file::StagedFile;

@@ -18,6 +18,7 @@ pub struct MemoryFolder {
 
 impl MemoryFolder {
     ghost use Rattle.folder.specs.MemoryFolders.{moves_in_memory};
+    ghost use Rattle.folder.specs.MemoryMoves.{memory_moves};
 
     /// An empty folder, of which move `n` fails, counted from 1: none for 0.
     pub fn new(alloc: Global, n: u64) -> MemoryFolder
@@ -35,6 +36,13 @@ impl MemoryFolder {
         ensures { option_map (λ bytes. bytes.now) result ≡ standing no_files (moves_in_memory self.now) name.now }
     {
         find_in(&self.moves, name.as_bytes())
+    }
+
+    /// All that was done to it.
+    pub(crate) fn moves(&self) -> &[MemoryMove]
+        ensures { memory_moves result.now ≡ moves_in_memory self.now }
+    {
+        &self.moves
     }
 
     /// Whether the next move is the one to fail.
