@@ -26,7 +26,7 @@ one-more : (t : Bool) (gone name : List ℕ) (names : List (List ℕ)) → Conta
 one-more true gone name names has = has
 one-more false gone name names has = Contains-append_right (gone ∷ []) names name has
 
-is-among : (moves : List Move) (name : List ℕ) → WasPruned moves name → Contains (pruned_names moves) name
+pub is-among : (moves : List Move) (name : List ℕ) → WasPruned moves name → Contains (pruned_names moves) name
 is-among [] name was = absurd was
 is-among (Write n bytes ∷ moves) name was = is-among moves name was
 is-among (Rename old new ∷ moves) name was = is-among moves name was

@@ -1,24 +1,39 @@
 -- What becomes of renditions by an item.
 use Rattle.std.specs.Prelude.{◌==◌, eqb, not, ◌&&◌}
-use Rattle.std.proofs.Common.{arith, ◌≡◌, ℕ, ◌<◌, ◌≤◌, Bool, true, false, List, [], ◌∷◌, ◌++◌, length, refl, sym, ap, ◌∙◌, subst, inl, inr, append-nil}
+use Rattle.std.proofs.Common.{arith, ◌≡◌, ℕ, ◌+◌, ◌<◌, ◌≤◌, Bool, true, false, List, [], ◌∷◌, ◌++◌, length, refl, sym, ap, ◌∙◌, subst, inl, inr, append-nil, append_assoc}
 use Rattle.std.proofs.lemmas.Bool.Decides.{eqb_tells}
 use Rattle.folder.specs.Moves.{Move}
 use Rattle.item_io.specs.Items.{ItemValue, PlaylistValue, FramesItem, MasterItem, MediaItem, SegmentItem}
 use Rattle.retention.specs.declared.step.Step.{Step}
-use Rattle.keeping.specs.Keepings.{AreAsOf, AreNotedBy, AreStepsOf, AreTold, GoBehind, IfAny, IsNoted, IsStepOf, KeepingValue, LetsGo, NotedUnless, keeping_at, texts_of, with_text}
+use Rattle.retention.specs.Steps.{Kept}
+use Rattle.keeping.specs.Keepings.{AreAsOf, AreNotedBy, AreStepsOf, AreTold, GoBehind, IfAny, IsNoted, IsStepOf, IsTold, KeepingValue, LetsGo, NotedUnless, keeping_at, steps_before, texts_of, with_text}
 
 -- the same rendition, of which perhaps more are gone
 pub record IsSame (old new : KeepingValue) : Type 0 where
   pub name : new.name ≡ old.name
   pub base : new.base ≡ old.base
+  pub before : new.before ≡ old.before
+  pub older : new.older ≡ old.older
   pub more : old.gone ≤ new.gone
+  pub swept : old.swept ≤ new.swept
 
 pub record AreSame (old new : List KeepingValue) : Type 0 where
   pub len : length new ≡ length old
   pub each : (r : ℕ) → IsSame (keeping_at old r) (keeping_at new r)
 
+same-by : (k l : KeepingValue) (gone swept : ℕ) (kept : Kept) → k.gone ≤ gone → k.swept ≤ swept → l ≡ record k { gone = gone; swept = swept; kept = kept } → IsSame k l
+same-by k l gone swept kept more further is = record {
+  name = ap (λ (x : KeepingValue). x.name) is;
+  base = ap (λ (x : KeepingValue). x.base) is;
+  before = ap (λ (x : KeepingValue). x.before) is;
+  older = ap (λ (x : KeepingValue). x.older) is;
+  more = omega (arith, more, ap (λ (x : KeepingValue). x.gone) is);
+  swept = omega (arith, further, ap (λ (x : KeepingValue). x.swept) is);
+}
+
 same-one : (k l : KeepingValue) → l ≡ k → IsSame k l
-same-one k l is = record { name = ap (λ (x : KeepingValue). x.name) is; base = ap (λ (x : KeepingValue). x.base) is; more = omega (arith, ap (λ (x : KeepingValue). x.gone) is) }
+same-one k l is = same-by k l l.gone l.swept l.kept (omega (arith, ap (λ (x : KeepingValue). x.gone) is)) (omega (arith, ap (λ (x : KeepingValue). x.swept) is))
+    (is ∙ ap (λ (x : KeepingValue). record k { gone = x.gone; swept = x.swept; kept = x.kept }) (sym is))
 
 same-all : (old new : List KeepingValue) → new ≡ old → AreSame old new
 same-all old new is = record { len = ap length is; each = λ r. same-one (keeping_at old r) (keeping_at new r) (ap (λ (l : List KeepingValue). keeping_at l r) is) }
@@ -37,10 +52,10 @@ same-any r old new Is Same same (inl (within, did)) = same-of r old new Is same 
 same-any r old new Is Same same (inr (beyond, is, rest)) = same-all old new is
 
 noted-same : (text : List ℕ) (k l : KeepingValue) → IsNoted k l text → IsSame k l
-noted-same text k l noted = record { name = ap (λ (x : KeepingValue). x.name) noted.now; base = ap (λ (x : KeepingValue). x.base) noted.now; more = omega (arith, ap (λ (x : KeepingValue). x.gone) noted.now) }
+noted-same text k l noted = same-by k l k.gone k.swept (record k.kept { steps = k.kept.steps ++ noted.step ∷ [] }) (omega arith) (omega arith) noted.now
 
 gone-same : (made made_then : List Move) (k l : KeepingValue) → LetsGo k l made made_then → IsSame k l
-gone-same made made_then k l went = record { name = ap (λ (x : KeepingValue). x.name) went.now; base = ap (λ (x : KeepingValue). x.base) went.now; more = omega (arith, ap (λ (x : KeepingValue). x.gone) went.now) }
+gone-same made made_then k l went = same-by k l (k.gone + went.count) (k.swept + went.more) k.kept (omega arith) (omega arith) went.now
 
 unless-same : (ended : Bool) (p : PlaylistValue) (old new : List KeepingValue) → NotedUnless ended p old new → AreSame old new
 unless-same true p old new is = same-all old new is
@@ -81,11 +96,11 @@ texts_of-append r (MasterItem text ∷ items) more = texts_of-append r items mor
 
 -- an item that tells a rendition nothing
 untold : (r : ℕ) (items : List ItemValue) (item : ItemValue) (old new : KeepingValue) → texts_of r (item ∷ []) ≡ [] → new ≡ old →
-    AreStepsOf old.base (texts_of r items) old.kept.steps → AreStepsOf new.base (texts_of r (items ++ item ∷ [])) new.kept.steps
+    IsTold old (texts_of r items) → IsTold new (texts_of r (items ++ item ∷ []))
 untold r items item old new none is told =
-    subst (λ (texts : List (List ℕ)). AreStepsOf new.base texts new.kept.steps)
+    subst (λ (texts : List (List ℕ)). IsTold new texts)
     (sym (texts_of-append r items (item ∷ []) ∙ ap (λ (l : List (List ℕ)). texts_of r items ++ l) none ∙ append-nil (texts_of r items)))
-    (subst (λ (k : KeepingValue). AreStepsOf k.base (texts_of r items) k.kept.steps) (sym is) told)
+    (subst (λ (k : KeepingValue). IsTold k (texts_of r items)) (sym is) told)
 
 untold-all : (items : List ItemValue) (item : ItemValue) (old new : List KeepingValue) → ((r : ℕ) → r < length old → texts_of r (item ∷ []) ≡ []) → new ≡ old → AreTold old items → AreTold new (items ++ item ∷ [])
 untold-all items item old new none is told r within =
@@ -94,12 +109,15 @@ untold-all items item old new none is told r within =
 
 -- and one that tells it a playlist
 told-one : (r : ℕ) (items : List ItemValue) (item : ItemValue) (text : List ℕ) (old new : KeepingValue) → texts_of r (item ∷ []) ≡ text ∷ [] → IsNoted old new text →
-    AreStepsOf old.base (texts_of r items) old.kept.steps → AreStepsOf new.base (texts_of r (items ++ item ∷ [])) new.kept.steps
+    IsTold old (texts_of r items) → IsTold new (texts_of r (items ++ item ∷ []))
 told-one r items item text old new one noted told =
-    subst (λ (texts : List (List ℕ)). AreStepsOf new.base texts new.kept.steps)
+    subst (λ (texts : List (List ℕ)). IsTold new texts)
     (sym (texts_of-append r items (item ∷ []) ∙ ap (λ (l : List (List ℕ)). texts_of r items ++ l) one))
-    (subst (λ (k : KeepingValue). AreStepsOf k.base (texts_of r items ++ text ∷ []) k.kept.steps) (sym noted.now)
-    (AreStepsOf-more old.base (texts_of r items) old.kept.steps text noted.step told noted.is_step))
+    (subst (λ (k : KeepingValue). IsTold k (texts_of r items ++ text ∷ [])) (sym noted.now) (record {
+      told = told.told ++ noted.step ∷ [];
+      all = ap (λ (steps : List Step). steps ++ noted.step ∷ []) told.all ∙ append_assoc (steps_before old.before) told.told (noted.step ∷ []);
+      are = AreStepsOf-more old.base (texts_of r items) told.told text noted.step told.are noted.is_step;
+    }))
 
 text-here : (ended : Bool) (r o : ℕ) (text : List ℕ) → ended ≡ false → eqb r o ≡ true → with_text (not ended && (r == o)) text [] ≡ text ∷ []
 text-here ended r o text on here = ap (λ (t : Bool). with_text (not t && (r == o)) text []) on ∙ ap (λ (t : Bool). with_text t text []) here
@@ -141,8 +159,9 @@ told-by-any r items old new made made_then (inl (within, did)) told = λ o below
     elim (eqb_tells o r) [
       | inl (here, is) ↦
           let went : LetsGo (keeping_at old o) (keeping_at new o) made made_then = subst (λ (n : ℕ). LetsGo (keeping_at old n) (keeping_at new n) made made_then) (sym is) did.is in
-          subst (λ (k : KeepingValue). AreStepsOf k.base (texts_of o items) k.kept.steps) (sym went.now) (told o was)
-      | inr (apart, differs) ↦ subst (λ (k : KeepingValue). AreStepsOf k.base (texts_of o items) k.kept.steps) (sym (did.others o differs)) (told o was)
+          let was_told = told o was in
+          subst (λ (k : KeepingValue). IsTold k (texts_of o items)) (sym went.now) (record { told = was_told.told; all = was_told.all; are = was_told.are })
+      | inr (apart, differs) ↦ subst (λ (k : KeepingValue). IsTold k (texts_of o items)) (sym (did.others o differs)) (told o was)
     ]
 
 -- segments that go tell nothing

@@ -1,5 +1,5 @@
 -- Segments that are taken away from a folder once no player can want them (RFC 8216, 6.2.2).
-use Rattle.std.specs.Prelude.{◌≡◌, ◌≢◌, ◌⊎◌, ℕ, zero, suc, ◌+◌, ◌-◌, ◌<◌, ◌≤◌, ◌==◌, Bool, true, false, not, ◌&&◌, Some, List, [], ◌∷◌, ◌++◌, length, slice_get, slice_index_or}
+use Rattle.std.specs.Prelude.{◌≡◌, ◌≢◌, ◌⊎◌, ℕ, zero, suc, ◌+◌, ◌-◌, ◌<◌, ◌≤◌, ◌==◌, Bool, true, false, not, ◌&&◌, Some, List, [], ◌∷◌, ◌++◌, length, take, drop, map, filter, sum_by, nat_lt, slice_get, slice_index_or}
 use Rattle.std.specs.List.{Contains}
 use Rattle.playlist_text.specs.MediaLines.{Entry, Listing}
 use Rattle.folder.specs.Moves.{Files, Move, Remove}
@@ -15,12 +15,49 @@ use Rattle.media_reading.specs.MediaTexts.{IsListing, listing_text}
 use Rattle.retention.specs.declared.step.Step.{Step}
 use Rattle.retention.specs.Steps.{IsKeptFrom, Kept, MayGo}
 
--- a rendition whose segments are taken away: its name, the number of its first segment, how many were taken away, and its retention
+-- A rendition whose segments are taken away: its name, the number of its first segment, how many of them were taken away, and its
+-- retention; the microseconds of each segment that was listed when it began; the numbers of older segments, which an earlier run left
+-- behind, and how many of those were taken away.
 pub record KeepingValue : Type 0 where
   pub name : List ℕ
   pub base : ℕ
   pub gone : ℕ
   pub kept : Kept
+  pub before : List ℕ
+  pub older : List ℕ
+  pub swept : ℕ
+
+-- the steps of segments that were listed from the first one on when a rendition began
+abbrev pub steps_before : List ℕ → List Step
+steps_before micros = map (λ m. record { micros = m; first = 0 }) micros
+
+-- the numbers before this one
+abbrev pub below : ℕ → List ℕ → List ℕ
+below base numbers = filter (λ n. nat_lt n base) numbers
+
+-- a rendition of which no segment was listed yet
+abbrev pub new_keeping : List ℕ → ℕ → ℕ → KeepingValue
+new_keeping name base least = record {
+  name = name;
+  base = base;
+  gone = 0;
+  kept = record { least = least; steps = [] };
+  before = [];
+  older = [];
+  swept = 0;
+}
+
+-- one that goes on behind these rows, of which the first has number base
+abbrev pub resumed_keeping : List ℕ → ℕ → ℕ → List ℕ → List ℕ → KeepingValue
+resumed_keeping name base least earlier older = record {
+  name = name;
+  base = base;
+  gone = 0;
+  kept = record { least = least; steps = steps_before earlier };
+  before = earlier;
+  older = below base older;
+  swept = 0;
+}
 
 -- The step of a media playlist: how long its last segment lasts, and the place of its first one.
 pub record IsStepOf (base : ℕ) (text : List ℕ) (step : Step) : Type 0 where
@@ -43,15 +80,28 @@ abbrev pub removals : List ℕ → ℕ → ℕ → List Move
 removals name number zero = []
 removals name number (suc n) = Remove (segment_file_name name number) ∷ removals name (number + 1) n
 
--- Some of those that may go were taken away, from the first one on that wasn't before.
+-- the segments of these numbers are taken away
+abbrev pub removals_of : List ℕ → List ℕ → List Move
+removals_of name numbers = map (λ n. Remove (segment_file_name name n)) numbers
+
+-- Some of those that may go were taken away, from the first one on that wasn't before; and where one has gone, so were some older
+-- ones, each of which left the playlists earlier.
 pub record LetsGo (old new : KeepingValue) (made made_then : List Move) : Type 0 where
   pub count : ℕ
-  pub now : new ≡ record old { gone = old.gone + count }
+  pub more : ℕ
+  pub now : new ≡ record old { gone = old.gone + count; swept = old.swept + more }
   pub may_go : (n : ℕ) → n < old.gone + count → MayGo old.kept.least old.kept.steps n
-  pub made_are : made_then ≡ made ++ removals old.name (old.base + old.gone) count
+  pub some_went : 0 < more → 0 < old.gone + count
+  pub up_to : old.swept + more ≤ length old.older
+  pub few : more ≤ 64
+  pub made_are : made_then ≡ made ++ (removals old.name (old.base + old.gone) count ++ removals_of old.name (take more (drop old.swept old.older)))
+
+-- Once a segment has gone, all older ones were taken away, or 64 more.
+abbrev pub SweepsOn : KeepingValue → KeepingValue → Type 0
+SweepsOn old new = 0 < new.gone → (new.swept ≡ length new.older) ⊎ (new.swept ≡ old.swept + 64)
 
 abbrev pub no_keeping : KeepingValue
-no_keeping = record { name = []; base = 0; gone = 0; kept = record { least = 0; steps = [] } }
+no_keeping = new_keeping [] 0 0
 
 abbrev pub keeping_at : List KeepingValue → ℕ → KeepingValue
 keeping_at renditions r = slice_index_or renditions r no_keeping
@@ -92,6 +142,17 @@ AllWent (FramesItem p) renditions = p.rendition < length renditions →
     IsKeptFrom (keeping_at renditions p.rendition).kept.least (keeping_at renditions p.rendition).kept.steps (keeping_at renditions p.rendition).gone
 AllWent (MasterItem text) renditions = Unit {0}
 
+-- behind the last item of a block, older segments of its rendition were taken away as they may be
+abbrev pub SweptBehind : ItemValue → List KeepingValue → List KeepingValue → Type 0
+SweptBehind (SegmentItem s) old new = Unit {0}
+SweptBehind (MediaItem p) old new = Unit {0}
+SweptBehind (FramesItem p) old new = p.rendition < length new → SweepsOn (keeping_at old p.rendition) (keeping_at new p.rendition)
+SweptBehind (MasterItem text) old new = Unit {0}
+
+-- how many segments of some renditions were taken away
+abbrev pub removed_of : List KeepingValue → ℕ
+removed_of renditions = sum_by (λ k. k.gone + k.swept) renditions
+
 -- the texts of a rendition's media playlists, but for the last
 abbrev pub with_text : Bool → List ℕ → List (List ℕ) → List (List ℕ)
 with_text true text texts = text ∷ texts
@@ -111,18 +172,27 @@ AreStepsOf base (text ∷ texts) (step ∷ steps) = IsStepOf base text step × A
 AreStepsOf base [] (step ∷ steps) = ⊥
 AreStepsOf base (text ∷ texts) [] = ⊥
 
+-- its retention was told these playlists, behind what was listed when it began
+pub record IsTold (k : KeepingValue) (texts : List (List ℕ)) : Type 0 where
+  pub told : List Step
+  pub all : k.kept.steps ≡ steps_before k.before ++ told
+  pub are : AreStepsOf k.base texts told
+
 -- each retention was told the media playlists of its rendition among these items
 abbrev pub AreTold : List KeepingValue → List ItemValue → Type 0
-AreTold renditions items = (r : ℕ) → r < length renditions →
-    AreStepsOf (keeping_at renditions r).base (texts_of r items) (keeping_at renditions r).kept.steps
+AreTold renditions items = (r : ℕ) → r < length renditions → IsTold (keeping_at renditions r) (texts_of r items)
+
+-- this number is that of a segment that was taken away: of one that the rendition began with or was told, or of an older one
+abbrev pub WentOf : KeepingValue → ℕ → Type 0
+WentOf k number = ((n : ℕ) × (n < k.gone) × (number ≡ k.base + n)) ⊎ ((0 < k.gone) × Contains (take k.swept k.older) number)
 
 -- each of these names is that of a segment that was taken away
 pub record IsGone (renditions : List KeepingValue) (name : List ℕ) : Type 0 where
   pub r : ℕ
-  pub n : ℕ
+  pub number : ℕ
   pub one : r < length renditions
-  pub gone : n < (keeping_at renditions r).gone
-  pub named : name ≡ segment_file_name (keeping_at renditions r).name ((keeping_at renditions r).base + n)
+  pub gone : WentOf (keeping_at renditions r) number
+  pub named : name ≡ segment_file_name (keeping_at renditions r).name number
 
 abbrev pub AreGone : List (List ℕ) → List KeepingValue → Type 0
 AreGone names renditions = (name : List ℕ) → Contains names name → IsGone renditions name

@@ -1,2 +1,3 @@
 pub mod Keepings
+pub mod OneByOne
 pub mod State

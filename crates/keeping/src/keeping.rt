@@ -1,29 +1,44 @@
 //! Which segments of a rendition are taken away.
 ghost use Rattle.std.specs.Prelude.{◌≡◌, ◌+◌, ◌<◌, ◌≤◌, ◌^◌, ◌++◌, ◌∷◌, [], IfOk, OnErr, OnOk};
 ghost use Rattle.std.specs.String.{string_bytes};
-ghost use Rattle.folder.specs.Moves.{Remove};
 ghost use Rattle.folder.specs.Pruning.{other_moves};
-ghost use Rattle.item_io.specs.FileNames.{segment_file_name};
 ghost use Rattle.retention.specs.Steps.{IsKeptFrom};
-ghost use Rattle.keeping.specs.Keepings.{IsNoted, IsStepOf, LetsGo};
+ghost use Rattle.keeping.specs.Keepings.{IsNoted, IsStepOf, LetsGo, SweepsOn, below, new_keeping, resumed_keeping, steps_before};
 
+use crate::removing::{take_places, take_some};
 use folder::{Folder, PruningFolder};
-use item_io::{FolderOutlet, OutletFault, push_segment_file_name};
+use ghost_list::GhostList;
+use item_io::{FolderOutlet, OutletFault};
 use media_reading::read_media;
 use retention::{Retention, Step};
-use std::alloc::Global;
+use std::alloc::{AllocError, Global};
 use std::marker::Model;
+
+/// What a rendition goes on behind: the number of the first segment that was listed when the run began, how many microseconds
+/// each segment is kept beyond its own duration at least, how many each of those listed lasts, and the numbers of older
+/// segments whose files are there still.
+#[derive(Drop)]
+pub struct Behind<'a> {
+    pub base: u64,
+    pub least: u64,
+    pub earlier: &'a [u64],
+    pub older: Vec<u64>,
+}
 
 /// A rendition whose segments are taken away once they may go.
 ///
 /// Contracts see it as its name, the number of its first segment, how many of its segments were taken away, from the first
-/// one on, and the steps of its retention: one for each media playlist that it was told.
+/// one on, and the steps of its retention: one for each segment that was listed when it began, and for each media playlist
+/// that it was told. Besides, they see the numbers of older segments, and how many of those were taken away.
 #[derive(Drop)]
 pub struct Keeping {
     name: String,
     base: u64,
     gone: u64,
     kept: Retention,
+    before: GhostList<u64>,
+    older: Vec<u64>,
+    swept: usize,
 }
 
 impl Model for Keeping {
@@ -41,14 +56,45 @@ impl Keeping {
     /// A rendition of this name of which no segment was listed yet: its first one will have number `base`. Each segment is
     /// kept at least `least` microseconds beyond its own duration, even if every playlist is shorter.
     pub fn new(alloc: Global, name: String, base: u64, least: u64) -> Keeping
-        ensures { result ≡ record { name = string_bytes name; base = base; gone = 0; kept = record { least = least; steps = [] } } }
+        ensures { result ≡ new_keeping (string_bytes name) base least }
     {
         Keeping {
             name,
             base,
             gone: 0,
             kept: Retention::new(alloc, least),
+            before: GhostList::new(),
+            older: Vec::new(alloc),
+            swept: 0,
         }
+    }
+
+    /// A rendition that goes on behind an earlier run. Once the first segment that was listed when it began may go, so may the
+    /// older ones: those whose numbers are below `base`; others are passed over.
+    pub fn behind(alloc: Global, name: String, behind: Behind<'_>) -> Result<Keeping, AllocError>
+        ensures { IfOk result (λ new. new ≡
+            resumed_keeping (string_bytes name) behind.entry.base behind.entry.least behind.entry.earlier.now behind.entry.older.items) }
+    {
+        let older = numbers_below(alloc, behind.base, &behind.older)?;
+        let mut before = GhostList::new();
+        before.append(behind.earlier);
+        Ok(Keeping {
+            name,
+            base: behind.base,
+            gone: 0,
+            kept: listed_so_far(alloc, behind.least, behind.earlier)?,
+            before,
+            older,
+            swept: 0,
+        })
+    }
+
+    /// How many of its segments were taken away, older ones with them.
+    pub fn removed(&self) -> u128
+        ensures is { result ≡ self.now.gone + self.now.swept }
+        ensures small { result < 2 ^ 64 + 2 ^ 64 }
+    {
+        u128::from(self.gone) + self.swept as u128
     }
 
     /// Is told the text of the media playlist behind the next segment. One that isn't a media playlist, or doesn't go on from
@@ -67,7 +113,8 @@ impl Keeping {
     }
 
     /// Takes those segments away that may go and weren't taken away before, in the order of their numbers: all of them, or
-    /// those before one that can't be removed.
+    /// those before one that can't be removed. Once one has gone it takes older ones away, in the order in which they were
+    /// given, but no more than 64 at a time.
     pub fn let_go<F: Folder>(
         &mut self,
         alloc: Global,
@@ -75,19 +122,45 @@ impl Keeping {
     ) -> Result<(), OutletFault>
         ensures gone { LetsGo self.old self.new (F.made files.old.folder) (F.made files.new.folder) }
         ensures all { OnOk result (IsKeptFrom self.new.kept.least self.new.kept.steps self.new.gone) }
+        ensures older { OnOk result (SweepsOn self.old self.new) }
         ensures others { other_moves (F.made files.new.folder) ≡ other_moves (F.made files.old.folder) }
         ensures same { files.new ≡ record files.old { folder = files.new.folder } }
     {
         let until = self.kept.kept_from();
-        while self.gone < until {
-            let Some(number) = self.base.checked_add(self.gone) else {
-                return Err(OutletFault);
-            };
-            take_away(files, alloc, &self.name, number)?;
-            self.gone += 1;
+        take_places(files, alloc, &self.name, self.base, &mut self.gone, until)?;
+        let some_went = self.gone > 0;
+        if some_went {
+            take_some(files, alloc, &self.name, &self.older, &mut self.swept)?;
         }
         Ok(())
     }
+}
+
+/// Those of some numbers that are below another one.
+fn numbers_below(alloc: Global, base: u64, numbers: &[u64]) -> Result<Vec<u64>, AllocError>
+    ensures { IfOk result (λ some. some.items ≡ below base numbers.now) }
+{
+    let mut some = Vec::new(alloc);
+    for number in numbers {
+        if *number < base {
+            some.push(*number)?;
+        }
+    }
+    Ok(some)
+}
+
+/// The retention of segments that are all listed, of so many microseconds each. More than 2^52 are refused, as want of memory.
+fn listed_so_far(alloc: Global, least: u64, micros: &[u64]) -> Result<Retention, AllocError>
+    ensures { IfOk result (λ kept. kept ≡ record { least = least; steps = steps_before micros.now }) }
+{
+    let mut kept = Retention::new(alloc, least);
+    if micros.len() as u64 > 1 << 52 {
+        return Err(AllocError);
+    }
+    for each in micros {
+        kept.push(*each, 0)?;
+    }
+    Ok(kept)
 }
 
 /// The step of a media playlist.
@@ -107,21 +180,4 @@ fn step_of(alloc: Global, base: u64, text: &str) -> Result<Step, OutletFault>
         micros: last.micros,
         first,
     })
-}
-
-/// Takes a segment away.
-fn take_away<F: Folder>(
-    files: &mut FolderOutlet<PruningFolder<F>>,
-    alloc: Global,
-    name: &str,
-    number: u64,
-) -> Result<(), OutletFault>
-    ensures made { OnOk result (F.made files.new.folder ≡ F.made files.old.folder ++ Remove (segment_file_name name.now number) ∷ []) }
-    ensures kept { OnErr result (F.made files.new.folder ≡ F.made files.old.folder) }
-    ensures others { other_moves (F.made files.new.folder) ≡ other_moves (F.made files.old.folder) }
-    ensures same { files.new ≡ record files.old { folder = files.new.folder } }
-{
-    let mut file = String::new(alloc);
-    push_segment_file_name(&mut file, name, number)?;
-    files.prune(&file)
 }

@@ -7,7 +7,8 @@
 mod keeping;
 mod laws;
 mod outlet;
+mod removing;
 
-pub use keeping::Keeping;
+pub use keeping::{Behind, Keeping};
 pub use laws::given_items_are_left_but_what_went;
 pub use outlet::KeepingOutlet;

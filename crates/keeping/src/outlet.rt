@@ -3,7 +3,7 @@ ghost use Rattle.folder.specs.Pruning.{other_moves};
 ghost use Rattle.item_io.specs.Items.{item_value};
 ghost use Rattle.item_io.specs.Outlets.{BreaksOff, Grows};
 ghost use Rattle.item_io.specs.Views.{outlet_view};
-ghost use Rattle.keeping.specs.Keepings.{AllWent, AreNotedBy, GoBehind, KeptBy, KeptUpTo};
+ghost use Rattle.keeping.specs.Keepings.{AllWent, AreNotedBy, GoBehind, KeptBy, KeptUpTo, SweptBehind, removed_of};
 
 use crate::keeping::Keeping;
 use folder::{Folder, PruningFolder};
@@ -56,6 +56,13 @@ impl<F: Folder> KeepingOutlet<F> {
         self.lags
     }
 
+    /// How many segments were taken away, of all renditions.
+    pub fn removed(&self) -> u128
+        ensures { result ≡ removed_of self.now.renditions }
+    {
+        removed_by(&self.renditions)
+    }
+
     /// The outlet of files.
     pub fn into_files(self) -> FolderOutlet<PruningFolder<F>>
         ensures { result ≡ self.files }
@@ -79,6 +86,9 @@ impl<F: Folder> Outlet for KeepingOutlet<F> {
 
         // All that might go went behind the last item of a block, unless one couldn't be removed.
         ensures went { OnOk result (self.new.lags ≡ false → AllWent (item_value item.now) self.new.renditions) }
+
+        // So did older ones, or 64 more of them.
+        ensures older { OnOk result (self.new.lags ≡ false → SweptBehind (item_value item.now) self.old.renditions self.new.renditions) }
     {
         if note(&mut self.renditions, self.alloc, item).is_err() {
             return Err(self.files.refuse());
@@ -89,6 +99,17 @@ impl<F: Folder> Outlet for KeepingOutlet<F> {
         self.lags = let_go(&mut self.renditions, self.alloc, &mut self.files, item).is_err();
         Ok(())
     }
+}
+
+/// How many segments of some renditions were taken away.
+fn removed_by(renditions: &[Keeping]) -> u128
+    ensures { result ≡ removed_of renditions.now }
+{
+    let mut all = 0;
+    for keeping in renditions {
+        all += keeping.removed();
+    }
+    all
 }
 
 /// Notes an item for its rendition, if it is a media playlist with a new segment.
@@ -120,6 +141,7 @@ fn let_go<F: Folder>(
 ) -> Result<(), OutletFault>
     ensures gone { GoBehind (item_value item.now) renditions.old.items renditions.new.items (F.made files.old.folder) (F.made files.new.folder) }
     ensures went { OnOk result (AllWent (item_value item.now) renditions.new.items) }
+    ensures older { OnOk result (SweptBehind (item_value item.now) renditions.old.items renditions.new.items) }
     ensures others { other_moves (F.made files.new.folder) ≡ other_moves (F.made files.old.folder) }
     ensures same { files.new ≡ record files.old { folder = files.new.folder } }
 {

@@ -1,6 +1,5 @@
 //! Which segments stand behind which block.
-use crate::stream::{Files, Put, outlet, push_block, push_lists, put_all, standing};
-use folder::MemoryFolder;
+use crate::stream::{Put, folder_of, outlet, push_block, push_lists, put_all, standing};
 use item_io::Item;
 use std::alloc::{AllocError, Global};
 use std::test::Fail;
@@ -18,11 +17,6 @@ const EVENT: Put<'static> = Put {
     window: 100,
     kind: "#EXT-X-PLAYLIST-TYPE:EVENT\n",
 };
-
-/// The folder of an outlet.
-fn folder_of(files: Files) -> MemoryFolder {
-    files.into_files().into_folder().into_folder()
-}
 
 /// So many blocks from number `base` on.
 fn blocks(alloc: Global, put: Put<'_>, base: u64, count: u64) -> Result<Vec<Item>, AllocError> {

@@ -4,4 +4,8 @@
 #[cfg(test)]
 mod going;
 #[cfg(test)]
+mod lasting;
+#[cfg(test)]
+mod resumed;
+#[cfg(test)]
 mod stream;

@@ -22,6 +22,11 @@ pub fn outlet(alloc: Global, names: &[&str], base: u64, fails: u64) -> Result<Fi
     Ok(KeepingOutlet::new(FolderOutlet::with_folder(folder, alloc), alloc, renditions))
 }
 
+/// The folder of an outlet.
+pub fn folder_of(files: Files) -> MemoryFolder {
+    files.into_files().into_folder().into_folder()
+}
+
 /// A media playlist that lists the segments from `first` to `last`.
 fn text(
     alloc: Global,

@@ -1,31 +1,40 @@
-use Rattle.std.proofs.Common.{rules, ◌≡◌, ◌+◌, ◌<◌, [], ◌∷◌, ◌++◌, ◌∙◌, refl, ap, subst}
-use Rattle.std.specs.String.{string_bytes}
-use Rattle.folder.specs.Moves.{Remove}
-use Rattle.item_io.specs.FileNames.{segment_file_name}
-use Rattle.keeping.specs.declared.keeping.Keeping.TheInside.{Inside}
-use Rattle.keeping.proofs.Removing.{none-went, one-went, same-but, within-kept}
+use Rattle.std.proofs.Common.{rules, ◌<◌, refl, inl, inr, subst, sym}
+use Rattle.keeping.specs.State.{keeping_value}
+use Rattle.keeping.specs.OneByOne.{HaveGone, Swept}
+use Rattle.keeping.proofs.OneByOne.{lets-go, none-swept}
 use Rattle.keeping.proofs.keeping.Keeping.let_go.Goals as goal
 
-pub loop-self-init : goal.loop-self-init
-loop-self-init g c =
-    let kept = c.self.inside.kept in
-    let within = within-kept kept.least kept.steps c.self.inside.gone c.kept_from-until.result c.self.invariant.may_go c.kept_from-until.ensures.kept in
-    (none-went (string_bytes c.self.inside.name) c.self.inside.base c.self.inside.gone c.kept_from-until.result (g.F.Folder.made c.args.files.now.folder) within, refl, refl, refl)
+pub returns-in_err-take_places-clause-gone : goal.returns-in_err-take_places-clause-gone
+returns-in_err-take_places-clause-gone g c = rw (sym c.self.view_is)
+    (let k = keeping_value c.self.inside in
+    let made = g.F.Folder.made c.args.files.now.folder in
+    let then = g.F.Folder.made c.take_places.new.files.folder in
+    lets-go k c.take_places.new.gone k.swept c.kept_from-until.result made then then
+    (subst (λ text. HaveGone text k.base k.gone c.take_places.new.gone c.kept_from-until.result made then) c.deref.ensures c.take_places.ensures.went)
+    (none-swept k.name k.older k.swept then c.self.invariant.swept) c.kept_from-until.ensures.gone (inl refl))
 
-pub loop-self-preserved : goal.loop-self-preserved
-loop-self-preserved g c =
-    let inv = c.loop-self.invariant in
-    let gone = c.loop-self.self-inside.gone in
-    let name = string_bytes c.loop-self.self-inside.name in
-    let files = c.take_away.new.files in
-    let base_is : c.loop-self.self-inside.base ≡ c.self.inside.base = ap (λ k. k.base) inv.1 in
-    let below : gone < c.kept_from-until.result = search rules in
-    let number : c.in-Some.number ≡ c.self.inside.base + gone = search rules in
-    let made : g.F.Folder.made files.folder ≡ g.F.Folder.made c.loop-self.files.folder ++ Remove (segment_file_name name (c.self.inside.base + gone)) ∷ [] =
-    subst (λ n. g.F.Folder.made files.folder ≡ g.F.Folder.made c.loop-self.files.folder ++ Remove (segment_file_name name n) ∷ []) number
-    (subst (λ text. g.F.Folder.made files.folder ≡ g.F.Folder.made c.loop-self.files.folder ++ Remove (segment_file_name text c.in-Some.number) ∷ []) c.deref.ensures c.in_ok-take_away.ensures.made) in (
-      one-went name c.self.inside.base c.self.inside.gone gone c.kept_from-until.result (g.F.Folder.made c.args.files.now.folder) (g.F.Folder.made c.loop-self.files.folder) (g.F.Folder.made files.folder) inv.0 below made,
-      ap (λ (k : Inside). record k { gone = gone + 1 }) inv.1,
-      c.in_ok-take_away.ensures.others ∙ inv.2,
-      same-but c.args.files.now c.loop-self.files files inv.3 c.in_ok-take_away.ensures.same,
-    )
+pub returns-in_err-take_some-clause-gone : goal.returns-in_err-take_some-clause-gone
+returns-in_err-take_some-clause-gone g c = rw (sym c.self.view_is)
+    (let k = keeping_value c.self.inside in
+    let made = g.F.Folder.made c.args.files.now.folder in
+    let mid = g.F.Folder.made c.take_places.new.files.folder in
+    let then = g.F.Folder.made c.take_some.new.files.folder in
+    let some : 0 < c.take_places.new.gone = search rules in
+    lets-go k c.take_places.new.gone c.take_some.new.swept c.kept_from-until.result made mid then
+    (subst (λ text. HaveGone text k.base k.gone c.take_places.new.gone c.kept_from-until.result made mid) c.deref.ensures c.take_places.ensures.went)
+    (subst (λ numbers. Swept k.name numbers k.swept c.take_some.new.swept mid then) c.deref-then-some_went-2.ensures.value
+    (subst (λ text. Swept text c.deref-then-some_went-2.result.now k.swept c.take_some.new.swept mid then) c.deref-then-some_went.ensures c.take_some.ensures.went))
+    c.kept_from-until.ensures.gone (inr some))
+
+pub returns-in_ok-take_some-clause-gone : goal.returns-in_ok-take_some-clause-gone
+returns-in_ok-take_some-clause-gone g c = rw (sym c.self.view_is)
+    (let k = keeping_value c.self.inside in
+    let made = g.F.Folder.made c.args.files.now.folder in
+    let mid = g.F.Folder.made c.take_places.new.files.folder in
+    let then = g.F.Folder.made c.take_some.new.files.folder in
+    let some : 0 < c.take_places.new.gone = search rules in
+    lets-go k c.take_places.new.gone c.take_some.new.swept c.kept_from-until.result made mid then
+    (subst (λ text. HaveGone text k.base k.gone c.take_places.new.gone c.kept_from-until.result made mid) c.deref.ensures c.take_places.ensures.went)
+    (subst (λ numbers. Swept k.name numbers k.swept c.take_some.new.swept mid then) c.deref-then-some_went-2.ensures.value
+    (subst (λ text. Swept text c.deref-then-some_went-2.result.now k.swept c.take_some.new.swept mid then) c.deref-then-some_went.ensures c.take_some.ensures.went))
+    c.kept_from-until.ensures.gone (inr some))

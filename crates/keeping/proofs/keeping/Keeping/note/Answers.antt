@@ -12,8 +12,9 @@ invariant_of-self-2 c =
     let listed : step.first ≤ length kept.steps = search rules in
     let low : c.first_listed.result ≤ step.first = search rules in
     let rises : (i : ℕ) → i < length kept.steps → first_of kept.steps i ≤ step.first = λ i within. omega (arith, c.first_listed.ensures.rises i within, low) in
-    subst (λ k. IsTied (record { name = c.self.inside.name; base = c.self.inside.base; gone = c.self.inside.gone; kept = k })) (sym is)
+    subst (λ k. IsTied (record { name = c.self.inside.name; base = c.self.inside.base; gone = c.self.inside.gone; kept = k; before = c.self.inside.before; older = c.self.inside.older; swept = c.self.inside.swept })) (sym is)
     (record {
       are = AreSteps-more kept.steps step c.self.invariant.are listed rises;
       may_go = λ n lower. MayGo-append kept.least kept.steps (step ∷ []) n c.self.invariant.are (c.self.invariant.may_go n lower);
+      swept = c.self.invariant.swept;
     })
