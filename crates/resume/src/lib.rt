@@ -16,4 +16,4 @@ pub use even::{UnevenFault, common_breaks};
 pub use fault::ResumeFault;
 pub use laws::{a_restored_rendition_goes_on, restored_playlists_go_on};
 pub use restored::{Restored, Wanted};
-pub use restoring::restore;
+pub use restoring::{look, restore};

@@ -51,7 +51,7 @@ pub fn restore(
 }
 
 /// Whether a run goes on from a playlist.
-fn look(wanted: Wanted, listing: &Listing) -> Result<(), ResumeFault>
+pub fn look(wanted: Wanted, listing: &Listing) -> Result<(), ResumeFault>
     ensures ok { OnOk result (IsAsWanted wanted listing.now) }
     ensures err { IfErr result (IsRefused wanted listing.now) }
 {

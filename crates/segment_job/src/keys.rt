@@ -105,6 +105,20 @@ impl Keys {
         Keys { first, ..self }
     }
 
+    /// The run's first segment gets this number: as [`Keys::behind`].
+    pub fn begin_at(&mut self, first: u64)
+        ensures { self.new ≡ record self.old { first = first } }
+    {
+        self.first = first;
+    }
+
+    /// The keys, in the order in which they take turns.
+    pub fn all(&self) -> &[[u8; 16]]
+        ensures { result.now ≡ self.now.keys }
+    {
+        &self.keys
+    }
+
     /// The number of segment `n` of the run, which players see: it goes on from run to run.
     pub fn number(&self, n: u64) -> u128
         ensures { result ≡ number_of self.now n }
