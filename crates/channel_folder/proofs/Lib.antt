@@ -1,0 +1,5 @@
+pub mod Telling
+pub mod Listing
+pub mod Removing
+pub mod Sizes
+pub mod OneMore

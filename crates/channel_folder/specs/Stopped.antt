@@ -1,0 +1,129 @@
+-- Why a channel doesn't go on.
+use Rattle.std.specs.Prelude.{◌≡◌, ◌≢◌, ◌⊎◌, ⊤, ℕ, ◌<◌, ◌≤◌, Option, Some, None, List, Contains, length, map, slice_get}
+use Rattle.std.specs.Str.{IsUtf8}
+use Rattle.item_io.specs.FileNames.{segment_file_name}
+use Rattle.playlist_text.specs.MediaLines.{Entry, Listing}
+use Rattle.media_reading.specs.MediaTexts.{IsListing, listing_text}
+use Rattle.ladder_items.specs.declared.settings.Kind.{Kind}
+use Rattle.resume.specs.declared.restored.Wanted.{Wanted}
+use Rattle.resume.specs.declared.fault.ResumeFault.{ResumeFault}
+use Rattle.resume.specs.declared.fault.ResumeFault.TheVariants as Of
+use Rattle.resume.specs.Restoring.{RestoredValue, IsRestored}
+use Rattle.resume.specs.Wanting.{IsRefused, IsAsWanted}
+use Rattle.resume.specs.Evening.{IsUneven}
+use Rattle.channel_folder.specs.declared.asked.Asked.{Asked}
+use Rattle.channel_folder.specs.declared.fault.WhyNot.{WhyNot}
+use Rattle.channel_folder.specs.declared.fault.WhyNot.TheVariants.{Foreign, Ended, OtherTarget, OtherSalt, OtherKind, Uneven, Lost, Ahead, Limit}
+use Rattle.channel_folder.specs.declared.fault.ReopenFault.{ReopenFault}
+use Rattle.channel_folder.specs.declared.fault.ReopenFault.TheVariants as Reopen
+use Rattle.channel_folder.specs.declared.fault.Stop.{Stop}
+use Rattle.channel_folder.specs.declared.fault.Stop.TheVariants as Stopping
+use Rattle.channel_folder.specs.Files.{media_file, frames_file}
+use Rattle.channel_folder.specs.Scans.{ScanValue, numbers_at}
+use Rattle.channel_folder.specs.Reopened.{HasSize, AreSizes, IsListed, IsReopened, HasNone, IsOf, next_of, AllStand}
+
+-- the run doesn't go on from the media playlist
+pub record IsRefusedAt (Gives : List ℕ → List ℕ → Type 0) (name : List ℕ) (wanted : Wanted) (fault : ResumeFault) : Type 0 where
+  pub listing : Listing
+  pub listed : IsListed Gives name listing
+  pub refused : IsRefused wanted listing fault
+
+-- the file of a listed segment of this number isn't there
+pub record IsLostOf (Lacks : List ℕ → Type 0) (name : List ℕ) (entries : List Entry) (n : ℕ) : Type 0 where
+  pub listed : Contains (map (λ (e : Entry). e.number) entries) n
+  pub lacks : Lacks (segment_file_name name n)
+
+-- it is one that the media playlist lists
+pub record IsLost (Gives : List ℕ → List ℕ → Type 0) (Lacks : List ℕ → Type 0) (name : List ℕ) (wanted : Wanted) (n : ℕ) : Type 0 where
+  pub listing : Listing
+  pub listed : IsListed Gives name listing
+  pub goes_on : IsAsWanted wanted listing
+  pub lost : IsLostOf Lacks name listing.entries n
+
+-- both playlists and all files are there, and they aren't those of one rendition of this name
+pub record AreApart (Gives : List ℕ → List ℕ → Type 0) (name : List ℕ) (wanted : Wanted) : Type 0 where
+  pub listing : Listing
+  pub listed : IsListed Gives name listing
+  pub frames : List ℕ
+  pub frames_are : Gives (frames_file name) frames
+  pub sizes : List ℕ
+  pub sizes_are : AreSizes Gives name listing.entries sizes
+  pub none : (r : RestoredValue) → ¬ IsRestored name wanted listing frames sizes r
+
+-- the text of a file that is there is none of a media playlist
+pub record IsNoPlaylist (Gives : List ℕ → List ℕ → Type 0) (name : List ℕ) : Type 0 where
+  pub text : List ℕ
+  pub gives : Gives (media_file name) text
+  pub none : (l : Listing) → IsListing l → text ≢ listing_text l
+
+-- a file that is there isn't UTF-8
+pub record IsNoText (Gives : List ℕ → List ℕ → Type 0) (file : List ℕ) : Type 0 where
+  pub bytes : List ℕ
+  pub gives : Gives file bytes
+  pub none : ¬ IsUtf8 bytes
+
+-- one file is there and another isn't
+pub record IsHalf (Gives : List ℕ → List ℕ → Type 0) (Lacks : List ℕ → Type 0) (one other : List ℕ) : Type 0 where
+  pub bytes : List ℕ
+  pub gives : Gives one bytes
+  pub lacks : Lacks other
+
+-- The files aren't those of a rendition of this name: one of its playlists is there and the other isn't, or one is no text, or
+-- there is no playlist of which the one is the text, or all of them don't fit together.
+abbrev pub IsForeign : (List ℕ → List ℕ → Type 0) → (List ℕ → Type 0) → List ℕ → Wanted → Type 0
+IsForeign Gives Lacks name wanted =
+    IsHalf Gives Lacks (media_file name) (frames_file name) ⊎ IsHalf Gives Lacks (frames_file name) (media_file name)
+    ⊎ IsNoText Gives (media_file name) ⊎ IsNoText Gives (frames_file name)
+    ⊎ IsNoPlaylist Gives name ⊎ AreApart Gives name wanted
+
+-- a segment's file is there that isn't listed, and comes next or later
+pub record IsAhead (Gives : List ℕ → List ℕ → Type 0) (Lacks : List ℕ → Type 0) (numbers : List ℕ) (asked : Asked) (n : ℕ) : Type 0 where
+  pub one : Option RestoredValue
+  pub is : IsOf Gives Lacks asked.name.now asked.wanted one
+  pub there : Contains numbers n
+  pub past : next_of one ≤ n
+
+-- that is the reason
+abbrev pub IsAheadBy : (List ℕ → List ℕ → Type 0) → (List ℕ → Type 0) → List ℕ → Asked → WhyNot → Type 0
+IsAheadBy Gives Lacks numbers a (Ahead n) = IsAhead Gives Lacks numbers a n
+IsAheadBy Gives Lacks numbers a why = ⊥
+
+-- why a rendition doesn't go on, whatever numbers are there
+abbrev pub IsWhyFrom : (List ℕ → List ℕ → Type 0) → (List ℕ → Type 0) → List ℕ → Wanted → WhyNot → Type 0
+IsWhyFrom Gives Lacks name wanted Foreign = IsForeign Gives Lacks name wanted
+IsWhyFrom Gives Lacks name wanted Ended = IsRefusedAt Gives name wanted Of.Ended
+IsWhyFrom Gives Lacks name wanted OtherTarget = IsRefusedAt Gives name wanted Of.OtherTarget
+IsWhyFrom Gives Lacks name wanted OtherSalt = IsRefusedAt Gives name wanted Of.OtherSalt
+IsWhyFrom Gives Lacks name wanted OtherKind = IsRefusedAt Gives name wanted Of.OtherKind
+IsWhyFrom Gives Lacks name wanted Uneven = ⊥
+IsWhyFrom Gives Lacks name wanted (Lost n) = IsLost Gives Lacks name wanted n
+IsWhyFrom Gives Lacks name wanted (Ahead n) = ⊥
+IsWhyFrom Gives Lacks name wanted Limit = IsRefusedAt Gives name wanted Of.Limit
+
+-- why one rendition doesn't go on
+abbrev pub IsWhy : (List ℕ → List ℕ → Type 0) → (List ℕ → Type 0) → List ℕ → Asked → WhyNot → Type 0
+IsWhy Gives Lacks numbers a why = IsWhyFrom Gives Lacks a.name.now a.wanted why ⊎ IsAheadBy Gives Lacks numbers a why
+
+-- why one isn't reopened
+abbrev pub IsStopFrom : Type 0 → (List ℕ → List ℕ → Type 0) → (List ℕ → Type 0) → Asked → Stop → Type 0
+IsStopFrom Refuses Gives Lacks a Stopping.Unread = Refuses
+IsStopFrom Refuses Gives Lacks a Stopping.NoMemory = ⊤
+IsStopFrom Refuses Gives Lacks a (Stopping.Why why) = IsWhyFrom Gives Lacks a.name.now a.wanted why
+
+abbrev pub IsStop : Type 0 → (List ℕ → List ℕ → Type 0) → (List ℕ → Type 0) → List ℕ → Asked → Stop → Type 0
+IsStop Refuses Gives Lacks numbers a Stopping.Unread = Refuses
+IsStop Refuses Gives Lacks numbers a Stopping.NoMemory = ⊤
+IsStop Refuses Gives Lacks numbers a (Stopping.Why why) = IsWhy Gives Lacks numbers a why
+
+-- .. where the text is none of a media playlist
+abbrev pub IsListStop : List ℕ → Stop → Type 0
+IsListStop text Stopping.Unread = ⊥
+IsListStop text Stopping.NoMemory = ⊤
+IsListStop text (Stopping.Why why) = (why ≡ Foreign) × ((l : Listing) → IsListing l → text ≢ listing_text l)
+
+-- .. where the files of these segments aren't there
+abbrev pub IsSizeStop : Type 0 → (List ℕ → List ℕ → Type 0) → (List ℕ → Type 0) → List ℕ → List Entry → Stop → Type 0
+IsSizeStop Refuses Gives Lacks name entries Stopping.Unread = Refuses
+IsSizeStop Refuses Gives Lacks name entries Stopping.NoMemory = ⊤
+IsSizeStop Refuses Gives Lacks name entries (Stopping.Why (Lost n)) = IsLostOf Lacks name entries n
+IsSizeStop Refuses Gives Lacks name entries (Stopping.Why why) = ⊥

@@ -1,0 +1,114 @@
+//! Why a channel doesn't go on.
+ghost use Rattle.std.specs.Prelude.{◌≡◌};
+
+use folder::FolderReadFault;
+use std::alloc::{AllocError, AllocFailed};
+use thiserror::Error;
+
+/// Why a rendition doesn't go on.
+#[derive(Clone, Copy, Debug, PartialEq, Eq, Error)]
+pub enum WhyNot {
+    /// Its playlists and files aren't those of one rendition of this name.
+    #[error("the playlists aren't those of one rendition of this name")]
+    Foreign,
+    /// The playlists have ended: nothing may be added to them (RFC 8216, 6.2.1).
+    #[error("the playlist has ended")]
+    Ended,
+    /// The media playlist has another target duration, which may not change (RFC 8216, 6.2.1).
+    #[error("the playlist has another target duration")]
+    OtherTarget,
+    /// The media playlist's vectors are under another salt, or under none where there is one.
+    #[error("the playlist has another salt")]
+    OtherSalt,
+    /// The media playlist is one of an event and the run isn't, or the other way.
+    #[error("the playlist is one of another kind")]
+    OtherKind,
+    /// It had another number of discontinuities than one before it.
+    #[error("the rendition had another number of discontinuities")]
+    Uneven,
+    /// The file of this segment isn't there, which is listed.
+    #[error("segment {0} is listed, and its file isn't there")]
+    Lost(u64),
+    /// The file of this segment is there, which isn't listed and comes next or later.
+    #[error("segment {0} isn't listed, and its file is there")]
+    Ahead(u64),
+    /// The next segment's number or that of its discontinuity is past the last, or more segments are listed than a run goes on
+    /// behind.
+    #[error("the playlist has come to the last number")]
+    Limit,
+}
+
+/// Why a channel doesn't go on.
+#[derive(Clone, Copy, Debug, PartialEq, Eq, Error)]
+pub enum ReopenFault {
+    /// The folder can't be read.
+    #[error("a folder can't be read")]
+    Unread,
+    /// There was no memory for what was read.
+    #[error("out of memory")]
+    NoMemory,
+    /// A rendition, counted from 0, doesn't go on.
+    #[error("rendition {0}: {1}")]
+    Of(usize, WhyNot),
+}
+
+impl From<AllocError> for ReopenFault {
+    ghost use Rattle.channel_folder.specs.declared.fault.ReopenFault.TheVariants.{NoMemory};
+
+    ghost from_gives = { λ _ fault. fault ≡ NoMemory };
+
+    fn from(_: AllocError) -> ReopenFault {
+        ReopenFault::NoMemory
+    }
+}
+
+impl<T: Drop> From<AllocFailed<T>> for ReopenFault {
+    ghost use Rattle.channel_folder.specs.declared.fault.ReopenFault.TheVariants.{NoMemory};
+
+    ghost from_gives = { λ _ fault. fault ≡ NoMemory };
+
+    fn from(_: AllocFailed<T>) -> ReopenFault {
+        ReopenFault::NoMemory
+    }
+}
+
+/// Why one rendition isn't reopened.
+#[derive(Clone, Copy)]
+pub(crate) enum Stop {
+    Unread,
+    NoMemory,
+    Why(WhyNot),
+}
+
+impl From<AllocError> for Stop {
+    ghost use Rattle.channel_folder.specs.declared.fault.Stop.TheVariants.{NoMemory};
+
+    ghost from_gives = { λ _ fault. fault ≡ NoMemory };
+
+    fn from(_: AllocError) -> Stop {
+        Stop::NoMemory
+    }
+}
+
+impl<T: Drop> From<AllocFailed<T>> for Stop {
+    ghost use Rattle.channel_folder.specs.declared.fault.Stop.TheVariants.{NoMemory};
+
+    ghost from_gives = { λ _ fault. fault ≡ NoMemory };
+
+    fn from(_: AllocFailed<T>) -> Stop {
+        Stop::NoMemory
+    }
+}
+
+impl From<FolderReadFault> for Stop {
+    ghost use Rattle.channel_folder.specs.StopOf.{stop_of_read};
+
+    ghost from_gives = { λ fault stop. stop ≡ stop_of_read fault };
+
+    fn from(fault: FolderReadFault) -> Stop {
+        match fault {
+            FolderReadFault::Unread => Stop::Unread,
+            FolderReadFault::NoMemory => Stop::NoMemory,
+        }
+    }
+}

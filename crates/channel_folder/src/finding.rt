@@ -1,0 +1,51 @@
+//! Each rendition of a ladder goes on by itself, or has no playlists.
+ghost use Rattle.std.specs.Prelude.{◌≡◌, ◌<◌, Some, IfOk, length, slice_get};
+ghost use Rattle.channel_folder.specs.Reopened.{AllStand};
+ghost use Rattle.channel_folder.specs.StopOf;
+
+use crate::asked::Asked;
+use crate::fault::{ReopenFault, Stop};
+use crate::scanned::Scan;
+use crate::standing::stands;
+use folder::FolderReader;
+use resume::Restored;
+use std::alloc::Global;
+
+/// What each goes on behind; none where it has no playlists.
+pub(crate) fn find_each<F: FolderReader>(
+    alloc: Global,
+    folder: &F,
+    scan: &Scan,
+    asked: &[Asked<'_>],
+) -> Result<Vec<Option<Restored>>, ReopenFault>
+    ensures ok { IfOk result (λ found. AllStand (F.gives folder.now) (F.lacks folder.now) scan.now asked.now found.items) }
+{
+    let mut found = Vec::new(alloc);
+    for r in 0..asked.len() {
+        let rendition = rendition_at(asked, r);
+        match stands(alloc, folder, scan.numbers_of(r), rendition) {
+            Ok(one) => found.push(one)?,
+            Err(stop) => return Err(fault_at(r, stop)),
+        }
+    }
+    Ok(found)
+}
+
+/// The rendition at a place.
+fn rendition_at<'b, 'a>(asked: &'b [Asked<'a>], r: usize) -> &'b Asked<'a>
+    requires { r < length asked.now }
+    ensures { slice_get asked.now r ≡ Some result.now }
+{
+    &asked[r]
+}
+
+/// Why the channel doesn't go on, where a rendition doesn't.
+fn fault_at(r: usize, stop: Stop) -> ReopenFault
+    ensures { result ≡ StopOf.fault_at r stop }
+{
+    match stop {
+        Stop::Unread => ReopenFault::Unread,
+        Stop::NoMemory => ReopenFault::NoMemory,
+        Stop::Why(why) => ReopenFault::Of(r, why),
+    }
+}

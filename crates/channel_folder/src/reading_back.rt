@@ -1,0 +1,113 @@
+//! One rendition's playlists are read back, by its name and the files of its segments.
+ghost use Rattle.std.specs.Prelude.{◌≡◌, ◌≢◌, ℕ, List, IfOk, IfErr, Contains};
+ghost use Rattle.media_reading.specs.MediaTexts.{IsListing, listing_text};
+ghost use Rattle.playlist_text.specs.MediaLines;
+ghost use Rattle.resume.specs.Wanting.{IsAsWanted};
+ghost use Rattle.resume.specs.Restoring.{IsRestored, RestoredValue};
+ghost use Rattle.channel_folder.specs.StopOf;
+ghost use Rattle.channel_folder.specs.Files.{media_file, frames_file};
+ghost use Rattle.channel_folder.specs.Reopened.{IsReopened, IsListed, AreSizes};
+ghost use Rattle.channel_folder.specs.Stopped.{IsStopFrom, IsSizeStop, IsListStop};
+
+use crate::asked::Asked;
+use crate::fault::{Stop, WhyNot};
+use crate::file_names::segment_file;
+use folder::FolderReader;
+use media_reading::{Entry, ListFault, Listing, read_media};
+use resume::{Restored, ResumeFault, look, restore};
+use std::alloc::Global;
+
+/// What a rendition goes on behind, by the bytes of its playlists.
+pub(crate) fn restored_from<F: FolderReader>(
+    alloc: Global,
+    folder: &F,
+    asked: &Asked<'_>,
+    media: &[u8],
+    frames: &[u8],
+) -> Result<Restored, Stop>
+    ensures ok { F.gives folder.now (media_file asked.now.name.now) media.now → F.gives folder.now (frames_file asked.now.name.now) frames.now →
+        IfOk result (IsReopened (F.gives folder.now) asked.now.name.now asked.now.wanted) }
+    ensures err { F.gives folder.now (media_file asked.now.name.now) media.now → F.gives folder.now (frames_file asked.now.name.now) frames.now →
+        IfErr result (IsStopFrom (F.refuses folder.now) (F.gives folder.now) (F.lacks folder.now) asked.now) }
+{
+    let Ok(media) = str::from_utf8(media) else {
+        return Err(Stop::Why(WhyNot::Foreign));
+    };
+    let Ok(frames) = str::from_utf8(frames) else {
+        return Err(Stop::Why(WhyNot::Foreign));
+    };
+    let listing = listing_of(alloc, media)?;
+    go_on_from(alloc, folder, asked, &listing, frames)
+}
+
+/// What a media playlist lists.
+fn listing_of(alloc: Global, text: &str) -> Result<Listing, Stop>
+    ensures ok { IfOk result (λ l. IsListing l × (text.now ≡ listing_text l)) }
+    ensures err { IfErr result (IsListStop text.now) }
+{
+    match read_media(alloc, text) {
+        Ok(listing) => Ok(listing),
+        Err(ListFault::NoMemory) => Err(Stop::NoMemory),
+        Err(ListFault::NotProfile(_)) => Err(Stop::Why(WhyNot::Foreign)),
+    }
+}
+
+/// What a rendition goes on behind, by what its media playlist lists.
+fn go_on_from<F: FolderReader>(
+    alloc: Global,
+    folder: &F,
+    asked: &Asked<'_>,
+    listing: &Listing,
+    frames: &str,
+) -> Result<Restored, Stop>
+    requires { IsListing listing.now }
+    ensures ok { IsListed (F.gives folder.now) asked.now.name.now listing.now → F.gives folder.now (frames_file asked.now.name.now) frames.now →
+        IfOk result (IsReopened (F.gives folder.now) asked.now.name.now asked.now.wanted) }
+    ensures err { IsListed (F.gives folder.now) asked.now.name.now listing.now → F.gives folder.now (frames_file asked.now.name.now) frames.now →
+        IfErr result (IsStopFrom (F.refuses folder.now) (F.gives folder.now) (F.lacks folder.now) asked.now) }
+{
+    if let Err(fault) = look(asked.wanted, listing) {
+        return Err(stop_of(fault));
+    }
+    let sizes = sizes_of(alloc, folder, asked.name, &listing.entries)?;
+    match restore(alloc, asked.name, asked.wanted, listing, frames, &sizes) {
+        Ok(restored) => Ok(restored),
+        Err(fault) => Err(stop_of(fault)),
+    }
+}
+
+/// The same fault.
+fn stop_of(fault: ResumeFault) -> Stop
+    ensures { result ≡ StopOf.stop_of fault }
+{
+    match fault {
+        ResumeFault::Ended => Stop::Why(WhyNot::Ended),
+        ResumeFault::OtherTarget => Stop::Why(WhyNot::OtherTarget),
+        ResumeFault::OtherSalt => Stop::Why(WhyNot::OtherSalt),
+        ResumeFault::OtherKind => Stop::Why(WhyNot::OtherKind),
+        ResumeFault::Limit => Stop::Why(WhyNot::Limit),
+        ResumeFault::Foreign => Stop::Why(WhyNot::Foreign),
+        ResumeFault::NoMemory => Stop::NoMemory,
+    }
+}
+
+/// The sizes of the files of listed segments.
+fn sizes_of<F: FolderReader>(
+    alloc: Global,
+    folder: &F,
+    name: &str,
+    entries: &[Entry],
+) -> Result<Vec<u64>, Stop>
+    ensures ok { IfOk result (λ sizes. AreSizes (F.gives folder.now) name.now entries.now sizes.items) }
+    ensures err { IfErr result (IsSizeStop (F.refuses folder.now) (F.gives folder.now) (F.lacks folder.now) name.now entries.now) }
+{
+    let mut sizes = Vec::new(alloc);
+    for entry in entries {
+        let file = segment_file(alloc, name, entry.number)?;
+        match folder.size(file.as_str())? {
+            Some(size) => sizes.push(size)?,
+            None => return Err(Stop::Why(WhyNot::Lost(entry.number))),
+        }
+    }
+    Ok(sizes)
+}

@@ -1,0 +1,35 @@
+//! A channel's folder is gone on in.
+ghost use Rattle.std.specs.Prelude.{IfOk};
+ghost use Rattle.channel_folder.specs.Reopened.{AreReopened};
+
+use crate::asked::Asked;
+use crate::fault::{ReopenFault, WhyNot};
+use crate::finding::find_each;
+use crate::reopened::Reopened;
+use crate::scanned::Scan;
+use folder::FolderReader;
+use ladder_items::Kind;
+use resume::common_breaks;
+use std::alloc::Global;
+
+/// What each rendition of a ladder of this kind goes on behind, by what stands in the folder once a block that was cut off is
+/// rolled forward. Nothing there at all is a first run.
+///
+/// The least rendition that doesn't go on is told, first by what it is itself: its playlists aren't read back, or aren't gone
+/// on from; the file of a listed segment isn't there; the playlists don't fit the files; a file is there of a segment that
+/// comes next or later. Then that it doesn't go with one before it.
+pub fn reopen<F: FolderReader>(
+    alloc: Global,
+    folder: &F,
+    scan: &Scan,
+    kind: Kind,
+    asked: &[Asked<'_>],
+) -> Result<Reopened, ReopenFault>
+    ensures ok { IfOk result (AreReopened (F.gives folder.now) (F.lacks folder.now) scan.now kind asked.now) }
+{
+    let found = find_each(alloc, folder, scan, asked)?;
+    match common_breaks(kind, &found) {
+        Ok(common) => Ok(Reopened { found, common }),
+        Err(fault) => Err(ReopenFault::Of(fault.0, WhyNot::Uneven)),
+    }
+}
