@@ -1,0 +1,4 @@
+pub mod Faults
+pub mod GoingOn
+pub mod Resuming
+pub mod Seen

@@ -1,0 +1,74 @@
+//! Why a ladder doesn't go on.
+
+ghost use Rattle.std.specs.Prelude.{◌≡◌};
+
+use channel_folder::{ReopenFault, WhyNot};
+use folder::FolderReadFault;
+use std::alloc::{AllocError, AllocFailed};
+use thiserror::Error;
+
+/// Why a ladder doesn't go on in its folder. Renditions are counted from 0.
+#[derive(Clone, Copy, Debug, PartialEq, Eq, Error)]
+pub enum ResumingFault {
+    /// The folder can't be read.
+    #[error("the folder can't be read")]
+    Unread,
+    /// A file of it can't be renamed or removed.
+    #[error("the folder can't be changed")]
+    Outlet,
+    #[error("out of memory")]
+    NoMemory,
+    /// This rendition doesn't go on.
+    #[error("rendition {0}: {1}")]
+    Not(usize, WhyNot),
+    /// A segment that this rendition's playlist lists doesn't open under the key of this index.
+    #[error("rendition {0} doesn't open under its key {1}")]
+    OtherKeys(usize, u64),
+}
+
+impl From<AllocError> for ResumingFault {
+    ghost use Rattle.channel.specs.declared.fault.ResumingFault.TheVariants.{NoMemory};
+
+    ghost from_gives = { λ _ fault. fault ≡ NoMemory };
+
+    fn from(_: AllocError) -> ResumingFault {
+        ResumingFault::NoMemory
+    }
+}
+
+impl<T: Drop> From<AllocFailed<T>> for ResumingFault {
+    ghost use Rattle.channel.specs.declared.fault.ResumingFault.TheVariants.{NoMemory};
+
+    ghost from_gives = { λ _ fault. fault ≡ NoMemory };
+
+    fn from(_: AllocFailed<T>) -> ResumingFault {
+        ResumingFault::NoMemory
+    }
+}
+
+impl From<FolderReadFault> for ResumingFault {
+    ghost use Rattle.channel.specs.Faults.{of_reading};
+
+    ghost from_gives = { λ why fault. fault ≡ of_reading why };
+
+    fn from(why: FolderReadFault) -> ResumingFault {
+        match why {
+            FolderReadFault::Unread => ResumingFault::Unread,
+            FolderReadFault::NoMemory => ResumingFault::NoMemory,
+        }
+    }
+}
+
+impl From<ReopenFault> for ResumingFault {
+    ghost use Rattle.channel.specs.Faults.{of_reopening};
+
+    ghost from_gives = { λ why fault. fault ≡ of_reopening why };
+
+    fn from(why: ReopenFault) -> ResumingFault {
+        match why {
+            ReopenFault::Unread => ResumingFault::Unread,
+            ReopenFault::NoMemory => ResumingFault::NoMemory,
+            ReopenFault::Of(r, why) => ResumingFault::Not(r, why),
+        }
+    }
+}

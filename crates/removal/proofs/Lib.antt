@@ -1,0 +1,3 @@
+pub mod FromHidden
+pub mod Kept
+pub mod Untold

@@ -1,0 +1,2 @@
+pub mod Removing
+pub mod Retaining

@@ -1,0 +1,39 @@
+-- What a run leaves of a folder from which old segments go.
+use Rattle.std.specs.Prelude.{◌≡◌, ℕ, Bool, true, false, List}
+use Rattle.folder.specs.Moves.{Files, Move, Same}
+use Rattle.folder.specs.PowerLoss.{PowerLossMayLeave}
+use Rattle.item_io.specs.Items.{ItemValue}
+use Rattle.item_io.specs.Views.{OutletView, SourceView, outlet_view}
+use Rattle.item_io.specs.FolderMoves.{new_outlet}
+use Rattle.ladder_items.specs.Ladder.{Ladder}
+use Rattle.ladder_items.specs.Items.{Part}
+use Rattle.ladder_items.specs.Weave.{Weaves}
+use Rattle.ladder_items.specs.Runs.{Run, run_of}
+use Rattle.keeping.specs.Keepings.{EachKillLeavesBut, IsLeftBut, KeepingState, KeepingValue, KeptBy, KeptUpTo}
+use Rattle.commands.specs.declared.destination.Destination.{Destination}
+
+-- an outlet of a folder from which old segments go, as a run sees it
+abbrev pub kept_view : {F : Type 0} → (F → List Move) → OutletView (KeepingState F)
+kept_view made = outlet_view (KeptBy made) (KeptUpTo made) (λ o. o.files.failures)
+
+-- the outlet before its first item
+abbrev pub new_keeping : {F : Type 0} → Destination F → List KeepingValue → KeepingState F
+new_keeping into renditions = record { files = new_outlet into.syncs into.folder; renditions = renditions; lags = false }
+
+-- a run of such an outlet
+abbrev pub kept_run : {X F : Type 0} → SourceView X → (F → List Move) → ℕ → List X → List X → KeepingState F → KeepingState F → Run X (KeepingState F)
+kept_run input made most before now outlet outlet_now = run_of input (kept_view made) most before now outlet outlet_now
+
+-- Whatever stood in the folder before these moves, and was on the disk: so it is wherever a loss of power stops them.
+abbrev pub EachLossOfPowerLeavesBut : List Move → List ItemValue → List KeepingValue → Type 0
+EachLossOfPowerLeavesBut made items renditions =
+    (files : Files) (left : Files) → PowerLossMayLeave files (Same files) made left → IsLeftBut items renditions files left
+
+-- Whatever stood in the folder before these moves, a kill at any moment of them leaves a prefix of a weave of the renditions, but that
+-- segments which went may be missing; and where the folder is synced, so does a loss of power.
+pub record LeavesKept (ladder : Ladder) (syncs : Bool) (made : List Move) (renditions : List KeepingValue) : Type 0 where
+  pub parts : List Part
+  pub items : List ItemValue
+  pub weave : Weaves ladder parts items
+  pub killed : EachKillLeavesBut made items renditions
+  pub lost : syncs ≡ true → EachLossOfPowerLeavesBut made items renditions

@@ -1,0 +1,76 @@
+//! A ladder whose old segments go.
+
+ghost use Rattle.std.specs.Prelude.{◌≡◌, [], IfOk, IfErr};
+ghost use Rattle.ladder_items.specs.World.{HaveRoom};
+ghost use Rattle.rounds.specs.Shown.{IsPackedShown};
+ghost use Rattle.item_io.specs.FolderMoves.{new_outlet};
+ghost use Rattle.keeping.specs.Keepings.{AreTold};
+ghost use Rattle.commands.specs.LadderPacking.{LadderSays, WritesSummary};
+ghost use Rattle.removal.specs.Removing.{LeavesKept, kept_run, new_keeping};
+
+use commands::{Destination, PackedLadder, Pool, pack};
+use folder::{Folder, PruningFolder};
+use item_io::{FolderOutlet, READS, Source};
+use keeping::{Keeping, KeepingOutlet};
+use live_board::Publisher;
+use pipeline::{Herald, Settings};
+use std::alloc::Global;
+use std::io::Write;
+use std::sync::Wait;
+use std::thread::Threads;
+
+/// The command `pack --remove` for a folder to which nothing was done before: packs a ladder on many threads, puts its segments
+/// and playlists into files of the folder, and removes segments that no player can want any more, as each rendition's
+/// [`Keeping`] has it.
+///
+/// Wherever the process is killed, also after a fault, the folder shows what stood there before with a prefix of a weave of the
+/// renditions over it, whole files alone, but that segments which were removed may be missing. A folder that is synced holds
+/// that on the disk too, wherever the machine loses its power.
+pub fn pack_and_remove<
+    S: Source + Drop,
+    F: Folder + Drop,
+    W: Write,
+    R: Threads + Wait + Sync,
+    H: Herald,
+>(
+    rt: &R,
+    alloc: Global,
+    sources: Vec<S>,
+    settings: &Settings,
+    pool: Pool,
+    publisher: Publisher,
+    into: Destination<F>,
+    renditions: Vec<Keeping>,
+    output: &mut W,
+    herald: &H,
+) -> PackedLadder<S, KeepingOutlet<F>>
+    requires room { HaveRoom S.input READS sources.items }
+    requires fresh { F.made into.folder ≡ [] }
+    requires untold { AreTold renditions.items [] }
+    ensures killed { LeavesKept settings.now into.syncs (F.made result.outlet.files.folder) result.outlet.renditions }
+    ensures ok { IfOk result.answer (IsPackedShown
+        (kept_run S.input F.made READS sources.items result.sources.items (new_keeping into renditions.items) result.outlet)
+        settings.now pool.workers publisher.list result.publisher.list) }
+    ensures written { IfOk result.answer (λ report. WritesSummary settings.now report (W.contents output.old) (W.contents output.new)) }
+    ensures fault { IfErr result.answer (LadderSays
+        (kept_run S.input F.made READS sources.items result.sources.items (new_keeping into renditions.items) result.outlet)
+        settings.now pool.workers publisher.list result.publisher.list (W.contents output.old) (W.contents output.new)) }
+    ensures board { result.publisher.board ≡ publisher.board }
+{
+    let outlet = KeepingOutlet::new(outlet_of(into, alloc), alloc, renditions);
+    pack(
+        rt, alloc, sources, settings, pool, publisher, outlet, output, herald,
+    )
+}
+
+/// The outlet of a folder from which old files go, which was given no item yet.
+fn outlet_of<F: Folder>(into: Destination<F>, alloc: Global) -> FolderOutlet<PruningFolder<F>>
+    ensures { result ≡ new_outlet into.syncs into.folder }
+{
+    let Destination { folder, syncs } = into;
+    let folder = PruningFolder::new(folder);
+    if syncs {
+        return FolderOutlet::with_synced_folder(folder, alloc);
+    }
+    FolderOutlet::with_folder(folder, alloc)
+}
