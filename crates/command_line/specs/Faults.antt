@@ -5,7 +5,7 @@ use Rattle.clap.specs.declared.error.kind.ErrorKind.TheVariants.{OutOfMemory}
 use Rattle.clap.specs.Values.{kind_of}
 use Rattle.commands.specs.Statuses.{cipher_status, key_list_status, ladder_status, settings_status}
 use Rattle.command_line.specs.declared.fault.Fault.{Fault}
-use Rattle.command_line.specs.declared.fault.Fault.TheVariants.{Usage, NotUtf8, Cipher, Settings, KeyList, Ladder, NoMemory, Busy, Sealing, Opening, Unopened, Packing, LadderPacking, Checking}
+use Rattle.command_line.specs.declared.fault.Fault.TheVariants.{Usage, NotUtf8, Cipher, Settings, KeyList, Ladder, NoMemory, Busy, Sealing, Opening, Resuming, Unopened, Packing, LadderPacking, Checking}
 
 -- the status that the process ends with
 abbrev pub status_of : Fault → ℕ
@@ -19,6 +19,7 @@ status_of NoMemory = 1
 status_of Busy = 1
 status_of (Sealing fault) = 1
 status_of (Opening fault) = 1
+status_of (Resuming fault) = 1
 status_of (Unopened fault) = 1
 status_of (Packing fault) = 1
 status_of (LadderPacking fault) = 1
@@ -36,6 +37,7 @@ IsOfCommandLine NoMemory = Unit {0}
 IsOfCommandLine Busy = ⊥
 IsOfCommandLine (Sealing fault) = ⊥
 IsOfCommandLine (Opening fault) = ⊥
+IsOfCommandLine (Resuming fault) = ⊥
 IsOfCommandLine (Unopened fault) = ⊥
 IsOfCommandLine (Packing fault) = ⊥
 IsOfCommandLine (LadderPacking fault) = ⊥

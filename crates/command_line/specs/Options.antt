@@ -105,9 +105,20 @@ pool_options =
 abbrev pub entries : Rule
 entries = record (word (codes "entries")) { range = Some (record { start_inclusive = 1; end_inclusive = 2 ^ 64 - 1 }); action = Some Append }
 
+-- an option without a value, as a table of the program has it: its name, and what help says of it
+abbrev pub FlagOption : Type 0
+FlagOption = Bor (List ℕ) × Bor (List ℕ)
+
+abbrev pub flagged : FlagOption → Rule
+flagged option = flag option.0.now
+
+-- what an earlier run left in the folder, what goes, and whether it is synced
+abbrev pub folder_options : List Rule
+folder_options = flag (codes "resume") ∷ flag (codes "remove") ∷ flag (codes "sync") ∷ []
+
 -- the options of `pack`
 abbrev pub ladder_options : List Rule
-ladder_options = needed (text_option (codes "out")) ∷ flag (codes "sync") ∷ text_option (codes "metrics") ∷ pool_options ++ entries ∷ form_options ++ packing_options
+ladder_options = needed (text_option (codes "out")) ∷ folder_options ++ text_option (codes "metrics") ∷ pool_options ++ entries ∷ form_options ++ packing_options
 
 -- a command of these options, of which none is for the commands below it
 abbrev pub command_of : List ℕ → List Rule → Shape

@@ -4,10 +4,11 @@ use crate::job::program;
 use crate::options::{number_words, packing_words};
 use crate::pack_options::pool_words;
 use crate::reasons::{
-    checking_reason, cipher_reason, key_list_reason, ladder_reason, opening_reason, sealing_reason,
-    settings_reason, unopened_reason,
+    checking_reason, cipher_reason, key_list_reason, ladder_reason, opening_reason,
+    resuming_reason, sealing_reason, settings_reason, unopened_reason,
 };
 use crate::settings_reason::{write_outside, write_unlistable, write_unlistable_entries};
+use channel::ResumingFault;
 use clap::ArgMatches;
 use commands::{
     DEFAULT_NAME, EntryWords, LadderFault, LadderPackingFault, SettingsFault, cut_entry,
@@ -67,6 +68,7 @@ impl fmt::Display for Explanation<'_, '_, '_> {
             Fault::Ladder(fault) => f.write_str(ladder_reason(*fault)),
             Fault::Sealing(fault) => f.write_str(sealing_reason(*fault)),
             Fault::Opening(fault) => f.write_str(opening_reason(*fault)),
+            Fault::Resuming(fault) => write_resuming(f, self.options, *fault),
             Fault::Unopened(fault) => f.write_str(unopened_reason(*fault)),
             Fault::Packing(fault) => write_packing(f, self.options, *fault),
             Fault::LadderPacking(LadderPackingFault::Packing(fault)) => {
@@ -145,6 +147,18 @@ fn write_rendition<W: fmt::Write>(
         return write!(f, "{}, from {}: ", words.name, words.path);
     }
     Ok(())
+}
+
+/// Writes why a ladder doesn't go on.
+fn write_resuming<W: fmt::Write>(
+    f: &mut fmt::Formatter<W>,
+    options: &ArgMatches<'_>,
+    fault: ResumingFault,
+) -> fmt::Result {
+    if let ResumingFault::Not(r, _) | ResumingFault::OtherKeys(r, _) = fault {
+        write_rendition(f, options, r)?;
+    }
+    f.write_str(resuming_reason(fault))
 }
 
 /// Writes why a run ended.

@@ -1,5 +1,6 @@
 ghost use Rattle.std.specs.Prelude.{◌≡◌};
 
+use channel::ResumingFault;
 use commands::{
     CheckingFault, CipherFault, KeyListFault, LadderFault, LadderPackingFault, OpeningFault,
     SealingFault, SettingsFault,
@@ -30,6 +31,8 @@ pub enum Fault {
     Busy,
     Sealing(SealingFault),
     Opening(OpeningFault),
+    /// A ladder doesn't go on in its folder.
+    Resuming(ResumingFault),
     /// A stream of a ladder can't be opened.
     Unopened(InputFault),
     Packing(PackFault),
@@ -165,6 +168,16 @@ impl From<LadderFault> for Fault {
 
     fn from(why: LadderFault) -> Fault {
         Fault::Ladder(why)
+    }
+}
+
+impl From<ResumingFault> for Fault {
+    ghost use Rattle.command_line.specs.declared.fault.Fault.TheVariants.{Resuming};
+
+    ghost from_gives = { λ why fault. fault ≡ Resuming why };
+
+    fn from(why: ResumingFault) -> Fault {
+        Fault::Resuming(why)
     }
 }
 

@@ -1,5 +1,7 @@
 //! How faults print: their names, and the numbers that they have.
 use crate::fault::Fault;
+use channel::ResumingFault;
+use channel_folder::WhyNot;
 use commands::{
     CheckingFault, CipherFault, KeyListFault, LadderFault, LadderPackingFault, OpeningFault,
     SealingFault, SettingsFault,
@@ -33,6 +35,7 @@ fn write_fault<W: fmt::Write>(f: &mut fmt::Formatter<W>, fault: &Fault) -> fmt::
         Fault::Ladder(fault) => write_ladder(f, *fault),
         Fault::Sealing(fault) => f.write_str(sealing_name(*fault)),
         Fault::Opening(fault) => f.write_str(opening_name(*fault)),
+        Fault::Resuming(fault) => write_resuming(f, *fault),
         Fault::Unopened(fault) => f.write_str(unopened_name(*fault)),
         Fault::Packing(fault) => write_packing(f, *fault),
         Fault::LadderPacking(fault) => write_ladder_packing(f, *fault),
@@ -108,6 +111,31 @@ fn opening_name(fault: OpeningFault) -> &'static str {
         OpeningFault::BadPadding => "BadPadding",
         OpeningFault::Unwritten => "Unwritten",
         OpeningFault::NoMemory => "NoMemory",
+    }
+}
+
+/// Why a ladder doesn't go on: a name, and then the rendition's number and that of a segment or a key, where it has them.
+fn write_resuming<W: fmt::Write>(f: &mut fmt::Formatter<W>, fault: ResumingFault) -> fmt::Result {
+    match fault {
+        ResumingFault::Unread => write!(f, "Unread"),
+        ResumingFault::Outlet => write!(f, "Outlet"),
+        ResumingFault::NoMemory => write!(f, "NoMemory"),
+        ResumingFault::Not(r, why) => write_why_not(f, r, why),
+        ResumingFault::OtherKeys(r, i) => write!(f, "OtherKeys {r} {i}"),
+    }
+}
+
+fn write_why_not<W: fmt::Write>(f: &mut fmt::Formatter<W>, r: usize, why: WhyNot) -> fmt::Result {
+    match why {
+        WhyNot::Foreign => write!(f, "Foreign {r}"),
+        WhyNot::Ended => write!(f, "Ended {r}"),
+        WhyNot::OtherTarget => write!(f, "OtherTarget {r}"),
+        WhyNot::OtherSalt => write!(f, "OtherSalt {r}"),
+        WhyNot::OtherKind => write!(f, "OtherKind {r}"),
+        WhyNot::Uneven => write!(f, "Uneven {r}"),
+        WhyNot::Lost(n) => write!(f, "Lost {r} {n}"),
+        WhyNot::Ahead(n) => write!(f, "Ahead {r} {n}"),
+        WhyNot::Limit => write!(f, "Limit {r}"),
     }
 }
 

@@ -60,7 +60,12 @@ there is touched. When all streams have ended one line a rendition is printed, b
 
 Each stream is read as its bytes come: one that is silent, or a FIFO that nobody opens, holds up no other, and a segment of
 a live stream is listed as soon as it is sealed. The paths may be FIFOs of one encoder: they are read ahead, 32 MiB each, or
-as --ahead says. A new run begins at segment 0 again: draw new keys for it, or a new --salt at random.
+as --ahead says.
+
+--resume goes on from the playlists in DIR: the next numbers, behind a discontinuity, under the same keys; where there are
+none it is a first run. A block that a kill cut off is placed first. Without it a run begins at segment 0 again, over what is
+there: draw new keys for that, or a new --salt at random. --remove removes a segment once it and the longest playlist that
+listed it have played since it left the playlist (RFC 8216, 6.2.2), and with --resume what earlier runs left.
 
 --metrics FILE is for node_exporter, which collects the *.prom files of a folder: for each rendition its segments, their time
 and bytes, its rates, for how long no segment came, whether it ended, and by which fault. Where FILE can't be written,
@@ -81,10 +86,21 @@ of its stream is told at once, and the others are packed to their ends. What was
   Settings         An option, a name, codecs or a side of a size is out of its range, two names are the same, or there are
                    more than 32 renditions
   Busy             Another tshls packs into DIR; nothing was read or written
-  Unread           The file of a key can't be read, or a path can't be opened; nothing was written
+  Unread           The file of a key can't be read, or a path can't be opened, or, with --resume, DIR can't be read; nothing
+                   was written
   Outlet           A file can't be written: DIR isn't there, or full; the packager stopped
   Unwritten        All was packed, and standard output can't be written
-  NoMemory         Memory was refused; the packager stopped";
+  NoMemory         Memory was refused; the packager stopped
+
+With --resume, before anything is opened:
+  Foreign R        The playlists of R in DIR aren't those of tshls for this name, or one of the two is missing
+  Ended R          Its playlist has ended                       Limit R        The last number is passed
+  OtherTarget R    It has another --target                      OtherSalt R    It has another --salt, or none
+  OtherKind R      It is that of an event and --event isn't given, or the other way
+  Lost R N         Segment N is listed, and its file is missing
+  Ahead R N        The file of segment N is there, and no playlist lists it: its number would be used twice
+  Uneven R         It had another number of discontinuities than one before it
+  OtherKeys R I    The last segment under key I, counted from 0, doesn't open";
 
 /// The faults of `check`.
 pub const CHECK: &str = "\

@@ -12,7 +12,8 @@ use crate::options::{
     with_cipher_options, with_stream,
 };
 use crate::pack_options::{
-    entry_words, folder_word, ladder_words, metrics_word, pool_words, sync_word, with_ladder,
+    entry_words, folder_word, ladder_words, metrics_word, pool_words, remove_word, resume_word,
+    sync_word, with_ladder,
 };
 use clap::error::ErrorKind;
 use clap::{ArgMatches, Command};
@@ -50,6 +51,10 @@ pub enum StreamJob {
 pub struct LadderJob<'a> {
     pub options: LadderOptions<'a>,
     pub folder: &'a str,
+    /// Whether it goes on from the playlists there.
+    pub resumes: bool,
+    /// Whether segments are removed that no player can want any more.
+    pub removes: bool,
     /// Whether the folder is synced.
     pub syncs: bool,
     /// The file that the run's metrics are written to.
@@ -118,6 +123,8 @@ fn ladder_job<'a, F: FileReader>(
     Ok(LadderJob {
         options: ladder,
         folder: folder_word(options),
+        resumes: resume_word(options),
+        removes: remove_word(options),
         syncs: sync_word(options),
         metrics: metrics_word(options),
     })

@@ -1,7 +1,7 @@
 //! The options of `pack`: how help shows them, and the words that were given.
-ghost use Rattle.std.specs.Prelude.{◌≡◌, ◌∷◌, [], codes, map, option_map, IfOk};
-ghost use Rattle.clap.specs.Words.{first_value, found_of};
-ghost use Rattle.command_line.specs.Options.{GetsOptions, entries, flag, ladder_options, text_option};
+ghost use Rattle.std.specs.Prelude.{◌≡◌, ◌∷◌, [], codes, false, map, option_map, IfOk};
+ghost use Rattle.clap.specs.Words.{first_value, found_of, rule_of};
+ghost use Rattle.command_line.specs.Options.{GetsOptions, entries, flagged, ladder_options, text_option};
 ghost use Rattle.command_line.specs.Words.{IsFlagOf, IsGivenNumber, text_of, texts_of};
 
 use crate::options::{
@@ -17,7 +17,7 @@ pub fn with_ladder<'a>(alloc: Global, command: Command<'a>) -> Result<Command<'a
 {
     let out = "The folder that the files are written to, which has to be there";
     let command = command.arg(text(alloc, "out", "DIR", out).required(true))?;
-    let command = with_sync(alloc, command)?;
+    let command = with_flags(alloc, command, &FOLDER)?;
     let command = with_metrics(alloc, command)?;
     let command = with_numbers(alloc, command, &POOL)?;
     let command = with_entries(alloc, command)?;
@@ -25,17 +25,50 @@ pub fn with_ladder<'a>(alloc: Global, command: Command<'a>) -> Result<Command<'a
     with_numbers(alloc, command, &NUMBERS)
 }
 
-/// The command with the option that syncs the folder.
-fn with_sync<'a>(alloc: Global, command: Command<'a>) -> Result<Command<'a>, AllocError>
-    ensures { IfOk result (λ made. GetsOptions command.entry (flag (codes "sync") ∷ []) made) }
+/// An option without a value: its name, and what help says of it.
+type FlagOption = (&'static str, &'static str);
+
+/// How the folder is dealt with: what an earlier run left there, what goes, and whether it is synced.
+const FOLDER: [FlagOption; 3] = [
+    (
+        "resume",
+        "Go on from the playlists in DIR, where there are any: the next numbers, behind a discontinuity",
+    ),
+    (
+        "remove",
+        "Remove segments that no player can want any more: for a live ladder, whose streams come as fast as they play",
+    ),
+    (
+        "sync",
+        "Wait until each file is on the disk: a machine that loses its power then keeps all that was listed",
+    ),
+];
+
+/// An option without a value, as a table tells it.
+fn flag_from<'a>(alloc: Global, option: FlagOption) -> Arg<'a>
+    ensures rule { rule_of result ≡ flagged option.entry }
+    ensures alone { result.global ≡ false }
 {
-    let sync = Arg::new(alloc, "sync")
-        .long("sync")
+    let (name, help) = option;
+    Arg::new(alloc, name)
+        .long(name)
         .action(ArgAction::SetTrue)
-        .help(
-            "Wait until each file is on the disk: a machine that loses its power then keeps all that was listed",
-        );
-    command.arg(sync)
+        .help(help)
+}
+
+/// The command with options without values.
+fn with_flags<'a>(
+    alloc: Global,
+    command: Command<'a>,
+    flags: &[FlagOption],
+) -> Result<Command<'a>, AllocError>
+    ensures { IfOk result (λ made. GetsOptions command.entry (map flagged flags.now) made) }
+{
+    let mut command = command;
+    for &option in flags {
+        command = command.arg(flag_from(alloc, option))?;
+    }
+    Ok(command)
 }
 
 /// The command with the option that names a file of metrics.
@@ -125,6 +158,20 @@ pub fn folder_word<'a>(options: &ArgMatches<'a>) -> &'a str
     ensures { result.now ≡ text_of (found_of options.now) (codes "out") }
 {
     needed_text(options, "out")
+}
+
+/// Whether the ladder goes on from the playlists in its folder.
+pub fn resume_word(options: &ArgMatches<'_>) -> bool
+    ensures { IsFlagOf (found_of options.now) (codes "resume") result }
+{
+    options.get_flag("resume")
+}
+
+/// Whether segments are removed that no player can want any more.
+pub fn remove_word(options: &ArgMatches<'_>) -> bool
+    ensures { IsFlagOf (found_of options.now) (codes "remove") result }
+{
+    options.get_flag("remove")
 }
 
 /// Whether the folder is synced.

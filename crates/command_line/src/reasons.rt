@@ -1,4 +1,6 @@
 //! The words of faults that name no option, entry or path of their own.
+use channel::ResumingFault;
+use channel_folder::WhyNot;
 use commands::{
     CheckingFault, CipherFault, KeyListFault, LadderFault, OpeningFault, SealingFault,
     SettingsFault,
@@ -94,6 +96,44 @@ pub(crate) fn opening_reason(fault: OpeningFault) -> &'static str {
         OpeningFault::BadPadding => "sealed under another key or vector, or damaged",
         OpeningFault::Unwritten => UNWRITTEN,
         OpeningFault::NoMemory => NO_MEMORY,
+    }
+}
+
+/// Why a rendition doesn't go on.
+pub(crate) fn why_not(why: WhyNot) -> &'static str {
+    match why {
+        WhyNot::Foreign => {
+            "its playlists in --out are not what tshls writes for a rendition of this name, or one of the two is missing"
+        }
+        WhyNot::Ended =>
+            "its playlist has ended: nothing may follow; take a new name or another folder",
+        WhyNot::OtherTarget =>
+            "its playlist has another target duration: give that one as --target",
+        WhyNot::OtherSalt => "its playlist has another --salt, or none, or one where none is given",
+        WhyNot::OtherKind =>
+            "its playlist is that of an event and --event isn't given, or the other way",
+        WhyNot::Uneven => {
+            "it had another number of discontinuities than one before it: begin anew in another folder"
+        }
+        WhyNot::Lost(_) =>
+            "that segment is listed, and its file is missing: put it back, or begin anew",
+        WhyNot::Ahead(_) => {
+            "the file of that segment is there and no playlist lists it: an older playlist was put back? Begin anew in another folder"
+        }
+        WhyNot::Limit => "the last number of a segment is passed",
+    }
+}
+
+/// Why a ladder doesn't go on, where no rendition is told.
+pub(crate) fn resuming_reason(fault: ResumingFault) -> &'static str {
+    match fault {
+        ResumingFault::Unread => "--out, or a file in it, can't be read; nothing was written",
+        ResumingFault::Outlet => "a file in --out can't be renamed or removed",
+        ResumingFault::NoMemory => NO_MEMORY,
+        ResumingFault::Not(_, why) => why_not(why),
+        ResumingFault::OtherKeys(_, _) => {
+            "the last segment under that key, counted from 0, does not open: its entry has another key"
+        }
     }
 }
 

@@ -35,7 +35,7 @@ use Rattle.commands.specs.declared.ladder_packing.LadderPackingFault.{LadderPack
 use Rattle.commands.specs.declared.ladder_packing.LadderPackingFault.TheVariants.{Packing, Unwritten, NoMemory}
 
 -- what follows from each thing said follows from what a fault says
-says-any : (s : Sayings) (C : Type 0) → (s.refused → C) → ((r : ℕ) (stop : Option Stop) → s.halted r stop → C) → (s.unput → C) → (s.wanting → C) → ((r n : ℕ) → s.held r n → C) →
+pub says-any : (s : Sayings) (C : Type 0) → (s.refused → C) → ((r : ℕ) (stop : Option Stop) → s.halted r stop → C) → (s.unput → C) → (s.wanting → C) → ((r n : ℕ) → s.held r n → C) →
     (fault : PackFault) → Says s fault → C
 says-any s C refused halted unput wanting held Settings says = refused says
 says-any s C refused halted unput wanting held (Read r) says = halted r _ says

@@ -8,9 +8,14 @@ use std::test::Fail;
 fn text_of(alloc: Global, job: &LadderJob<'_>) -> Result<String, AllocError> {
     let pool = job.options.pool;
     let batch = pool.batch.unwrap_or(0);
+    let resumed = if job.resumes { " resumed" } else { "" };
+    let removing = if job.removes { " removing" } else { "" };
     let synced = if job.syncs { " synced" } else { "" };
     let (workers, queue) = (pool.workers, pool.queue);
-    let mut text = format!(in alloc; "{}{synced} {workers} {queue} {batch}", job.folder)?;
+    let mut text = format!(in alloc;
+        "{}{resumed}{removing}{synced} {workers} {queue} {batch}",
+        job.folder
+    )?;
     if let Some(stall) = pool.stall {
         text.push_str(format!(in alloc; " stall {stall}")?.as_str())?;
     }
@@ -62,11 +67,13 @@ const POOL: [&str; 9] = [
 ];
 
 /// Words, and what they ask for or print.
-const LADDERS: [(&[&str], &str); 18] = [
+const LADDERS: [(&[&str], &str); 20] = [
     (&["--out", "hls", V], "hls 4 16 0 a.ts"),
     (&[W, V, "--out", "hls"], "hls 4 16 0 b:c d a.ts"),
     (&POOL, "a 2 3 1 a.ts"),
     (&["--sync", "--out", "hls", V], "hls synced 4 16 0 a.ts"),
+    (&["--resume", "--out", "hls", V], "hls resumed 4 16 0 a.ts"),
+    (&["--out", "hls", V, "--remove"], "hls removing 4 16 0 a.ts"),
     (
         &["--out", "hls", "--stall", "86400", V],
         "hls 4 16 0 stall 86400 a.ts",

@@ -3,17 +3,67 @@ ghost use Rattle.std.specs.Duration.{as_nanos};
 ghost use Rattle.folder.specs.FileFolders.{file_moves};
 
 use crate::watching::Watching;
+use channel::{Resumed, resume};
 use command_line::{Fault, LadderJob};
-use commands::{Destination, PackedLadder, Pool, pack_into_folder};
+use commands::{Destination, LadderOptions, PackedLadder, Pool, pack_into_folder};
 use folder::FileFolder;
 use pipeline::{Herald, opening_board};
 use read_ahead::{InputFiles, Limits, open_paths};
-use std::alloc::{AllocError, Global};
+use removal::{keepings, pack_and_remove};
+use std::alloc::{AllocError, AllocGlobal, Global};
 use std::fs::Files;
 use std::io::{Eprint, Write};
 use std::sync::Wait;
 use std::thread::Threads;
 use std::time::{Clock, Duration};
+
+/// A ladder as it is packed: in its folder it may go on behind an earlier run.
+pub struct Channel<'a> {
+    pub job: LadderJob<'a>,
+    /// For each rendition the numbers of segments of earlier runs that no playlist lists any more.
+    pub older: Vec<Vec<u64>>,
+}
+
+/// The ladder that was asked for, behind what an earlier run left in its folder, if it is to go on.
+pub fn begin_channel<'a, R: Files + AllocGlobal + Clone + Copy + Drop>(
+    rt: R,
+    alloc: Global,
+    job: LadderJob<'a>,
+) -> Result<Channel<'a>, Fault> {
+    if !job.resumes {
+        let older = Vec::new(alloc);
+        return Ok(Channel { job, older });
+    }
+    let mut folder = folder_of(rt, alloc, &job)?;
+    let LadderJob {
+        options,
+        folder: path,
+        resumes,
+        removes,
+        syncs,
+        metrics,
+    } = job;
+    let LadderOptions {
+        settings,
+        pool,
+        paths,
+    } = options;
+    let Resumed { settings, older } = resume(alloc, &mut folder, settings)?;
+    let options = LadderOptions {
+        settings,
+        pool,
+        paths,
+    };
+    let job = LadderJob {
+        options,
+        folder: path,
+        resumes,
+        removes,
+        syncs,
+        metrics,
+    };
+    Ok(Channel { job, older })
+}
 
 /// Packs a ladder of files into a folder. All paths but those of FIFOs that have no writer are open before anything is
 /// written. The herald is told of a rendition's fault as soon as it stands.
@@ -21,34 +71,47 @@ pub fn pack_ladder<
     R: InputFiles + Files + Clock + Eprint + Threads + Wait + Copy + Send + Sync + Drop + 'static,
     W: Write,
     H: Herald,
->(rt: R, alloc: Global, job: &LadderJob<'_>, output: &mut W, herald: &H) -> Result<(), Fault>
+>(
+    rt: R,
+    alloc: Global,
+    job: &LadderJob<'_>,
+    older: Vec<Vec<u64>>,
+    output: &mut W,
+    herald: &H,
+) -> Result<(), Fault>
 where
     R::Reader: Send + 'static,
     R::File: Send + 'static,
     R::Dir: Send + 'static,
 {
     let settings = &job.options.settings;
-    let limits = limits_of(job.options.pool);
-    let sources = open_paths(rt, alloc, rt, job.options.paths.as_slice(), limits)?;
+    let pool = job.options.pool;
+    let sources = open_paths(rt, alloc, rt, job.options.paths.as_slice(), limits_of(pool))?;
     let into = destination(rt, alloc, job)?;
+    let kept = keepings(alloc, settings, &older)?;
     let (publisher, viewers) = opening_board(&rt, alloc, settings.renditions.len(), 1)?;
     let watching = Watching::begin(rt, alloc, &settings.renditions, job.metrics, viewers);
-    let PackedLadder {
-        sources: _,
-        publisher,
-        outlet: _,
-        answer,
-    } = pack_into_folder(
-        &rt,
-        alloc,
-        sources,
-        settings,
-        job.options.pool,
-        publisher,
-        into,
-        output,
-        herald,
-    );
+    let (publisher, answer) = if job.removes {
+        let PackedLadder {
+            sources: _,
+            publisher,
+            outlet: _,
+            answer,
+        } = pack_and_remove(
+            &rt, alloc, sources, settings, pool, publisher, into, kept, output, herald,
+        );
+        (publisher, answer)
+    } else {
+        let PackedLadder {
+            sources: _,
+            publisher,
+            outlet: _,
+            answer,
+        } = pack_into_folder(
+            &rt, alloc, sources, settings, pool, publisher, into, output, herald,
+        );
+        (publisher, answer)
+    };
     if let Some(watching) = watching {
         watching.end(&rt, alloc, answer.as_ref().err());
     }
@@ -81,14 +144,23 @@ fn destination<R: Copy>(
     ensures fresh { IfOk result (λ into. file_moves into.folder ≡ []) }
     ensures syncs { IfOk result (λ into. into.syncs ≡ job.now.syncs) }
 {
-    let path = String::from_str(alloc, job.folder)?;
-    let folder = if job.syncs {
-        FileFolder::new_synced(rt, alloc, path)
-    } else {
-        FileFolder::new(rt, alloc, path)
-    };
     Ok(Destination {
-        folder,
+        folder: folder_of(rt, alloc, job)?,
         syncs: job.syncs,
     })
+}
+
+/// The folder of a ladder, to which nothing was done yet.
+fn folder_of<R: Copy>(
+    rt: R,
+    alloc: Global,
+    job: &LadderJob<'_>,
+) -> Result<FileFolder<R>, AllocError>
+    ensures { IfOk result (λ folder. file_moves folder ≡ []) }
+{
+    let path = String::from_str(alloc, job.folder)?;
+    if job.syncs {
+        return Ok(FileFolder::new_synced(rt, alloc, path));
+    }
+    Ok(FileFolder::new(rt, alloc, path))
 }

@@ -6,12 +6,13 @@ mod metrics_file;
 mod telling;
 mod watching;
 
-use crate::ladder::pack_ladder;
+use crate::ladder::{Channel, begin_channel, pack_ladder};
 use crate::telling::{Teller, tell};
 use command_line::{Fault, Job, LadderJob, StreamJob, line};
 use commands::{Packed, check, one, open, seal};
 use item_io::ReaderSource;
 use read_ahead::InputFiles;
+use std::alloc::AllocGlobal;
 use std::fs::{File, Files, TryLockError};
 use std::io::Eprint;
 use std::process::ExitCode;
@@ -68,21 +69,38 @@ fn run(rt: &HostRuntime, job: StreamJob) -> Result<(), Fault> {
 
 /// Packs a ladder, and tells how that ends. A fault that was told as it stood isn't told once more.
 fn pack<
-    R: Threads + Wait + Clock + Eprint + Files + InputFiles + Copy + Send + Sync + Drop + 'static,
->(rt: R, host: &HostRuntime, words: &[String], job: &LadderJob<'_>) -> ExitCode
+    R: Threads
+        + Wait
+        + Clock
+        + Eprint
+        + Files
+        + InputFiles
+        + AllocGlobal
+        + Clone
+        + Copy
+        + Send
+        + Sync
+        + Drop
+        + 'static,
+>(rt: R, host: &HostRuntime, words: &[String], job: LadderJob<'_>) -> ExitCode
 where
     R::Reader: Send + 'static,
     R::File: Send + 'static,
     R::Dir: Send + 'static,
 {
-    let teller = Teller::new(rt, *host, words);
-    let answer = match hold(host, job.folder) {
-        Ok(_held) => pack_ladder(rt, host.alloc(), job, &mut host.stdout(), &teller),
-        Err(fault) => Err(fault),
+    let _held = match hold(host, job.folder) {
+        Ok(held) => held,
+        Err(fault) => return ended(host, words, Err(fault)),
     };
-    match answer {
+    let Channel { job, older } = match begin_channel(rt, host.alloc(), job) {
+        Ok(channel) => channel,
+        Err(fault) => return ended(host, words, Err(fault)),
+    };
+    let teller = Teller::new(rt, *host, words, &job.options.settings);
+    match pack_ladder(rt, host.alloc(), &job, older, &mut host.stdout(), &teller) {
         Err(fault) if teller.has_told(&fault) => ExitCode::from(fault.status()),
-        answer => ended(host, words, answer),
+        Err(fault) => ended(host, words, Err(teller.seen(fault))),
+        Ok(()) => ended(host, words, Ok(())),
     }
 }
 
@@ -117,7 +135,7 @@ fn main(rt: HostRuntime) -> ExitCode {
     };
     let answer = match line(rt.alloc(), &rt, words.as_slice()) {
         Ok(Job::Stream(job)) => run(&rt, job),
-        Ok(Job::Ladder(job)) => return pack(rt, &rt, words.as_slice(), &job),
+        Ok(Job::Ladder(job)) => return pack(rt, &rt, words.as_slice(), job),
         Err(fault) => Err(fault),
     };
     ended(&rt, words.as_slice(), answer)

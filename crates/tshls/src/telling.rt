@@ -1,8 +1,9 @@
 //! Faults on standard error: each as soon as it stands, and none twice.
 
+use channel::seen_fault;
 use command_line::{Fault, explain};
 use commands::LadderPackingFault;
-use pipeline::{Herald, PackFault};
+use pipeline::{Herald, PackFault, Settings};
 use std::io::IsTerminal;
 use std::sync::{Mutex, Wait};
 
@@ -25,16 +26,23 @@ pub struct Teller<'w, R> {
     rt: R,
     host: HostRuntime,
     words: &'w [String],
+    settings: &'w Settings,
     told: Mutex<[Option<PackFault>; RENDITIONS]>,
 }
 
 impl<'w, R: Wait> Teller<'w, R> {
-    /// Nothing was told yet. The words are those of the command line.
-    pub fn new(rt: R, host: HostRuntime, words: &'w [String]) -> Teller<'w, R> {
+    /// Nothing was told yet. The words are those of the command line, the settings those of the run.
+    pub fn new(
+        rt: R,
+        host: HostRuntime,
+        words: &'w [String],
+        settings: &'w Settings,
+    ) -> Teller<'w, R> {
         Teller {
             rt,
             host,
             words,
+            settings,
             told: Mutex::new([None; RENDITIONS]),
         }
     }
@@ -53,6 +61,16 @@ impl<'w, R: Wait> Teller<'w, R> {
         false
     }
 
+    /// The fault, with the number that players see of the segment which it names.
+    pub fn seen(&self, fault: Fault) -> Fault {
+        match fault {
+            Fault::LadderPacking(LadderPackingFault::Packing(fault)) => Fault::LadderPacking(
+                LadderPackingFault::Packing(seen_fault(fault, self.settings)),
+            ),
+            other => other,
+        }
+    }
+
     /// Keeps in mind that this fault was told.
     fn note(&self, fault: PackFault) {
         let mut told = self.told.lock(&self.rt);
@@ -69,6 +87,6 @@ impl<R: Wait> Herald for Teller<'_, R> {
     fn tell(&self, fault: PackFault) {
         self.note(fault);
         let fault = Fault::LadderPacking(LadderPackingFault::Packing(fault));
-        tell(&self.host, self.words, &fault);
+        tell(&self.host, self.words, &self.seen(fault));
     }
 }

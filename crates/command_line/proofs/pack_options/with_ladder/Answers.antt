@@ -2,7 +2,7 @@ use Rattle.std.proofs.Common.{◌≡◌, ◌∙◌, ap, ◌∷◌, [], ◌++◌,
 use Rattle.std.proofs.lemmas.Result.{IfOk-weaker}
 use Rattle.clap.specs.declared.builder.arg.Arg.{Arg}
 use Rattle.clap.specs.Words.{Rule, rule_of}
-use Rattle.command_line.specs.Options.{entries, flag, form_options, needed, packing_options, pool_options, text_option}
+use Rattle.command_line.specs.Options.{entries, folder_options, form_options, needed, packing_options, pool_options, text_option}
 use Rattle.command_line.proofs.Adding.{gets-both, gets-more, gets-none}
 use Rattle.command_line.proofs.pack_options.with_ladder.Goals as goal
 
@@ -12,11 +12,11 @@ returns c =
     let out : rule_of c.required.result ≡ needed (text_option (codes "out")) = ap rule_of c.required.ensures ∙ ap needed c.text.ensures.rule in
     let alone : c.required.result.global ≡ false = ap (λ (a : Arg). a.global) c.required.ensures ∙ c.text.ensures.alone in
     let folder : List Rule = needed (text_option (codes "out")) ∷ [] in
-    let synced : List Rule = needed (text_option (codes "out")) ∷ flag (codes "sync") ∷ [] in
+    let flags : List Rule = needed (text_option (codes "out")) ∷ folder_options in
     let first = gets-more command _ _ _ _ _ (gets-none command) c.in_ok-command.ensures alone out in
-    let second = gets-both command _ _ folder (flag (codes "sync") ∷ []) first c.in_ok-command-2.ensures in
-    let watched : List Rule = needed (text_option (codes "out")) ∷ flag (codes "sync") ∷ text_option (codes "metrics") ∷ [] in
-    let third = gets-both command _ _ synced (text_option (codes "metrics") ∷ []) second c.in_ok-command-3.ensures in
+    let second = gets-both command _ _ folder folder_options first c.in_ok-command-2.ensures in
+    let watched : List Rule = flags ++ text_option (codes "metrics") ∷ [] in
+    let third = gets-both command _ _ flags (text_option (codes "metrics") ∷ []) second c.in_ok-command-3.ensures in
     let pool = gets-both command _ _ watched pool_options third c.in_ok-command-4.ensures in
     let entered = gets-both command _ _ (watched ++ pool_options) (entries ∷ []) pool c.in_ok-command-5.ensures in
     let formed = gets-both command _ _ (watched ++ pool_options ++ entries ∷ []) form_options entered c.in_ok-command-6.ensures in
