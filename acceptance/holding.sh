@@ -7,11 +7,13 @@ check_holding() {
     check 'one: a fault is one line where nobody reads it' refuses 1 Settings one --codecs c --size 1x1 --keys "$key" --target 0
 }
 
-# is_held FOLDER: somebody locked it; waits for that up to ten seconds.
+# is_held FOLDER: somebody locked it; waits for that up to ten seconds. It reads the system's list of locks, since
+# whoever tries the lock holds it for a moment, and a packager that starts in that moment is told Busy.
 is_held() {
-    local try
+    local try inode
+    inode=$(stat -c %i "$1")
     for try in $(seq 100); do
-        flock -n "$1" true || return 0
+        grep -qE "^[0-9]+: FLOCK .*:$inode 0 EOF\$" /proc/locks && return
         sleep 0.1
     done
     echo "$1 is not locked after $try tries"
