@@ -7,7 +7,27 @@ check_commands() {
     check 'an unknown command' misused nothing "${options[@]}"
     check 'help as an option' misused --help
     check 'help as a command' misused help
+    check 'the man pages tell what help tells' man_pages_tell
     check 'the examples of the documents' python3 "$here/examples.py" "$program" "$here/../docs/COMMANDS.md"
+}
+
+# man_pages_tell: each command has a page with all its options, and with what its help says below them, line by line.
+man_pages_tell() {
+    local folder=$work/man command page word lines
+    mkdir "$folder"
+    "$here/../samples/man_pages" "$program" "$folder" || return 1
+    for command in seal open one pack check; do
+        page=$folder/tshls-$command.1
+        sed 's/^\\&//;s/\\//g' "$page" >"$page.text"
+        "$program" "$command" --help >"$work/help" 2>&1
+        grep -oe '--[a-z]*' "$work/help" | sort -u >"$work/words"
+        while read -r word; do
+            grep -qFe "$word" "$page.text" || { echo "tshls-$command.1 hasn't $word"; return 1; }
+        done <"$work/words"
+        lines=$(sed '1,/^Options:/d' "$work/help" | sed '1,/^$/d' | grep -cvFxf "$page.text")
+        [ "$lines" -eq 0 ] || { echo "tshls-$command.1 lacks $lines lines of its help"; return 1; }
+    done
+    [ -s "$folder/tshls.1" ]
 }
 
 check_command_line() {

@@ -40,6 +40,8 @@ class Ladder:
     salt: str | None = None
     event: bool = False
     entries: list = field(default_factory=list)
+    # What its streams have in common.
+    shape: Shape | None = None
 
     def words(self):
         """The options that say what is packed."""
@@ -130,7 +132,7 @@ def random_ladder(chance):
     if chance.random() < 0.25:
         ladder.salt = hex_digits(chance) if chance.random() < 0.95 else "00"
     groups = min(40, (90000 * (segment or target) + step - 1) // step * chance.randint(1, 9) + 1)
-    shape = Shape(program, step, groups, gap)
+    shape = ladder.shape = Shape(program, step, groups, gap)
     names = chance.sample(NAMES, chance.choice((1, 1, 2, 3)))
     if chance.random() < 0.01:
         names.append(names[0])

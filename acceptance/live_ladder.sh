@@ -3,6 +3,7 @@
 
 check_live_ladder() {
     check 'pack: a live ladder of three, watched' packs_live "${LIVE_SECONDS:-30}"
+    check 'pack: a channel as the guide has it, killed, silent, resumed, and with one rendition more' rehearses
     check 'pack: one of three inputs is silent, faster, or before the others' plays_silence silence.py
     check 'pack: one of three inputs is silent for too long, or has a fault' plays_silence stalls.py
 }
@@ -42,4 +43,9 @@ packs_live() {
 
 plays_silence() {
     python3 "$here/$1" "$program" >"$work/silence" 2>&1 || { tail -1 "$work/silence"; return 1; }
+}
+
+# The packager, its encoder and nginx by the files of samples/origin: REHEARSAL_SECONDS says for how long.
+rehearses() {
+    "$here/origin.sh" "$program" >"$work/rehearsal" 2>&1 || { tail -5 "$work/rehearsal"; return 1; }
 }

@@ -19,6 +19,7 @@ check_pack() {
     check_pack_ends
     check_no_threads
     check_stops
+    check_restarts
     check_holding
     check_served_ladder
     check_live_ladder

@@ -32,14 +32,17 @@ class Row:
 
 
 def first_listed(rows, options):
-    """The greatest row from which on enough is left, as many as the window and three targets; an event keeps all."""
+    """The greatest row from which on enough is left, as many as the window and three targets; an event keeps all.
+
+    A run that goes on knows no row before those that were listed when it began.
+    """
     if options.event:
         return 0
     enough = 3 * options.target * 1000000
     return max(
         j
-        for j in range(len(rows) + 1)
-        if j == 0 or len(rows) - j >= options.window and sum(row.duration for row in rows[j:]) >= enough
+        for j in range(options.known, len(rows) + 1)
+        if j == options.known or len(rows) - j >= options.window and sum(row.duration for row in rows[j:]) >= enough
     )
 
 
@@ -49,7 +52,7 @@ def top(options, sequence, discontinuities):
         "#EXT-X-VERSION:4",
         f"#EXT-X-TARGETDURATION:{options.target}",
         f"#EXT-X-MEDIA-SEQUENCE:{sequence}",
-        f"#EXT-X-DISCONTINUITY-SEQUENCE:{discontinuities}",
+        f"#EXT-X-DISCONTINUITY-SEQUENCE:{options.behind + discontinuities}",
     ] + ["#EXT-X-PLAYLIST-TYPE:EVENT"] * options.event
 
 
@@ -106,9 +109,10 @@ def bandwidths(pieces, target):
 
 
 def master(variants):
-    """Of (rows, options) pairs: the streams of all, and behind them those of their I-frames."""
+    """Of (rows, options) pairs: the streams of all, and behind them those of their I-frames. Rates are those of known rows."""
     streams, frames = [], []
     for rows, options in variants:
+        rows = rows[options.known :]
         name = escaped(options.name)
         shown = f'CODECS="{options.codecs}",RESOLUTION={options.size}'
         whole = bandwidths([(row.size, row.duration) for row in rows], options.target)

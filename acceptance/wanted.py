@@ -26,6 +26,8 @@ def read_options(words):
     options.keys = options.keys.split("+")
     options.size = "x".join(str(int(side)) for side in options.size.split("x"))
     options.segment = 90000 * (options.target if options.segment is None else options.segment)
+    # The run is the first one: no row is known before its own, and it begins behind no discontinuity.
+    options.known, options.behind = 0, 0
     return options
 
 
@@ -46,15 +48,18 @@ def both_lists(rows, options, ended):
     ]
 
 
-def sealed_rows(data, options):
-    """The row and the sealed bytes of each segment. At a fault of the stream it is raised behind those that come before it."""
+def sealed_rows(data, options, first=0):
+    """The row and the sealed bytes of each segment, from this number on. At a fault of the stream it is raised behind those that
+    come before it. The first one behind those of an earlier run is a discontinuity."""
     for segment in segments.segments(data, options):
-        key = segment.number // options.period % len(options.keys)
+        number = first + segment.number
+        key = number // options.period % len(options.keys)
         head = segment.head()
-        bytes_sealed = sealed(head + segment.body(), options.keys[key], playlists.vector(segment.number, options.salt))
+        bytes_sealed = sealed(head + segment.body(), options.keys[key], playlists.vector(number, options.salt))
         frames = [(len(head) + offset, length, duration) for offset, length, duration in segment.frames]
         duration = segments.micros(segment.ticks)
-        row = playlists.Row(segment.number, len(bytes_sealed), duration, key, segment.discontinuity, frames)
+        breaks = segment.discontinuity or number == first > 0
+        row = playlists.Row(number, len(bytes_sealed), duration, key, breaks, frames)
         yield row, bytes_sealed
 
 
