@@ -61,10 +61,10 @@ fn bytes_of(spool: &Spool) -> u64 {
 }
 
 /// Turns the spool out against the spare one, and tells how many bytes the bodies in it have.
-fn turn(alloc: Global, cutter: &mut SpoolCutter, spare: &mut Spool) -> Result<u64, CutFault>
+fn swap(alloc: Global, cutter: &mut SpoolCutter, spare: &mut Spool) -> Result<u64, CutFault>
     ensures { cutter.new.list ≡ cutter.old.list }
 {
-    match cutter.turn(mem::replace(spare, Spool::new(alloc))) {
+    match cutter.swap(mem::replace(spare, Spool::new(alloc))) {
         Ok(full) => {
             *spare = full;
             Ok(bytes_of(spare))
@@ -85,11 +85,11 @@ fn spool_all(
     let mut bytes = 0u64;
     for n in 0..PACKETS {
         if cutter.push(&packet(n))? && cutter.plans() >= most {
-            bytes = bytes.wrapping_add(turn(alloc, cutter, spare)?);
+            bytes = bytes.wrapping_add(swap(alloc, cutter, spare)?);
         }
     }
     cutter.finish()?;
-    Ok(bytes.wrapping_add(turn(alloc, cutter, spare)?))
+    Ok(bytes.wrapping_add(swap(alloc, cutter, spare)?))
 }
 
 /// The same, of plans that stand in spools of so many.

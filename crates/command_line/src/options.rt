@@ -1,7 +1,8 @@
 //! The options of each command: how help shows them, and the words that were given.
 ghost use Rattle.std.specs.Prelude.{◌≡◌, codes, false, map, option_map, IfOk};
 ghost use Rattle.clap.specs.Words.{first_value, found_of, rule_of};
-ghost use Rattle.command_line.specs.Options.{GetsOptions, check_options, cipher_options, form_options, number_option, numbered, rendition_options, stream_options, text_option};
+ghost use Rattle.command_line.specs.Options.{GetsOptions, check_options, cipher_options, form_options, number_option, numbered};
+ghost use Rattle.command_line.specs.Options.{rendition_options, stream_options, text_option};
 ghost use Rattle.command_line.specs.Words.{IsFlagOf, IsGivenNumber, IsNumberOf, given_text, is_given, text_of};
 
 use clap::parser::ValueSource;

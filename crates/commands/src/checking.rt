@@ -129,7 +129,8 @@ fn read_segments<F: FileReader>(
     playlist: &str,
     listing: &Listing,
 ) -> Result<Vec<Vec<u8>>, FileFault>
-    ensures ok { IfOk result (λ segments. Checking.AllGive (F.gives files.now) (Checking.segment_paths playlist.now listing.now) (map (λ s. s.items) segments.items)) }
+    ensures ok { IfOk result (λ segments. Checking.AllGive (F.gives files.now) (Checking.segment_paths playlist.now listing.now)
+        (map (λ s. s.items) segments.items)) }
     ensures unread { IsErrOf result FileFault.Unread → Checking.RefusesOne (F.refuses files.now) (Checking.segment_paths playlist.now listing.now) }
 {
     let mut segments = Vec::new(alloc);
@@ -182,8 +183,10 @@ pub fn check<F: FileReader, W: Write>(
     output: &mut W,
 ) -> Result<(), CheckingFault>
     ensures ok { OnOk result (Checking.WritesChecked (F.gives files.now) keys.now playlist.now (W.contents output.old) (W.contents output.new)) }
-    ensures unwritten { IsErrOf result CheckingFault.Unwritten → Checking.BeginsChecked (F.gives files.now) keys.now playlist.now (W.contents output.old) (W.contents output.new) }
-    ensures other { IfErr result (λ fault. fault ≢ CheckingFault.Unwritten → Checking.IsCheckFault (F.gives files.now) (F.refuses files.now) (F.wants files.now) keys.now playlist.now fault) }
+    ensures unwritten { IsErrOf result CheckingFault.Unwritten →
+        Checking.BeginsChecked (F.gives files.now) keys.now playlist.now (W.contents output.old) (W.contents output.new) }
+    ensures other { IfErr result (λ fault. fault ≢ CheckingFault.Unwritten →
+        Checking.IsCheckFault (F.gives files.now) (F.refuses files.now) (F.wants files.now) keys.now playlist.now fault) }
     ensures untouched { IfErr result (λ fault. fault ≢ CheckingFault.Unwritten → output.new ≡ output.old) }
 {
     let checked = check_files(alloc, files, keys, playlist)?;

@@ -107,9 +107,11 @@ pub fn read_cipher_options<F: FileReader>(
     ensures key { IfOk result (λ options. TellsKey (F.gives files.now) words.entry.key.now options.key) }
     ensures vector { IfOk result (λ options. chosen_vector words.entry.seq (option_map (λ t. t.now) words.entry.iv) ≡ Some options.vector) }
     ensures bad_key { IsErrOf result CipherFault.BadKey ↔ (is_key_word words.entry.key.now ≡ false) }
-    ensures bad_vector { IsErrOf result CipherFault.BadVector ↔ ((is_key_word words.entry.key.now ≡ true) × (chosen_vector words.entry.seq (option_map (λ t. t.now) words.entry.iv) ≡ None)) }
+    ensures bad_vector { IsErrOf result CipherFault.BadVector ↔
+        ((is_key_word words.entry.key.now ≡ true) × (chosen_vector words.entry.seq (option_map (λ t. t.now) words.entry.iv) ≡ None)) }
     ensures unread { IsErrOf result CipherFault.Unread → AreGood (cipher_words words.entry) × IsOfFile (F.refuses files.now) words.entry.key.now }
-    ensures bad_file { (n : ℕ) → IsErrOf result (CipherFault.BadKeyFile n) → AreGood (cipher_words words.entry) × (n ≡ 1) × IsOfFile (GivesNoKey (F.gives files.now)) words.entry.key.now }
+    ensures bad_file { (n : ℕ) → IsErrOf result (CipherFault.BadKeyFile n) → AreGood (cipher_words words.entry) × (n ≡ 1) ×
+        IsOfFile (GivesNoKey (F.gives files.now)) words.entry.key.now }
     ensures no_memory { IsErrOf result CipherFault.NoMemory → AreGood (cipher_words words.entry) × IsOfFile (F.wants files.now) words.entry.key.now }
 {
     if !is_key_word(words.key) {

@@ -85,7 +85,8 @@ pub(crate) fn read_word<F: FileReader>(
     requires { is_key_word word.text.now ≡ true }
     ensures ok { IfOk result (λ key. TellsKey (F.gives files.now) word.entry.text.now key) }
     ensures unread { IsErrOf result KeyFileFault.Unread → IsOfFile (F.refuses files.now) word.entry.text.now }
-    ensures bad { (n : ℕ) → IsErrOf result (KeyFileFault.BadKeyFile n) → (n ≡ word.entry.number) × IsOfFile (GivesNoKey (F.gives files.now)) word.entry.text.now }
+    ensures bad { (n : ℕ) → IsErrOf result (KeyFileFault.BadKeyFile n) → (n ≡ word.entry.number) ×
+        IsOfFile (GivesNoKey (F.gives files.now)) word.entry.text.now }
     ensures no_memory { IsErrOf result KeyFileFault.NoMemory → IsOfFile (F.wants files.now) word.entry.text.now }
 {
     let Some(name) = file_name(word.text) else {

@@ -4,7 +4,8 @@ ghost use Rattle.commands.specs.Defaults.{numbers_of};
 ghost use Rattle.commands.specs.Pools.{pool_of, IsPool};
 ghost use Rattle.commands.specs.Settings.{FitsCut};
 ghost use Rattle.commands.specs.Entries.{entry_value};
-ghost use Rattle.commands.specs.LadderOptions.{asked_of, IsBadEntry, HasBadSalt, HasTooMany, HasNoPeriod, HasTurns, IsOutside, HasUnreadKey, HasBadKeyFile, AreOptionsOf};
+ghost use Rattle.commands.specs.LadderOptions.{asked_of, IsBadEntry, HasBadSalt, HasTooMany, HasNoPeriod, HasTurns, IsOutside};
+ghost use Rattle.commands.specs.LadderOptions.{HasUnreadKey, HasBadKeyFile, AreOptionsOf};
 
 use crate::entry::{EntryWords, entries, first_bad};
 use crate::files::FileReader;
@@ -92,10 +93,14 @@ pub fn read_ladder_options<'a, F: FileReader>(
     ensures too_many { IsErrOf result LadderFault.TooMany ↔ HasTooMany (asked_of words.entry (numbers_of numbers) (pool_of pool)) }
     ensures zero_period { IsErrOf result LadderFault.ZeroPeriod ↔ HasNoPeriod (asked_of words.entry (numbers_of numbers) (pool_of pool)) }
     ensures settings { IsErrOf result LadderFault.Settings → IsOutside (asked_of words.entry (numbers_of numbers) (pool_of pool)) }
-    ensures outside { IsOutside (asked_of words.entry (numbers_of numbers) (pool_of pool)) → IsErrOf result LadderFault.Settings ⊎ IsErrOf result LadderFault.NoMemory }
-    ensures unread { IsErrOf result LadderFault.Unread → HasUnreadKey (F.gives files.now) (F.refuses files.now) (asked_of words.entry (numbers_of numbers) (pool_of pool)) }
-    ensures bad_file { (n : ℕ) → IsErrOf result (LadderFault.BadKeyFile n) → HasBadKeyFile (F.gives files.now) (asked_of words.entry (numbers_of numbers) (pool_of pool)) n }
-    ensures no_memory { IsErrOf result LadderFault.NoMemory → HasTurns (asked_of words.entry (numbers_of numbers) (pool_of pool)) × FitsCut (numbers_of numbers) × IsPool (pool_of pool) }
+    ensures outside { IsOutside (asked_of words.entry (numbers_of numbers) (pool_of pool)) → IsErrOf result LadderFault.Settings ⊎
+        IsErrOf result LadderFault.NoMemory }
+    ensures unread { IsErrOf result LadderFault.Unread → HasUnreadKey (F.gives files.now) (F.refuses files.now)
+        (asked_of words.entry (numbers_of numbers) (pool_of pool)) }
+    ensures bad_file { (n : ℕ) → IsErrOf result (LadderFault.BadKeyFile n) →
+        HasBadKeyFile (F.gives files.now) (asked_of words.entry (numbers_of numbers) (pool_of pool)) n }
+    ensures no_memory { IsErrOf result LadderFault.NoMemory → HasTurns (asked_of words.entry (numbers_of numbers) (pool_of pool)) ×
+        FitsCut (numbers_of numbers) × IsPool (pool_of pool) }
 {
     let numbers = numbers.numbers();
     let pool = pool.pool();

@@ -60,12 +60,18 @@ pub fn pack<S: Source + Drop, O: Outlet + Drop, W: Write, R: Threads + Wait + Sy
 ) -> PackedLadder<S, O>
     requires room { HaveRoom S.input READS sources.items }
     requires failures { O.output.failures outlet < 2 ^ 63 }
-    ensures ok { IfOk result.answer (IsPackedShown (run_of S.input O.output READS sources.items result.sources.items outlet result.outlet) settings.now pool.workers publisher.list result.publisher.list) }
+    ensures ok { IfOk result.answer (IsPackedShown
+        (run_of S.input O.output READS sources.items result.sources.items outlet result.outlet)
+        settings.now pool.workers publisher.list result.publisher.list) }
     ensures written { IfOk result.answer (λ report. WritesSummary settings.now report (W.contents output.old) (W.contents output.new)) }
-    ensures fault { IfErr result.answer (LadderSays (run_of S.input O.output READS sources.items result.sources.items outlet result.outlet) settings.now pool.workers publisher.list result.publisher.list (W.contents output.old) (W.contents output.new)) }
+    ensures fault { IfErr result.answer (LadderSays
+        (run_of S.input O.output READS sources.items result.sources.items outlet result.outlet)
+        settings.now pool.workers publisher.list result.publisher.list (W.contents output.old) (W.contents output.new)) }
     ensures board { result.publisher.board ≡ publisher.board }
     ensures fits { OnOk result.answer (Fits settings.now (length sources.items) pool.workers (counts_shown publisher.list)) }
-    ensures breach { IfErr result.answer (TurnsAway (run_of S.input O.output READS sources.items result.sources.items outlet result.outlet) settings.now pool.workers publisher.list result.publisher.list) }
+    ensures breach { IfErr result.answer (TurnsAway
+        (run_of S.input O.output READS sources.items result.sources.items outlet result.outlet)
+        settings.now pool.workers publisher.list result.publisher.list) }
 {
     let Ran {
         sources,
@@ -110,7 +116,9 @@ fn write_summary<W: Write>(
 ) -> Result<Report, LadderPackingFault>
     ensures same { IfOk result (λ given. given ≡ report) }
     ensures ok { IfOk result (λ given. WritesSummary settings.now given (W.contents output.old) (W.contents output.new)) }
-    ensures fault { IfErr result (λ fault. ((fault ≡ Unwritten) × BeginsSummary settings.now report (W.contents output.old) (W.contents output.new)) ⊎ ((fault ≡ NoMemory) × Keeps (W.contents output.old) (W.contents output.new))) }
+    ensures fault { IfErr result (λ fault. ((fault ≡ Unwritten) ×
+        BeginsSummary settings.now report (W.contents output.old) (W.contents output.new)) ⊎
+        ((fault ≡ NoMemory) × Keeps (W.contents output.old) (W.contents output.new))) }
 {
     let Ok(text) = summary(alloc, settings, &report) else {
         return Err(LadderPackingFault::NoMemory);

@@ -3,7 +3,8 @@ ghost use Rattle.std.specs.Option.{option_map};
 ghost use Rattle.commands.specs.Hex.{chosen_salt};
 ghost use Rattle.commands.specs.Entries.{entry_of, entry_value, IsGood};
 ghost use Rattle.commands.specs.KeyLists.{key_texts};
-ghost use Rattle.commands.specs.LadderOptions.{asked_of, key_count, key_total, IsWhole, entry_words, HasTurns, ShareKeys, IsAskedLadder, IsWithin, IsOutside, IsReadLadder};
+ghost use Rattle.commands.specs.LadderOptions.{asked_of, key_count, key_total, IsWhole, entry_words, HasTurns, ShareKeys, IsAskedLadder};
+ghost use Rattle.commands.specs.LadderOptions.{IsWithin, IsOutside, IsReadLadder};
 ghost use Rattle.commands.specs.LadderOptions.{HasUnreadKey, HasBadKeyFile, IsBehindTexts};
 ghost use Rattle.commands.specs.Pools.{IsPool};
 ghost use Rattle.commands.specs.Settings.{FitsCut, IsRenditionOf, cut_of};
@@ -61,7 +62,8 @@ fn rendition(
     requires keys { length keys.now ≡ length (key_texts entry.keys.now) }
     requires salt { chosen_salt (option_map (λ t. t.now) words.salt) ≢ None }
     requires some { 0 < period }
-    ensures { IfOk result (λ made. IsRenditionOf (entry_words (option_map (λ t. t.now) words.entry.salt) words.entry.event (entry_value entry.entry)) period keys.now made) }
+    ensures { IfOk result (λ made. IsRenditionOf (entry_words (option_map (λ t. t.now) words.entry.salt) words.entry.event
+        (entry_value entry.entry)) period keys.now made) }
 {
     let words = PackingWords {
         name: Some(entry.name),
@@ -86,7 +88,8 @@ fn renditions(
     requires keys { length keys.now ≡ key_total (map entry_value entries.now) }
     requires salt { chosen_salt (option_map (λ t. t.now) words.salt) ≢ None }
     requires some { 0 < period }
-    ensures { IfOk result (λ made. ShareKeys (entry_words (option_map (λ t. t.now) words.entry.salt) words.entry.event) period (map entry_value entries.now) keys.now made.items) }
+    ensures { IfOk result (λ made. ShareKeys (entry_words (option_map (λ t. t.now) words.entry.salt) words.entry.event) period
+        (map entry_value entries.now) keys.now made.items) }
 {
     let mut renditions = Vec::new(alloc);
     let mut rest = keys;

@@ -115,14 +115,17 @@ pub fn open<S: Source, W: Write>(
     output: &mut W,
 ) -> Result<(), OpeningFault>
     requires room { HasRoom (S.input.reads input.old) (S.input.failures input.old) }
-    ensures ok { OnOk result (WritesOpened key.now vector.now (S.input.left input.old) (S.input.left input.new) (W.contents output.old) (W.contents output.new)) }
+    ensures ok { OnOk result (WritesOpened key.now vector.now (S.input.left input.old) (S.input.left input.new) (W.contents output.old)
+        (W.contents output.new)) }
     ensures ok_counts { OnOk result (ReadsFewer (S.input.reads input.old) (S.input.reads input.new) (S.input.failures input.old) (S.input.failures input.new)) }
-    ensures unwritten { IsErrOf result OpeningFault.Unwritten → BeginsOpened key.now vector.now (S.input.left input.old) (S.input.left input.new) (W.contents output.old) (W.contents output.new) }
+    ensures unwritten { IsErrOf result OpeningFault.Unwritten →
+        BeginsOpened key.now vector.now (S.input.left input.old) (S.input.left input.new) (W.contents output.old) (W.contents output.new) }
     ensures bad_hex { IsErrOf result OpeningFault.BadHex → ReadsOther (S.input.left input.old) (S.input.left input.new) }
     ensures not_blocks { IsErrOf result OpeningFault.NotBlocks → ReadsNoBlocks (S.input.left input.old) (S.input.left input.new) }
     ensures bad_padding { IsErrOf result OpeningFault.BadPadding → ReadsNoSealed key.now vector.now (S.input.left input.old) (S.input.left input.new) }
     ensures untouched { IfErr result (λ fault. fault ≢ OpeningFault.Unwritten → output.new ≡ output.old) }
-    ensures counts { IfErr result (OpeningCounts (S.input.reads input.old) (S.input.reads input.new) (S.input.failures input.old) (S.input.failures input.new)) }
+    ensures counts { IfErr result (OpeningCounts (S.input.reads input.old) (S.input.reads input.new) (S.input.failures input.old)
+        (S.input.failures input.new)) }
 {
     let line = read_all(alloc, input)?;
     let sealed = decode_line(alloc, &line)?;

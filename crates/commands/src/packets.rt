@@ -18,7 +18,8 @@ pub(crate) fn read_packets<S: Source>(
     ensures packets { IfOk result (λ found. (bytes : List ℕ)
         × ReadsAll (S.input.left input.old) (S.input.left input.new) bytes × (found.items ≡ packets bytes)) }
     ensures ok_counts { OnOk result (ReadsFewer (S.input.reads input.old) (S.input.reads input.new) (S.input.failures input.old) (S.input.failures input.new)) }
-    ensures counts { IfErr result (ReadingCounts (S.input.reads input.old) (S.input.reads input.new) (S.input.failures input.old) (S.input.failures input.new)) }
+    ensures counts { IfErr result (ReadingCounts (S.input.reads input.old) (S.input.reads input.new) (S.input.failures input.old)
+        (S.input.failures input.new)) }
 {
     let mut reader = Reader::new();
     let mut packets = Vec::new(alloc);

@@ -65,10 +65,12 @@ pub fn one<R: Read + Drop, W: Write>(
     input: R,
     output: W,
 ) -> Packed<R, W>
-    ensures ok { OnOk result.answer (WritesPacked settings.now (R.remaining input) (R.remaining result.source.reader) (W.contents output) (W.contents result.outlet.writer)) }
+    ensures ok { OnOk result.answer (WritesPacked settings.now (R.remaining input) (R.remaining result.source.reader) (W.contents output)
+        (W.contents result.outlet.writer)) }
     ensures ok_counts { OnOk result.answer (NoneFailed result.source.failures result.outlet.failures) }
     ensures allowed { OnOk result.answer (IsAllowed settings.now × (length settings.now.renditions ≡ 1)) }
-    ensures fault { IfErr result.answer (PackingSays settings.now (R.remaining input) (R.remaining result.source.reader) (W.contents output) (W.contents result.outlet.writer)) }
+    ensures fault { IfErr result.answer (PackingSays settings.now (R.remaining input) (R.remaining result.source.reader) (W.contents output)
+        (W.contents result.outlet.writer)) }
     ensures fault_counts { IfErr result.answer (CountsSay result.source.reads result.source.failures result.outlet.failures) }
 {
     let mut outlet = LineOutlet::new(alloc, output);

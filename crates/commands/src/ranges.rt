@@ -2,7 +2,9 @@
 ghost use Rattle.std.specs.Prelude.{◌≡◌, ◌-◌, ◌*◌, ◌^◌};
 ghost use Rattle.item_io.specs.declared.limits.TheConstants.{PIECE, READS};
 ghost use Rattle.ts_packet.specs.declared.lengths.TheConstants.{PACKET};
-ghost use Rattle.limits.specs.declared.TheConstants.{LAST_SEGMENT, LEAST, MOST_FRAME, MOST_GAP, MOST_KEYS, MOST_PACKETS, MOST_PIXELS, MOST_PROGRAM, MOST_QUEUE, MOST_RENDITIONS, MOST_TARGET, MOST_WINDOW, MOST_WORKERS, TICKS};
+ghost use Rattle.limits.specs.declared.TheConstants.{LAST_SEGMENT, LEAST, MOST_FRAME, MOST_GAP, MOST_KEYS, MOST_PACKETS, MOST_PIXELS};
+ghost use Rattle.limits.specs.declared.TheConstants.{MOST_PROGRAM, MOST_QUEUE, MOST_RENDITIONS, MOST_TARGET, MOST_WINDOW, MOST_WORKERS};
+ghost use Rattle.limits.specs.declared.TheConstants.{TICKS};
 
 /// What the limits are, which the clauses of a run and of what reads its settings cite by their names.
 pub fn limits_are_these()

@@ -74,11 +74,14 @@ pub fn seal<S: Source, W: Write>(
     output: &mut W,
 ) -> Result<(), SealingFault>
     requires room { HasRoom (S.input.reads input.old) (S.input.failures input.old) }
-    ensures ok { OnOk result (WritesSealed key.now vector.now (S.input.left input.old) (S.input.left input.new) (W.contents output.old) (W.contents output.new)) }
+    ensures ok { OnOk result (WritesSealed key.now vector.now (S.input.left input.old) (S.input.left input.new) (W.contents output.old)
+        (W.contents output.new)) }
     ensures ok_counts { OnOk result (ReadsFewer (S.input.reads input.old) (S.input.reads input.new) (S.input.failures input.old) (S.input.failures input.new)) }
-    ensures unwritten { IsErrOf result SealingFault.Unwritten → BeginsSealed key.now vector.now (S.input.left input.old) (S.input.left input.new) (W.contents output.old) (W.contents output.new) }
+    ensures unwritten { IsErrOf result SealingFault.Unwritten →
+        BeginsSealed key.now vector.now (S.input.left input.old) (S.input.left input.new) (W.contents output.old) (W.contents output.new) }
     ensures untouched { IfErr result (λ fault. fault ≢ SealingFault.Unwritten → output.new ≡ output.old) }
-    ensures counts { IfErr result (SealingCounts (S.input.reads input.old) (S.input.reads input.new) (S.input.failures input.old) (S.input.failures input.new)) }
+    ensures counts { IfErr result (SealingCounts (S.input.reads input.old) (S.input.reads input.new) (S.input.failures input.old)
+        (S.input.failures input.new)) }
 {
     let packets = read_packets(alloc, input)?;
     let sealed = aes_cbc::seal(alloc, key, vector, packets.as_flattened())?;

@@ -143,9 +143,14 @@ fn look(words: PackingWords<'_>, period: u64) -> Result<Parts, SettingsFault>
     ensures salt { IfOk result (λ parts. chosen_salt (words_of words.entry).salt ≡ Some parts.salt) }
     ensures bad_key { IsErrOf result SettingsFault.BadKey ↔ (are_keys words.entry.keys.now ≡ false) }
     ensures bad_size { IsErrOf result SettingsFault.BadSize ↔ ((are_keys words.entry.keys.now ≡ true) × ¬ HasSize words.entry.size.now) }
-    ensures bad_vector { IsErrOf result SettingsFault.BadVector ↔ ((are_keys words.entry.keys.now ≡ true) × HasSize words.entry.size.now × (chosen_salt (words_of words.entry).salt ≡ None)) }
-    ensures too_many { IsErrOf result SettingsFault.TooMany ↔ ((are_keys words.entry.keys.now ≡ true) × HasSize words.entry.size.now × HasSalt (words_of words.entry) × (MOST_KEYS < length (key_texts words.entry.keys.now))) }
-    ensures zero_period { IsErrOf result SettingsFault.ZeroPeriod ↔ ((are_keys words.entry.keys.now ≡ true) × HasSize words.entry.size.now × HasSalt (words_of words.entry) × (length (key_texts words.entry.keys.now) ≤ MOST_KEYS) × (period ≡ 0)) }
+    ensures bad_vector { IsErrOf result SettingsFault.BadVector ↔
+        ((are_keys words.entry.keys.now ≡ true) × HasSize words.entry.size.now × (chosen_salt (words_of words.entry).salt ≡ None)) }
+    ensures too_many { IsErrOf result SettingsFault.TooMany ↔
+        ((are_keys words.entry.keys.now ≡ true) × HasSize words.entry.size.now × HasSalt (words_of words.entry) ×
+        (MOST_KEYS < length (key_texts words.entry.keys.now))) }
+    ensures zero_period { IsErrOf result SettingsFault.ZeroPeriod ↔
+        ((are_keys words.entry.keys.now ≡ true) × HasSize words.entry.size.now × HasSalt (words_of words.entry) ×
+        (length (key_texts words.entry.keys.now) ≤ MOST_KEYS) × (period ≡ 0)) }
     ensures unread { IsErrOf result SettingsFault.Unread → ⊥ }
     ensures bad_file { (n : ℕ) → IsErrOf result (SettingsFault.BadKeyFile n) → ⊥ }
     ensures only { IfErr result (λ fault. (fault ≢ SettingsFault.Settings) × (fault ≢ SettingsFault.NoMemory)) }
@@ -250,12 +255,20 @@ pub fn read_settings<F: FileReader>(
     ensures ok { IfOk result (IsReadLadderOf (F.gives files.now) (words_of words.entry) (numbers_of numbers)) }
     ensures bad_key { IsErrOf result SettingsFault.BadKey ↔ (are_keys words.entry.keys.now ≡ false) }
     ensures bad_size { IsErrOf result SettingsFault.BadSize ↔ ((are_keys words.entry.keys.now ≡ true) × ¬ HasSize words.entry.size.now) }
-    ensures bad_vector { IsErrOf result SettingsFault.BadVector ↔ ((are_keys words.entry.keys.now ≡ true) × HasSize words.entry.size.now × (chosen_salt (words_of words.entry).salt ≡ None)) }
-    ensures too_many { IsErrOf result SettingsFault.TooMany ↔ ((are_keys words.entry.keys.now ≡ true) × HasSize words.entry.size.now × HasSalt (words_of words.entry) × (MOST_KEYS < length (key_texts words.entry.keys.now))) }
-    ensures zero_period { IsErrOf result SettingsFault.ZeroPeriod ↔ ((are_keys words.entry.keys.now ≡ true) × HasSize words.entry.size.now × HasSalt (words_of words.entry) × (length (key_texts words.entry.keys.now) ≤ MOST_KEYS) × ((numbers_of numbers).period ≡ 0)) }
-    ensures settings { IsErrOf result SettingsFault.Settings ↔ (AreGoodWords (words_of words.entry) (numbers_of numbers).period × ¬ FitsCut (numbers_of numbers)) }
-    ensures unread { IsErrOf result SettingsFault.Unread → AreFit (words_of words.entry) (numbers_of numbers) × IsUnreadKey (F.gives files.now) (F.refuses files.now) words.entry.keys.now }
-    ensures bad_file { (n : ℕ) → IsErrOf result (SettingsFault.BadKeyFile n) → AreFit (words_of words.entry) (numbers_of numbers) × IsBadKeyFile (F.gives files.now) words.entry.keys.now n }
+    ensures bad_vector { IsErrOf result SettingsFault.BadVector ↔
+        ((are_keys words.entry.keys.now ≡ true) × HasSize words.entry.size.now × (chosen_salt (words_of words.entry).salt ≡ None)) }
+    ensures too_many { IsErrOf result SettingsFault.TooMany ↔
+        ((are_keys words.entry.keys.now ≡ true) × HasSize words.entry.size.now × HasSalt (words_of words.entry) ×
+        (MOST_KEYS < length (key_texts words.entry.keys.now))) }
+    ensures zero_period { IsErrOf result SettingsFault.ZeroPeriod ↔
+        ((are_keys words.entry.keys.now ≡ true) × HasSize words.entry.size.now × HasSalt (words_of words.entry) ×
+        (length (key_texts words.entry.keys.now) ≤ MOST_KEYS) × ((numbers_of numbers).period ≡ 0)) }
+    ensures settings { IsErrOf result SettingsFault.Settings ↔
+        (AreGoodWords (words_of words.entry) (numbers_of numbers).period × ¬ FitsCut (numbers_of numbers)) }
+    ensures unread { IsErrOf result SettingsFault.Unread → AreFit (words_of words.entry) (numbers_of numbers) ×
+        IsUnreadKey (F.gives files.now) (F.refuses files.now) words.entry.keys.now }
+    ensures bad_file { (n : ℕ) → IsErrOf result (SettingsFault.BadKeyFile n) → AreFit (words_of words.entry) (numbers_of numbers) ×
+        IsBadKeyFile (F.gives files.now) words.entry.keys.now n }
     ensures no_memory { IsErrOf result SettingsFault.NoMemory → AreFit (words_of words.entry) (numbers_of numbers) }
 {
     let numbers = numbers.numbers();

@@ -134,7 +134,7 @@ fn take_plan(
     if !closed {
         return Ok(None);
     }
-    match inner.turn(Spool::new(alloc)) {
+    match inner.swap(Spool::new(alloc)) {
         Ok(full) => Ok(full.into_first()),
         Err(_spare) => Err(AllocError),
     }

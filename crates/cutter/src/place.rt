@@ -4,7 +4,8 @@ ghost use Rattle.std.specs.Prelude.{◌≡◌, ◌+◌, ◌<◌, ◌≤◌, ◌*
 ghost use Rattle.cutter.specs.Settings.{IsAllowed};
 ghost use Rattle.cutter.specs.Segments;
 ghost use Rattle.cutter.specs.SegmentState;
-ghost use Rattle.cutter.specs.SegmentState.{added, begun, carried, sized, taken, finished, gives, faults, renewed, over, held_in, Places, Refuses, IsIdle, IsInRange, HasRange};
+ghost use Rattle.cutter.specs.SegmentState.{added, begun, carried, sized, taken, finished, gives, faults, renewed, over, held_in, Places};
+ghost use Rattle.cutter.specs.SegmentState.{Refuses, IsIdle, IsInRange, HasRange};
 ghost use Rattle.limits.specs.declared.TheConstants.{MOST_FRAME};
 
 use crate::fault::CutFault;
@@ -27,7 +28,8 @@ pub(crate) fn place(
 ) -> Result<bool, CutFault>
     requires settings { IsAllowed settings }
     requires idle { IsIdle going.old reel.old }
-    ensures ok { IfOk result (Places (taken rendition settings (held_in going.old reel.old) (option_copied tables.entry) mark.now.counted mark.now) reel.old reel.new going.new) }
+    ensures ok { IfOk result (Places (taken rendition settings (held_in going.old reel.old)
+        (option_copied tables.entry) mark.now.counted mark.now) reel.old reel.new going.new) }
     ensures err { IfErr result (Refuses (taken rendition settings (held_in going.old reel.old) (option_copied tables.entry) mark.now.counted mark.now)) }
     ensures kept { OnErr result (reel.new.plans ≡ reel.old.plans) }
 {
@@ -121,7 +123,8 @@ fn cut(
     mark: &Mark<'_>,
 ) -> Result<(), CutFault>
     requires { IsAllowed settings }
-    ensures ok { OnOk result (Places (SegmentState.cut rendition settings (over going.old reel.old) point.now mark.now) reel.old reel.new (Some going.new) true) }
+    ensures ok { OnOk result (Places (SegmentState.cut rendition settings (over going.old reel.old) point.now mark.now) reel.old reel.new
+        (Some going.new) true) }
     ensures err { IfErr result (Refuses (SegmentState.cut rendition settings (over going.old reel.old) point.now mark.now)) }
     ensures kept { OnErr result (reel.new.plans ≡ reel.old.plans) }
 {

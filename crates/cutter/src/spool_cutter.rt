@@ -1,4 +1,5 @@
-ghost use Rattle.std.specs.Prelude.{◌≡◌, ◌<◌, ◌^◌, ◌⊎◌, [], ◌∷◌, ◌++◌, ℕ, List, Option, is_some, Err, true, false, None, length, IfSome, IfOk, IfErr, OnOk, OnErr};
+ghost use Rattle.std.specs.Prelude.{◌≡◌, ◌<◌, ◌^◌, ◌⊎◌, [], ◌∷◌, ◌++◌, ℕ, List, Option, is_some, Err, true, false, None, length, IfSome};
+ghost use Rattle.std.specs.Prelude.{IfOk, IfErr, OnOk, OnErr};
 ghost use Rattle.cutter.specs.declared.fault.CutFault.TheVariants.{NoMemory, Ended};
 ghost use Rattle.cutter.specs.Plans.{SegmentPlan};
 ghost use Rattle.cutter.specs.Cuts.{cuts, closed, fault, plans, made, Ends};
@@ -167,7 +168,7 @@ impl SpoolCutter {
 
     /// Empties a spool, copies the body that goes on with its I-frames into it, goes on in it, and answers the full one.
     /// For want of memory it answers the spool that it was given, emptied, and goes on as it was.
-    pub fn turn(&mut self, spool: Spool) -> Result<Spool, Spool>
+    pub fn swap(&mut self, spool: Spool) -> Result<Spool, Spool>
         ensures full { IfOk result (λ full. full ≡ self.old.filled) }
         ensures turned { OnOk result (self.new ≡ record self.old { turned = self.old.turned ++ self.old.filled ∷ []; filled = [] }) }
         ensures spare { IfErr result (λ spare. spare ≡ []) }

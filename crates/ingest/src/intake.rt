@@ -107,13 +107,13 @@ impl Intake {
 
     /// Empties a spool, goes on in it with the body that is open, and answers the full one. For want of memory it
     /// answers the spool that it was given, emptied, and goes on as it was.
-    pub fn turn(&mut self, spool: Spool) -> Result<Spool, Spool>
+    pub fn swap(&mut self, spool: Spool) -> Result<Spool, Spool>
         ensures full { IfOk result (λ full. full ≡ self.old.filled) }
         ensures turned { OnOk result (self.new ≡ record self.old { turned = self.old.turned ++ self.old.filled; filled = [] }) }
         ensures spare { IfErr result (λ spare. spare ≡ []) }
         ensures err { OnErr result (self.new ≡ self.old) }
     {
-        self.cutter.turn(spool)
+        self.cutter.swap(spool)
     }
 }
 

@@ -123,7 +123,8 @@ impl<F: Folder> FolderOutlet<PruningFolder<F>> {
 }
 
 impl<F: Folder> Outlet for FolderOutlet<F> {
-    ghost output = { outlet_view (λ o. HoldsFiles o.syncs (F.made o.folder) o.staged o.failures) (λ o. HoldsFilesUpTo o.syncs (F.made o.folder)) (λ o. o.failures) };
+    ghost output = { outlet_view (λ o. HoldsFiles o.syncs (F.made o.folder) o.staged o.failures)
+        (λ o. HoldsFilesUpTo o.syncs (F.made o.folder)) (λ o. o.failures) };
 
     fn put(&mut self, item: &Item) -> Result<(), OutletFault>
         requires { self.old.failures < 2 ^ 63 }

@@ -4,7 +4,8 @@ ghost use Rattle.folder.specs.Puts.{put_names};
 ghost use Rattle.folder.specs.StagedFiles.{staged_file_names, staged_names};
 ghost use Rattle.item_io.specs.Items.{item_value};
 ghost use Rattle.item_io.specs.FileNames.{is_named};
-ghost use Rattle.item_io.specs.FolderMoves.{IsBegun, IsBegunPut, ends_block, moves_with, put_of, renaming, renaming_block, renaming_each, staged_behind, syncing};
+ghost use Rattle.item_io.specs.FolderMoves.{IsBegun, IsBegunPut, ends_block, moves_with, put_of, renaming, renaming_block, renaming_each};
+ghost use Rattle.item_io.specs.FolderMoves.{staged_behind, syncing};
 
 use crate::fault::OutletFault;
 use crate::file_name::{file_name, is_named, item_bytes, part_name};

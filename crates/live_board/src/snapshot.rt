@@ -32,5 +32,12 @@ impl Model for Snapshot {
 
     ghost Value = { SnapshotFacts };
 
-    ghost view = { λ s. record { counts = s.counts.items; ended = s.ended.items; totals = s.totals.items; media = map (λ t. string_bytes (arc_value t)) s.media.items; frames = map (λ t. string_bytes (arc_value t)) s.frames.items; master = string_bytes s.master } };
+    ghost view = { λ s. record {
+      counts = s.counts.items;
+      ended = s.ended.items;
+      totals = s.totals.items;
+      media = map (λ t. string_bytes (arc_value t)) s.media.items;
+      frames = map (λ t. string_bytes (arc_value t)) s.frames.items;
+      master = string_bytes s.master;
+    } };
 }

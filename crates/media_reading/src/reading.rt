@@ -5,7 +5,9 @@ ghost use Rattle.std.specs.String.{string_bytes};
 ghost use Rattle.std.specs.List.{before_first};
 ghost use Rattle.playlist_text.specs.Uris.{escaped};
 ghost use Rattle.media_reading.specs.State;
-ghost use Rattle.media_reading.specs.State.{step, step_at, fresh, expect, begun, headed, key_in, salt_in, keyed, keyed_or_timed, timed, listed, listing_at, name_in, number_in, number_left, entered, key_begin, listing_at, progress_of, Moves, Tells};
+ghost use Rattle.media_reading.specs.State.{step, step_at, fresh, expect, begun, headed, key_in, salt_in, keyed, keyed_or_timed, timed};
+ghost use Rattle.media_reading.specs.State.{listed, listing_at, name_in, number_in, number_left, entered, key_begin, listing_at};
+ghost use Rattle.media_reading.specs.State.{progress_of, Moves, Tells};
 ghost use Rattle.media_reading.specs.declared.reading.Stage.TheVariants.{Versioned, Targeted, Sequenced};
 
 use crate::listing::{Entry, LAST_LISTED, Listing};

@@ -70,7 +70,8 @@ pub fn samples<'a>(
     now: u128,
     fault: Option<(usize, &'static str)>,
 ) -> Result<Vec<Sample<'a>>, AllocError>
-    ensures { IfOk result (λ samples. map facts_of samples.items ≡ map (told_at (map (λ t. t.now) names.now) glance.now seen.now now fault.entry) (range_with_len 0 (length names.now))) }
+    ensures { IfOk result (λ samples. map facts_of samples.items ≡ map
+        (told_at (map (λ t. t.now) names.now) glance.now seen.now now fault.entry) (range_with_len 0 (length names.now))) }
 {
     let mut samples = Vec::new(alloc);
     for r in 0..names.len() {

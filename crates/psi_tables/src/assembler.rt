@@ -87,7 +87,8 @@ impl Assembler {
     /// What the next packet makes of the assembler, which stays as it is.
     pub(crate) fn next(&self, packet: &Packet) -> Result<Next, AllocError>
         ensures follows { IfOk result (λ next. Follows self.now packet.now next.begun) }
-        ensures found { IfOk result (λ next. gathered_sections (with_packet self.now packet.now) ≡ gathered_sections self.now ++ map (λ section. section.items) next.found.items) }
+        ensures found { IfOk result (λ next. gathered_sections (with_packet self.now packet.now) ≡ gathered_sections self.now ++
+            map (λ section. section.items) next.found.items) }
     {
         let alloc = *self.begun.bytes.allocator();
         if !is_taken(self.pid, self.begun.counter, packet) {

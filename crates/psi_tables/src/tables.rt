@@ -28,7 +28,12 @@ impl Model for Tables {
 
     ghost view = { λ t. record { stream_id = t.stream_id; program = t.program; pmt_pid = t.pmt_pid; section = t.section.items } };
 
-    ghost invariant = { λ t. IsGood (record { stream_id = t.stream_id; program = t.program; pmt_pid = t.pmt_pid; section = t.section.items }) × (t.pmt ≡ program_map t.section.items) };
+    ghost invariant = { λ t. IsGood (record {
+      stream_id = t.stream_id;
+      program = t.program;
+      pmt_pid = t.pmt_pid;
+      section = t.section.items;
+    }) × (t.pmt ≡ program_map t.section.items) };
 }
 
 impl Tables {

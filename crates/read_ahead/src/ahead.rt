@@ -4,10 +4,12 @@ ghost use Rattle.read_ahead.specs.Sources.{IsSound, rest_of};
 
 use crate::incoming::{Incoming, Phase};
 use crate::input::Contents;
+use crate::view::InputsView;
 use crate::waiting::wait_ready;
 use item_io::{ReadFault, Source};
+use std::alloc::AllocError;
 use std::marker::Model;
-use std::sync::Wait;
+use std::sync::{Arc, Wait};
 use std::time::Clock;
 
 /// A source of what another thread reads ahead. A read waits until a byte lies ready, or the end; where the input is silent for too
@@ -57,6 +59,13 @@ impl<R: Wait + Clock, I: Contents> Ahead<R, I> {
             self.incoming.wait_open(&self.rt);
         }
         Some(!matches!(self.incoming.phase, Phase::Failed))
+    }
+
+    /// A view of this input and all those that were opened with it.
+    pub fn view(&self) -> Result<InputsView, AllocError> {
+        Ok(InputsView {
+            backlogs: Arc::try_clone(&self.incoming.backlogs)?,
+        })
     }
 
     /// How often something came of any input: to be remembered before a look.

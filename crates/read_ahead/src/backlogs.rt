@@ -4,6 +4,7 @@ ghost use Rattle.std.specs.Prelude.{◌<◌};
 use crate::backlog::Backlog;
 use crate::limits::{BLOCKS, Limits};
 use crate::shares::{share_of, turns_of};
+use crate::view::{InputState, state_of};
 use std::alloc::{AllocError, Global};
 use std::sync::{Arc, Condvar, Mutex, Wait};
 use std::time::{Clock, Duration, Instant};
@@ -141,9 +142,6 @@ impl Backlogs {
 
     /// The thread of an input begins to wait for its next bytes, or still waits for its first ones.
     pub fn begin_wait<R: Wait + Clock>(&self, rt: &R, number: usize) {
-        if self.stall.is_none() {
-            return;
-        }
         let now = Instant::now(rt).ok();
         if let Some(since) = self.counts.lock(rt).since.get_mut(number)
             && since.is_none()
@@ -154,9 +152,6 @@ impl Backlogs {
 
     /// Something came of the input that its thread waited for.
     pub fn end_wait<R: Wait>(&self, rt: &R, number: usize) {
-        if self.stall.is_none() {
-            return;
-        }
         if let Some(since) = self.counts.lock(rt).since.get_mut(number) {
             *since = None;
         }
@@ -174,6 +169,22 @@ impl Backlogs {
             Ok(time) => time >= stall,
             Err(_) => false,
         }
+    }
+
+    /// How each input stands, by number.
+    pub fn states<R: Wait + Clock>(
+        &self,
+        rt: &R,
+        alloc: Global,
+    ) -> Result<Vec<InputState>, AllocError> {
+        let now = Instant::now(rt).ok();
+        let mut states = Vec::with_capacity(alloc, self.taken.len())?;
+        let counts = self.counts.lock(rt);
+        for number in 0..counts.backlogs.len() {
+            let since = counts.since.get(number).copied().flatten();
+            states.push(state_of(&counts.backlogs[number], since, now))?;
+        }
+        Ok(states)
     }
 
     /// A block of an input was begun.

@@ -75,7 +75,8 @@ pub fn inputs_at<F: InputFiles + Copy>(
     files: F,
     paths: &[&str],
 ) -> Result<Vec<InputAt<F>>, AllocError>
-    ensures { IfOk result (λ inputs. map (λ input. F.holds input.files (string_bytes input.path)) inputs.items ≡ map (λ path. F.holds files path.now) paths.now) }
+    ensures { IfOk result (λ inputs. map (λ input. F.holds input.files (string_bytes input.path)) inputs.items ≡ map
+        (λ path. F.holds files path.now) paths.now) }
 {
     let mut inputs = Vec::with_capacity(alloc, paths.len())?;
     for path in paths {

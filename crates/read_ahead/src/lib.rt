@@ -15,6 +15,7 @@ mod shares;
 mod starting;
 #[cfg(test)]
 mod tests;
+mod view;
 mod waiting;
 
 pub use ahead::Ahead;
@@ -22,3 +23,4 @@ pub use input::{Contents, Input, OpenInput};
 pub use input_files::{InputAt, InputFiles};
 pub use limits::Limits;
 pub use starting::{InputFault, open_all, open_paths};
+pub use view::{InputState, InputsView};

@@ -30,7 +30,8 @@ impl<'s> Model for Unsealed<'s> {
 
     ghost view = { λ s. record { plan = lent s.plan; key = s.text.key; vector = s.text.vector } };
 
-    ghost invariant = { λ s. IsUnsealed (record { plan = lent s.plan; key = s.text.key; vector = s.text.vector }) s.text.bytes.items (vec_capacity s.text.bytes) };
+    ghost invariant = { λ s. IsUnsealed (record { plan = lent s.plan; key = s.text.key; vector = s.text.vector }) s.text.bytes.items
+        (vec_capacity s.text.bytes) };
 }
 
 impl<'s> Unsealed<'s> {

@@ -90,7 +90,7 @@ fn turn_out(alloc: Global, intake: &mut Intake, spare: &mut Spool) -> Result<(),
     ensures turned { OnOk result (intake.new ≡ record intake.old { turned = intake.old.turned ++ intake.old.filled; filled = [] }) }
 {
     let empty = mem::replace(spare, Spool::new(alloc));
-    match intake.turn(empty) {
+    match intake.swap(empty) {
         Ok(full) => {
             *spare = full;
             Ok(())

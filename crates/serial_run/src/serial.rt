@@ -110,8 +110,11 @@ fn turns<S: Source, O: Outlet>(
     requires allowed { IsAllowed settings.now }
     requires most { reads ≤ READS }
     requires room { HaveRoom S.input reads sources.old.items }
-    requires start { NothingDue (run_of S.input O.output reads sources.old.items sources.old.items outlet.old outlet.old) settings.now (turns_of 0 0) lanes.old.items playlists.old.items }
-    ensures ok { OnOk result ((rounds : ℕ) × (rounds ≤ reads) × NothingDue (run_of S.input O.output reads sources.old.items sources.new.items outlet.old outlet.new) settings.now (turns_of rounds 0) lanes.new.items playlists.new.items
+    requires start { NothingDue (run_of S.input O.output reads sources.old.items sources.old.items outlet.old outlet.old) settings.now
+        (turns_of 0 0) lanes.old.items playlists.old.items }
+    ensures ok { OnOk result ((rounds : ℕ) × (rounds ≤ reads) ×
+        NothingDue (run_of S.input O.output reads sources.old.items sources.new.items outlet.old outlet.new) settings.now
+        (turns_of rounds 0) lanes.new.items playlists.new.items
         × ((k : ℕ) (lane : Lane) → slice_get lanes.new.items k ≡ Some lane → lane.stop ≡ None → rounds ≡ reads)) }
     ensures err { OnErr result (IsCutAtOnce (run_of S.input O.output reads sources.old.items sources.new.items outlet.old outlet.new) settings.now) }
     ensures failures { OnOk result (O.output.failures outlet.new ≡ O.output.failures outlet.old) }

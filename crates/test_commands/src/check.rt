@@ -27,7 +27,8 @@ impl FileReader for MemoryFiles {
     ghost use Rattle.std.specs.Prelude.{◌≡◌, ◌<◌, ⊤, ℕ, length, slice_index_or};
     ghost use Rattle.std.specs.String.{string_bytes};
 
-    ghost gives = { λ f path bytes. (i : ℕ) × (file : _) × (i < length f.files.items) × (file ≡ slice_index_or f.files.items i file) × (string_bytes file.path ≡ path) × (file.bytes.items ≡ bytes) };
+    ghost gives = { λ f path bytes. (i : ℕ) × (file : _) × (i < length f.files.items) × (file ≡ slice_index_or f.files.items i file) ×
+        (string_bytes file.path ≡ path) × (file.bytes.items ≡ bytes) };
 
     ghost refuses = { λ _ _. ⊤ };
 

@@ -60,7 +60,7 @@ fn turn_out(cutter: &mut SpoolCutter, turned: Turned, plans: &[Plan]) -> Turned
     ensures { cutter.new.list ≡ cutter.old.list }
 {
     let Turned { spool, count } = turned;
-    match cutter.turn(spool) {
+    match cutter.swap(spool) {
         Ok(full) => {
             let count = count.and_then(|count| with_spool(count, &full, plans));
             Turned { spool: full, count }
@@ -167,7 +167,7 @@ fn told(spool: &Spool) -> Option<Told> {
 
 /// What the spool that is turned out tells.
 fn turned_out(cutter: &mut SpoolCutter, spool: Spool) -> Option<Told> {
-    match cutter.turn(spool) {
+    match cutter.swap(spool) {
         Ok(full) => {
             let told = told(&full);
             drop(full);

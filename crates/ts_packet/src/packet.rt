@@ -1,5 +1,6 @@
 ghost use Rattle.std.specs.Prelude.{◌≡◌, ℕ, List, Some, None, IfOk, IfErr, IsOk, ◌↔◌};
-ghost use Rattle.ts_packet.specs.Fields.{pid, payload_unit_start_indicator, is_scrambled, continuity_counter, random_access_indicator, has_adaptation_field, has_payload, is_adaptation_field_long, payload, fault_of};
+ghost use Rattle.ts_packet.specs.Fields.{pid, payload_unit_start_indicator, is_scrambled, continuity_counter, random_access_indicator};
+ghost use Rattle.ts_packet.specs.Fields.{has_adaptation_field, has_payload, is_adaptation_field_long, payload, fault_of};
 
 use std::marker::Model;
 use thiserror::Error;

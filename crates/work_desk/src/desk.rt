@@ -70,7 +70,8 @@ impl<'s, L: Ledger, M: Ledger> Desk<'s, L, M> {
         ensures passes { IfOk result (λ opened. vec_len opened.workers ≡ workers) }
         ensures parts { IfOk result (λ opened. opened.rest.parts + vec_len opened.workers ≡ L.parts) }
         ensures unused { IfOk result (λ opened. (opened.rest.amount ≡ 0) × (opened.taker.count ≡ 0)) }
-        ensures numbers { IfOk result (λ opened. (i : ℕ) (pass : Pass L) → slice_get opened.workers.items i ≡ Some pass → (pass.number ≡ i) × (pass.count ≡ 0)) }
+        ensures numbers { IfOk result (λ opened. (i : ℕ) (pass : Pass L) → slice_get opened.workers.items i ≡ Some pass →
+            (pass.number ≡ i) × (pass.count ≡ 0)) }
         ensures taker { IfOk result (λ opened. opened.taker.number ≡ workers) }
     {
         let (claims, mut rest) = claims.open::<L>();

@@ -8,10 +8,14 @@ use crate::run::course::Course;
 use ingest::{Stop, StreamFault};
 use ladder_items::PackFault;
 
-/// Who is told of a rendition's fault as soon as it stands. What a run gives doesn't depend on it.
+/// Who is told how a run goes on: each rendition's fault as soon as it stands, and how many segments are complete. What a run
+/// gives doesn't depend on it.
 pub trait Herald {
     /// A rendition gives no more, since it has this fault: no read of it follows. It's told once.
     fn tell(&self, fault: PackFault);
+
+    /// So many segments were completed by now, of all renditions together. Those that weren't listed yet are sealed next.
+    fn completed(&self, _segments: u64) {}
 }
 
 /// Nobody: faults are told by the answer of the run alone.

@@ -40,7 +40,7 @@ impl<S: Source, O: Outlet> Course<S, O> {
         ensures same { self.new ≡ record self.old { lanes = self.new.lanes } }
         ensures count { length self.new.lanes.items ≡ length self.old.lanes.items }
     {
-        match self.lanes[r].intake.turn(spare) {
+        match self.lanes[r].intake.swap(spare) {
             Ok(full) => Ok(full),
             Err(_) => Err(AllocError),
         }

@@ -1,0 +1,59 @@
+//! How inputs stand, for whoever watches a run. No claim on bytes rests on it.
+ghost use Rattle.std.specs.Prelude.{◌≡◌, true};
+ghost use Rattle.std.specs.Duration.{as_nanos};
+
+use crate::backlog::Backlog;
+use crate::backlogs::Backlogs;
+use std::alloc::{AllocError, Global};
+use std::sync::{Arc, Wait};
+use std::time::{Clock, Duration, Instant};
+
+/// How an input stands.
+#[derive(Clone, Copy, Debug, PartialEq, Eq, Drop)]
+pub struct InputState {
+    /// How many bytes of it were read ahead and not given yet.
+    pub bytes: usize,
+    /// How long it has been waited for. Nothing where it has ended, or no more of it is given.
+    pub silent: Duration,
+}
+
+/// A view of all inputs of one call of `open_all`, while others read them.
+#[derive(Drop)]
+pub struct InputsView {
+    pub(crate) backlogs: Arc<Backlogs, Global>,
+}
+
+impl InputsView {
+    /// How each input stands, by number.
+    pub fn look<R: Wait + Clock>(
+        &self,
+        rt: &R,
+        alloc: Global,
+    ) -> Result<Vec<InputState>, AllocError> {
+        self.backlogs.states(rt, alloc)
+    }
+}
+
+/// How an input stands now that was waited for since then, if it is.
+pub fn state_of(backlog: &Backlog, since: Option<Instant>, now: Option<Instant>) -> InputState
+    ensures bytes { result.bytes ≡ backlog.now.bytes }
+    ensures left { backlog.now.left ≡ true → as_nanos result.silent ≡ 0 }
+{
+    InputState {
+        bytes: backlog.bytes,
+        silent: silence(backlog.left, since, now),
+    }
+}
+
+/// How long it has been waited for.
+fn silence(left: bool, since: Option<Instant>, now: Option<Instant>) -> Duration
+    ensures { left ≡ true → as_nanos result ≡ 0 }
+{
+    if left {
+        return Duration::ZERO;
+    }
+    match (since, now) {
+        (Some(since), Some(now)) => now.duration_since(since),
+        _ => Duration::ZERO,
+    }
+}
