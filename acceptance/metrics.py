@@ -24,11 +24,15 @@ CUTS = ("--target", "1", "--segment", "1", "--window", "10000", "--workers", "2"
 # The metrics, and whether they are counters.
 METRICS = {
     "tshls_start_time_seconds": False,
+    "tshls_waiting_segments": False,
+    "tshls_removed_segments_total": True,
     "tshls_segments_total": True,
     "tshls_stream_seconds_total": True,
     "tshls_segment_bytes_total": True,
     "tshls_peak_bitrate": False,
     "tshls_average_bitrate": False,
+    "tshls_read_ahead_bytes": False,
+    "tshls_input_silent_seconds": False,
     "tshls_quiet_seconds": False,
     "tshls_ended": False,
     "tshls_fault": False,
@@ -83,6 +87,8 @@ def says_the_summary(found, printed):
     hold(f"the file says {told}, the summary {wanted}", told == wanted)
     hold("not all have ended", all(value == (1, None) for value in found["tshls_ended"].values()))
     hold("a fault is told", not found["tshls_fault"])
+    for metric in ("tshls_waiting_segments", "tshls_read_ahead_bytes", "tshls_input_silent_seconds"):
+        hold(f"{metric}: {found[metric]}", all(value == (0, None) for value in found[metric].values()))
 
 
 class Reader(threading.Thread):
@@ -146,7 +152,8 @@ class Input:
 def packed(program, folder, entries, *more, library=None, slow=None, metrics):
     out = folder / "out"
     out.mkdir()
-    words = [program, "pack", "--out", out, "--metrics", metrics, *CUTS, *more, *entries]
+    cuts = CUTS[:-4] + CUTS[-2:] if "--window" in more else CUTS
+    words = [program, "pack", "--out", out, "--metrics", metrics, *cuts, *more, *entries]
     environment = {**os.environ, "LD_PRELOAD": library, "SLOW": str(slow), "FOLDER": str(metrics.parent)} if library else None
     return out, subprocess.Popen(words, stdout=subprocess.PIPE, stderr=subprocess.PIPE, text=True, env=environment)
 
@@ -226,6 +233,62 @@ def tells_a_fault(program, folder, last):
     (last / "fault.prom").write_text(path.read_text())
 
 
+def tells_who_is_silent(program, folder):
+    """Of three inputs one is live, one falls silent and comes back, and one has a fault; each is told while the run goes on."""
+    path = folder / "run.prom"
+    names = ("a", "b")
+    inputs = [Input(name, stream(*every(90_000, 200)), folder, folder / "out") for name in names]
+    bad = folder / "bad.ts"
+    bad.write_bytes(b"")
+    entries = [f"{it.name}:avc1.42c01e:320x180:{KEY}:{it.path}" for it in inputs] + [f"c:avc1.42c01e:320x180:{KEY}:{bad}"]
+    _, process = packed(program, folder, entries, metrics=path)
+    live, silent = inputs
+    # how long b was silent at the most while a wasn't, whether c's fault was told meanwhile, and whether b was heard again
+    longest, faulted, heard, begin = 0, False, False, time.monotonic()
+    try:
+        for it in inputs:
+            it.open()
+            for _ in range(10):
+                it.write()
+        while not heard:
+            hold(f"b was silent for {longest} s, c has a fault: {faulted}", time.monotonic() - begin < 60)
+            live.write()
+            if longest >= 4 and faulted:
+                silent.write()
+            time.sleep(0.2)
+            found = samples_of(path.read_text())
+            times = {name: value for name, (value, _) in found["tshls_input_silent_seconds"].items()}
+            if times["a"] < 2:
+                longest = max(longest, times["b"])
+            faulted |= found["tshls_fault"] == {"c": (1, "NoProgram")}
+            heard = longest >= 4 and faulted and times["b"] < 2
+        for it in inputs:
+            os.close(it.pipe)
+        _, told = process.communicate(timeout=60)
+    finally:
+        process.kill()
+        process.wait()
+    hold(f"status {process.returncode}, {told!r}", process.returncode == 1 and told == "tshls: NoProgram 2\n")
+    found = samples_of(path.read_text())
+    hold(f"{found['tshls_fault']}", found["tshls_fault"] == {"c": (1, "NoProgram")})
+    hold(f"{found['tshls_ended']}", found["tshls_ended"] == {"a": (1, None), "b": (1, None), "c": (0, None)})
+
+
+def tells_what_is_removed(program, folder):
+    data, path = folder / "in.ts", folder / "run.prom"
+    data.write_bytes(stream(*every(90_000, 40)))
+    entries = [f"{name}:avc1.42c01e:320x180:{key * 16}:{data}" for name, key in (("a", "01"), ("b", "02"))]
+    out, process = packed(program, folder, entries, "--remove", "--window", "3", metrics=path)
+    printed, told = process.communicate(timeout=60)
+    hold(f"status {process.returncode}, {told!r}", process.returncode == 0 and told == "")
+    found = samples_of(path.read_text())
+    says_the_summary(found, printed)
+    left = len(list(out.glob("*.ts")))
+    made = sum(value for value, _ in found["tshls_segments_total"].values())
+    removed = found["tshls_removed_segments_total"][None][0]
+    hold(f"of {made} segments {left} are left, and {removed} were removed", removed > 40 and made - removed == left)
+
+
 def is_told_once(program, folder, metrics, more=()):
     data = folder / "in.ts"
     data.write_bytes(stream(*every(90_000, 4)))
@@ -260,6 +323,8 @@ def main():
         (is_slow, library),
         (tells_of_32, last),
         (tells_a_fault, last),
+        (tells_who_is_silent,),
+        (tells_what_is_removed,),
         (is_no_folder,),
         (is_a_folder,),
         (is_a_fifo,),

@@ -161,6 +161,15 @@ fn write_resuming<W: fmt::Write>(
     f.write_str(resuming_reason(fault))
 }
 
+/// Why a rendition's input can't be read where it may also have been silent for too long.
+const STALLED: &str = "a read failed, or nothing came for --stall seconds";
+
+/// Why a rendition's input isn't read to its end.
+const READ_LIMIT: &str = "2^40 reads did not reach the end of the stream";
+
+/// What a rendition that can't go on has passed.
+const LIMIT: &str = "the last segment number, or the range of time, is passed";
+
 /// Writes why a run ended.
 fn write_packing<W: fmt::Write>(
     f: &mut fmt::Formatter<W>,
@@ -169,33 +178,14 @@ fn write_packing<W: fmt::Write>(
 ) -> fmt::Result {
     match fault {
         PackFault::Settings => write_settings(f, options),
-        PackFault::Read(r) if pool_words(options).stall.is_some() => {
-            write_stream(
-                f,
-                options,
-                r,
-                "a read failed, or nothing came for --stall seconds",
-            )
-        }
+        PackFault::Read(r) if pool_words(options).stall.is_some() => write_stream(
+            f, options, r, STALLED,
+        ),
         PackFault::Read(r) => write_stream(f, options, r, "a read failed"),
-        PackFault::ReadLimit(r) => {
-            write_stream(
-                f,
-                options,
-                r,
-                "2^40 reads did not reach the end of the stream",
-            )
-        }
+        PackFault::ReadLimit(r) => write_stream(f, options, r, READ_LIMIT),
         PackFault::NoProgram(r) => write_stream(f, options, r, NO_PROGRAM),
         PackFault::NoStart(r) => write_stream(f, options, r, NO_START),
-        PackFault::Limit(r) => {
-            write_stream(
-                f,
-                options,
-                r,
-                "the last segment number, or the range of time, is passed",
-            )
-        }
+        PackFault::Limit(r) => write_stream(f, options, r, LIMIT),
         PackFault::LongSegment(r, n) => {
             write_rendition(f, options, r)?;
             write!(f, "segment {n} {LONG_SEGMENT}")

@@ -11,7 +11,7 @@ Faults, as 'tshls: NAME' on standard error:
   Unread     The file of the key, or standard input, couldn't be read; nothing was printed
   BadKeyFile The file of the key is neither 16 bytes nor 32 hex digits with at most one line end
   ReadLimit  2^40 reads didn't come to the end of the input
-  Unwritten  Standard output took only a beginning of the line
+  Unwritten  Standard output took only a prefix of the line
   NoMemory   Memory was refused; nothing was printed";
 
 /// The faults of `open`.
@@ -25,7 +25,7 @@ Faults, as 'tshls: NAME' on standard error:
   BadHex      The input isn't one line of an even number of hex digits
   NotBlocks   The digits aren't whole blocks of 16 bytes, or there are none
   BadPadding  Sealed under another key or vector, or damaged
-  Unwritten   Standard output took only a beginning of the line
+  Unwritten   Standard output took only a prefix of the line
   NoMemory    Memory was refused; nothing was printed";
 
 /// The faults of `one`.
@@ -112,5 +112,5 @@ Faults, as 'tshls: NAME NUMBER' on standard error:
   Missing     The entry of this place, counted from 0, has no key among --keys
   Closed      Its segment doesn't open: another key, or damaged
   NoHead      It doesn't begin with tables
-  Unwritten   Standard output took only a beginning of the line
+  Unwritten   Standard output took only a prefix of the line
   NoMemory    Memory was refused";

@@ -23,7 +23,7 @@ pub enum CheckingFault {
     /// The playlist isn't one, or its segments don't unpack.
     #[error("{0}")]
     Faulty(CheckFault),
-    /// A write failed; what was written is a beginning of the line.
+    /// A write failed; what was written is a prefix of the line.
     #[error("the line can't be written")]
     Unwritten,
     #[error("out of memory")]
@@ -174,7 +174,7 @@ fn checked_line(alloc: Global, checked: Checked) -> Result<String, AllocError>
 ///
 /// A playlist that can't be read, or isn't UTF-8, is Unread. What is none is told before a segment that can't be read,
 /// and that before all that a segment holds. NoMemory comes only where the file of the playlist wanted it, or gave a
-/// playlist. Before every fault but Unwritten nothing was written; at Unwritten a beginning of the line was.
+/// playlist. Before every fault but Unwritten nothing was written; at Unwritten a prefix of the line was.
 pub fn check<F: FileReader, W: Write>(
     alloc: Global,
     files: &F,

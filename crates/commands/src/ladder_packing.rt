@@ -26,7 +26,7 @@ pub enum LadderPackingFault {
     /// The ladder wasn't packed.
     #[error("{0}")]
     Packing(PackFault),
-    /// All was packed, and a beginning of the summary was written.
+    /// All was packed, and a prefix of the summary was written.
     #[error("the summary can't be written")]
     Unwritten,
     /// All was packed, and there was no memory for the summary.

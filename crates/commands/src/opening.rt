@@ -31,7 +31,7 @@ pub enum OpeningFault {
     /// No text has these sealed bytes under the key and the vector.
     #[error("no text has these sealed bytes")]
     BadPadding,
-    /// A write failed; what was written is a beginning of the line.
+    /// A write failed; what was written is a prefix of the line.
     #[error("the line can't be written")]
     Unwritten,
     #[error("out of memory")]

@@ -5,7 +5,7 @@ ghost use Rattle.item_io.specs.Writing.{WritesBeginning, hex_line};
 use item_io::OutletFault;
 use std::io::Write;
 
-/// Writes a whole text and flushes it. Where a write fails, a beginning of it was written.
+/// Writes a whole text and flushes it. Where a write fails, a prefix of it was written.
 pub(crate) fn write_all<W: Write>(output: &mut W, text: &[u8]) -> Result<(), OutletFault>
     ensures ok { OnOk result (Appends (W.contents output.old) (W.contents output.new) text.now) }
     ensures err { OnErr result (WritesBeginning (W.contents output.old) (W.contents output.new) text.now) }
@@ -14,7 +14,7 @@ pub(crate) fn write_all<W: Write>(output: &mut W, text: &[u8]) -> Result<(), Out
     output.flush().map_err(|_| OutletFault)
 }
 
-/// Writes bytes as one line of lower-case hex digits and flushes it. Where a write fails, a beginning of that line was
+/// Writes bytes as one line of lower-case hex digits and flushes it. Where a write fails, a prefix of that line was
 /// written.
 pub(crate) fn write_hex_line<W: Write>(output: &mut W, bytes: &[u8]) -> Result<(), OutletFault>
     ensures ok { OnOk result (Appends (W.contents output.old) (W.contents output.new) (hex_line bytes.now)) }

@@ -57,7 +57,7 @@ fn pack<R: Read, W: Write>(
 /// behind another.
 ///
 /// Before Settings nothing is read or written. After a fault of the stream the writer has the lines of all that comes
-/// before it; after NoMemory those of a beginning and nothing else, after Outlet a beginning of the next item's lines
+/// before it; after NoMemory those of a prefix and nothing else, after Outlet a prefix of the next item's lines
 /// besides.
 pub fn one<R: Read + Drop, W: Write>(
     alloc: Global,

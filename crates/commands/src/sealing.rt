@@ -20,7 +20,7 @@ pub enum SealingFault {
     /// 2^40 reads each gave a byte, and the end hadn't come.
     #[error("the input takes too many reads")]
     ReadLimit,
-    /// A write failed; what was written is a beginning of the line.
+    /// A write failed; what was written is a prefix of the line.
     #[error("the line can't be written")]
     Unwritten,
     #[error("out of memory")]
@@ -65,7 +65,7 @@ impl From<OutletFault> for SealingFault {
 /// without a segment head, as one line of lower-case hex digits.
 ///
 /// Unread is told exactly where a read failed, and ReadLimit exactly where 2^40 reads each gave a byte. Before every fault
-/// but Unwritten nothing was written; at Unwritten a beginning of that line was.
+/// but Unwritten nothing was written; at Unwritten a prefix of that line was.
 pub fn seal<S: Source, W: Write>(
     alloc: Global,
     key: &Key,

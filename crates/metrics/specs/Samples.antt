@@ -6,10 +6,11 @@ use Rattle.playlist_text.specs.Numbers.{seconds}
 use Rattle.metrics.specs.Format.{sample_line, fault_line}
 use Rattle.metrics.specs.declared.sample.Sample.{Sample}
 use Rattle.metrics.specs.declared.column.Column.{Column}
-use Rattle.metrics.specs.declared.column.Column.TheVariants.{Segments, Time, Bytes, Peak, Average, Quiet, Ended}
+use Rattle.metrics.specs.declared.column.Column.TheVariants.{Segments, Time, Bytes, Peak, Average, Quiet, Ahead, Silent, Ended}
 
 -- a rendition's name, its segments, their microseconds and their bytes together, their bit rates as listed, for how many
--- microseconds none came, whether its end was written, and its fault
+-- microseconds none came, how many bytes of its input were read ahead, for how many microseconds none came of it, whether its end was
+-- written, and its fault
 pub record SampleFacts : Type 0 where
   pub name : List ℕ
   pub segments : ℕ
@@ -18,6 +19,8 @@ pub record SampleFacts : Type 0 where
   pub peak : ℕ
   pub average : ℕ
   pub quiet : ℕ
+  pub ahead : ℕ
+  pub silent : ℕ
   pub ended : Bool
   pub fault : Option (List ℕ)
 
@@ -30,6 +33,8 @@ facts_of s = record {
   peak = s.peak;
   average = s.average;
   quiet = s.quiet;
+  ahead = s.ahead;
+  silent = s.silent;
   ended = s.ended;
   fault = option_map (λ t. t.now) s.fault;
 }
@@ -46,6 +51,8 @@ value_of Bytes s = decimal s.bytes
 value_of Peak s = decimal s.peak
 value_of Average s = decimal s.average
 value_of Quiet s = seconds s.quiet
+value_of Ahead s = decimal s.ahead
+value_of Silent s = seconds s.silent
 value_of Ended s = decimal (flag s.ended)
 
 -- a sample of each rendition

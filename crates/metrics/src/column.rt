@@ -19,6 +19,8 @@ pub(crate) enum Column {
     Peak,
     Average,
     Quiet,
+    Ahead,
+    Silent,
     Ended,
 }
 
@@ -55,6 +57,8 @@ pub(crate) fn value(
         Column::Peak => number(alloc, u128::from(sample.peak)),
         Column::Average => number(alloc, u128::from(sample.average)),
         Column::Quiet => time(alloc, sample.quiet),
+        Column::Ahead => number(alloc, u128::from(sample.ahead)),
+        Column::Silent => time(alloc, sample.silent),
         Column::Ended => {
             if sample.ended {
                 number(alloc, 1)

@@ -7,6 +7,7 @@
 mod column;
 mod family;
 mod glance;
+mod known;
 mod label;
 mod sample;
 mod sampling;
@@ -16,7 +17,8 @@ mod tests;
 mod text;
 
 pub use glance::{Glance, GlanceFault, look};
-pub use sample::Sample;
+pub use known::{InputSample, Known, waiting};
+pub use sample::{RunSample, Sample};
 pub use sampling::samples;
 pub use seen::{Seen, seen_again};
 pub use text::metrics_text;

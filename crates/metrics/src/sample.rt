@@ -16,8 +16,23 @@ pub struct Sample<'a> {
     pub average: u64,
     /// How long ago the last segment came, or the run began where none did, in microseconds.
     pub quiet: u128,
+    /// How many bytes of its input were read ahead and aren't packed yet.
+    pub ahead: u64,
+    /// For how long nothing came of its input, in microseconds.
+    pub silent: u128,
     /// Whether its end was written.
     pub ended: bool,
     /// The name of the fault that it ended by, if any.
     pub fault: Option<&'static str>,
+}
+
+/// A whole run at one moment.
+#[derive(Clone, Copy, Debug, PartialEq, Eq, Drop)]
+pub struct RunSample {
+    /// When it began, in microseconds since 1970.
+    pub start: u128,
+    /// How many segments are complete and not listed yet, of the round that is being sealed.
+    pub waiting: u64,
+    /// How many segments were removed.
+    pub removed: u128,
 }

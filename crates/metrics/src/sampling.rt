@@ -3,10 +3,11 @@
 ghost use Rattle.std.specs.Prelude.{◌≡◌, map, option_map, length, get_or, IfOk};
 ghost use Rattle.std.specs.List.{range_with_len};
 ghost use Rattle.std.specs.String.{string_bytes};
-ghost use Rattle.metrics.specs.Told.{told_of, told_at, fault_at};
+ghost use Rattle.metrics.specs.Told.{told_of, told_at};
 ghost use Rattle.metrics.specs.Samples.{facts_of};
 
 use crate::glance::Glance;
+use crate::known::{InputSample, Known};
 use crate::sample::Sample;
 use crate::seen::Seen;
 use live_board::Totals;
@@ -23,30 +24,20 @@ const NO_TOTALS: Totals = Totals {
 /// What was seen of a rendition that wasn't looked at.
 const UNSEEN: Seen = Seen { count: 0, at: 0 };
 
-/// The fault of rendition `r`, if it is that one's.
-fn fault_of(fault: Option<(usize, &'static str)>, r: usize) -> Option<&'static str>
-    ensures { option_map (λ t. t.now) result ≡ fault_at fault.entry r }
-{
-    match fault {
-        Some((rendition, name)) if rendition == r => Some(name),
-        _ => None,
-    }
-}
+/// An input of which nothing came yet, and for which nobody waits.
+const NO_INPUT: InputSample = InputSample {
+    ahead: 0,
+    silent: 0,
+};
 
 /// The sample of rendition `r`.
 #[tactic(auto, unfolding(crate::specs::Told::told_of))]
-fn sample<'a>(
-    name: &'a str,
-    glance: &Glance,
-    seen: &[Seen],
-    now: u128,
-    fault: Option<(usize, &'static str)>,
-    r: usize,
-) -> Sample<'a>
-    ensures { facts_of result ≡ told_of name.now glance.now seen.now now fault.entry r }
+fn sample<'a>(name: &'a str, glance: &Glance, known: Known<'_>, now: u128, r: usize) -> Sample<'a>
+    ensures { facts_of result ≡ told_of name.now glance.now known.entry now r }
 {
     let totals = glance.totals.get(r).copied().unwrap_or(NO_TOTALS);
-    let seen = seen.get(r).copied().unwrap_or(UNSEEN);
+    let seen = known.seen.get(r).copied().unwrap_or(UNSEEN);
+    let input = known.inputs.get(r).copied().unwrap_or(NO_INPUT);
     Sample {
         name,
         segments: glance.counts.get(r).copied().unwrap_or(0),
@@ -55,28 +46,29 @@ fn sample<'a>(
         peak: totals.peak,
         average: totals.average,
         quiet: now.saturating_sub(seen.at),
+        ahead: input.ahead,
+        silent: input.silent,
         ended: glance.ended.get(r).copied().unwrap_or(false),
-        fault: fault_of(fault, r),
+        fault: known.faults.get(r).copied().unwrap_or(None),
     }
 }
 
-/// The samples of renditions of these names, now: their numbers as a board showed them, since when they are seen to stand, and
-/// the fault by which a rendition ended, with its number. Times are in microseconds of one clock.
+/// The samples of renditions of these names, now: their numbers as a board showed them, and what is known of them besides.
+/// Times are in microseconds of one clock.
 pub fn samples<'a>(
     alloc: Global,
     names: &[&'a str],
     glance: &Glance,
-    seen: &[Seen],
+    known: Known<'_>,
     now: u128,
-    fault: Option<(usize, &'static str)>,
 ) -> Result<Vec<Sample<'a>>, AllocError>
-    ensures { IfOk result (λ samples. map facts_of samples.items ≡ map
-        (told_at (map (λ t. t.now) names.now) glance.now seen.now now fault.entry) (range_with_len 0 (length names.now))) }
+    ensures { IfOk result (λ samples. map facts_of samples.items ≡
+        map (told_at (map (λ t. t.now) names.now) glance.now known.entry now) (range_with_len 0 (length names.now))) }
 {
     let mut samples = Vec::new(alloc);
     for r in 0..names.len() {
         let name = &names[r];
-        samples.push(sample(*name, glance, seen, now, fault, r))?;
+        samples.push(sample(*name, glance, known, now, r))?;
     }
     Ok(samples)
 }

@@ -2,7 +2,10 @@
 
 ghost use Rattle.std.specs.Prelude.{◌≡◌};
 
-use crate::{Glance, GlanceFault, Seen, look, metrics_text, samples, seen_again};
+use crate::{
+    Glance, GlanceFault, InputSample, Known, RunSample, Seen, look, metrics_text, samples,
+    seen_again, waiting,
+};
 use live_board::{HeldPublisher, Snapshot, Totals, Viewer, board};
 use std::alloc::{AllocError, Global};
 use std::test::Fail;
@@ -15,6 +18,12 @@ const TEXT: &str = "\
 # HELP tshls_start_time_seconds When the run began, in seconds since 1970.
 # TYPE tshls_start_time_seconds gauge
 tshls_start_time_seconds 1700000000.000007
+# HELP tshls_waiting_segments Complete segments that are being encrypted and aren't listed yet.
+# TYPE tshls_waiting_segments gauge
+tshls_waiting_segments 2
+# HELP tshls_removed_segments_total Segments that were removed.
+# TYPE tshls_removed_segments_total counter
+tshls_removed_segments_total 12
 # HELP tshls_segments_total Segments that were written and listed.
 # TYPE tshls_segments_total counter
 tshls_segments_total{rendition=\"v\"} 3
@@ -35,6 +44,14 @@ tshls_peak_bitrate{rendition=\"a\\\\\\\"b\\nc\"} 8
 # TYPE tshls_average_bitrate gauge
 tshls_average_bitrate{rendition=\"v\"} 513494
 tshls_average_bitrate{rendition=\"a\\\\\\\"b\\nc\"} 7
+# HELP tshls_read_ahead_bytes Bytes of the input that were read ahead and aren't packed yet.
+# TYPE tshls_read_ahead_bytes gauge
+tshls_read_ahead_bytes{rendition=\"v\"} 18800
+tshls_read_ahead_bytes{rendition=\"a\\\\\\\"b\\nc\"} 0
+# HELP tshls_input_silent_seconds For how long nothing came of the input.
+# TYPE tshls_input_silent_seconds gauge
+tshls_input_silent_seconds{rendition=\"v\"} 1.000001
+tshls_input_silent_seconds{rendition=\"a\\\\\\\"b\\nc\"} 0.000000
 # HELP tshls_quiet_seconds For how long no segment came.
 # TYPE tshls_quiet_seconds gauge
 tshls_quiet_seconds{rendition=\"v\"} 0.000000
@@ -77,8 +94,22 @@ fn text(alloc: Global, seen: &Glance) -> Result<Vec<u8>, AllocError> {
     let before = [Seen { count: 2, at: 1 }, Seen { count: 1, at: 1 }];
     let now = 9_000_001;
     let next = seen_again(alloc, &before, &seen.counts, now)?;
-    let all = samples(alloc, &NAMES, seen, &next, now, Some((1, "Read")))?;
-    metrics_text(alloc, 1_700_000_000_000_007, &all)
+    let input = InputSample {
+        ahead: 18_800,
+        silent: 1_000_001,
+    };
+    let known = Known {
+        seen: &next,
+        inputs: &[input],
+        faults: &[None, Some("Read")],
+    };
+    let all = samples(alloc, &NAMES, seen, known, now)?;
+    let run = RunSample {
+        start: 1_700_000_000_000_007,
+        waiting: waiting(6, seen),
+        removed: 12,
+    };
+    metrics_text(alloc, run, &all)
 }
 
 /// The text of what a viewer sees, or why it sees nothing.

@@ -2,14 +2,14 @@
 
 ghost use Rattle.std.specs.Prelude.{◌≡◌, ◌++◌, map, IfOk, OnOk};
 ghost use Rattle.metrics.specs.Metrics;
-ghost use Rattle.metrics.specs.Metrics.{metric, start_text, counters, rates, states, fault_text};
+ghost use Rattle.metrics.specs.Metrics.{metric, run_metric, start_text, run_text, counters, rates, inputs, states, fault_text};
 ghost use Rattle.metrics.specs.Samples.{facts_of};
 
 use crate::column::Column;
 use crate::family::{push_column, push_faults, push_head};
 use crate::label::push;
-use crate::sample::Sample;
-use playlist_text::push_seconds;
+use crate::sample::{RunSample, Sample};
+use playlist_text::{push_decimal, push_seconds};
 use std::alloc::{AllocError, Global};
 
 /// Appends a metric with a sample of each rendition.
@@ -40,6 +40,50 @@ fn push_start(out: &mut Vec<u8>, start: u128) -> Result<(), AllocError>
     push(out, "tshls_start_time_seconds ")?;
     push(out, &text)?;
     push(out, "\n")
+}
+
+/// Appends a metric of the whole run.
+#[tactic(auto, unfolding(crate::specs::Metrics::run_metric))]
+fn push_run_metric(
+    out: &mut Vec<u8>,
+    name: &str,
+    kind: &str,
+    help: &str,
+    value: u128,
+) -> Result<(), AllocError>
+    ensures { OnOk result (out.new.items ≡ out.old.items ++ run_metric name.now kind.now help.now value) }
+{
+    let mut text = String::new(*out.allocator());
+    push_decimal(&mut text, value)?;
+    push_head(out, name, kind, help)?;
+    push(out, name)?;
+    push(out, " ")?;
+    push(out, &text)?;
+    push(out, "\n")
+}
+
+/// Appends how the whole run stands.
+#[tactic(auto, unfolding(crate::specs::Metrics::run_text))]
+fn push_run(out: &mut Vec<u8>, run: RunSample) -> Result<(), AllocError>
+    ensures { OnOk result (out.new.items ≡ out.old.items ++ run_text run) }
+{
+    push_start(out, run.start)?;
+    let help = "Complete segments that are being encrypted and aren't listed yet.";
+    push_run_metric(
+        out,
+        "tshls_waiting_segments",
+        "gauge",
+        help,
+        u128::from(run.waiting),
+    )?;
+    let help = "Segments that were removed.";
+    push_run_metric(
+        out,
+        "tshls_removed_segments_total",
+        "counter",
+        help,
+        run.removed,
+    )
 }
 
 /// Appends the faults of renditions.
@@ -111,6 +155,31 @@ fn push_rates(out: &mut Vec<u8>, samples: &[Sample<'_>]) -> Result<(), AllocErro
     )
 }
 
+/// Appends how inputs stand.
+#[tactic(auto, unfolding(crate::specs::Metrics::inputs))]
+fn push_inputs(out: &mut Vec<u8>, samples: &[Sample<'_>]) -> Result<(), AllocError>
+    ensures { OnOk result (out.new.items ≡ out.old.items ++ inputs (map facts_of samples.now)) }
+{
+    let help = "Bytes of the input that were read ahead and aren't packed yet.";
+    push_metric(
+        out,
+        "tshls_read_ahead_bytes",
+        "gauge",
+        help,
+        Column::Ahead,
+        samples,
+    )?;
+    let help = "For how long nothing came of the input.";
+    push_metric(
+        out,
+        "tshls_input_silent_seconds",
+        "gauge",
+        help,
+        Column::Silent,
+        samples,
+    )
+}
+
 /// Appends how renditions stand.
 #[tactic(auto, unfolding(crate::specs::Metrics::states))]
 fn push_states(out: &mut Vec<u8>, samples: &[Sample<'_>]) -> Result<(), AllocError>
@@ -129,19 +198,20 @@ fn push_states(out: &mut Vec<u8>, samples: &[Sample<'_>]) -> Result<(), AllocErr
     push_metric(out, "tshls_ended", "gauge", help, Column::Ended, samples)
 }
 
-/// The metrics of a run that began so many microseconds after 1970, in the text format of Prometheus, version 0.0.4. The only
-/// refusal is want of memory.
+/// The metrics of a run and of its renditions, in the text format of Prometheus, version 0.0.4. The only refusal is want of
+/// memory.
 pub fn metrics_text(
     alloc: Global,
-    start: u128,
+    run: RunSample,
     samples: &[Sample<'_>],
 ) -> Result<Vec<u8>, AllocError>
-    ensures { IfOk result (λ text. text.items ≡ Metrics.metrics_text start (map facts_of samples.now)) }
+    ensures { IfOk result (λ text. text.items ≡ Metrics.metrics_text run (map facts_of samples.now)) }
 {
     let mut out = Vec::new(alloc);
-    push_start(&mut out, start)?;
+    push_run(&mut out, run)?;
     push_counters(&mut out, samples)?;
     push_rates(&mut out, samples)?;
+    push_inputs(&mut out, samples)?;
     push_states(&mut out, samples)?;
     push_fault_metric(&mut out, samples)?;
     Ok(out)

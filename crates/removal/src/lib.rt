@@ -3,6 +3,8 @@
 
 mod removing;
 mod retaining;
+mod tally;
 
 pub use removing::pack_and_remove;
 pub use retaining::keepings;
+pub use tally::Tally;

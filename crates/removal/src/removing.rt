@@ -8,6 +8,7 @@ ghost use Rattle.keeping.specs.Keepings.{AreTold};
 ghost use Rattle.commands.specs.LadderPacking.{LadderSays, WritesSummary};
 ghost use Rattle.removal.specs.Removing.{LeavesKept, kept_run, new_keeping};
 
+use crate::tally::{Tallied, Tally};
 use commands::{Destination, PackedLadder, Pool, pack};
 use folder::{Folder, PruningFolder};
 use item_io::{FolderOutlet, READS, Source};
@@ -21,7 +22,7 @@ use std::thread::Threads;
 
 /// The command `pack --remove` for a folder to which nothing was done before: packs a ladder on many threads, puts its segments
 /// and playlists into files of the folder, and removes segments that no player can want any more, as each rendition's
-/// [`Keeping`] has it.
+/// [`Keeping`] has it. Behind each item the herald is told how many were removed.
 ///
 /// Wherever the process is killed, also after a fault, the folder shows what stood there before with a prefix of a weave of the
 /// renditions over it, whole files alone, but that segments which were removed may be missing. A folder that is synced holds
@@ -31,7 +32,7 @@ pub fn pack_and_remove<
     F: Folder + Drop,
     W: Write,
     R: Threads + Wait + Sync,
-    H: Herald,
+    H: Herald + Tally,
 >(
     rt: &R,
     alloc: Global,
@@ -57,10 +58,24 @@ pub fn pack_and_remove<
         settings.now pool.workers publisher.list result.publisher.list (W.contents output.old) (W.contents output.new)) }
     ensures board { result.publisher.board ≡ publisher.board }
 {
-    let outlet = KeepingOutlet::new(outlet_of(into, alloc), alloc, renditions);
-    pack(
+    let outlet = Tallied {
+        outlet: KeepingOutlet::new(outlet_of(into, alloc), alloc, renditions),
+        tally: herald,
+    };
+    let PackedLadder {
+        sources,
+        publisher,
+        outlet: Tallied { outlet, tally: _ },
+        answer,
+    } = pack(
         rt, alloc, sources, settings, pool, publisher, outlet, output, herald,
-    )
+    );
+    PackedLadder {
+        sources,
+        publisher,
+        outlet,
+        answer,
+    }
 }
 
 /// The outlet of a folder from which old files go, which was given no item yet.

@@ -2,18 +2,19 @@ ghost use Rattle.std.specs.Prelude.{◌≡◌, ◌*◌, [], IfOk, option_map};
 ghost use Rattle.std.specs.Duration.{as_nanos};
 ghost use Rattle.folder.specs.FileFolders.{file_moves};
 
-use crate::watching::Watching;
+use crate::told::Tellings;
+use crate::watching::{Watched, Watching};
 use channel::{Resumed, resume};
 use command_line::{Fault, LadderJob};
 use commands::{Destination, LadderOptions, PackedLadder, Pool, pack_into_folder};
 use folder::FileFolder;
 use pipeline::{Herald, opening_board};
 use read_ahead::{InputFiles, Limits, open_paths};
-use removal::{keepings, pack_and_remove};
+use removal::{Tally, keepings, pack_and_remove};
 use std::alloc::{AllocError, AllocGlobal, Global};
 use std::fs::Files;
 use std::io::{Eprint, Write};
-use std::sync::Wait;
+use std::sync::{Arc, Wait};
 use std::thread::Threads;
 use std::time::{Clock, Duration};
 
@@ -66,11 +67,12 @@ pub fn begin_channel<'a, R: Files + AllocGlobal + Clone + Copy + Drop>(
 }
 
 /// Packs a ladder of files into a folder. All paths but those of FIFOs that have no writer are open before anything is
-/// written. The herald is told of a rendition's fault as soon as it stands.
+/// written. The herald is told of a rendition's fault as soon as it stands; what the run tells of itself is kept where its
+/// metrics find it.
 pub fn pack_ladder<
     R: InputFiles + Files + Clock + Eprint + Threads + Wait + Copy + Send + Sync + Drop + 'static,
     W: Write,
-    H: Herald,
+    H: Herald + Tally,
 >(
     rt: R,
     alloc: Global,
@@ -78,6 +80,7 @@ pub fn pack_ladder<
     older: Vec<Vec<u64>>,
     output: &mut W,
     herald: &H,
+    told: Arc<Tellings>,
 ) -> Result<(), Fault>
 where
     R::Reader: Send + 'static,
@@ -87,10 +90,19 @@ where
     let settings = &job.options.settings;
     let pool = job.options.pool;
     let sources = open_paths(rt, alloc, rt, job.options.paths.as_slice(), limits_of(pool))?;
+    let inputs = match sources.first() {
+        Some(source) => Some(source.view()?),
+        None => None,
+    };
     let into = destination(rt, alloc, job)?;
     let kept = keepings(alloc, settings, &older)?;
     let (publisher, viewers) = opening_board(&rt, alloc, settings.renditions.len(), 1)?;
-    let watching = Watching::begin(rt, alloc, &settings.renditions, job.metrics, viewers);
+    let watched = Watched {
+        viewers,
+        inputs,
+        told,
+    };
+    let watching = Watching::begin(rt, alloc, &settings.renditions, job.metrics, watched);
     let (publisher, answer) = if job.removes {
         let PackedLadder {
             sources: _,

@@ -4,19 +4,21 @@
 mod ladder;
 mod metrics_file;
 mod telling;
+mod told;
 mod watching;
 
 use crate::ladder::{Channel, begin_channel, pack_ladder};
 use crate::telling::{Teller, tell};
+use crate::told::Tellings;
 use command_line::{Fault, Job, LadderJob, StreamJob, line};
 use commands::{Packed, check, one, open, seal};
 use item_io::ReaderSource;
 use read_ahead::InputFiles;
-use std::alloc::AllocGlobal;
+use std::alloc::{AllocError, AllocGlobal, Global};
 use std::fs::{File, Files, TryLockError};
 use std::io::Eprint;
 use std::process::ExitCode;
-use std::sync::Wait;
+use std::sync::{Arc, Wait};
 use std::thread::Threads;
 use std::time::Clock;
 use std::{env, io};
@@ -96,12 +98,23 @@ where
         Ok(channel) => channel,
         Err(fault) => return ended(host, words, Err(fault)),
     };
-    let teller = Teller::new(rt, *host, words, &job.options.settings);
-    match pack_ladder(rt, host.alloc(), &job, older, &mut host.stdout(), &teller) {
+    let Ok((told, theirs)) = tellings(host.alloc()) else {
+        return ended(host, words, Err(Fault::NoMemory));
+    };
+    let teller = Teller::new(rt, *host, words, &job.options.settings, theirs);
+    let into = &mut host.stdout();
+    match pack_ladder(rt, host.alloc(), &job, older, into, &teller, told) {
         Err(fault) if teller.has_told(&fault) => ExitCode::from(fault.status()),
         Err(fault) => ended(host, words, Err(teller.seen(fault))),
         Ok(()) => ended(host, words, Ok(())),
     }
+}
+
+/// Where a run keeps what it tells of itself, once for the run and once for who watches it.
+fn tellings(alloc: Global) -> Result<(Arc<Tellings>, Arc<Tellings>), AllocError> {
+    let told = Arc::new(alloc, Tellings::new())?;
+    let theirs = Arc::try_clone(&told)?;
+    Ok((told, theirs))
 }
 
 /// Tells how the program ends.

@@ -1,11 +1,13 @@
 //! Faults on standard error: each as soon as it stands, and none twice.
 
+use crate::told::Tellings;
 use channel::seen_fault;
 use command_line::{Fault, explain};
 use commands::LadderPackingFault;
 use pipeline::{Herald, PackFault, Settings};
+use removal::Tally;
 use std::io::IsTerminal;
-use std::sync::{Mutex, Wait};
+use std::sync::{Arc, Wait};
 
 /// Tells a fault. At a terminal it's explained by a second line.
 pub fn tell(rt: &HostRuntime, words: &[String], fault: &Fault) {
@@ -17,33 +19,31 @@ pub fn tell(rt: &HostRuntime, words: &[String], fault: &Fault) {
     }
 }
 
-/// As many renditions as a ladder has at the most.
-const RENDITIONS: usize = 32;
-
-/// Tells the faults of a ladder's renditions while the others are packed.
+/// Tells the faults of a ladder's renditions while the others are packed, and keeps in mind what the run tells of itself.
 #[derive(Drop)]
 pub struct Teller<'w, R> {
     rt: R,
     host: HostRuntime,
     words: &'w [String],
     settings: &'w Settings,
-    told: Mutex<[Option<PackFault>; RENDITIONS]>,
+    told: Arc<Tellings>,
 }
 
 impl<'w, R: Wait> Teller<'w, R> {
-    /// Nothing was told yet. The words are those of the command line, the settings those of the run.
+    /// What was told is kept there. The words are those of the command line, the settings those of the run.
     pub fn new(
         rt: R,
         host: HostRuntime,
         words: &'w [String],
         settings: &'w Settings,
+        told: Arc<Tellings>,
     ) -> Teller<'w, R> {
         Teller {
             rt,
             host,
             words,
             settings,
-            told: Mutex::new([None; RENDITIONS]),
+            told,
         }
     }
 
@@ -52,9 +52,9 @@ impl<'w, R: Wait> Teller<'w, R> {
         let Fault::LadderPacking(LadderPackingFault::Packing(fault)) = fault else {
             return false;
         };
-        let told = self.told.lock(&self.rt);
-        for known in told.iter() {
-            if *known == Some(*fault) {
+        let told = self.told.so_far(&self.rt);
+        for known in told.faults {
+            if known == Some(*fault) {
                 return true;
             }
         }
@@ -70,23 +70,22 @@ impl<'w, R: Wait> Teller<'w, R> {
             other => other,
         }
     }
-
-    /// Keeps in mind that this fault was told.
-    fn note(&self, fault: PackFault) {
-        let mut told = self.told.lock(&self.rt);
-        for known in told.iter_mut() {
-            if known.is_none() {
-                *known = Some(fault);
-                return;
-            }
-        }
-    }
 }
 
 impl<R: Wait> Herald for Teller<'_, R> {
     fn tell(&self, fault: PackFault) {
-        self.note(fault);
+        self.told.note_fault(&self.rt, fault);
         let fault = Fault::LadderPacking(LadderPackingFault::Packing(fault));
         tell(&self.host, self.words, &self.seen(fault));
+    }
+
+    fn completed(&self, segments: u64) {
+        self.told.note_completed(&self.rt, segments);
+    }
+}
+
+impl<R: Wait> Tally for Teller<'_, R> {
+    fn removed(&self, segments: u128) {
+        self.told.note_removed(&self.rt, segments);
     }
 }

@@ -1,10 +1,14 @@
 //! Watches a run: a thread with a viewer of its board writes its metrics to a file. The run waits for nothing of it.
 
 use crate::metrics_file::replace;
+use crate::told::{RENDITIONS, Tellings, Told};
 use commands::LadderPackingFault;
 use live_board::Viewer;
-use metrics::{Glance, Seen, look, metrics_text, samples, seen_again};
+use metrics::{
+    Glance, InputSample, Known, RunSample, Seen, look, metrics_text, samples, seen_again, waiting,
+};
 use pipeline::{PackFault, Rendition};
+use read_ahead::InputsView;
 use std::alloc::{AllocError, Global};
 use std::fs::Files;
 use std::io::{self, Eprint};
@@ -54,6 +58,9 @@ struct Writer {
     /// When it began; none where there is no clock.
     begun: Option<Instant>,
     seen: Vec<Seen>,
+    /// The inputs; none where the ladder has none.
+    inputs: Option<InputsView>,
+    told: Arc<Tellings>,
     /// Whether it was told that the metrics can't be written.
     has_told: bool,
 }
@@ -65,6 +72,8 @@ impl Writer {
         alloc: Global,
         renditions: &[Rendition],
         path: &str,
+        inputs: Option<InputsView>,
+        told: Arc<Tellings>,
     ) -> Result<Writer, AllocError> {
         let mut names = Vec::new(alloc);
         let mut seen = Vec::new(alloc);
@@ -78,17 +87,19 @@ impl Writer {
             start: since_1970(rt),
             begun: Instant::now(rt).ok(),
             seen,
+            inputs,
+            told,
             has_told: false,
         })
     }
 
     /// Writes what was seen of a run, and the fault that it ended by.
-    fn write<R: Files + Clock + Eprint>(
+    fn write<R: Files + Clock + Eprint + Wait>(
         &mut self,
         rt: &R,
         alloc: Global,
         glance: &Glance,
-        fault: Option<(usize, &'static str)>,
+        fault: Option<PackFault>,
     ) {
         let written = match self.text(rt, alloc, glance, fault) {
             Ok(text) => replace(rt, alloc, &self.path, &text),
@@ -100,12 +111,12 @@ impl Writer {
     }
 
     /// The metrics of what was seen now.
-    fn text<R: Clock>(
+    fn text<R: Clock + Wait>(
         &mut self,
         rt: &R,
         alloc: Global,
         glance: &Glance,
-        fault: Option<(usize, &'static str)>,
+        fault: Option<PackFault>,
     ) -> Result<Vec<u8>, AllocError> {
         let now = since(rt, self.begun);
         self.seen = seen_again(alloc, &self.seen, &glance.counts, now)?;
@@ -113,8 +124,40 @@ impl Writer {
         for name in &self.names {
             names.push(name.as_str())?;
         }
-        let all = samples(alloc, &names, glance, &self.seen, now, fault)?;
-        metrics_text(alloc, self.start, &all)
+        let told = self.told.so_far(rt);
+        let faults = faults_of(&told, fault);
+        let inputs = self.input_samples(rt, alloc)?;
+        let known = Known {
+            seen: &self.seen,
+            inputs: &inputs,
+            faults: &faults,
+        };
+        let all = samples(alloc, &names, glance, known, now)?;
+        let run = RunSample {
+            start: self.start,
+            waiting: waiting(told.completed, glance),
+            removed: told.removed,
+        };
+        metrics_text(alloc, run, &all)
+    }
+
+    /// How the inputs stand.
+    fn input_samples<R: Clock + Wait>(
+        &self,
+        rt: &R,
+        alloc: Global,
+    ) -> Result<Vec<InputSample>, AllocError> {
+        let mut all = Vec::new(alloc);
+        let Some(inputs) = &self.inputs else {
+            return Ok(all);
+        };
+        for state in inputs.look(rt, alloc)? {
+            all.push(InputSample {
+                ahead: state.bytes as u64,
+                silent: state.silent.as_micros(),
+            })?;
+        }
+        Ok(all)
     }
 
     /// Tells that the metrics can't be written, the first time.
@@ -148,13 +191,35 @@ fn since<R: Clock>(rt: &R, begun: Option<Instant>) -> u128 {
     }
 }
 
+/// The names of the faults that renditions ended by, by rendition: those that were told, and another one, if any.
+fn faults_of(told: &Told, last: Option<PackFault>) -> [Option<&'static str>; RENDITIONS] {
+    let mut faults = [None; RENDITIONS];
+    for fault in told.faults {
+        name_fault(&mut faults, fault);
+    }
+    name_fault(&mut faults, last);
+    faults
+}
+
+/// Names a fault beside its rendition.
+fn name_fault(faults: &mut [Option<&'static str>], fault: Option<PackFault>) {
+    let Some(fault) = fault else {
+        return;
+    };
+    if let Some((rendition, name)) = faulted(fault)
+        && let Some(place) = faults.get_mut(rendition)
+    {
+        *place = Some(name);
+    }
+}
+
 /// Looks at the board, and then writes what it saw. It holds no view while it writes.
-fn look_and_write<R: Files + Clock + Eprint>(
+fn look_and_write<R: Files + Clock + Eprint + Wait>(
     rt: &R,
     alloc: Global,
     viewer: Viewer,
     writer: &mut Writer,
-    fault: Option<(usize, &'static str)>,
+    fault: Option<PackFault>,
 ) -> Viewer {
     let (viewer, seen) = look(alloc, viewer);
     match seen {
@@ -183,6 +248,14 @@ fn watch<R: Files + Clock + Eprint + Wait>(
     (viewer, writer)
 }
 
+/// By what a run is watched: views of its board and of its inputs, and what it tells of itself.
+#[derive(Drop)]
+pub struct Watched {
+    pub viewers: Vec<Viewer>,
+    pub inputs: Option<InputsView>,
+    pub told: Arc<Tellings>,
+}
+
 /// A run that is watched.
 #[derive(Drop)]
 pub struct Watching {
@@ -191,13 +264,13 @@ pub struct Watching {
 }
 
 impl Watching {
-    /// Watches a run of these renditions that is about to begin. None where there is no memory or no thread for it.
+    /// Watches a run of these renditions that is about to begin. None where there is no memory, no thread or no viewer for it.
     fn start<R: Files + Clock + Eprint + Threads + Wait + Copy + Send + Drop + 'static>(
         rt: R,
         alloc: Global,
         renditions: &[Rendition],
         path: &str,
-        viewer: Viewer,
+        watched: Watched,
     ) -> Option<Watching>
     where
         R::File: Send + 'static,
@@ -212,29 +285,32 @@ impl Watching {
         )
         .ok()?;
         let theirs = Arc::try_clone(&stop).ok()?;
-        let writer = Writer::new(&rt, alloc, renditions, path).ok()?;
+        let Watched {
+            viewers,
+            inputs,
+            told,
+        } = watched;
+        let mut viewers = viewers;
+        let viewer = viewers.pop()?;
+        let writer = Writer::new(&rt, alloc, renditions, path, inputs, told).ok()?;
         let thread = thread::spawn(&rt, move || watch(&rt, alloc, viewer, writer, &theirs)).ok()?;
         Some(Watching { stop, thread })
     }
 
-    /// As `start`, if there is a path and a viewer. Where it can't be watched, that is told, and the run goes on.
+    /// As `start`, if there is a path. Where it can't be watched, that is told, and the run goes on.
     pub fn begin<R: Files + Clock + Eprint + Threads + Wait + Copy + Send + Drop + 'static>(
         rt: R,
         alloc: Global,
         renditions: &[Rendition],
         path: Option<&str>,
-        viewers: Vec<Viewer>,
+        watched: Watched,
     ) -> Option<Watching>
     where
         R::File: Send + 'static,
         R::Dir: Send + 'static,
     {
         let path = path?;
-        let mut viewers = viewers;
-        let watching = match viewers.pop() {
-            Some(viewer) => Watching::start(rt, alloc, renditions, path, viewer),
-            None => None,
-        };
+        let watching = Watching::start(rt, alloc, renditions, path, watched);
         if watching.is_none() {
             let _ = rt.eprint(UNWRITTEN);
         }
@@ -251,11 +327,11 @@ impl Watching {
         let Watching { stop, thread } = self;
         stop.tell(rt);
         let (viewer, mut writer) = thread.join(rt);
-        let faulted = match fault {
-            Some(LadderPackingFault::Packing(fault)) => faulted(*fault),
+        let last = match fault {
+            Some(LadderPackingFault::Packing(fault)) => Some(*fault),
             _ => None,
         };
-        let _viewer = look_and_write(rt, alloc, viewer, &mut writer, faulted);
+        let _viewer = look_and_write(rt, alloc, viewer, &mut writer, last);
     }
 }
 

@@ -9,11 +9,11 @@ pub loop-r-preserved : goal.loop-r-preserved
 loop-r-preserved c =
     let names = c.args.names.now in
     let glance = c.args.glance.now in
-    let seen = c.args.seen.now in
+    let known = c.args.known in
     let r = c.loop-r.r in
     let texts : List (List ℕ) = map (λ t. t.now) names in
-    let one : facts_of c.sample.result ≡ told_at texts glance seen c.args.now c.args.fault r =
-    c.sample.ensures ∙ ap (λ (name : List ℕ). told_of name glance seen c.args.now c.args.fault r) (sym (get_or-map (λ (t : Bor (List ℕ)). t.now) names r _ [] c.loop-r-test.true)) in
+    let one : facts_of c.sample.result ≡ told_at texts glance known c.args.now r =
+    c.sample.ensures ∙ ap (λ (name : List ℕ). told_of name glance known c.args.now r) (sym (get_or-map (λ (t : Bor (List ℕ)). t.now) names r _ [] c.loop-r-test.true)) in
     ap (map facts_of) c.in_ok-push.ensures.items ∙ map-append facts_of c.loop-r.samples.items (c.sample.result ∷ [])
     ∙ (λ i. c.loop-r.invariant i ++ one i ∷ [])
-    ∙ sym (map-range_with_len_more (told_at texts glance seen c.args.now c.args.fault) 0 r r (omega arith))
+    ∙ sym (map-range_with_len_more (told_at texts glance known c.args.now) 0 r r (omega arith))

@@ -5,4 +5,4 @@ use Rattle.metrics.specs.Told.{told_at}
 use Rattle.metrics.proofs.sampling.samples.Given as goal
 
 abbrev pub invariant-loop-r : goal.invariant-loop-r
-invariant-loop-r l = map facts_of l.samples.items ≡ map (told_at (map (λ t. t.now) l.names) l.glance l.seen l.now l.fault) (range_with_len 0 l.r)
+invariant-loop-r l = map facts_of l.samples.items ≡ map (told_at (map (λ t. t.now) l.names) l.glance l.known l.now) (range_with_len 0 l.r)

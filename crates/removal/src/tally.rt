@@ -1,0 +1,51 @@
+//! Segments that were removed are counted, for whoever watches a run.
+
+ghost use Rattle.std.specs.Prelude.{◌≡◌, ◌+◌, ◌<◌, ◌^◌, ◌∷◌, [], OnErr, OnOk};
+ghost use Rattle.item_io.specs.Items.{item_value};
+ghost use Rattle.item_io.specs.Outlets.{BreaksOff, Grows};
+ghost use Rattle.item_io.specs.Views.{outlet_view};
+ghost use Rattle.keeping.specs.Keepings.{KeptBy, KeptUpTo};
+
+use folder::Folder;
+use item_io::{Item, Outlet, OutletFault};
+use keeping::KeepingOutlet;
+use std::marker::Model;
+
+/// Who is told how many segments were removed. What a run does doesn't depend on it.
+pub trait Tally {
+    /// So many were removed by now, of all renditions together.
+    fn removed(&self, segments: u128);
+}
+
+/// An outlet that tells behind each item how many segments were removed. Clauses see the outlet alone.
+#[derive(Drop)]
+pub struct Tallied<'t, F, T> {
+    pub outlet: KeepingOutlet<F>,
+    pub tally: &'t T,
+}
+
+impl<'t, F, T> Model for Tallied<'t, F, T> {
+    ghost use Rattle.keeping.specs.Keepings.{KeepingState};
+
+    ghost Value = { KeepingState F };
+
+    ghost view = { λ o. o.outlet };
+}
+
+impl<F: Folder, T: Tally> Outlet for Tallied<'_, F, T> {
+    ghost output = { outlet_view (KeptBy F.made) (KeptUpTo F.made) (λ o. o.files.failures) };
+
+    fn put(&mut self, item: &Item) -> Result<(), OutletFault>
+        requires { self.old.files.failures < 2 ^ 63 }
+        ensures grown { OnOk result (Grows (KeptBy F.made self.old) (KeptBy F.made self.new) (item_value item.now ∷ [])) }
+        ensures ok { OnOk result (self.new.files.failures ≡ self.old.files.failures) }
+        ensures kept { OnErr result (Grows (KeptBy F.made self.old) (KeptBy F.made self.new) []) }
+        ensures refused { OnErr result (self.old.files.failures ≡ 0 →
+            BreaksOff (KeptBy F.made self.old) (KeptUpTo F.made self.new) [] (item_value item.now)) }
+        ensures failed { OnErr result (self.new.files.failures ≡ self.old.files.failures + 1) }
+    {
+        let answer = self.outlet.put(item);
+        self.tally.removed(self.outlet.removed());
+        answer
+    }
+}
