@@ -3,3 +3,4 @@ pub mod Listing
 pub mod Removing
 pub mod Sizes
 pub mod OneMore
+pub mod Stopping

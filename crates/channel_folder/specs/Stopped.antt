@@ -20,7 +20,7 @@ use Rattle.channel_folder.specs.declared.fault.Stop.{Stop}
 use Rattle.channel_folder.specs.declared.fault.Stop.TheVariants as Stopping
 use Rattle.channel_folder.specs.Files.{media_file, frames_file}
 use Rattle.channel_folder.specs.Scans.{ScanValue, numbers_at}
-use Rattle.channel_folder.specs.Reopened.{HasSize, AreSizes, IsListed, IsReopened, HasNone, IsOf, next_of, AllStand}
+use Rattle.channel_folder.specs.Reopened.{AreSizes, IsListed, IsOf, next_of, StandTo, AllStand}
 
 -- the run doesn't go on from the media playlist
 pub record IsRefusedAt (Gives : List ℕ → List ℕ → Type 0) (name : List ℕ) (wanted : Wanted) (fault : ResumeFault) : Type 0 where
@@ -127,3 +127,34 @@ IsSizeStop Refuses Gives Lacks name entries Stopping.Unread = Refuses
 IsSizeStop Refuses Gives Lacks name entries Stopping.NoMemory = ⊤
 IsSizeStop Refuses Gives Lacks name entries (Stopping.Why (Lost n)) = IsLostOf Lacks name entries n
 IsSizeStop Refuses Gives Lacks name entries (Stopping.Why why) = ⊥
+
+-- rendition r is the first that doesn't go on by itself, and this is why: those before it stand
+pub record IsFirstStopped (Gives : List ℕ → List ℕ → Type 0) (Lacks : List ℕ → Type 0) (scan : ScanValue) (asked : List Asked) (r : ℕ)
+    (why : WhyNot) : Type 0 where
+  pub found : List (Option RestoredValue)
+  pub count : length found ≡ r
+  pub before : StandTo Gives Lacks scan asked found r
+  pub one : Asked
+  pub one_is : slice_get asked r ≡ Some one
+  pub is_why : IsWhy Gives Lacks (numbers_at scan r) one why
+
+-- each goes on by itself, and rendition r is the first that doesn't go with one before it
+pub record IsFirstUneven (Gives : List ℕ → List ℕ → Type 0) (Lacks : List ℕ → Type 0) (scan : ScanValue) (kind : Kind) (asked : List Asked)
+    (r : ℕ) : Type 0 where
+  pub found : List (Option RestoredValue)
+  pub all : AllStand Gives Lacks scan asked found
+  pub uneven : IsUneven kind found r
+
+-- why one of them doesn't go on by itself
+abbrev pub IsStopped : Type 0 → (List ℕ → List ℕ → Type 0) → (List ℕ → Type 0) → ScanValue → List Asked → ReopenFault → Type 0
+IsStopped Refuses Gives Lacks scan asked Reopen.Unread = Refuses
+IsStopped Refuses Gives Lacks scan asked Reopen.NoMemory = ⊤
+IsStopped Refuses Gives Lacks scan asked (Reopen.Of r why) = IsFirstStopped Gives Lacks scan asked r why
+
+-- Why a channel doesn't go on: the folder can't be read; or this rendition is the first that doesn't go on by itself; or all do, and
+-- it is the first that doesn't go with one before it.
+abbrev pub IsNotReopened : Type 0 → (List ℕ → List ℕ → Type 0) → (List ℕ → Type 0) → ScanValue → Kind → List Asked → ReopenFault → Type 0
+IsNotReopened Refuses Gives Lacks scan kind asked Reopen.Unread = Refuses
+IsNotReopened Refuses Gives Lacks scan kind asked Reopen.NoMemory = ⊤
+IsNotReopened Refuses Gives Lacks scan kind asked (Reopen.Of r why) =
+    IsFirstStopped Gives Lacks scan asked r why ⊎ ((why ≡ Uneven) × IsFirstUneven Gives Lacks scan kind asked r)

@@ -1,7 +1,8 @@
 //! Each rendition of a ladder goes on by itself, or has no playlists.
-ghost use Rattle.std.specs.Prelude.{◌≡◌, ◌<◌, Some, IfOk, length, slice_get};
+ghost use Rattle.std.specs.Prelude.{◌≡◌, ◌<◌, Some, IfOk, IfErr, length, slice_get};
 ghost use Rattle.channel_folder.specs.Reopened.{AllStand};
 ghost use Rattle.channel_folder.specs.StopOf;
+ghost use Rattle.channel_folder.specs.Stopped.{IsStopped};
 
 use crate::asked::Asked;
 use crate::fault::{ReopenFault, Stop};
@@ -19,6 +20,7 @@ pub(crate) fn find_each<F: FolderReader>(
     asked: &[Asked<'_>],
 ) -> Result<Vec<Option<Restored>>, ReopenFault>
     ensures ok { IfOk result (λ found. AllStand (F.gives folder.now) (F.lacks folder.now) scan.now asked.now found.items) }
+    ensures err { IfErr result (IsStopped (F.refuses folder.now) (F.gives folder.now) (F.lacks folder.now) scan.now asked.now) }
 {
     let mut found = Vec::new(alloc);
     for r in 0..asked.len() {

@@ -1,6 +1,7 @@
 //! A channel's folder is gone on in.
-ghost use Rattle.std.specs.Prelude.{IfOk};
+ghost use Rattle.std.specs.Prelude.{IfOk, IfErr};
 ghost use Rattle.channel_folder.specs.Reopened.{AreReopened};
+ghost use Rattle.channel_folder.specs.Stopped.{IsNotReopened};
 
 use crate::asked::Asked;
 use crate::fault::{ReopenFault, WhyNot};
@@ -26,6 +27,7 @@ pub fn reopen<F: FolderReader>(
     asked: &[Asked<'_>],
 ) -> Result<Reopened, ReopenFault>
     ensures ok { IfOk result (AreReopened (F.gives folder.now) (F.lacks folder.now) scan.now kind asked.now) }
+    ensures err { IfErr result (IsNotReopened (F.refuses folder.now) (F.gives folder.now) (F.lacks folder.now) scan.now kind asked.now) }
 {
     let found = find_each(alloc, folder, scan, asked)?;
     match common_breaks(kind, &found) {

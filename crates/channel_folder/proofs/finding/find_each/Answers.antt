@@ -1,8 +1,10 @@
 use Rattle.std.proofs.Common.{arith, ◌≡◌, ◌≤◌, ◌+◌, sym, subst, ℕ, List, [], ◌∷◌, ◌++◌, Option, length, length-append}
 use Rattle.resume.specs.Restoring.{RestoredValue}
 use Rattle.channel_folder.specs.Scans.{numbers_at}
-use Rattle.channel_folder.specs.Reopened.{AllStand, StandTo, Stands}
+use Rattle.channel_folder.specs.Reopened.{StandTo, Stands}
+use Rattle.channel_folder.specs.Stopped.{IsStop}
 use Rattle.channel_folder.proofs.OneMore.{stand-more}
+use Rattle.channel_folder.proofs.Stopping.{stopped-at}
 use Rattle.channel_folder.proofs.finding.find_each.Goals as goal
 
 pub loop-r-preserved : goal.loop-r-preserved
@@ -21,13 +23,24 @@ loop-r-preserved g c =
           (stand-more Gives Lacks c.args.scan.now asked found r a c.in-Ok.one c.loop-r.invariant.1 c.loop-r.invariant.0 c.rendition_at-rendition.ensures stands),
     )
 
-pub returns : goal.returns
-returns g c =
+pub returns-clause-ok : goal.returns-clause-ok
+returns-clause-ok g c =
     let Gives = g.F.FolderReader.gives c.args.folder.now in
     let Lacks = g.F.FolderReader.lacks c.args.folder.now in
     let all : c.loop-r.r ≡ length c.args.asked.now = omega (arith, c.loop-r-test.false, c.loop-r.auto.r-end) in
-    let stand : AllStand Gives Lacks c.args.scan.now c.args.asked.now c.loop-r.found.items = record {
+    record {
       each = omega (arith, c.loop-r.invariant.0, all);
       stand = subst (λ (n : ℕ). StandTo Gives Lacks c.args.scan.now c.args.asked.now c.loop-r.found.items n) all c.loop-r.invariant.1;
-    } in
-    record { ok = stand }
+    }
+
+pub returns-in-Err-clause-err : goal.returns-in-Err-clause-err
+returns-in-Err-clause-err g c =
+    let Refuses = g.F.FolderReader.refuses c.args.folder.now in
+    let Gives = g.F.FolderReader.gives c.args.folder.now in
+    let Lacks = g.F.FolderReader.lacks c.args.folder.now in
+    let r = c.loop-r.r in
+    let a = c.rendition_at-rendition.result.now in
+    let stops : IsStop Refuses Gives Lacks (numbers_at c.args.scan.now r) a c.in-Err.stop =
+    subst (λ (ns : List ℕ). IsStop Refuses Gives Lacks ns a c.in-Err.stop) c.numbers_of.ensures c.in-Err.ensures.err in
+    rw c.fault_at.ensures
+    (stopped-at Refuses Gives Lacks c.args.scan.now c.args.asked.now c.loop-r.found.items r a c.in-Err.stop c.loop-r.invariant.0 c.loop-r.invariant.1 c.rendition_at-rendition.ensures stops)
