@@ -1,19 +1,21 @@
 -- What a keeping outlet holds.
 use Rattle.std.specs.Prelude.{length, take, drop}
 use Rattle.std.specs.List.{Contains}
-use Rattle.std.proofs.Common.{arith, ◌≡◌, ℕ, zero, suc, ◌+◌, ◌<◌, Bool, true, false, List, [], ◌∷◌, ◌++◌, refl, sym, ap, ◌∙◌, subst, inl, inr, append-nil}
-use Rattle.std.proofs.lemmas.List.Elements.{Contains-append_cases, Contains-append_right}
+use Rattle.std.proofs.Common.{arith, ◌≡◌, ℕ, zero, suc, ◌+◌, ◌<◌, ◌≤◌, Bool, true, false, List, [], ◌∷◌, ◌++◌, refl, sym, ap, ◌∙◌, subst, inl, inr, append-nil}
+use Rattle.std.proofs.lemmas.List.Elements.{All-contains, Contains-append_cases, Contains-append_right}
 use Rattle.keeping.proofs.Taking.{Contains-take-more, taken-on}
+use Rattle.retention.specs.Steps.{MayGo}
 use Rattle.folder.specs.Moves.{Move, is_hidden}
 use Rattle.folder.specs.Pruning.{other_moves, pruned_names, unless_hidden}
 use Rattle.folder.proofs.OtherMoves.{pruned_names-append}
 use Rattle.item_io.specs.Items.{ItemValue, FramesItem, MasterItem, MediaItem, SegmentItem}
-use Rattle.item_io.specs.FileNames.{segment_file_name}
+use Rattle.item_io.specs.FileNames.{is_named, segment_file_name}
 use Rattle.item_io.specs.Outlets.{BreaksOff, Grows, Held, with_items}
 use Rattle.item_io.specs.FolderMoves.{FolderState, HoldsFiles, HoldsFilesUpTo}
 use Rattle.item_io.proofs.Growing.{Grows-nil}
-use Rattle.keeping.specs.Keepings.{AreAsOf, AreGone, AreNotedBy, GoBehind, IsGone, KeepingState, KeepingValue, KeptBy, KeptUpTo, LetsGo, SweptBehind, WentOf, keeping_at, removals, removals_of}
-use Rattle.keeping.proofs.Telling.{AreSame, IsSame, gone-all-same, noted-all-same, told-behind, told-more}
+use Rattle.keeping.specs.Keepings.{AreAsOf, AreGone, AreNotedBy, AreOut, AreUnlisted, ComesInTurn, GoBehind, IsGone, IsPassed, IsUnlisted, KeepingState, KeepingValue, KeptBy, KeptUpTo, LetsGo, SweptBehind, WentOf, keeping_at, removals, removals_of}
+use Rattle.keeping.proofs.Telling.{AreSame, IsSame, gone-all-same, noted-all-same, same-all, told-behind, told-more}
+use Rattle.keeping.proofs.Unlisting.{unlisted-behind, unlisted-put}
 
 -- what was gone is gone still
 went-still : (old new : KeepingValue) (number : ℕ) → IsSame old new → WentOf old number → WentOf new number
@@ -31,11 +33,23 @@ gone-still old new name same gone =
       number = gone.number;
       one = omega (arith, gone.one, same.len);
       gone = went-still (keeping_at old gone.r) (keeping_at new gone.r) gone.number one gone.gone;
+      passed = one.passed gone.number gone.passed;
       named = gone.named ∙ ap (λ (text : List ℕ). segment_file_name text gone.number) (sym one.name);
     }
 
 pub all-gone-still : (names names_then : List (List ℕ)) (old new : List KeepingValue) → names_then ≡ names → AreSame old new → AreGone names old → AreGone names_then new
 all-gone-still names names_then old new is same gone name has = gone-still old new name same (gone name (subst (λ (l : List (List ℕ)). Contains l name) is has))
+
+-- what was gone, and isn't listed by these items, is so still
+pub out-still : (names names_then : List (List ℕ)) (old new : List KeepingValue) (items : List ItemValue) → names_then ≡ names → AreSame old new → AreGone names old → AreUnlisted old items →
+    AreOut names_then new items
+unfolding gone-still
+out-still names names_then old new items is same gone unlisted name has =
+    let g = gone name (subst (λ (l : List (List ℕ)). Contains l name) is has) in
+    record {
+      went = gone-still old new name same g;
+      unlisted = subst (λ (text : List ℕ). IsUnlisted text g.number items) (sym (same.each g.r).name) (unlisted g.r g.one g.number g.passed);
+    }
 
 -- what has one name
 one-name : (name other : List ℕ) → Contains (name ∷ []) other → other ≡ name
@@ -77,6 +91,10 @@ in-removals-of name other [] (k, within, is) = absurd (omega (arith, within))
 in-removals-of name other (number ∷ numbers) has =
     in-removals-of-more (is_hidden (segment_file_name name number)) name other number numbers (in-removals-of name other numbers) has
 
+-- a segment that may go was passed, and so were all before it
+passed-place : (k : KeepingValue) (n number : ℕ) → MayGo k.kept.least k.kept.steps n → number ≤ k.base + n → IsPassed k number
+passed-place k n number may below = (may.at, may.within, omega (arith, may.out), omega (arith, may.out, below))
+
 gone-places : (r : ℕ) (old new : List KeepingValue) (made made_then : List Move) (name : List ℕ) → r < length old → length new ≡ length old → (went : LetsGo (keeping_at old r) (keeping_at new r) made made_then) →
     Contains (pruned_names (removals (keeping_at old r).name ((keeping_at old r).base + (keeping_at old r).gone) went.count)) name → IsGone new name
 gone-places r old new made made_then name within len went now =
@@ -87,6 +105,8 @@ gone-places r old new made made_then name within len went now =
       number = k.base + k.gone + one.0;
       one = omega (arith, within, len);
       gone = subst (λ (x : KeepingValue). WentOf x (k.base + k.gone + one.0)) (sym went.now) (inl (k.gone + one.0, omega (arith, one.1), omega arith));
+      passed = subst (λ (x : KeepingValue). IsPassed x (k.base + k.gone + one.0)) (sym went.now)
+          (passed-place k (k.gone + one.0) (k.base + k.gone + one.0) (went.may_go (k.gone + one.0) (omega (arith, one.1))) (omega arith));
       named = one.2 ∙ ap (λ (x : KeepingValue). segment_file_name x.name (k.base + k.gone + one.0)) (sym went.now);
     }
 
@@ -106,6 +126,9 @@ gone-older r old new made made_then name within len went now =
       one = omega (arith, within, len);
       gone = subst (λ (x : KeepingValue). WentOf x one.0) (sym went.now)
           (inr (went.some_went (some-number went.more (drop k.swept k.older) one.0 one.1), taken-on k.swept went.more k.older one.0 one.1));
+      passed = subst (λ (x : KeepingValue). IsPassed x one.0) (sym went.now)
+          (passed-place k 0 one.0 (went.may_go 0 (went.some_went (some-number went.more (drop k.swept k.older) one.0 one.1)))
+          (omega (arith, All-contains (λ n. n < k.base) (take went.more (drop k.swept k.older)) one.0 went.earlier one.1)));
       named = one.2 ∙ ap (λ (x : KeepingValue). segment_file_name x.name one.0) (sym went.now);
     }
 
@@ -158,6 +181,7 @@ refused {F} made o renditions is = record {
     files = failed-files o.files.syncs (other_moves (made o.files.folder)) o.files.staged o.files.failures held h.files;
     told = λ none. absurd (omega (arith, none));
     gone = subst (AreGone (pruned_names (made o.files.folder))) (sym is) h.gone;
+    unlisted = λ none. absurd (omega (arith, none));
   });
 }
 
@@ -168,8 +192,15 @@ refused-first {F} made o renditions item is well = record {
       (sym (append-nil held.items)) (record {
         files = record { marked = h.files.marked; more = h.files.more; made_are = h.files.made_are; stopped = inl (inl (h.files.none well)) };
         gone = subst (AreGone (pruned_names (made o.files.folder))) (sym is) h.gone;
+        unlisted = out-still (pruned_names (made o.files.folder)) (pruned_names (made o.files.folder)) o.renditions renditions held.items refl (same-all o.renditions renditions is) h.gone (h.unlisted well);
       });
 }
+
+pub refused-by : {F : Type 0} (made : F → List Move) (o : KeepingState F) (files : FolderState F) (renditions : List KeepingValue) (item : ItemValue) → files ≡ record o.files { failures = o.files.failures + 1 } →
+    renditions ≡ o.renditions → o.files.failures ≡ 0 → BreaksOff (KeptBy made o) (KeptUpTo made (record { files = files; renditions = renditions; lags = o.lags })) [] item
+refused-by {F} made o files renditions item counted is well =
+    subst (λ (f : FolderState F). BreaksOff (KeptBy made o) (KeptUpTo made (record { files = f; renditions = renditions; lags = o.lags })) [] item) (sym counted)
+    (refused-first made o renditions item is well)
 
 -- a put failed in the folder
 pub put-failed : {F : Type 0} (made : F → List Move) (o n : KeepingState F) (item : ItemValue) → AreNotedBy item o.renditions n.renditions →
@@ -180,25 +211,28 @@ put-failed made o n item noted grows more same = record {
     files = grows.follows held h.files;
     told = λ none. absurd (omega (arith, none, more));
     gone = all-gone-still (pruned_names (made o.files.folder)) (pruned_names (made n.files.folder)) o.renditions n.renditions same (noted-all-same item o.renditions n.renditions noted) h.gone;
+    unlisted = λ none. absurd (omega (arith, none, more));
   };
 }
 
 pub put-broke : {F : Type 0} (made : F → List Move) (o n : KeepingState F) (item : ItemValue) → AreNotedBy item o.renditions n.renditions →
     BreaksOff (Holds made o.files) (HoldsFilesUpTo n.files.syncs (other_moves (made n.files.folder))) [] item → pruned_names (made n.files.folder) ≡ pruned_names (made o.files.folder) →
-    BreaksOff (KeptBy made o) (KeptUpTo made n) [] item
-put-broke made o n item noted breaks same = record {
+    o.files.failures ≡ 0 → BreaksOff (KeptBy made o) (KeptUpTo made n) [] item
+put-broke made o n item noted breaks same well = record {
   follows = λ held h. record {
     files = breaks.follows held h.files;
     gone = all-gone-still (pruned_names (made o.files.folder)) (pruned_names (made n.files.folder)) o.renditions n.renditions same (noted-all-same item o.renditions n.renditions noted) h.gone;
+    unlisted = subst (λ (items : List ItemValue). AreOut (pruned_names (made n.files.folder)) n.renditions items) (sym (append-nil held.items))
+        (out-still (pruned_names (made o.files.folder)) (pruned_names (made n.files.folder)) o.renditions n.renditions held.items same (noted-all-same item o.renditions n.renditions noted) h.gone (h.unlisted well));
   };
 }
 
 -- an item was put, and segments went behind it
-pub put-well : {F : Type 0} (made : F → List Move) (o m n : KeepingState F) (item : ItemValue) → AreNotedBy item o.renditions m.renditions →
+pub put-well : {F : Type 0} (made : F → List Move) (o m n : KeepingState F) (item : ItemValue) → AreNotedBy item o.renditions m.renditions → ComesInTurn item m.renditions → is_named item ≡ true →
     Grows (Holds made o.files) (Holds made m.files) (item ∷ []) → m.files.failures ≡ o.files.failures → pruned_names (made m.files.folder) ≡ pruned_names (made o.files.folder) →
     GoBehind item m.renditions n.renditions (made m.files.folder) (made n.files.folder) → other_moves (made n.files.folder) ≡ other_moves (made m.files.folder) → n.files ≡ record m.files { folder = n.files.folder } →
     Grows (KeptBy made o) (KeptBy made n) (item ∷ [])
-put-well {F} made o m n item noted grows well same behind others is = record {
+put-well {F} made o m n item noted turn named grows well same behind others is = record {
   follows = λ held h.
       let failures : n.files.failures ≡ m.files.failures = ap (λ (f : FolderState F). f.failures) is in
       let held_now : Holds made n.files (with_items held (item ∷ [])) =
@@ -212,6 +246,10 @@ put-well {F} made o m n item noted grows well same behind others is = record {
             (told-more held.items item o.renditions m.renditions noted (h.told before));
         gone = gone-behind item m.renditions n.renditions (made m.files.folder) (made n.files.folder) behind
             (all-gone-still (pruned_names (made o.files.folder)) (pruned_names (made m.files.folder)) o.renditions m.renditions same (noted-all-same item o.renditions m.renditions noted) h.gone);
+        unlisted = λ none.
+            let before : o.files.failures ≡ 0 = omega (arith, none, failures, well) in
+            unlisted-behind item (held.items ++ item ∷ []) m.renditions n.renditions (made m.files.folder) (made n.files.folder) behind
+            (unlisted-put item held.items o.renditions m.renditions named noted turn (h.unlisted before));
       };
 }
 

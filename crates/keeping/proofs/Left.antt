@@ -16,6 +16,7 @@ use Rattle.item_io.specs.Blocks.{AreBlocks}
 use Rattle.item_io.specs.FolderMoves.{puts_of, sync_mark}
 use Rattle.item_io.proofs.Fitting.{given-fit}
 use Rattle.item_io.proofs.Leaving.{holds-nothing, kill-when}
+use Rattle.keeping.proofs.Unlisting.{unlisted-first}
 use Rattle.keeping.specs.Keepings.{AreTold, EachKillLeavesBut, HoldsKept, IsGone, KeepingValue}
 
 -- what was pruned has its name among those
@@ -40,16 +41,21 @@ is-among (Sync ∷ moves) name was = is-among moves name was
 no-name : (name : List ℕ) → Contains [] name → ⊥
 no-name name (k, within, is) = omega (arith, within)
 
+-- before the first item
+pub held-first : (syncs : Bool) (made : List Move) (staged : List Names) (renditions : List KeepingValue) → made ≡ [] → staged ≡ [] → AreTold renditions [] →
+    HoldsKept syncs made staged 0 renditions (record { before = sync_mark syncs; items = [] })
+held-first syncs made staged renditions none idle told = record {
+  files = holds-nothing syncs (other_moves made) staged (ap other_moves none) idle;
+  told = λ _. told;
+  gone = λ name has. absurd (no-name name (subst (λ (l : List Move). Contains (pruned_names l) name) none has));
+  unlisted = λ _. unlisted-first renditions told;
+}
+
 pub left-but : (syncs syncs_then : Bool) (made made_then : List Move) (staged staged_then : List Names) (failures : ℕ) (renditions renditions_then : List KeepingValue) (items given rest : List ItemValue) →
     made ≡ [] → staged ≡ [] → AreTold renditions [] → Grows (HoldsKept syncs made staged 0 renditions) (HoldsKept syncs_then made_then staged_then failures renditions_then) given →
     failures ≡ 0 → AreBlocks items → items ≡ given ++ rest → EachKillLeavesBut made_then given renditions_then
 left-but syncs syncs_then made made_then staged staged_then failures renditions renditions_then items given rest none idle told grows well blocks all files left may =
-    let first = holds-nothing syncs (other_moves made) staged (ap other_moves none) idle in
-    let kept = grows.follows (record { before = sync_mark syncs; items = [] }) (record {
-      files = first;
-      told = λ _. told;
-      gone = λ name has. absurd (no-name name (subst (λ (l : List Move). Contains (pruned_names l) name) none has));
-    }) in
+    let kept = grows.follows (record { before = sync_mark syncs; items = [] }) (held-first syncs made staged renditions none idle told) in
     let puts = puts_of given in
     let fit : MayBePut [] puts = given-fit items given rest blocks all in
     let moves : other_moves made_then ≡ moves_when syncs_then puts =

@@ -2,5 +2,10 @@ pub mod Taking
 pub mod Before
 pub mod OneByOne
 pub mod Telling
+pub mod Unlisting
 pub mod Keeps
+pub mod Placed
+pub mod Stopping
+pub mod Losing
 pub mod Left
+pub mod Between

@@ -1,8 +1,10 @@
 -- Segments that are taken away one after another.
 use Rattle.std.specs.Prelude.{ltb, take, drop}
+use Rattle.std.specs.List.{All}
 use Rattle.std.proofs.Common.{arith, ◌≡◌, ℕ, zero, suc, ◌+◌, ◌<◌, ◌≤◌, ◌⊎◌, inl, inr, Bool, true, false, List, [], ◌∷◌, ◌++◌, refl, sym, ap, ◌∙◌, append-nil, append_assoc, length, get_or, get_or-drop}
 use Rattle.std.proofs.lemmas.List.{length-drop, map-append}
 use Rattle.std.proofs.lemmas.Bool.{ltb-false, ltb-true}
+use Rattle.std.proofs.lemmas.List.Elements.{All-drop, All-take}
 use Rattle.retention.specs.Steps.{MayGo}
 use Rattle.retention.specs.declared.step.Step.{Step}
 use Rattle.folder.specs.Moves.{Move, Remove}
@@ -85,8 +87,9 @@ one-swept name numbers swept done number made made_now made_then went below at i
 
 -- all that went behind a block
 pub lets-go : (k : KeepingValue) (gone swept until : ℕ) (made made_mid made_then : List Move) → HaveGone k.name k.base k.gone gone until made made_mid → Swept k.name k.older k.swept swept made_mid made_then →
-    ((n : ℕ) → n < until → MayGo k.kept.least k.kept.steps n) → ((swept ≡ k.swept) ⊎ (0 < gone)) → LetsGo k (record k { gone = gone; swept = swept }) made made_then
-lets-go k gone swept until made made_mid made_then went some may past = record {
+    ((n : ℕ) → n < until → MayGo k.kept.least k.kept.steps n) → ((swept ≡ k.swept) ⊎ (0 < gone)) → All (λ n. n < k.base) k.older →
+    LetsGo k (record k { gone = gone; swept = swept }) made made_then
+lets-go k gone swept until made made_mid made_then went some may past earlier = record {
   count = went.count;
   more = some.more;
   now = ap (λ (n : ℕ). record k { gone = n; swept = swept }) went.now ∙ ap (λ (n : ℕ). record k { gone = k.gone + went.count; swept = n }) some.now;
@@ -97,6 +100,7 @@ lets-go k gone swept until made made_mid made_then went some may past = record {
   ];
   up_to = omega (arith, some.now, some.within);
   few = some.few;
+  earlier = All-take (λ n. n < k.base) some.more (drop k.swept k.older) (All-drop (λ n. n < k.base) k.swept k.older earlier);
   made_are = some.made_are
       ∙ ap (λ (moves : List Move). moves ++ removals_of k.name (take some.more (drop k.swept k.older))) went.made_are
       ∙ append_assoc made (removals k.name (k.base + k.gone) went.count) (removals_of k.name (take some.more (drop k.swept k.older)));

@@ -1,12 +1,13 @@
 -- What becomes of renditions by an item.
 use Rattle.std.specs.Prelude.{◌==◌, eqb, not, ◌&&◌}
-use Rattle.std.proofs.Common.{arith, ◌≡◌, ℕ, ◌+◌, ◌<◌, ◌≤◌, Bool, true, false, List, [], ◌∷◌, ◌++◌, length, refl, sym, ap, ◌∙◌, subst, inl, inr, append-nil, append_assoc}
+use Rattle.std.proofs.Common.{arith, ◌≡◌, ℕ, ◌+◌, ◌<◌, ◌≤◌, Bool, true, false, List, [], ◌∷◌, ◌++◌, length, refl, sym, ap, ◌∙◌, subst, inl, inr, append-nil, append_assoc, length-append}
 use Rattle.std.proofs.lemmas.Bool.Decides.{eqb_tells}
 use Rattle.folder.specs.Moves.{Move}
 use Rattle.item_io.specs.Items.{ItemValue, PlaylistValue, FramesItem, MasterItem, MediaItem, SegmentItem}
 use Rattle.retention.specs.declared.step.Step.{Step}
-use Rattle.retention.specs.Steps.{Kept}
-use Rattle.keeping.specs.Keepings.{AreAsOf, AreNotedBy, AreStepsOf, AreTold, GoBehind, IfAny, IsNoted, IsStepOf, IsTold, KeepingValue, LetsGo, NotedUnless, keeping_at, steps_before, texts_of, with_text}
+use Rattle.retention.specs.Steps.{Kept, first_of}
+use Rattle.retention.proofs.Stepping.{first_of-append}
+use Rattle.keeping.specs.Keepings.{AreAsOf, AreNotedBy, AreStepsOf, AreTold, GoBehind, IfAny, IsNoted, IsPassed, IsStepOf, IsTold, KeepingValue, LetsGo, NotedUnless, keeping_at, steps_before, texts_of, with_text}
 
 -- the same rendition, of which perhaps more are gone
 pub record IsSame (old new : KeepingValue) : Type 0 where
@@ -16,26 +17,29 @@ pub record IsSame (old new : KeepingValue) : Type 0 where
   pub older : new.older ≡ old.older
   pub more : old.gone ≤ new.gone
   pub swept : old.swept ≤ new.swept
+  pub passed : (n : ℕ) → IsPassed old n → IsPassed new n
 
 pub record AreSame (old new : List KeepingValue) : Type 0 where
   pub len : length new ≡ length old
   pub each : (r : ℕ) → IsSame (keeping_at old r) (keeping_at new r)
 
-same-by : (k l : KeepingValue) (gone swept : ℕ) (kept : Kept) → k.gone ≤ gone → k.swept ≤ swept → l ≡ record k { gone = gone; swept = swept; kept = kept } → IsSame k l
-same-by k l gone swept kept more further is = record {
+same-by : (k l : KeepingValue) (gone swept : ℕ) (kept : Kept) → k.gone ≤ gone → k.swept ≤ swept → ((n : ℕ) → IsPassed k n → IsPassed (record k { kept = kept }) n) →
+    l ≡ record k { gone = gone; swept = swept; kept = kept } → IsSame k l
+same-by k l gone swept kept more further passes is = record {
   name = ap (λ (x : KeepingValue). x.name) is;
   base = ap (λ (x : KeepingValue). x.base) is;
   before = ap (λ (x : KeepingValue). x.before) is;
   older = ap (λ (x : KeepingValue). x.older) is;
   more = omega (arith, more, ap (λ (x : KeepingValue). x.gone) is);
   swept = omega (arith, further, ap (λ (x : KeepingValue). x.swept) is);
+  passed = λ n passed. subst (λ (x : KeepingValue). IsPassed x n) (sym is) (passes n passed);
 }
 
 same-one : (k l : KeepingValue) → l ≡ k → IsSame k l
-same-one k l is = same-by k l l.gone l.swept l.kept (omega (arith, ap (λ (x : KeepingValue). x.gone) is)) (omega (arith, ap (λ (x : KeepingValue). x.swept) is))
-    (is ∙ ap (λ (x : KeepingValue). record k { gone = x.gone; swept = x.swept; kept = x.kept }) (sym is))
+same-one k l is = subst (λ (x : KeepingValue). IsSame k x) (sym is)
+    (record { name = refl; base = refl; before = refl; older = refl; more = omega arith; swept = omega arith; passed = λ n passed. passed })
 
-same-all : (old new : List KeepingValue) → new ≡ old → AreSame old new
+pub same-all : (old new : List KeepingValue) → new ≡ old → AreSame old new
 same-all old new is = record { len = ap length is; each = λ r. same-one (keeping_at old r) (keeping_at new r) (ap (λ (l : List KeepingValue). keeping_at l r) is) }
 
 same-of : (r : ℕ) (old new : List KeepingValue) (Is : KeepingValue → KeepingValue → Type 0) → ((k l : KeepingValue) → Is k l → IsSame k l) → AreAsOf r old new Is → AreSame old new
@@ -51,11 +55,18 @@ same-any : (r : ℕ) (old new : List KeepingValue) (Is : KeepingValue → Keepin
 same-any r old new Is Same same (inl (within, did)) = same-of r old new Is same did
 same-any r old new Is Same same (inr (beyond, is, rest)) = same-all old new is
 
+-- what was passed is so behind one step more
+passed-more : (k : KeepingValue) (step : Step) (n : ℕ) → IsPassed k n → IsPassed (record k { kept = record k.kept { steps = k.kept.steps ++ step ∷ [] } }) n
+passed-more k step n (i, within, some, below) =
+    let same : first_of (k.kept.steps ++ step ∷ []) i ≡ first_of k.kept.steps i = first_of-append k.kept.steps (step ∷ []) i within in
+    (i, omega (arith, within, length-append k.kept.steps (step ∷ [])), omega (arith, some, same), omega (arith, below, same))
+
 noted-same : (text : List ℕ) (k l : KeepingValue) → IsNoted k l text → IsSame k l
-noted-same text k l noted = same-by k l k.gone k.swept (record k.kept { steps = k.kept.steps ++ noted.step ∷ [] }) (omega arith) (omega arith) noted.now
+noted-same text k l noted = same-by k l k.gone k.swept (record k.kept { steps = k.kept.steps ++ noted.step ∷ [] }) (omega arith) (omega arith)
+    (λ n passed. passed-more k noted.step n passed) noted.now
 
 gone-same : (made made_then : List Move) (k l : KeepingValue) → LetsGo k l made made_then → IsSame k l
-gone-same made made_then k l went = same-by k l (k.gone + went.count) (k.swept + went.more) k.kept (omega arith) (omega arith) went.now
+gone-same made made_then k l went = same-by k l (k.gone + went.count) (k.swept + went.more) k.kept (omega arith) (omega arith) (λ n passed. passed) went.now
 
 unless-same : (ended : Bool) (p : PlaylistValue) (old new : List KeepingValue) → NotedUnless ended p old new → AreSame old new
 unless-same true p old new is = same-all old new is

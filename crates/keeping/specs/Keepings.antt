@@ -1,7 +1,8 @@
 -- Segments that are taken away from a folder once no player can want them (RFC 8216, 6.2.2).
 use Rattle.std.specs.Prelude.{◌≡◌, ◌≢◌, ◌⊎◌, ℕ, zero, suc, ◌+◌, ◌-◌, ◌<◌, ◌≤◌, ◌==◌, Bool, true, false, not, ◌&&◌, Some, List, [], ◌∷◌, ◌++◌, length, take, drop, map, filter, sum_by, nat_lt, slice_get, slice_index_or}
-use Rattle.std.specs.List.{Contains}
+use Rattle.std.specs.List.{All, Contains}
 use Rattle.playlist_text.specs.MediaLines.{Entry, Listing}
+use Rattle.playlist_text.specs.Names.{is_name}
 use Rattle.folder.specs.Moves.{Files, Move, Remove}
 use Rattle.folder.specs.Kills.{KillMayLeave}
 use Rattle.folder.specs.Puts.{Names}
@@ -13,7 +14,7 @@ use Rattle.item_io.specs.FolderMoves.{FolderState, HoldsFiles, HoldsFilesUpTo, p
 use Rattle.item_io.specs.FileNames.{segment_file_name}
 use Rattle.media_reading.specs.MediaTexts.{IsListing, listing_text}
 use Rattle.retention.specs.declared.step.Step.{Step}
-use Rattle.retention.specs.Steps.{IsKeptFrom, Kept, MayGo}
+use Rattle.retention.specs.Steps.{IsKeptFrom, Kept, MayGo, first_of}
 
 -- A rendition whose segments are taken away: its name, the number of its first segment, how many of them were taken away, and its
 -- retention; the microseconds of each segment that was listed when it began; the numbers of older segments, which an earlier run left
@@ -69,6 +70,12 @@ pub record IsStepOf (base : ℕ) (text : List ℕ) (step : Step) : Type 0 where
   pub micros : step.micros ≡ last.micros
   pub first : listing.sequence ≡ base + step.first
 
+-- The text is a media playlist that begins no earlier than any that was told.
+pub record GoesOn (k : KeepingValue) (text : List ℕ) : Type 0 where
+  pub step : Step
+  pub is_step : IsStepOf k.base text step
+  pub rises : (i : ℕ) → i < length k.kept.steps → first_of k.kept.steps i ≤ step.first
+
 -- it was told the next playlist
 pub record IsNoted (old new : KeepingValue) (text : List ℕ) : Type 0 where
   pub step : Step
@@ -94,6 +101,7 @@ pub record LetsGo (old new : KeepingValue) (made made_then : List Move) : Type 0
   pub some_went : 0 < more → 0 < old.gone + count
   pub up_to : old.swept + more ≤ length old.older
   pub few : more ≤ 64
+  pub earlier : All (λ n. n < old.base) (take more (drop old.swept old.older))
   pub made_are : made_then ≡ made ++ (removals old.name (old.base + old.gone) count ++ removals_of old.name (take more (drop old.swept old.older)))
 
 -- Once a segment has gone, all older ones were taken away, or 64 more.
@@ -126,6 +134,22 @@ AreNotedBy (SegmentItem s) old new = new ≡ old
 AreNotedBy (MediaItem p) old new = NotedUnless p.ended p old new
 AreNotedBy (FramesItem p) old new = new ≡ old
 AreNotedBy (MasterItem text) old new = new ≡ old
+
+-- it has this name if it is this rendition, and only then
+abbrev pub HasNameIf : KeepingValue → List ℕ → ℕ → ℕ → Type 0
+HasNameIf k name r rendition = (name ≡ k.name → r ≡ rendition) × (r ≡ rendition → name ≡ k.name)
+
+-- A media playlist is that of the rendition of its name, and of no other, and goes on from those that the rendition was told.
+pub record IsInTurn (p : PlaylistValue) (renditions : List KeepingValue) : Type 0 where
+  pub own : (r : ℕ) → r < length renditions → p.name ≡ (keeping_at renditions r).name → r ≡ p.rendition
+  pub named : p.rendition < length renditions → p.name ≡ (keeping_at renditions p.rendition).name
+  pub goes_on : p.rendition < length renditions → GoesOn (keeping_at renditions p.rendition) p.text
+
+abbrev pub ComesInTurn : ItemValue → List KeepingValue → Type 0
+ComesInTurn (SegmentItem s) renditions = Unit {0}
+ComesInTurn (MediaItem p) renditions = IsInTurn p renditions
+ComesInTurn (FramesItem p) renditions = Unit {0}
+ComesInTurn (MasterItem text) renditions = Unit {0}
 
 -- Behind the I-frame playlist, the last item of a block, segments of its rendition are taken away.
 abbrev pub GoBehind : ItemValue → List KeepingValue → List KeepingValue → List Move → List Move → Type 0
@@ -186,16 +210,60 @@ AreTold renditions items = (r : ℕ) → r < length renditions → IsTold (keepi
 abbrev pub WentOf : KeepingValue → ℕ → Type 0
 WentOf k number = ((n : ℕ) × (n < k.gone) × (number ≡ k.base + n)) ⊎ ((0 < k.gone) × Contains (take k.swept k.older) number)
 
--- each of these names is that of a segment that was taken away
+-- A playlist was told that begins behind this number.
+abbrev pub IsPassed : KeepingValue → ℕ → Type 0
+IsPassed k number =
+    (i : ℕ) × (i < length k.kept.steps) × (0 < first_of k.kept.steps i) × (number < k.base + first_of k.kept.steps i)
+
+-- each of these names is that of a segment that was taken away, behind which a playlist began that was told
 pub record IsGone (renditions : List KeepingValue) (name : List ℕ) : Type 0 where
   pub r : ℕ
   pub number : ℕ
   pub one : r < length renditions
   pub gone : WentOf (keeping_at renditions r) number
+  pub passed : IsPassed (keeping_at renditions r) number
   pub named : name ≡ segment_file_name (keeping_at renditions r).name number
 
 abbrev pub AreGone : List (List ℕ) → List KeepingValue → Type 0
 AreGone names renditions = (name : List ℕ) → Contains names name → IsGone renditions name
+
+-- The text is a media playlist that begins behind this number: it lists no segment up to it.
+pub record BeginsBehind (number : ℕ) (text : List ℕ) : Type 0 where
+  pub listing : Listing
+  pub sound : IsListing listing
+  pub is_text : text ≡ listing_text listing
+  pub behind : number < listing.sequence
+
+-- each media playlist of this name among these items does
+abbrev pub AllBeginBehind : List ℕ → ℕ → List ItemValue → Type 0
+AllBeginBehind name number [] = Unit {0}
+AllBeginBehind name number (SegmentItem s ∷ items) = AllBeginBehind name number items
+AllBeginBehind name number (MediaItem p ∷ items) = (p.name ≡ name → BeginsBehind number p.text) × AllBeginBehind name number items
+AllBeginBehind name number (FramesItem p ∷ items) = AllBeginBehind name number items
+AllBeginBehind name number (MasterItem text ∷ items) = AllBeginBehind name number items
+
+-- Of these items the media playlists of this name, from one of them to the last, begin behind this number.
+pub record IsUnlisted (name : List ℕ) (number : ℕ) (items : List ItemValue) : Type 0 where
+  pub served : is_name name ≡ true
+  pub first : List ItemValue
+  pub playlist : PlaylistValue
+  pub more : List ItemValue
+  pub all : items ≡ first ++ MediaItem playlist ∷ more
+  pub named : playlist.name ≡ name
+  pub behind : AllBeginBehind name number (MediaItem playlist ∷ more)
+
+-- The last media playlist of each rendition among these items begins behind each number that was passed.
+abbrev pub AreUnlisted : List KeepingValue → List ItemValue → Type 0
+AreUnlisted renditions items = (r : ℕ) → r < length renditions → (number : ℕ) → IsPassed (keeping_at renditions r) number →
+    IsUnlisted (keeping_at renditions r).name number items
+
+-- a segment of this name was taken away, which the last media playlist of its rendition among these items doesn't list
+pub record IsOut (renditions : List KeepingValue) (items : List ItemValue) (name : List ℕ) : Type 0 where
+  pub went : IsGone renditions name
+  pub unlisted : IsUnlisted (keeping_at renditions went.r).name went.number items
+
+abbrev pub AreOut : List (List ℕ) → List KeepingValue → List ItemValue → Type 0
+AreOut names renditions items = (name : List ℕ) → Contains names name → IsOut renditions items name
 
 -- a keeping outlet, as contracts see it: the outlet of files, its renditions, and whether a segment that might go couldn't be removed
 pub record KeepingState (F : Type 0) : Type 0 where
@@ -204,15 +272,17 @@ pub record KeepingState (F : Type 0) : Type 0 where
   pub lags : Bool
 
 -- The folder's moves, but for what was taken away, are those of the items held; what was taken away are segments that might go, by the
--- media playlists held.
+-- media playlists held, and that the last of these doesn't list.
 pub record HoldsKept (syncs : Bool) (made : List Move) (staged : List Names) (failures : ℕ) (renditions : List KeepingValue) (held : Held) : Type 0 where
   pub files : HoldsFiles syncs (other_moves made) staged failures held
   pub told : failures ≡ 0 → AreTold renditions held.items
   pub gone : AreGone (pruned_names made) renditions
+  pub unlisted : failures ≡ 0 → AreUnlisted renditions held.items
 
 pub record HoldsKeptUpTo (syncs : Bool) (made : List Move) (renditions : List KeepingValue) (held : Held) (item : ItemValue) : Type 0 where
   pub files : HoldsFilesUpTo syncs (other_moves made) held item
   pub gone : AreGone (pruned_names made) renditions
+  pub unlisted : AreOut (pruned_names made) renditions held.items
 
 -- what a keeping outlet holds
 abbrev pub KeptBy : {F : Type 0} → (F → List Move) → KeepingState F → Held → Type 0

@@ -1,3 +1,4 @@
 pub mod Keepings
 pub mod OneByOne
+pub mod InPlace
 pub mod State

@@ -1,5 +1,6 @@
 -- What is kept of a rendition.
 use Rattle.std.specs.Prelude.{ℕ, ◌<◌, ◌≤◌, length}
+use Rattle.std.specs.List.{All}
 use Rattle.std.specs.String.{string_bytes}
 use Rattle.keeping.specs.declared.keeping.Keeping.TheInside.{Inside}
 use Rattle.keeping.specs.Keepings.{KeepingValue}
@@ -16,8 +17,9 @@ keeping_value k = record {
   swept = k.swept;
 }
 
--- all that went may go
+-- all that went may go, and older ones have lower numbers
 pub record IsTied (k : Inside) : Type 0 where
   pub are : AreSteps k.kept.steps
   pub may_go : (n : ℕ) → n < k.gone → MayGo k.kept.least k.kept.steps n
   pub swept : k.swept ≤ length k.older.items
+  pub earlier : All (λ n. n < k.base) k.older.items

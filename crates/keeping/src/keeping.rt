@@ -1,9 +1,9 @@
 //! Which segments of a rendition are taken away.
-ghost use Rattle.std.specs.Prelude.{◌≡◌, ◌+◌, ◌<◌, ◌≤◌, ◌^◌, ◌++◌, ◌∷◌, [], IfOk, OnErr, OnOk};
+ghost use Rattle.std.specs.Prelude.{◌≡◌, ◌+◌, ◌<◌, ◌≤◌, ◌^◌, ◌++◌, ◌∷◌, [], Decides, IfOk, OnErr, OnOk};
 ghost use Rattle.std.specs.String.{string_bytes};
 ghost use Rattle.folder.specs.Pruning.{other_moves};
 ghost use Rattle.retention.specs.Steps.{IsKeptFrom};
-ghost use Rattle.keeping.specs.Keepings.{IsNoted, IsStepOf, LetsGo, SweepsOn, below, new_keeping, resumed_keeping, steps_before};
+ghost use Rattle.keeping.specs.Keepings.{GoesOn, IsNoted, IsStepOf, LetsGo, SweepsOn, below, new_keeping, resumed_keeping, steps_before};
 
 use crate::removing::{take_places, take_some};
 use folder::{Folder, PruningFolder};
@@ -102,6 +102,7 @@ impl Keeping {
     pub fn note(&mut self, alloc: Global, text: &str) -> Result<(), OutletFault>
         ensures ok { OnOk result (IsNoted self.old self.new text.now) }
         ensures err { OnErr result (self.new ≡ self.old) }
+        ensures on { OnOk result (GoesOn self.new text.now) }
     {
         let step = step_of(alloc, self.base, text)?;
         let count = self.kept.count();
@@ -110,6 +111,25 @@ impl Keeping {
         }
         self.kept.push(step.micros, step.first)?;
         Ok(())
+    }
+
+    /// Looks at the text of the last media playlist, which lists no new segment. One that isn't a media playlist, or begins
+    /// earlier than the one before, is refused.
+    pub fn check(&self, alloc: Global, text: &str) -> Result<(), OutletFault>
+        ensures on { OnOk result (GoesOn self.now text.now) }
+    {
+        let step = step_of(alloc, self.base, text)?;
+        if step.first < self.kept.first_listed() {
+            return Err(OutletFault);
+        }
+        Ok(())
+    }
+
+    /// Whether this is its name.
+    pub fn has_name(&self, name: &str) -> bool
+        ensures { Decides result (name.now ≡ self.now.name) }
+    {
+        name == self.name.as_str()
     }
 
     /// Takes those segments away that may go and weren't taken away before, in the order of their numbers: all of them, or

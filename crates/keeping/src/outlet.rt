@@ -1,9 +1,9 @@
-ghost use Rattle.std.specs.Prelude.{◌≡◌, ◌+◌, ◌<◌, ◌^◌, ◌∷◌, [], false, OnErr, OnOk};
+ghost use Rattle.std.specs.Prelude.{◌≡◌, ℕ, ◌+◌, ◌<◌, ◌^◌, ◌∷◌, [], true, false, length, Decides, OnErr, OnOk};
 ghost use Rattle.folder.specs.Pruning.{other_moves};
 ghost use Rattle.item_io.specs.Items.{item_value};
 ghost use Rattle.item_io.specs.Outlets.{BreaksOff, Grows};
 ghost use Rattle.item_io.specs.Views.{outlet_view};
-ghost use Rattle.keeping.specs.Keepings.{AllWent, AreNotedBy, GoBehind, KeptBy, KeptUpTo, SweptBehind, removed_of};
+ghost use Rattle.keeping.specs.Keepings.{AllWent, AreNotedBy, ComesInTurn, GoBehind, HasNameIf, KeptBy, KeptUpTo, SweptBehind, keeping_at, removed_of};
 
 use crate::keeping::Keeping;
 use folder::{Folder, PruningFolder};
@@ -15,7 +15,8 @@ use std::marker::Model;
 /// go: those that no playlist has listed for their own duration and that of the longest playlist so far (RFC 8216, 6.2.2), in
 /// the stream's own time. What can't be removed is tried again behind the next block of its rendition.
 ///
-/// A put fails where a `FolderOutlet` fails, and where a media playlist isn't one, or doesn't go on from the one before.
+/// A put fails where a `FolderOutlet` fails, and where a media playlist isn't one, doesn't go on from the one before, or has
+/// another name than its rendition, or that of another one.
 #[derive(Drop)]
 pub struct KeepingOutlet<F> {
     files: FolderOutlet<PruningFolder<F>>,
@@ -112,24 +113,53 @@ fn removed_by(renditions: &[Keeping]) -> u128
     all
 }
 
-/// Notes an item for its rendition, if it is a media playlist with a new segment.
+/// Notes an item for its rendition, if it is a media playlist with a new segment. One that isn't that of the rendition of its
+/// name, or doesn't go on from those before, is refused.
 fn note(renditions: &mut Vec<Keeping>, alloc: Global, item: &Item) -> Result<(), OutletFault>
     ensures ok { OnOk result (AreNotedBy (item_value item.now) renditions.old.items renditions.new.items) }
     ensures err { OnErr result (renditions.new.items ≡ renditions.old.items) }
+    ensures turn { OnOk result (ComesInTurn (item_value item.now) renditions.new.items) }
 {
     let Item::Media {
         rendition,
-        ended: false,
+        ended,
+        name,
         text,
         ..
     } = item
     else {
         return Ok(());
     };
+    if !is_own_name(renditions, *rendition, name) {
+        return Err(OutletFault);
+    }
     if *rendition >= renditions.len() {
         return Ok(());
     }
+    if *ended {
+        return renditions[*rendition].check(alloc, text);
+    }
     renditions[*rendition].note(alloc, text)
+}
+
+/// Whether a name is that of a rendition, if it is one of these, and of no other.
+fn is_own_name(renditions: &[Keeping], rendition: usize, name: &str) -> bool
+    ensures { result ≡ true → (r : ℕ) → r < length renditions.now → HasNameIf (keeping_at renditions.now r) name.now r rendition }
+{
+    for r in 0..renditions.len() {
+        if has_name(renditions, r, name) != (r == rendition) {
+            return false;
+        }
+    }
+    true
+}
+
+/// Whether a name is that of this rendition.
+fn has_name(renditions: &[Keeping], r: usize, name: &str) -> bool
+    requires { r < length renditions.now }
+    ensures { Decides result (name.now ≡ (keeping_at renditions.now r).name) }
+{
+    renditions[r].has_name(name)
 }
 
 /// Behind the last item of a block of a rendition, takes those of its segments away that may go.

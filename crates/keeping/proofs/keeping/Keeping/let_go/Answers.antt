@@ -11,7 +11,7 @@ returns-in_err-take_places-clause-gone g c = rw (sym c.self.view_is)
     let then = g.F.Folder.made c.take_places.new.files.folder in
     lets-go k c.take_places.new.gone k.swept c.kept_from-until.result made then then
     (subst (λ text. HaveGone text k.base k.gone c.take_places.new.gone c.kept_from-until.result made then) c.deref.ensures c.take_places.ensures.went)
-    (none-swept k.name k.older k.swept then c.self.invariant.swept) c.kept_from-until.ensures.gone (inl refl))
+    (none-swept k.name k.older k.swept then c.self.invariant.swept) c.kept_from-until.ensures.gone (inl refl) c.self.invariant.earlier)
 
 pub returns-in_err-take_some-clause-gone : goal.returns-in_err-take_some-clause-gone
 returns-in_err-take_some-clause-gone g c = rw (sym c.self.view_is)
@@ -24,7 +24,7 @@ returns-in_err-take_some-clause-gone g c = rw (sym c.self.view_is)
     (subst (λ text. HaveGone text k.base k.gone c.take_places.new.gone c.kept_from-until.result made mid) c.deref.ensures c.take_places.ensures.went)
     (subst (λ numbers. Swept k.name numbers k.swept c.take_some.new.swept mid then) c.deref-then-some_went-2.ensures.value
     (subst (λ text. Swept text c.deref-then-some_went-2.result.now k.swept c.take_some.new.swept mid then) c.deref-then-some_went.ensures c.take_some.ensures.went))
-    c.kept_from-until.ensures.gone (inr some))
+    c.kept_from-until.ensures.gone (inr some) c.self.invariant.earlier)
 
 pub returns-in_ok-take_some-clause-gone : goal.returns-in_ok-take_some-clause-gone
 returns-in_ok-take_some-clause-gone g c = rw (sym c.self.view_is)
@@ -37,4 +37,4 @@ returns-in_ok-take_some-clause-gone g c = rw (sym c.self.view_is)
     (subst (λ text. HaveGone text k.base k.gone c.take_places.new.gone c.kept_from-until.result made mid) c.deref.ensures c.take_places.ensures.went)
     (subst (λ numbers. Swept k.name numbers k.swept c.take_some.new.swept mid then) c.deref-then-some_went-2.ensures.value
     (subst (λ text. Swept text c.deref-then-some_went-2.result.now k.swept c.take_some.new.swept mid then) c.deref-then-some_went.ensures c.take_some.ensures.went))
-    c.kept_from-until.ensures.gone (inr some))
+    c.kept_from-until.ensures.gone (inr some) c.self.invariant.earlier)

@@ -17,4 +17,5 @@ invariant_of-self-2 c =
       are = AreSteps-more kept.steps step c.self.invariant.are listed rises;
       may_go = λ n lower. MayGo-append kept.least kept.steps (step ∷ []) n c.self.invariant.are (c.self.invariant.may_go n lower);
       swept = c.self.invariant.swept;
+      earlier = c.self.invariant.earlier;
     })
