@@ -9,14 +9,12 @@ number, so that no key and vector sealed two texts; and what doesn't go on is re
 
 import collections
 import os
-import pathlib
 import random
 import subprocess
-import sys
-import tempfile
 
 import fuzz_wanted
 import playlists
+import seeds
 import segments
 import wanted
 from fuzz_cut_short import read, text
@@ -209,26 +207,4 @@ class Restarts:
             self.wrong.append("the master playlist is another")
 
 
-def played(program, library, seed):
-    parent = "/dev/shm" if os.access("/dev/shm", os.W_OK) else None
-    with tempfile.TemporaryDirectory(dir=parent) as base:
-        restarts = Restarts(program, library, seed, pathlib.Path(base)).play()
-    for wrong in restarts.wrong:
-        print(f"seed {seed}: {wrong}", flush=True)
-    return restarts
-
-
-def main():
-    program, library, count = os.path.realpath(sys.argv[1]), os.path.realpath(sys.argv[2]), int(sys.argv[3])
-    begin = int(sys.argv[4]) if len(sys.argv) > 4 else 1
-    told, wrong = collections.Counter(), 0
-    for seed in range(begin, begin + count):
-        restarts = played(program, library, seed)
-        told += restarts.told
-        wrong += bool(restarts.wrong)
-    counts = ", ".join(f"{what} {number}" for what, number in sorted(told.items()))
-    print(f"{count} seeds, {counts}: {f'{wrong} seeds not as wanted' if wrong else 'as wanted'}")
-    sys.exit(wrong > 0)
-
-
-main()
+seeds.play_all(Restarts)

@@ -8,14 +8,12 @@ at some moment, and what is listed is there. A ladder with many calls is stopped
 
 import collections
 import os
-import pathlib
 import random
 import subprocess
-import sys
-import tempfile
 
 import fuzz_cut_short
 import fuzz_wanted
+import seeds
 import tables
 from fuzz_ladders import random_ladder
 
@@ -87,26 +85,4 @@ class Stops:
         return self
 
 
-def played(program, library, seed):
-    parent = "/dev/shm" if os.access("/dev/shm", os.W_OK) else None
-    with tempfile.TemporaryDirectory(dir=parent) as base:
-        stops = Stops(program, library, seed, pathlib.Path(base)).play()
-    for wrong in stops.wrong:
-        print(f"seed {seed}: {wrong}", flush=True)
-    return stops
-
-
-def main():
-    program, library, count = os.path.realpath(sys.argv[1]), os.path.realpath(sys.argv[2]), int(sys.argv[3])
-    begin = int(sys.argv[4]) if len(sys.argv) > 4 else 1
-    told, wrong = collections.Counter(), 0
-    for seed in range(begin, begin + count):
-        stops = played(program, library, seed)
-        told += stops.told
-        wrong += bool(stops.wrong)
-    counts = ", ".join(f"{what} {number}" for what, number in sorted(told.items()))
-    print(f"{count} seeds, {counts}: {f'{wrong} seeds not as wanted' if wrong else 'as wanted'}")
-    sys.exit(wrong > 0)
-
-
-main()
+seeds.play_all(Stops)
