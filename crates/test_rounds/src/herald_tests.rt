@@ -1,4 +1,4 @@
-//! Faults are told when they stand, each once.
+//! Faults are told when they stand, each once, and how many segments are complete.
 
 ghost use Rattle.std.specs.Prelude.{◌≡◌, All, IfOk, OnOk};
 
@@ -20,6 +20,21 @@ use work_desk::FreeGate;
 struct Notes<R> {
     rt: R,
     told: Mutex<[Option<PackFault>; 4]>,
+    /// How many segments were complete at each round's beginning: never fewer than before.
+    completed: Mutex<u64>,
+    fell: Mutex<bool>,
+}
+
+impl<R: Wait> Notes<R> {
+    /// Nothing was told.
+    fn new(rt: R) -> Notes<R> {
+        Notes {
+            rt,
+            told: Mutex::new([None; 4]),
+            completed: Mutex::new(0),
+            fell: Mutex::new(false),
+        }
+    }
 }
 
 impl<R: Wait> Herald for Notes<R> {
@@ -31,6 +46,14 @@ impl<R: Wait> Herald for Notes<R> {
                 return;
             }
         }
+    }
+
+    fn completed(&self, segments: u64) {
+        let mut completed = self.completed.lock(&self.rt);
+        if segments < *completed {
+            *self.fell.lock(&self.rt) = true;
+        }
+        *completed = segments;
     }
 }
 
@@ -133,13 +156,23 @@ fn each_fault_is_told_once(rt: HostRuntime) -> Result<(), Fail> {
     for (failing, told, fault) in FAILURES {
         let sources = sources(rt.alloc(), failing)?;
         let (publisher, _) = board(&rt, rt.alloc(), nothing_of_two(rt.alloc())?, 1)?;
-        let notes = Notes {
-            rt,
-            told: Mutex::new([None; 4]),
-        };
+        let notes = Notes::new(rt);
         let answer = run(&rt, rt.alloc(), &settings, sources, publisher, &notes);
         assert_eq!(rt; *notes.told.lock(&rt), told, "{failing:?}");
         assert_eq!(rt; answer, fault, "{failing:?}");
     }
+    Ok(())
+}
+
+#[test]
+fn all_segments_are_told_at_last(rt: HostRuntime) -> Result<(), Fail> {
+    let settings = two(rt.alloc())?;
+    let sources = sources(rt.alloc(), [0, 0])?;
+    let (publisher, _) = board(&rt, rt.alloc(), nothing_of_two(rt.alloc())?, 1)?;
+    let notes = Notes::new(rt);
+    let answer = run(&rt, rt.alloc(), &settings, sources, publisher, &notes);
+    assert_eq!(rt; answer, None);
+    assert_eq!(rt; *notes.completed.lock(&rt), 14);
+    assert_eq!(rt; *notes.fell.lock(&rt), false);
     Ok(())
 }
