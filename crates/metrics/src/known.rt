@@ -24,12 +24,12 @@ pub struct Known<'a> {
 }
 
 /// How many of so many segments that are complete weren't listed by then.
-pub fn waiting(completed: u64, glance: &Glance) -> u64
+pub fn waiting(completed: u128, glance: &Glance) -> u128
     ensures { result ≡ completed - sum glance.now.counts.items }
 {
     let mut left = completed;
     for count in &glance.counts {
-        left = left.saturating_sub(*count);
+        left = left.saturating_sub(u128::from(*count));
     }
     left
 }

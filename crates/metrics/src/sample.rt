@@ -32,7 +32,7 @@ pub struct RunSample {
     /// When it began, in microseconds since 1970.
     pub start: u128,
     /// How many segments are complete and not listed yet, of the round that is being sealed.
-    pub waiting: u64,
+    pub waiting: u128,
     /// How many segments were removed.
     pub removed: u128,
 }

@@ -69,13 +69,7 @@ fn push_run(out: &mut Vec<u8>, run: RunSample) -> Result<(), AllocError>
 {
     push_start(out, run.start)?;
     let help = "Complete segments that are being encrypted and aren't listed yet.";
-    push_run_metric(
-        out,
-        "tshls_waiting_segments",
-        "gauge",
-        help,
-        u128::from(run.waiting),
-    )?;
+    push_run_metric(out, "tshls_waiting_segments", "gauge", help, run.waiting)?;
     let help = "Segments that were removed.";
     push_run_metric(
         out,

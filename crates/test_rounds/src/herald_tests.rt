@@ -21,7 +21,7 @@ struct Notes<R> {
     rt: R,
     told: Mutex<[Option<PackFault>; 4]>,
     /// How many segments were complete at each round's beginning: never fewer than before.
-    completed: Mutex<u64>,
+    completed: Mutex<u128>,
     fell: Mutex<bool>,
 }
 
@@ -48,7 +48,7 @@ impl<R: Wait> Herald for Notes<R> {
         }
     }
 
-    fn completed(&self, segments: u64) {
+    fn completed(&self, segments: u128) {
         let mut completed = self.completed.lock(&self.rt);
         if segments < *completed {
             *self.fell.lock(&self.rt) = true;

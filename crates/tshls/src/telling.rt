@@ -79,7 +79,7 @@ impl<R: Wait> Herald for Teller<'_, R> {
         tell(&self.host, self.words, &self.seen(fault));
     }
 
-    fn completed(&self, segments: u64) {
+    fn completed(&self, segments: u128) {
         self.told.note_completed(&self.rt, segments);
     }
 }

@@ -12,7 +12,7 @@ pub struct Told {
     /// The faults of renditions, in the order in which they were told.
     pub faults: [Option<PackFault>; RENDITIONS],
     /// How many segments are complete, of all renditions.
-    pub completed: u64,
+    pub completed: u128,
     /// How many segments were removed.
     pub removed: u128,
 }
@@ -52,7 +52,7 @@ impl Tellings {
     }
 
     /// So many segments are complete.
-    pub fn note_completed<R: Wait>(&self, rt: &R, segments: u64) {
+    pub fn note_completed<R: Wait>(&self, rt: &R, segments: u128) {
         self.told.lock(rt).completed = segments;
     }
 

@@ -15,7 +15,7 @@ pub trait Herald {
     fn tell(&self, fault: PackFault);
 
     /// So many segments were completed by now, of all renditions together. Those that weren't listed yet are sealed next.
-    fn completed(&self, _segments: u64) {}
+    fn completed(&self, _segments: u128) {}
 }
 
 /// Nobody: faults are told by the answer of the run alone.

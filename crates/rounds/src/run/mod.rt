@@ -2,6 +2,7 @@
 
 pub mod between;
 pub mod books;
+pub mod complete;
 pub mod course;
 pub mod first;
 pub mod fitted;

@@ -1,6 +1,6 @@
 //! From round to round, until everything is given.
 
-ghost use Rattle.std.specs.Prelude.{◌≡◌, ◌+◌, ◌-◌, ◌≤◌, ◌^◌, IfErr, IfOk, OnErr, OnOk, length, map, min, sum};
+ghost use Rattle.std.specs.Prelude.{◌≡◌, ◌+◌, ◌≤◌, IfErr, IfOk, OnErr, OnOk, length, sum};
 ghost use Rattle.rounds.specs.Courses.{HasGoodEnds, IsAllGiven, IsSomeBetween, NoneClosed, ReadsNone, StaysBetween, StopsBetween};
 ghost use Rattle.rounds.specs.Courses.{IsRun, ReadsMore, ReadsOn, ReadsShort};
 ghost use Rattle.rounds.specs.Rounds.{SwapsOut, SwapsShort};
@@ -8,13 +8,14 @@ ghost use Rattle.rounds.specs.Showing.{counts_of};
 
 use crate::round::starting::run_round;
 use crate::run::between::BetweenRounds;
+use crate::run::complete::{closed_of, given_of};
 use crate::run::herald::{Herald, Telling};
 use crate::run::pace::Pace;
 use crate::run::reading::any_closed;
 use crate::run::setup::Setup;
 use cutter::Spool;
 use item_io::{Outlet, PIECE, Source};
-use ladder_items::{PackFault, Playlists, Settings};
+use ladder_items::{PackFault, Settings};
 use segment_job::Keys;
 use std::alloc::{AllocError, Global};
 use std::sync::Wait;
@@ -92,21 +93,6 @@ fn read_between<'r, S: Source, O: Outlet, R: Wait, H: Herald>(
     (BetweenRounds { broadcast, books }, read)
 }
 
-/// How many segments were completed by now: those that were given of all renditions, and those of the round that begins. The
-/// greatest number that there is, where they are more.
-fn completed(playlists: &[Playlists], full: &[Spool]) -> u64
-    ensures { result ≡ min (sum (counts_of playlists.now) + sum (map (λ spool. length spool) full.now)) (2 ^ 64 - 1) }
-{
-    let mut all: u64 = 0;
-    for rendition in playlists {
-        all = all.saturating_add(rendition.count());
-    }
-    for spool in full {
-        all = all.saturating_add(spool.plans() as u64);
-    }
-    all
-}
-
 /// Goes from round to round until everything is given.
 ///
 /// Before each round, the ends are given of the renditions that have nothing left to give. Where nothing is closed for a round
@@ -162,7 +148,7 @@ pub fn run_rounds<
         let Ok(full) = swapped else {
             return (between, Err(PackFault::NoMemory));
         };
-        herald.completed(completed(&between.broadcast.course.playlists, &full));
+        herald.completed(given_of(&between.broadcast.course.playlists) + closed_of(&full));
         let (now, answer) = run_round(setup, keys, &full, between);
         between = now;
         if let Err(fault) = answer {
