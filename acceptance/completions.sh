@@ -43,10 +43,10 @@ completions_tell() {
     offers 'hd.key hls' tshls pack --metrics h || return 1
     offers '' tshls pack --target '' || return 1
     offers 'a stream.ts' tshls pack --out hls v : avc1.64001e : 320x180 : 00 : a || return 1
-    offers '@hd.key' tshls pack --out hls v : avc1.64001e : 320x180 : @ hd || return 1
+    offers '@hd.key' tshls pack --out hls v : avc1.64001e : 320x180 :@ hd || return 1
     offers '@hd.key' tshls seal --key @ hd || return 1
     offers '@hd.key' tshls seal --key @hd || return 1
-    offers '@hls/' tshls check --keys = @ hl || return 1
+    offers '@hls/' tshls check --keys =@ hl || return 1
     offers '' tshls seal --iv '' || return 1
     offers 'a stream.ts' tshls check --keys 00 a
 }
