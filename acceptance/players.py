@@ -24,7 +24,7 @@ import time
 
 # The rendition that each plays, and what its frames are known by: the bytes that were sent, the picture, or the checksum of one. And how
 # many frames it drops next to a discontinuity, since it is made so: mpv those that it hasn't shown yet when it resets its clock.
-PLAYED = {"ffmpeg": ("sd", "sent", 0), "mpv": ("hd", "sum", 25), "gstreamer": ("hd", "picture", 0), "streamlink": ("hd", "sent", 0)}
+PLAYED = {"ffmpeg": ("sd", "sent", 0), "mpv": ("hd", "sum", 100), "gstreamer": ("hd", "picture", 0), "streamlink": ("hd", "sent", 0)}
 
 BUFFERED = 10  # seconds that a browser may have fetched and not shown
 

@@ -1,7 +1,7 @@
 #!/usr/bin/env bash
 # players.sh PROGRAM: a live ladder of two, from one encoder, with its packager killed and resumed three times. ffmpeg, mpv, GStreamer's
 # hlsdemux2 and streamlink play it over HTTP from the first playlist on. Each has to show every frame that was listed, once, in order,
-# and tell no error; mpv drops up to a second of frames in front of a longer jump in time, as it resets its clock. PLAYERS names fewer of them. The last line says what was seen.
+# and tell no error; mpv alone may drop frames in front of a jump in time, where it resets its clock. PLAYERS names fewer of them. The last line says what was seen.
 set -u
 program=$(realpath "$1")
 here=$(cd "$(dirname "$0")" && pwd)
