@@ -179,7 +179,7 @@ def follow(lost, folder, players):
         if player == "chromium":
             first, *_, last = looks(path)
             print(player, last["frames"], "frames, loaded anew", last["loads"])
-            if last["seconds"] < (last["at"] - first["at"]) / 3:
+            if last["seconds"] < (last["at"] - first["at"]) / 6:
                 print(player, "played", last["seconds"], "of", round(last["at"] - first["at"]), "seconds")
                 status = 1
             continue
