@@ -16,8 +16,8 @@ trap finish EXIT
 at() {
     local name until=$((begin + seconds * $1 / 100))
     for name in hd sd; do
-        waits 120 has_breaks $name "$2" || fail "$name has no discontinuity $2 before $3"
-        waits 120 is_past $name $(($(last_of $name) + 2)) || fail "$name stands still before $3"
+        waits 300 has_breaks $name "$2" || fail "$name has no discontinuity $2 before $3"
+        waits 300 is_past $name $(($(last_of $name) + 2)) || fail "$name stands still before $3"
     done
     [ $SECONDS -ge $until ] || sleep $((until - SECONDS))
     play_on "$3"
@@ -55,9 +55,9 @@ sends KILL packager || fail 'no packager to kill'
 sends KILL encoder || fail 'no encoder to kill'
 
 has_low() { [ -e "$folder/hls/low.m3u8" ] && is_past low 1; }
-waits 120 has_low || fail 'the rendition that was added does not come'
+waits 300 has_low || fail 'the rendition that was added does not come'
 at 100 3 'the end'
-reach 150
+reach 300
 # next to a discontinuity a frame may be damaged, since the encoder was killed in the middle of one
 end_players 3
 tell_no_errors

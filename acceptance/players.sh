@@ -14,7 +14,7 @@ trap finish EXIT
 lasts() {
     local name
     for name in hd sd; do
-        waits 120 is_past $name $(($(last_of $name) + $1)) || fail "$name stands still"
+        waits 300 is_past $name $(($(last_of $name) + $1)) || fail "$name stands still"
     done
 }
 
@@ -23,17 +23,17 @@ makes_channel
 goes_on_air "$samples/channel" "$work/channel.conf"
 starts_players
 for turn in 1 2 3; do
-    waits 120 has_breaks hd $((turn - 1)) || fail 'hd does not go on'
-    waits 120 has_breaks sd $((turn - 1)) || fail 'sd does not go on'
+    waits 300 has_breaks hd $((turn - 1)) || fail 'hd does not go on'
+    waits 300 has_breaks sd $((turn - 1)) || fail 'sd does not go on'
     lasts 3
     sleep 0.$((RANDOM % 10))
     play_on "restart $turn"
     sends KILL packager || fail 'no packager to kill'
 done
-waits 120 has_breaks hd 3 || fail 'hd does not go on'
-waits 120 has_breaks sd 3 || fail 'sd does not go on'
+waits 300 has_breaks hd 3 || fail 'hd does not go on'
+waits 300 has_breaks sd 3 || fail 'sd does not go on'
 lasts 1
-reach 120
+reach 300
 end_players 0
 breaks=$(breaks_of hd)
 [ "$breaks" -eq 3 ] || fail "$breaks discontinuities"

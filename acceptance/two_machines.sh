@@ -71,7 +71,7 @@ stands() {
 
 # waits COMMAND..
 waits() {
-    local end=$((SECONDS + 120))
+    local end=$((SECONDS + 300))
     until "$@"; do
         [ $SECONDS -lt $end ] || fail "it doesn't come to pass: $*"
         sleep 0.1
