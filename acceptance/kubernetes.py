@@ -11,7 +11,12 @@ import shutil
 import subprocess
 import sys
 
-import yaml
+try:
+    import yaml
+except ImportError:  # Debian's package, python3-yaml, is for Debian's python
+    if sys.executable == "/usr/bin/python3":
+        raise
+    os.execv("/usr/bin/python3", ["/usr/bin/python3", *sys.argv])
 
 
 def lacks(wanted, got, path=""):

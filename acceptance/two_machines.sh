@@ -133,7 +133,7 @@ for rendition in "${names[@]}"; do
 done
 copies=0
 until stands "$work/first" "$segments" && stands "$work/second" "$segments"; do
-    [ $SECONDS -lt 300 ] || fail 'the two do not come to the cut'
+    [ $SECONDS -lt 900 ] || fail 'the two do not come to the cut'
     if stands "$work/second" 2; then
         "$samples/copy_folder" "$work/second" "$work/copy" >"$work/copied" 2>&1 || fail "the copy: $(tail -n 1 "$work/copied")"
         copies=$((copies + 1))
