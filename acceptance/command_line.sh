@@ -8,6 +8,7 @@ check_commands() {
     check 'help as an option' misused --help
     check 'help as a command' misused help
     check 'the man pages tell what help tells' man_pages_tell
+    check 'bash completes each command and each of its options' completions_tell
     check 'the examples of the documents' python3 "$here/examples.py" "$program" "$here/../docs/COMMANDS.md"
 }
 

@@ -3,7 +3,11 @@
 
 check_live_ladder() {
     check 'pack: a live ladder of three, watched' packs_live "${LIVE_SECONDS:-30}"
-    check 'pack: a channel as the guide has it, killed, silent, resumed, and with one rendition more' rehearses
+    check 'pack: a channel as the guide has it, killed, silent, resumed, and with one rendition more, by each player' \
+        at_most_twice "$here/origin.sh" "$program"
+    check 'pack: three restarts of a live ladder, frame by frame, by each player' at_most_twice "$here/players.sh" "$program"
+    check 'pack: two packagers that are fed the same bytes write the same files' at_most_twice "$here/two_machines.sh" "$program"
+    check 'samples: the pod for a cluster' reads_the_pod
     check 'pack: one of three inputs is silent, faster, or before the others' plays_silence silence.py
     check 'pack: one of three inputs is silent for too long, or has a fault' plays_silence stalls.py
 }
@@ -45,7 +49,17 @@ plays_silence() {
     python3 "$here/$1" "$program" >"$work/silence" 2>&1 || { tail -1 "$work/silence"; return 1; }
 }
 
-# The packager, its encoder and nginx by the files of samples/origin: REHEARSAL_SECONDS says for how long.
-rehearses() {
-    "$here/origin.sh" "$program" >"$work/rehearsal" 2>&1 || { tail -5 "$work/rehearsal"; return 1; }
+# at_most_twice COMMAND..: in real time, with players that a busy machine may hold up for too long: so it is played once more before
+# it counts as failed. What was told the first time is told too.
+at_most_twice() {
+    "$@" >"$work/played" 2>&1 && return
+    tail -5 "$work/played" >"$work/played_first"
+    "$@" >"$work/played" 2>&1 && { echo "the first time: $(tr '\n' ' ' <"$work/played_first")"; return; }
+    cat "$work/played_first"
+    tail -5 "$work/played"
+    return 1
+}
+
+reads_the_pod() {
+    python3 "$here/kubernetes.py" "$here/../samples/origin/kubernetes.yaml" >"$work/pod" 2>&1 || { tail -2 "$work/pod"; return 1; }
 }

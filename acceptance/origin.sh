@@ -72,4 +72,4 @@ grep -q '^low ' "$work/client.log" || fail 'the rendition that was added was not
 grep -q '^tshls_segments_total{rendition="low"} [1-9]' "$folder/page/channel.prom" || fail 'the metrics do not tell the new rendition'
 # the folder is bounded: a window and what is kept behind it
 [ "$(find "$folder/hls" -name 'sd.*.ts' | wc -l)" -le 60 ] || fail 'segments pile up'
-echo "$(tr '\n' ';' <"$work/client.log") $(tr '\n' ';' <"$work/followed")"
+told "$work/client.log" "$work/followed"

@@ -5,7 +5,7 @@
 set -u
 program=$(realpath "$1")
 here=$(cd "$(dirname "$0")" && pwd)
-: "${PLAYERS:=ffmpeg mpv streamlink gstreamer}"
+players_of_all='ffmpeg mpv streamlink gstreamer'
 # shellcheck source-path=SCRIPTDIR source=on_air.sh
 . "$here/on_air.sh"
 trap finish EXIT
@@ -42,5 +42,4 @@ for player in "${players[@]}"; do
 done
 tell_no_errors
 ! grep -E '^tshls: ' "$work/packager.log" || fail 'the packager told a fault'
-tr '\n' ';' <"$work/followed"
-echo
+told "$work/followed"

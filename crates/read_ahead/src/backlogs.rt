@@ -181,7 +181,7 @@ impl Backlogs {
         let mut states = Vec::with_capacity(alloc, self.taken.len())?;
         let counts = self.counts.lock(rt);
         for number in 0..counts.backlogs.len() {
-            let since = counts.since.get(number).copied().flatten();
+            let since = counts.since.get(number).copied().unwrap_or(None);
             states.push(state_of(&counts.backlogs[number], since, now))?;
         }
         Ok(states)
