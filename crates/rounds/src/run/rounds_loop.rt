@@ -93,6 +93,16 @@ fn read_between<'r, S: Source, O: Outlet, R: Wait, H: Herald>(
     (BetweenRounds { broadcast, books }, read)
 }
 
+/// Tells how many segments are complete as a round begins.
+fn tell_completed<'r, S: Source, O: Outlet, R: Wait, H: Herald>(
+    herald: &H,
+    between: &BetweenRounds<'r, S, O, R>,
+    full: &Vec<Spool>,
+) {
+    let given = given_of(&between.broadcast.course.playlists);
+    herald.completed(given + closed_of(full));
+}
+
 /// Goes from round to round until everything is given.
 ///
 /// Before each round, the ends are given of the renditions that have nothing left to give. Where nothing is closed for a round
@@ -148,7 +158,7 @@ pub fn run_rounds<
         let Ok(full) = swapped else {
             return (between, Err(PackFault::NoMemory));
         };
-        herald.completed(given_of(&between.broadcast.course.playlists) + closed_of(&full));
+        tell_completed(herald, &between, &full);
         let (now, answer) = run_round(setup, keys, &full, between);
         between = now;
         if let Err(fault) = answer {
