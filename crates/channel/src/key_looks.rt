@@ -1,9 +1,14 @@
 //! Whether the keys of a ladder are those that its listed segments were sealed under.
 
-ghost use Rattle.std.specs.Prelude.{◌≡◌, ◌⊎◌, ℕ, Some, true, ◌∷◌, [], slice_get, IfOk};
+ghost use Rattle.std.specs.Prelude.{◌≡◌, ◌≢◌, ◌⊎◌, ◌↔◌, ◌<◌, ℕ, Some, true, false, IsTrue, ◌∷◌, [], All, length, map, slice_get, IfOk, IfErr, OnOk, Decides};
 ghost use Rattle.std.specs.String.{string_bytes};
 ghost use Rattle.item_io.specs.FileNames.{segment_file_name};
+ghost use Rattle.limits.specs.declared.TheConstants.{MOST_KEYS};
 ghost use Rattle.media_playlist.specs.Lines.{entry_of};
+ghost use Rattle.channel.specs.Looking;
+ghost use Rattle.hls_check.specs.Unpacking.{HasHead};
+ghost use Rattle.hls_check.specs.declared.fault.UnpackFault.TheVariants.{NoMemory};
+ghost use Rattle.channel.specs.Looking.{alone, AllKeysOpen, IsKeyFault, IsLookFault, IsRowFault, KeysOpen, OpensAsListed, TakeTurns};
 
 use crate::fault::ResumingFault;
 use channel_folder::WhyNot;
@@ -22,17 +27,39 @@ pub(crate) fn look_at_keys<F: FolderReader>(
     folder: &F,
     renditions: &[Rendition],
     found: &[Option<Restored>],
-) -> Result<(), ResumingFault> {
+) -> Result<(), ResumingFault>
+    requires each { length found.now ≡ length renditions.now }
+    requires turns { TakeTurns found.now }
+    ensures ok { OnOk result (AllKeysOpen (F.gives folder.now) renditions.now found.now) }
+    ensures err { IfErr result (IsLookFault (F.refuses folder.now) (F.gives folder.now) (F.lacks folder.now) renditions.now found.now) }
+{
     for r in 0..renditions.len() {
-        if r < found.len() {
-            look_at(alloc, folder, r, &renditions[r], rows_of(&found[r]))?;
-        }
+        let one = found_at(found, r);
+        look_at(alloc, folder, r, rendition_at(renditions, r), rows_of(one))?;
     }
     Ok(())
 }
 
+/// The rendition at a place.
+fn rendition_at(renditions: &[Rendition], r: usize) -> &Rendition
+    requires { r < length renditions.now }
+    ensures { slice_get renditions.now r ≡ Some result.now }
+{
+    &renditions[r]
+}
+
+/// What was found of the rendition at a place.
+pub(crate) fn found_at(found: &[Option<Restored>], r: usize) -> &Option<Restored>
+    requires { r < length found.now }
+    ensures { slice_get found.now r ≡ Some result.now }
+{
+    &found[r]
+}
+
 /// The rows of earlier runs that a rendition goes on behind.
-fn rows_of(found: &Option<Restored>) -> &[Row] {
+fn rows_of(found: &Option<Restored>) -> &[Row]
+    ensures { result.now ≡ Looking.rows_of found.now }
+{
     match found {
         Some(restored) => &restored.earlier,
         None => &[],
@@ -46,52 +73,97 @@ fn look_at<F: FolderReader>(
     r: usize,
     rendition: &Rendition,
     rows: &[Row],
-) -> Result<(), ResumingFault> {
+) -> Result<(), ResumingFault>
+    requires { All (λ row. row.key < MOST_KEYS) rows.now }
+    ensures ok { OnOk result (KeysOpen (F.gives folder.now) rendition.now rows.now) }
+    ensures err { IfErr result (IsKeyFault (F.refuses folder.now) (F.gives folder.now) (F.lacks folder.now) r rendition.now rows.now) }
+{
     let mut seen = [false; MOST_KEYS as usize];
     for i in 0..rows.len() {
-        let row = &rows[rows.len() - 1 - i];
-        let was_seen = mark(&mut seen, row.key);
-        if !was_seen {
-            open(alloc, folder, r, rendition, row)?;
+        let row = row_at(rows, rows.len() - 1 - i);
+        if mark(&mut seen, row.key) {
+            continue;
         }
+        open_row(alloc, folder, r, rendition, row)?;
     }
     Ok(())
 }
 
-/// Marks a key, and tells whether it was marked. One past the last place is never marked.
-fn mark(seen: &mut [bool], key: u64) -> bool
-    ensures was { result ≡ true → slice_get seen.old key ≡ Some true }
-    ensures marks { (k : ℕ) → slice_get seen.new k ≡ Some true → (k ≡ key) ⊎ (slice_get seen.old k ≡ Some true) }
+/// The row at a place.
+fn row_at(rows: &[Row], i: usize) -> &Row
+    requires { i < length rows.now }
+    ensures { slice_get rows.now i ≡ Some result.now }
 {
-    let place = key as usize;
-    if place >= seen.len() {
-        return false;
-    }
-    let was = seen[place];
-    seen[place] = true;
+    &rows[i]
+}
+
+/// Marks a key, and tells whether it was marked.
+fn mark(seen: &mut [bool], key: u64) -> bool
+    requires { key < length seen.old }
+    ensures was { IsTrue result ↔ (slice_get seen.old key ≡ Some true) }
+    ensures marks { (k : ℕ) → (slice_get seen.new k ≡ Some true) ↔ ((k ≡ key) ⊎ (slice_get seen.old k ≡ Some true)) }
+    ensures same { length seen.new ≡ length seen.old }
+{
+    let was = seen[key as usize];
+    seen[key as usize] = true;
     was
 }
 
 /// Opens a segment of a rendition, as its playlist lists it.
-fn open<F: FolderReader>(
+fn open_row<F: FolderReader>(
     alloc: Global,
     folder: &F,
     r: usize,
     rendition: &Rendition,
     row: &Row,
-) -> Result<(), ResumingFault> {
+) -> Result<(), ResumingFault>
+    ensures ok { OnOk result (OpensAsListed (F.gives folder.now) rendition.now row.now) }
+    ensures err { IfErr result (IsRowFault (F.refuses folder.now) (F.gives folder.now) (F.lacks folder.now) r rendition.now row.now) }
+{
     let file = segment_file(alloc, &rendition.name, row.number)?;
     let Some(bytes) = folder.read(alloc, &file)? else {
         return Err(ResumingFault::Not(r, WhyNot::Lost(row.number)));
     };
-    let mut segments = Vec::new(alloc);
-    segments.push(bytes)?;
+    if !opens(alloc, rendition, row, bytes)? {
+        return Err(ResumingFault::OtherKeys(r, row.key));
+    }
+    Ok(())
+}
+
+/// Whether these bytes open as a segment of a rendition, as its playlist lists it.
+fn opens(
+    alloc: Global,
+    rendition: &Rendition,
+    row: &Row,
+    bytes: Vec<u8>,
+) -> Result<bool, AllocError>
+    ensures { IfOk result (λ it. Decides it (HasHead (alone rendition.now row.now bytes.items) 0)) }
+{
+    let segments = segments_of(alloc, bytes)?;
     let listing = listing_of(alloc, rendition, row)?;
     match check_listing(alloc, &listing, &segments, rendition.keys.all()) {
-        Ok(_) => Ok(()),
-        Err(UnpackFault::NoMemory) => Err(ResumingFault::NoMemory),
-        Err(_) => Err(ResumingFault::OtherKeys(r, row.key)),
+        Ok(_) => Ok(true),
+        Err(fault) => not_opened(fault),
     }
+}
+
+/// Bytes with any fault but a want of memory don't open.
+fn not_opened(fault: UnpackFault) -> Result<bool, AllocError>
+    ensures { IfOk result (λ it. (it ≡ false) × (fault ≢ NoMemory)) }
+{
+    match fault {
+        UnpackFault::NoMemory => Err(AllocError),
+        _ => Ok(false),
+    }
+}
+
+/// One segment alone.
+fn segments_of(alloc: Global, bytes: Vec<u8>) -> Result<Vec<Vec<u8>>, AllocError>
+    ensures { IfOk result (λ segments. map (λ s. s.items) segments.items ≡ bytes.items ∷ []) }
+{
+    let mut segments = Vec::new(alloc);
+    segments.push(bytes)?;
+    Ok(segments)
 }
 
 /// The file of a segment.

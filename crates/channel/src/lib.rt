@@ -6,6 +6,7 @@ mod fault;
 mod going_on;
 mod key_looks;
 mod resuming;
+mod rolling;
 mod seen;
 
 pub use fault::ResumingFault;

@@ -1,14 +1,20 @@
 //! A ladder goes on in its folder.
 
-ghost use Rattle.std.specs.Prelude.{◌≡◌};
+ghost use Rattle.std.specs.Prelude.{◌≡◌, IfOk, IfErr, map};
+ghost use Rattle.channel_folder.specs.Scans.{IsScan};
+ghost use Rattle.channel.specs.Reading;
+ghost use Rattle.channel.specs.Reading.{AsksFor, IsReadBack, IsReadFault, IsScanFault};
 ghost use Rattle.channel.specs.Resuming;
+ghost use Rattle.channel.specs.Resuming.{IsNotResumed, IsResumed, older_from};
+ghost use Rattle.channel.specs.Views.{folder_view};
 
 use crate::fault::ResumingFault;
 use crate::going_on::ladder_behind;
-use crate::key_looks::look_at_keys;
-use channel_folder::{Asked, Scan, cut_off, let_unfinished_go, reopen, scan_files};
-use folder::{Folder, FolderReader, roll_forward};
-use ladder_items::{Rendition, Settings};
+use crate::key_looks::{found_at, look_at_keys};
+use crate::rolling::roll_each;
+use channel_folder::{Asked, Reopened, Scan, let_unfinished_go, reopen, scan_files};
+use folder::{Folder, FolderReader};
+use ladder_items::Settings;
 use resume::{Restored, Wanted};
 use std::alloc::{AllocError, Global};
 
@@ -30,49 +36,70 @@ pub fn resume<F: Folder + FolderReader>(
     alloc: Global,
     folder: &mut F,
     settings: Settings,
-) -> Result<Resumed, ResumingFault> {
-    let scan = scan_files(alloc, folder, &names_of(alloc, &settings.renditions)?)?;
-    roll_each(alloc, folder, &settings.renditions)?;
-    let reopened = {
-        let asked = asked_of(alloc, &settings)?;
-        reopen(alloc, folder, &scan, settings.kind, &asked)?
-    };
-    look_at_keys(alloc, folder, &settings.renditions, &reopened.found)?;
-    let older = older_of(alloc, &scan, &reopened.found)?;
+) -> Result<Resumed, ResumingFault>
+    ensures ok { let view = folder_view F.lists F.gives F.lacks F.refuses F.made in
+        IfOk result (λ it. IsResumed view settings folder.old folder.new it.settings (map (λ n. n.items) it.older.items)) }
+    ensures err { let view = folder_view F.lists F.gives F.lacks F.refuses F.made in
+        IfErr result (IsNotResumed view settings folder.old folder.new) }
+    ensures pruned { F.pruned folder.new ≡ F.pruned folder.old }
+{
+    let scan = scan_names(alloc, folder, &settings)?;
+    roll_each(alloc, folder, &settings)?;
+    let reopened = read_back(alloc, folder, &settings, &scan)?;
+    let older = older_of(alloc, &scan, &reopened)?;
     let settings = ladder_behind(alloc, settings, reopened)?;
-    if let_unfinished_go(folder, &scan).is_err() {
+    let Ok(_removed) = let_unfinished_go(folder, &scan) else {
         return Err(ResumingFault::Outlet);
-    }
+    };
     Ok(Resumed { settings, older })
 }
 
+/// The files of the renditions, as they are in the folder.
+fn scan_names<F: FolderReader>(
+    alloc: Global,
+    folder: &F,
+    settings: &Settings,
+) -> Result<Scan, ResumingFault>
+    ensures ok { IfOk result (IsScan (F.lists folder.now) (Reading.names_of settings.now.renditions)) }
+    ensures err { IfErr result (IsScanFault (F.refuses folder.now)) }
+{
+    let names = names_of(alloc, settings)?;
+    Ok(scan_files(alloc, folder, &names)?)
+}
+
 /// The names of renditions.
-fn names_of(alloc: Global, renditions: &[Rendition]) -> Result<Vec<&str>, AllocError> {
+fn names_of(alloc: Global, settings: &Settings) -> Result<Vec<&str>, AllocError>
+    ensures { IfOk result (λ names. map (λ n. n.now) names.items ≡ Reading.names_of settings.now.renditions) }
+{
     let mut names = Vec::new(alloc);
-    for rendition in renditions {
+    for rendition in &settings.renditions {
         names.push(rendition.name.as_str())?;
     }
     Ok(names)
 }
 
-/// Places the block that a kill cut off, if any.
-fn roll_each<F: Folder + FolderReader>(
+/// Reads back what an earlier run left of each rendition, and looks at the keys.
+fn read_back<F: Folder + FolderReader>(
     alloc: Global,
-    folder: &mut F,
-    renditions: &[Rendition],
-) -> Result<(), ResumingFault> {
-    for rendition in renditions {
-        if let Some(block) = cut_off(alloc, folder, &rendition.name)?
-            && roll_forward(folder, &block).is_err()
-        {
-            return Err(ResumingFault::Outlet);
-        }
-    }
-    Ok(())
+    folder: &F,
+    settings: &Settings,
+    scan: &Scan,
+) -> Result<Reopened, ResumingFault>
+    ensures ok { let view = folder_view F.lists F.gives F.lacks F.refuses F.made in
+        IfOk result (IsReadBack view folder.now settings.now scan.now) }
+    ensures err { let view = folder_view F.lists F.gives F.lacks F.refuses F.made in
+        IfErr result (IsReadFault view folder.now settings.now scan.now) }
+{
+    let asked = asked_of(alloc, settings)?;
+    let reopened = reopen(alloc, folder, scan, settings.kind, &asked)?;
+    look_at_keys(alloc, folder, &settings.renditions, &reopened.found)?;
+    Ok(reopened)
 }
 
 /// What a ladder asks for.
-fn asked_of(alloc: Global, settings: &Settings) -> Result<Vec<Asked<'_>>, AllocError> {
+fn asked_of(alloc: Global, settings: &Settings) -> Result<Vec<Asked<'_>>, AllocError>
+    ensures { IfOk result (λ asked. AsksFor settings.now asked.items) }
+{
     let mut asked = Vec::new(alloc);
     for rendition in &settings.renditions {
         asked.push(Asked {
@@ -98,14 +125,24 @@ fn base_of(found: &Option<Restored>) -> u64
 }
 
 /// For each rendition the numbers of its segments that come before those listed.
-fn older_of(
+fn older_of(alloc: Global, scan: &Scan, reopened: &Reopened) -> Result<Vec<Vec<u64>>, AllocError>
+    ensures { IfOk result (λ older. map (λ n. n.items) older.items ≡ older_from scan.now 0 reopened.now.found) }
+{
+    older_of_each(alloc, scan, &reopened.found)
+}
+
+/// The same, by what was found of each.
+fn older_of_each(
     alloc: Global,
     scan: &Scan,
     found: &[Option<Restored>],
-) -> Result<Vec<Vec<u64>>, AllocError> {
+) -> Result<Vec<Vec<u64>>, AllocError>
+    ensures { IfOk result (λ older. map (λ n. n.items) older.items ≡ older_from scan.now 0 found.now) }
+{
     let mut older = Vec::new(alloc);
     for r in 0..found.len() {
-        older.push(scan.older(alloc, r, base_of(&found[r]))?)?;
+        let one = found_at(found, r);
+        older.push(scan.older(alloc, r, base_of(one))?)?;
     }
     Ok(older)
 }

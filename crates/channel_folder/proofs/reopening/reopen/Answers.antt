@@ -1,6 +1,5 @@
 use Rattle.std.proofs.Common.{inr, refl}
 use Rattle.std.proofs.lemmas.Result.{err_from_is_err_and}
-use Rattle.resume.specs.Evening.{IsUneven}
 use Rattle.channel_folder.proofs.Stopping.{not-by-one}
 use Rattle.channel_folder.proofs.reopening.reopen.Goals as goal
 
@@ -12,5 +11,5 @@ returns-in_err-found-clause-err g c =
 
 pub returns-in-Err-clause-err : goal.returns-in-Err-clause-err
 returns-in-Err-clause-err g c =
-    let uneven : IsUneven c.args.kind c.in_ok-found.found.items c.in-Err.fault.0 = rw c.deref.ensures.value at c.in-Err.ensures.err in
+    let uneven = rw c.deref.ensures.value at c.in-Err.ensures.err in
     inr (refl, record { found = c.in_ok-found.found.items; all = c.in_ok-found.ensures.ok; uneven = uneven })

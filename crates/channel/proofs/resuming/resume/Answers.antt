@@ -1,0 +1,72 @@
+use Rattle.std.proofs.Common.{inr}
+use Rattle.std.proofs.lemmas.Result.{err_from_is_err_and}
+use Rattle.channel.specs.Reading.{names_of}
+use Rattle.channel.specs.Views.{folder_view}
+use Rattle.channel.proofs.Whole.{not-back, not-begun, not-rolled, not-scanned, reopened-count}
+use Rattle.channel.proofs.Rolls.{rolls-all}
+use Rattle.channel.proofs.resuming.resume.Goals as goal
+
+pub returns-in_err-scan-clause-err : goal.returns-in_err-scan-clause-err
+returns-in_err-scan-clause-err g c =
+    let view = folder_view g.F.FolderReader.lists g.F.FolderReader.gives g.F.FolderReader.lacks g.F.FolderReader.refuses g.F.Folder.made in
+    let told = err_from_is_err_and c.from_residual.result c.from_residual.ensures.1 in
+    rw (told.1, told.2) (not-scanned view c.args.settings c.args.folder.now _ c.in_err-scan.ensures.err)
+
+pub returns-in_err-roll_each-clause-err : goal.returns-in_err-roll_each-clause-err
+returns-in_err-roll_each-clause-err g c =
+    let view = folder_view g.F.FolderReader.lists g.F.FolderReader.gives g.F.FolderReader.lacks g.F.FolderReader.refuses g.F.Folder.made in
+    let told = err_from_is_err_and c.from_residual-in_err-roll_each.result c.from_residual-in_err-roll_each.ensures.1 in
+    rw (told.1, told.2) (not-rolled view c.args.settings c.args.folder.now c.roll_each.new.folder _ c.in_err-roll_each.ensures.err)
+
+pub returns-in_err-reopened-clause-err : goal.returns-in_err-reopened-clause-err
+returns-in_err-reopened-clause-err g c =
+    let view = folder_view g.F.FolderReader.lists g.F.FolderReader.gives g.F.FolderReader.lacks g.F.FolderReader.refuses g.F.Folder.made in
+    let told = err_from_is_err_and c.from_residual-in_err-reopened.result c.from_residual-in_err-reopened.ensures.1 in
+    rw (told.1, told.2)
+    (not-back view c.args.settings c.args.folder.now c.roll_each.new.folder c.in_ok-scan.scan _ c.in_ok-scan.ensures.ok c.in_ok-roll_each.ensures.ok c.in_err-reopened.ensures.err)
+
+pub returns-in_err-older-clause-err : goal.returns-in_err-older-clause-err
+returns-in_err-older-clause-err g c =
+    let view = folder_view g.F.FolderReader.lists g.F.FolderReader.gives g.F.FolderReader.lacks g.F.FolderReader.refuses g.F.Folder.made in
+    let told = err_from_is_err_and c.from_residual-in_err-older.result c.from_residual-in_err-older.ensures.1 in
+    rw (told.1, told.2) (rolls-all view (names_of c.args.settings.renditions) c.args.folder.now c.roll_each.new.folder c.in_ok-roll_each.ensures.ok)
+
+pub ladder_behind-requires : goal.ladder_behind-requires
+ladder_behind-requires g c =
+    let view = folder_view g.F.FolderReader.lists g.F.FolderReader.gives g.F.FolderReader.lacks g.F.FolderReader.refuses g.F.Folder.made in
+    reopened-count view c.args.settings c.roll_each.new.folder c.in_ok-scan.scan c.in_ok-reopened.reopened c.in_ok-reopened.ensures.ok.all
+
+pub returns-in_err-settings-clause-err : goal.returns-in_err-settings-clause-err
+returns-in_err-settings-clause-err g c =
+    let view = folder_view g.F.FolderReader.lists g.F.FolderReader.gives g.F.FolderReader.lacks g.F.FolderReader.refuses g.F.Folder.made in
+    let told = err_from_is_err_and c.from_residual-in_err-settings.result c.from_residual-in_err-settings.ensures.1 in
+    rw (told.1, told.2)
+    (not-begun view c.args.settings c.args.folder.now c.roll_each.new.folder c.in_ok-scan.scan c.in_ok-reopened.reopened _ c.in_ok-scan.ensures.ok c.in_ok-roll_each.ensures.ok
+    c.in_ok-reopened.ensures.ok c.in_err-settings.ensures.err)
+
+pub returns-in_default-clause-err : goal.returns-in_default-clause-err
+returns-in_default-clause-err g c =
+    inr
+    (record {
+      scan = c.in_ok-scan.scan;
+      scanned = c.in_ok-scan.ensures.ok;
+      mid = c.roll_each.new.folder;
+      rolls = c.in_ok-roll_each.ensures.ok;
+      reopened = c.in_ok-reopened.reopened;
+      back = c.in_ok-reopened.ensures.ok;
+      removed = c.in_default.ensures.err;
+    })
+
+pub returns-clause-ok : goal.returns-clause-ok
+returns-clause-ok g c = record {
+  scan = c.in_ok-scan.scan;
+  scanned = c.in_ok-scan.ensures.ok;
+  mid = c.roll_each.new.folder;
+  rolls = c.in_ok-roll_each.ensures.ok;
+  reopened = c.in_ok-reopened.reopened;
+  back = c.in_ok-reopened.ensures.ok;
+  begin_within = c.in_ok-settings.ensures.begins;
+  settings_are = c.in_ok-settings.ensures.ok;
+  older_are = c.in_ok-older.ensures;
+  removed = c.in-Ok.ensures.ok;
+}

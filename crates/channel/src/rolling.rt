@@ -1,0 +1,51 @@
+//! The blocks that a kill cut off are placed.
+
+ghost use Rattle.std.specs.Prelude.{◌≡◌, IfErr, OnOk};
+ghost use Rattle.channel.specs.Reading;
+ghost use Rattle.channel.specs.Rolling.{IsRollFault, RollingStops, RollsEach, RollsOne};
+ghost use Rattle.channel.specs.Views.{folder_view};
+
+use crate::fault::ResumingFault;
+use channel_folder::cut_off;
+use folder::{Folder, FolderReader, roll_forward};
+use ladder_items::Settings;
+use std::alloc::Global;
+
+/// Places the block of each rendition that a kill cut off, if any.
+pub(crate) fn roll_each<F: Folder + FolderReader>(
+    alloc: Global,
+    folder: &mut F,
+    settings: &Settings,
+) -> Result<(), ResumingFault>
+    ensures ok { let view = folder_view F.lists F.gives F.lacks F.refuses F.made in
+        OnOk result (RollsEach view (Reading.names_of settings.now.renditions) folder.old folder.new) }
+    ensures err { let view = folder_view F.lists F.gives F.lacks F.refuses F.made in
+        IfErr result (RollingStops view (Reading.names_of settings.now.renditions) folder.old folder.new) }
+    ensures pruned { F.pruned folder.new ≡ F.pruned folder.old }
+{
+    for rendition in &settings.renditions {
+        roll_one(alloc, folder, rendition.name.as_str())?;
+    }
+    Ok(())
+}
+
+/// Places that of one rendition.
+fn roll_one<F: Folder + FolderReader>(
+    alloc: Global,
+    folder: &mut F,
+    name: &str,
+) -> Result<(), ResumingFault>
+    ensures ok { let view = folder_view F.lists F.gives F.lacks F.refuses F.made in
+        OnOk result (RollsOne view name.now folder.old folder.new) }
+    ensures err { let view = folder_view F.lists F.gives F.lacks F.refuses F.made in
+        IfErr result (IsRollFault view name.now folder.old folder.new) }
+    ensures pruned { F.pruned folder.new ≡ F.pruned folder.old }
+{
+    let Some(block) = cut_off(alloc, folder, name)? else {
+        return Ok(());
+    };
+    let Ok(_placed) = roll_forward(folder, &block) else {
+        return Err(ResumingFault::Outlet);
+    };
+    Ok(())
+}
