@@ -1,5 +1,5 @@
 //! Which segments stand behind which block.
-use crate::stream::{Put, folder_of, outlet, push_block, push_lists, put_all, standing};
+use crate::stream::{Put, folder_of, outlet, push_block, push_end, push_lists, put_all, standing};
 use item_io::Item;
 use std::alloc::{AllocError, Global};
 use std::test::Fail;
@@ -150,5 +150,47 @@ fn going_back(alloc: Global) -> Result<Vec<Item>, AllocError> {
 fn a_playlist_that_goes_back_is_refused(rt: HostRuntime) -> Result<(), Fail> {
     let items = going_back(rt.alloc())?;
     assert_eq!(rt; failures(rt.alloc(), &items)?, 5);
+    Ok(())
+}
+
+/// Three blocks, the last of which lists segments 1 and 2, and behind them the last playlists, which list those from `first` on.
+fn ended_from(alloc: Global, first: u64) -> Result<Vec<Item>, AllocError> {
+    let mut items = blocks(alloc, LIVE, 0, 3)?;
+    push_end(&mut items, alloc, LIVE, first, 2)?;
+    Ok(items)
+}
+
+#[test]
+fn an_end_that_goes_back_is_refused(rt: HostRuntime) -> Result<(), Fail> {
+    for (first, wanted) in [(0, 2), (1, 0), (2, 0), (3, 2)] {
+        let items = ended_from(rt.alloc(), first)?;
+        assert_eq!(rt; failures(rt.alloc(), &items)?, wanted, "{first}");
+    }
+    Ok(())
+}
+
+/// The rendition and the name of a block, and how many of its puts fail where renditions 0 and 1 are named v and w.
+const NAMES: [(usize, &str, u64); 7] = [
+    (0, "v", 0),
+    (1, "w", 0),
+    (2, "x", 0),
+    (0, "w", 2),
+    (0, "x", 2),
+    (1, "v", 2),
+    (2, "v", 2),
+];
+
+#[test]
+fn a_playlist_of_another_name_is_refused(rt: HostRuntime) -> Result<(), Fail> {
+    for (rendition, name, wanted) in NAMES {
+        let put = Put {
+            rendition,
+            name,
+            ..LIVE
+        };
+        let items = blocks(rt.alloc(), put, 0, 1)?;
+        let mut files = outlet(rt.alloc(), &["v", "w"], 0, 0)?;
+        assert_eq!(rt; put_all(&mut files, &items), wanted, "{rendition} {name}");
+    }
     Ok(())
 }

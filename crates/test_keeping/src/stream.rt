@@ -79,6 +79,19 @@ pub fn push_block(
     push_lists(items, alloc, put, &list)
 }
 
+/// Appends the last two playlists, which list the segments from `first` to `last`.
+pub fn push_end(
+    items: &mut Vec<Item>,
+    alloc: Global,
+    put: Put<'_>,
+    first: u64,
+    last: u64,
+) -> Result<(), AllocError> {
+    let mut list = text(alloc, put.name, first, last, put.kind)?;
+    list.push_str("#EXT-X-ENDLIST\n")?;
+    push_both(items, alloc, put, true, &list)
+}
+
 /// Appends the two playlists of a block.
 pub fn push_lists(
     items: &mut Vec<Item>,
@@ -86,17 +99,28 @@ pub fn push_lists(
     put: Put<'_>,
     list: &str,
 ) -> Result<(), AllocError> {
+    push_both(items, alloc, put, false, list)
+}
+
+/// Appends two playlists of one text.
+fn push_both(
+    items: &mut Vec<Item>,
+    alloc: Global,
+    put: Put<'_>,
+    ended: bool,
+    list: &str,
+) -> Result<(), AllocError> {
     items.push(Item::Media {
         rendition: put.rendition,
         count: 1,
-        ended: false,
+        ended,
         name: String::from_str(alloc, put.name)?,
         text: String::from_str(alloc, list)?,
     })?;
     items.push(Item::Frames {
         rendition: put.rendition,
         count: 1,
-        ended: false,
+        ended,
         name: String::from_str(alloc, put.name)?,
         text: String::from_str(alloc, list)?,
     })?;
