@@ -18,14 +18,14 @@ use Rattle.keeping.proofs.Telling.{AreSame, IsSame, gone-all-same, noted-all-sam
 use Rattle.keeping.proofs.Unlisting.{unlisted-behind, unlisted-put}
 
 -- what was gone is gone still
-went-still : (old new : KeepingValue) (number : ℕ) → IsSame old new → WentOf old number → WentOf new number
+pub went-still : (old new : KeepingValue) (number : ℕ) → IsSame old new → WentOf old number → WentOf new number
 went-still old new number same (inl (n, lower, is)) = inl (n, omega (arith, lower, same.more), is ∙ ap (λ (b : ℕ). b + n) (sym same.base))
 went-still old new number same (inr gone) = inr (
   omega (arith, gone.0, same.more),
   Contains-take-more old.swept new.swept new.older number same.swept (subst (λ (l : List ℕ). Contains (take old.swept l) number) (sym same.older) gone.1),
 )
 
-gone-still : (old new : List KeepingValue) (name : List ℕ) → AreSame old new → IsGone old name → IsGone new name
+unfoldable pub gone-still : (old new : List KeepingValue) (name : List ℕ) → AreSame old new → IsGone old name → IsGone new name
 gone-still old new name same gone =
     let one = same.each gone.r in
     record {
@@ -150,7 +150,7 @@ gone-of r old new made made_then within did same gone name has =
     ]
 
 -- segments that go behind an item
-gone-behind : (item : ItemValue) (old new : List KeepingValue) (made made_then : List Move) → GoBehind item old new made made_then → AreGone (pruned_names made) old → AreGone (pruned_names made_then) new
+pub gone-behind : (item : ItemValue) (old new : List KeepingValue) (made made_then : List Move) → GoBehind item old new made made_then → AreGone (pruned_names made) old → AreGone (pruned_names made_then) new
 gone-behind (SegmentItem s) old new made made_then went gone = all-gone-still (pruned_names made) (pruned_names made_then) old new (ap pruned_names went.1) (gone-all-same (SegmentItem s) old new made made_then went) gone
 gone-behind (MediaItem p) old new made made_then went gone = all-gone-still (pruned_names made) (pruned_names made_then) old new (ap pruned_names went.1) (gone-all-same (MediaItem p) old new made made_then went) gone
 gone-behind (FramesItem p) old new made made_then (inl (within, did)) gone = gone-of p.rendition old new made made_then within did (gone-all-same (FramesItem p) old new made made_then (inl (within, did))) gone

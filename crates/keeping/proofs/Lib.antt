@@ -7,5 +7,7 @@ pub mod Keeps
 pub mod Placed
 pub mod Stopping
 pub mod Losing
+pub mod Refused
+pub mod Turns
 pub mod Left
 pub mod Between

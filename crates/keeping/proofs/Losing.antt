@@ -27,7 +27,7 @@ disk-more now disk more (Remove name) on c (d, there, reach) = (d, on d there, r
 disk-more now disk more (Looked name there) on c at = on c at
 disk-more now disk more Sync on c at = at
 
-loss-more : (moves : List Move) (now : Files) (disk more : Files → Type 0) → ((c : Files) → disk c → more c) → (left : Files) → PowerLossMayLeave now disk moves left → PowerLossMayLeave now more moves left
+pub loss-more : (moves : List Move) (now : Files) (disk more : Files → Type 0) → ((c : Files) → disk c → more c) → (left : Files) → PowerLossMayLeave now disk moves left → PowerLossMayLeave now more moves left
 loss-more [] now disk more on left may = on left may
 loss-more (m ∷ moves) now disk more on left (inl there) = inl (on left there)
 loss-more (m ∷ moves) now disk more on left (inr later) =
@@ -38,16 +38,16 @@ at-loss now disk [] [] left at = at
 at-loss now disk [] (m ∷ rest) left at = inl at
 at-loss now disk (m ∷ front) rest left at = inr (at-loss (moved now m) (disk_behind now disk m) front rest left at)
 
-disk-append : (first second : List Move) (now : Files) (disk : Files → Type 0) (left : Files) → disk_after now disk (first ++ second) left →
+pub disk-append : (first second : List Move) (now : Files) (disk : Files → Type 0) (left : Files) → disk_after now disk (first ++ second) left →
     disk_after (standing now first) (λ (c : Files). disk_after now disk first c) second left
 disk-append [] second now disk left at = at
 disk-append (m ∷ first) second now disk left at = disk-append first second (moved now m) (disk_behind now disk m) left at
 
 -- behind a sync the disk has what processes see
-abbrev IsSettled : List Move → Type 0
+abbrev pub IsSettled : List Move → Type 0
 IsSettled moves = (moves ≡ []) ⊎ ((front : List Move) × (moves ≡ front ++ Sync ∷ []))
 
-settled-disk : (moves : List Move) (files : Files) → IsSettled moves → (c : Files) → disk_after files (Same files) moves c → Same (standing files moves) c
+pub settled-disk : (moves : List Move) (files : Files) → IsSettled moves → (c : Files) → disk_after files (Same files) moves c → Same (standing files moves) c
 settled-disk moves files (inl none) c at = subst (λ (l : List Move). disk_after files (Same files) l c → Same (standing files l) c) (sym none) (λ same. same) at
 settled-disk moves files (inr (front, is)) c at =
     subst (λ (l : List Move). disk_after files (Same files) l c → Same (standing files l) c) (sym is)
@@ -83,7 +83,7 @@ moves-settled : (puts staged : List Put) → staged_after staged puts ≡ [] →
 moves-settled [] staged whole = inl refl
 moves-settled (p ∷ puts) staged whole = inr (settled-next puts staged p p.ends whole (moves-settled puts (staged_with p.ends staged p) whole))
 
-whole-settled : (puts : List Put) → staged_after [] puts ≡ [] → IsSettled (synced_moves_of puts)
+pub whole-settled : (puts : List Put) → staged_after [] puts ≡ [] → IsSettled (synced_moves_of puts)
 whole-settled puts whole = elim (moves-settled puts [] whole) [ inl none ↦ inl (ap synced_moves_of none) | inr some ↦ inr some ]
 
 -- behind a moment at which a segment went

@@ -49,7 +49,7 @@ removed-at (Looked n there ∷ moves) name was = one-earlier (Looked n there) mo
 removed-at (Sync ∷ moves) name was = one-earlier Sync moves name (removed-at moves name was)
 
 -- behind the first moves
-at-behind : (files : Files) (first front rest : List Move) (whole : Files) → AreAt files (first ++ front) rest whole → AreAt (standing files first) front rest whole
+pub at-behind : (files : Files) (first front rest : List Move) (whole : Files) → AreAt files (first ++ front) rest whole → AreAt (standing files first) front rest whole
 at-behind files first front [] whole at = λ name. at name ∙ ap (λ (f : Files). f name) (standing-append files first front)
 at-behind files first front (m ∷ rest) whole (inl same) = inl (λ name. same name ∙ ap (λ (f : Files). f name) (standing-append files first front))
 at-behind files first front (m ∷ rest) whole (inr cut) = inr (subst (λ (f : Files). CutOff f m whole) (standing-append files first front) cut)

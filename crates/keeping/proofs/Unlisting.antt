@@ -43,7 +43,7 @@ unlisted-now name number items p served named begins = record {
 }
 
 -- what goes on begins behind all that was passed
-begins : (k : KeepingValue) (text : List ℕ) (number : ℕ) → GoesOn k text → IsPassed k number → BeginsBehind number text
+pub begins : (k : KeepingValue) (text : List ℕ) (number : ℕ) → GoesOn k text → IsPassed k number → BeginsBehind number text
 begins k text number on (i, within, some, below) = record {
   listing = on.is_step.listing;
   sound = on.is_step.sound;

@@ -4,12 +4,12 @@ use Rattle.std.specs.List.{Contains}
 use Rattle.folder.specs.Moves.{Files, Move, Remove, Same, is_hidden, standing}
 use Rattle.folder.specs.Kills.{KillMayLeave}
 use Rattle.folder.specs.PowerLoss.{PowerLossMayLeave}
-use Rattle.folder.specs.Prefixes.{HasPrefix}
+use Rattle.folder.specs.Prefixes.{HasPrefix, IsFailedPut}
 use Rattle.folder.specs.Pruning.{SameBut, other_moves, pruned_names}
 use Rattle.folder.specs.Puts.{staged_after}
-use Rattle.folder.specs.Syncing.{moves_when}
+use Rattle.folder.specs.Syncing.{moves_when, placings_when}
 use Rattle.item_io.specs.Items.{ItemValue}
-use Rattle.item_io.specs.FolderMoves.{puts_of}
+use Rattle.item_io.specs.FolderMoves.{ends_block, put_of, puts_of}
 use Rattle.keeping.specs.Keepings.{AllBeginBehind, BeginsBehind, IsGone, IsUnlisted, KeepingValue, keeping_at}
 
 -- the file of a rendition's media playlist
@@ -53,6 +53,11 @@ pub record WentBehind (syncs : Bool) (renditions : List KeepingValue) (items : L
 abbrev pub WentInTurn : Bool → List Move → List KeepingValue → List ItemValue → Type 0
 WentInTurn syncs made renditions items =
     (before behind : List Move) (name : List ℕ) → made ≡ before ++ Remove name ∷ behind → is_hidden name ≡ false → WentBehind syncs renditions items before name
+
+-- what a put of this item did that failed behind those
+abbrev pub IsFailedBehind : Bool → List ItemValue → ItemValue → List Move → Type 0
+IsFailedBehind syncs items item more =
+    IsFailedPut (placings_when syncs (ends_block item) (staged_after [] (puts_of items)) (put_of item)) (put_of item) more
 
 -- Whatever stood in the folder before these moves: so it is wherever a kill stops them.
 abbrev pub EachKillLeavesUnlisted : List Move → List ItemValue → List KeepingValue → Type 0

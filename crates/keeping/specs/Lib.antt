@@ -1,4 +1,5 @@
 pub mod Keepings
 pub mod OneByOne
 pub mod InPlace
+pub mod Turns
 pub mod State

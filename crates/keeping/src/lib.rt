@@ -11,7 +11,7 @@ mod removing;
 
 pub use keeping::{Behind, Keeping};
 pub use laws::{
-    given_items_are_left_but_what_went, no_playlist_in_place_lists_what_went,
+    given_items_are_left_but_what_went, no_playlist_in_place_lists_what_went, segments_go_in_turn,
     what_went_is_not_listed,
 };
 pub use outlet::KeepingOutlet;
