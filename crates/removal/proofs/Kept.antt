@@ -36,6 +36,9 @@ use Rattle.ladder_items.proofs.WholeBlocks.{weaves-whole}
 use Rattle.rounds.specs.Shown.{Fits, IsPackedShown, of_shown}
 use Rattle.keeping.specs.Keepings.{AreGone, AreTold, EachKillLeavesBut, IsGone, KeepingState, KeepingValue, KeptBy, KeptUpTo}
 use Rattle.keeping.proofs.Left.{is-among}
+use Rattle.keeping.proofs.Unlisting.{unlisted-first}
+use Rattle.keeping.proofs.Between.{holds-unlisted}
+use Rattle.keeping.specs.InPlace.{NoneIsListed}
 use Rattle.commands.specs.LadderPacking.{LadderSays, TurnsAway}
 use Rattle.commands.specs.declared.destination.Destination.{Destination}
 use Rattle.commands.specs.declared.ladder_packing.LadderPackingFault.{LadderPackingFault}
@@ -115,6 +118,7 @@ module _ {X F : Type 0} (input : SourceView X) (made : F → List Move) (ladder 
     files = holds-nothing d.syncs (other_moves (made d.folder)) [] (ap other_moves fresh) refl;
     told = λ _. untold;
     gone = λ name has. absurd (no-name name (subst (λ (l : List Move). Contains (pruned_names l) name) fresh has));
+    unlisted = λ _. unlisted-first renditions untold;
   }
 
   abbrev HoldsThen : List ItemValue → Type 0
@@ -242,3 +246,14 @@ module _ {X F : Type 0} (input : SourceView X) (made : F → List Move) (ladder 
       IfErr answer (LadderSays (kept_run input made most before now (new_keeping d renditions) y) ladder workers old new held held_then) → LeavesKept ladder d.syncs (made y.files.folder) y.renditions
   leaves-kept workers old new held held_then (Ok report) packed fits away says = kept-packed report fits.0 packed.packed
   leaves-kept workers old new held held_then (Err fault) packed fits away says = kept-fault workers old new held held_then fault away says
+
+  -- behind a run that ended well
+  pub none-listed : (workers : ℕ) (old new : List SnapshotFacts) (answer : Result Report LadderPackingFault) →
+      IfOk answer (IsPackedShown (kept_run input made most before now (new_keeping d renditions) y) ladder workers old new) → OnOk answer (Fits ladder (length before) workers (counts_shown old)) →
+      OnOk answer (NoneIsListed (made y.files.folder) y.renditions)
+  none-listed workers old new (Ok report) shown fits =
+      let p = shown.packed in
+      let h : HoldsThen p.items = p.puts.grows.follows (held-of (sync_mark d.syncs) []) at-first in
+      holds-unlisted y.files.syncs (made y.files.folder) y.files.staged y.files.failures y.renditions (held-of (sync_mark d.syncs) p.items) h p.puts.unfailed
+      (weaves-whole ladder p.parts p.items fits.0 p.weave)
+  none-listed workers old new (Err fault) shown fits = tt

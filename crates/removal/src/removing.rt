@@ -1,10 +1,11 @@
 //! A ladder whose old segments go.
 
-ghost use Rattle.std.specs.Prelude.{◌≡◌, [], IfOk, IfErr};
+ghost use Rattle.std.specs.Prelude.{◌≡◌, [], IfOk, IfErr, OnOk};
 ghost use Rattle.ladder_items.specs.World.{HaveRoom};
 ghost use Rattle.rounds.specs.Shown.{IsPackedShown};
 ghost use Rattle.item_io.specs.FolderMoves.{new_outlet};
 ghost use Rattle.keeping.specs.Keepings.{AreTold};
+ghost use Rattle.keeping.specs.InPlace.{NoneIsListed};
 ghost use Rattle.commands.specs.LadderPacking.{LadderSays, WritesSummary};
 ghost use Rattle.removal.specs.Removing.{LeavesKept, kept_run, new_keeping};
 
@@ -26,7 +27,8 @@ use std::thread::Threads;
 ///
 /// Wherever the process is killed, also after a fault, the folder shows what stood there before with a prefix of a weave of the
 /// renditions over it, whole files alone, but that segments which were removed may be missing. A folder that is synced holds
-/// that on the disk too, wherever the machine loses its power.
+/// that on the disk too, wherever the machine loses its power. Once it has ended well, no media playlist in place lists a segment
+/// that was removed.
 pub fn pack_and_remove<
     S: Source + Drop,
     F: Folder + Drop,
@@ -49,6 +51,7 @@ pub fn pack_and_remove<
     requires fresh { F.made into.folder ≡ [] }
     requires untold { AreTold renditions.items [] }
     ensures killed { LeavesKept settings.now into.syncs (F.made result.outlet.files.folder) result.outlet.renditions }
+    ensures unlisted { OnOk result.answer (NoneIsListed (F.made result.outlet.files.folder) result.outlet.renditions) }
     ensures ok { IfOk result.answer (IsPackedShown
         (kept_run S.input F.made READS sources.items result.sources.items (new_keeping into renditions.items) result.outlet)
         settings.now pool.workers publisher.list result.publisher.list) }

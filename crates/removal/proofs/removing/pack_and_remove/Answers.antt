@@ -1,6 +1,6 @@
 use Rattle.std.proofs.Common.{◌≡◌, ◌^◌, rules}
 use Rattle.removal.specs.Removing.{new_keeping}
-use Rattle.removal.proofs.Kept.{leaves-kept}
+use Rattle.removal.proofs.Kept.{leaves-kept, none-listed}
 use Rattle.removal.proofs.removing.pack_and_remove.Goals as goal
 
 pub returns-clause-killed : goal.returns-clause-killed
@@ -9,3 +9,10 @@ returns-clause-killed g c =
     leaves-kept g.S.Source.input g.F.Folder.made c.args.settings.now (2 ^ 40) c.args.sources.items c.pack.result.sources.items c.args.into c.args.renditions.items c.pack.result.outlet
     c.requires.fresh c.requires.untold c.args.pool.workers c.args.publisher.list c.pack.result.publisher.list _ _ c.pack.result.answer
     (rw start at c.pack.ensures.ok) c.pack.ensures.fits (rw start at c.pack.ensures.breach) (rw start at c.pack.ensures.fault)
+
+pub returns-clause-unlisted : goal.returns-clause-unlisted
+returns-clause-unlisted g c =
+    let start : c.new-outlet.result ≡ new_keeping c.args.into c.args.renditions.items = search rules in
+    none-listed g.S.Source.input g.F.Folder.made c.args.settings.now (2 ^ 40) c.args.sources.items c.pack.result.sources.items c.args.into c.args.renditions.items c.pack.result.outlet
+    c.requires.fresh c.requires.untold c.args.pool.workers c.args.publisher.list c.pack.result.publisher.list c.pack.result.answer
+    (rw start at c.pack.ensures.ok) c.pack.ensures.fits
