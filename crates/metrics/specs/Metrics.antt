@@ -22,12 +22,15 @@ start_text start =
 unfoldable pub run_metric : List ℕ → List ℕ → List ℕ → ℕ → List ℕ
 run_metric name kind help value = head_text name kind help ++ name ++ codes " " ++ decimal value ++ codes "\n"
 
+-- how many segments wait, and how many were removed
+unfoldable pub segments_text : ℕ → ℕ → List ℕ
+segments_text waiting removed =
+    run_metric (codes "tshls_waiting_segments") (codes "gauge") (codes "Complete segments that are being encrypted and aren't listed yet.") waiting
+    ++ run_metric (codes "tshls_removed_segments_total") (codes "counter") (codes "Segments that were removed.") removed
+
 -- how the whole run stands
 unfoldable pub run_text : RunSample → List ℕ
-run_text run =
-    start_text run.start
-    ++ run_metric (codes "tshls_waiting_segments") (codes "gauge") (codes "Complete segments that are being encrypted and aren't listed yet.") run.waiting
-    ++ run_metric (codes "tshls_removed_segments_total") (codes "counter") (codes "Segments that were removed.") run.removed
+run_text run = start_text run.start ++ segments_text run.waiting run.removed
 
 -- what only grows
 unfoldable pub counters : List SampleFacts → List ℕ

@@ -2,7 +2,7 @@
 
 ghost use Rattle.std.specs.Prelude.{◌≡◌, ◌++◌, map, IfOk, OnOk};
 ghost use Rattle.metrics.specs.Metrics;
-ghost use Rattle.metrics.specs.Metrics.{metric, run_metric, start_text, run_text, counters, rates, inputs, states, fault_text};
+ghost use Rattle.metrics.specs.Metrics.{metric, run_metric, start_text, segments_text, run_text, counters, rates, inputs, states, fault_text};
 ghost use Rattle.metrics.specs.Samples.{facts_of};
 
 use crate::column::Column;
@@ -62,22 +62,30 @@ fn push_run_metric(
     push(out, "\n")
 }
 
-/// Appends how the whole run stands.
-#[tactic(auto, unfolding(crate::specs::Metrics::run_text))]
-fn push_run(out: &mut Vec<u8>, run: RunSample) -> Result<(), AllocError>
-    ensures { OnOk result (out.new.items ≡ out.old.items ++ run_text run) }
+/// Appends how many segments wait, and how many were removed.
+#[tactic(auto, unfolding(crate::specs::Metrics::segments_text))]
+fn push_segments(out: &mut Vec<u8>, waiting: u128, removed: u128) -> Result<(), AllocError>
+    ensures { OnOk result (out.new.items ≡ out.old.items ++ segments_text waiting removed) }
 {
-    push_start(out, run.start)?;
     let help = "Complete segments that are being encrypted and aren't listed yet.";
-    push_run_metric(out, "tshls_waiting_segments", "gauge", help, run.waiting)?;
+    push_run_metric(out, "tshls_waiting_segments", "gauge", help, waiting)?;
     let help = "Segments that were removed.";
     push_run_metric(
         out,
         "tshls_removed_segments_total",
         "counter",
         help,
-        run.removed,
+        removed,
     )
+}
+
+/// Appends how the whole run stands.
+#[tactic(auto, unfolding(crate::specs::Metrics::run_text))]
+fn push_run(out: &mut Vec<u8>, run: RunSample) -> Result<(), AllocError>
+    ensures { OnOk result (out.new.items ≡ out.old.items ++ run_text run) }
+{
+    push_start(out, run.start)?;
+    push_segments(out, run.waiting, run.removed)
 }
 
 /// Appends the faults of renditions.
