@@ -68,7 +68,7 @@ pub fn pack_and_remove<
     let PackedLadder {
         sources,
         publisher,
-        outlet: Tallied { outlet, tally: _ },
+        outlet,
         answer,
     } = pack(
         rt, alloc, sources, settings, pool, publisher, outlet, output, herald,
@@ -76,7 +76,7 @@ pub fn pack_and_remove<
     PackedLadder {
         sources,
         publisher,
-        outlet,
+        outlet: outlet.into_outlet(),
         answer,
     }
 }

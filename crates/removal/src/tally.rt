@@ -32,6 +32,16 @@ impl<'t, F, T> Model for Tallied<'t, F, T> {
     ghost view = { λ o. o.outlet };
 }
 
+impl<'t, F, T> Tallied<'t, F, T> {
+    /// The outlet.
+    pub fn into_outlet(self) -> KeepingOutlet<F>
+        ensures { result ≡ self.entry }
+    {
+        let Tallied { outlet, tally: _ } = self;
+        outlet
+    }
+}
+
 impl<F: Folder, T: Tally> Outlet for Tallied<'_, F, T> {
     ghost output = { outlet_view (KeptBy F.made) (KeptUpTo F.made) (λ o. o.files.failures) };
 
