@@ -120,6 +120,18 @@ impl Writer {
     ) -> Result<Vec<u8>, AllocError> {
         let now = since(rt, self.begun);
         self.seen = seen_again(alloc, &self.seen, &glance.counts, now)?;
+        self.text_at(rt, alloc, glance, fault, now)
+    }
+
+    /// The metrics at a time of the run, in microseconds.
+    fn text_at<R: Clock + Wait>(
+        &self,
+        rt: &R,
+        alloc: Global,
+        glance: &Glance,
+        fault: Option<PackFault>,
+        now: u128,
+    ) -> Result<Vec<u8>, AllocError> {
         let mut names: Vec<&str> = Vec::new(alloc);
         for name in &self.names {
             names.push(name.as_str())?;
