@@ -1,13 +1,13 @@
-# The checks of what the compiler refuses: a spool can't be turned in while a plan of it is read.
+# The checks of what the compiler refuses: a spool can't be swapped in while a plan of it is read.
 # shellcheck shell=bash disable=SC2154
 
 check_borrowed_spool() {
-    check "cutter: a spool isn't turned in while a plan of it is read" refuses_the_turn 'spool.plan(0)' 'lent.is_some()'
-    check 'cutter: a spool is turned in once its plan was read' takes_the_turn 'spool.plan(0).is_some()' lent
+    check "cutter: a spool isn't swapped in while a plan of it is read" refuses_the_swap 'spool.plan(0)' 'lent.is_some()'
+    check 'cutter: a spool is swapped in once its plan was read' takes_the_swap 'spool.plan(0).is_some()' lent
 }
 
-# turns_in LENT TOLD: whether a crate compiles that turns in a spool between what the spool lends and what is told of that.
-turns_in() {
+# swaps_in LENT TOLD: whether a crate compiles that swaps in a spool between what the spool lends and what is told of that.
+swaps_in() {
     local root=$work/borrowed name
     rm -rf "$root"
     mkdir -p "$root/crates"
@@ -19,20 +19,20 @@ turns_in() {
     cat >>"$root/crates/cutter/src/lib.rt" <<LINES
 
 /// Turns in a spool.
-pub fn turns_in(cutter: &mut SpoolCutter, spool: Spool) -> bool {
+pub fn swaps_in(cutter: &mut SpoolCutter, spool: Spool) -> bool {
     let lent = $1;
-    let turned = cutter.turn(spool);
-    $2 && turned.is_ok()
+    let swapped = cutter.swap(spool);
+    $2 && swapped.is_ok()
 }
 LINES
     (cd "$root/crates/cutter" && rt check --only '') >"$work/compiled" 2>&1
 }
 
-refuses_the_turn() {
-    ! turns_in "$@" || { echo 'it compiles'; return 1; }
+refuses_the_swap() {
+    ! swaps_in "$@" || { echo 'it compiles'; return 1; }
     grep -q 'cannot move out of `spool` because it is borrowed' "$work/compiled" || { tail -n 3 "$work/compiled"; return 1; }
 }
 
-takes_the_turn() {
-    turns_in "$@" || { tail -n 3 "$work/compiled"; return 1; }
+takes_the_swap() {
+    swaps_in "$@" || { tail -n 3 "$work/compiled"; return 1; }
 }
