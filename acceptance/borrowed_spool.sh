@@ -18,7 +18,7 @@ swaps_in() {
     cp "$here/../HANDLES" "$root/" && git -C "$root" init -q || return
     cat >>"$root/crates/cutter/src/lib.rt" <<LINES
 
-/// Turns in a spool.
+/// Swaps in a spool.
 pub fn swaps_in(cutter: &mut SpoolCutter, spool: Spool) -> bool {
     let lent = $1;
     let swapped = cutter.swap(spool);
