@@ -69,6 +69,15 @@ stands() {
     done
 }
 
+# is_drained FIFO: all that was written into it was read.
+is_drained() {
+    python3 -c '
+import array, fcntl, os, sys, termios
+left = array.array("i", [0])
+fcntl.ioctl(os.open(sys.argv[1], os.O_RDONLY | os.O_NONBLOCK), termios.FIONREAD, left)
+sys.exit(left[0] != 0)' "$1"
+}
+
 # waits COMMAND..
 waits() {
     local end=$((SECONDS + 300))
@@ -128,8 +137,10 @@ starts packs "$work/first" "$work/first.in" --workers 1
 first=${started[-1]}
 starts packs "$work/second" "$work/second.in" --workers 4 --batch 1
 second=${started[-1]}
+writers=()
 for rendition in "${names[@]}"; do
     tee "$work/first.in/$rendition.ts" <"$work/front/$rendition.ts" | trickles 3 >"$work/second.in/$rendition.ts" &
+    writers+=($!)
 done
 copies=0
 until stands "$work/first" "$segments" && stands "$work/second" "$segments"; do
@@ -141,6 +152,13 @@ until stands "$work/first" "$segments" && stands "$work/second" "$segments"; do
     sleep 0.1
 done
 [ $copies -ge 1 ] || fail 'nothing was copied while the packager ran'
+# what is left in a FIFO would be read by the packager that goes on
+wait "${writers[@]}"
+for name in first second; do
+    for rendition in "${names[@]}"; do
+        waits is_drained "$work/$name.in/$rendition.ts"
+    done
+done
 kill -KILL "$first" "$second"
 wait "$first" "$second" 2>"$work/none"
 the_same 'killed at the same byte' "$work/first" "$work/second"
