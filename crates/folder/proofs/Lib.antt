@@ -9,6 +9,7 @@ pub mod FromHidden
 pub mod PowerLoss
 pub mod Stops
 pub mod Losses
+pub mod StopsFromHidden
 pub mod PruningLosses
 pub mod Playing
 pub mod Finding

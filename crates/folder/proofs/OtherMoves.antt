@@ -1,9 +1,9 @@
 -- Moves made behind others, of a folder from which old files are taken away.
 use Rattle.std.specs.Prelude.{not}
-use Rattle.std.proofs.Common.{◌≡◌, ℕ, Bool, true, false, List, [], ◌∷◌, ◌++◌, refl, ap, ◌∙◌, inl, inr, append-nil}
+use Rattle.std.proofs.Common.{arith, ◌≡◌, ℕ, suc, ◌+◌, Bool, true, false, List, [], ◌∷◌, ◌++◌, length, refl, ap, ◌∙◌, inl, inr, append-nil}
 use Rattle.folder.specs.Moves.{Looked, Move, Remove, Rename, Sync, Write, is_hidden}
 use Rattle.folder.specs.Kills.{IsFailedWrite}
-use Rattle.folder.specs.Pruning.{is_pruning, other_moves, pruned_names, unless_hidden, unless_pruning}
+use Rattle.folder.specs.Pruning.{counted, is_pruning, other_moves, pruned_names, prunings, prunings_from, unless_hidden, unless_pruning, with_pruning}
 
 unless-append : (t : Bool) (m : Move) (moves more : List Move) → unless_pruning t m (moves ++ more) ≡ unless_pruning t m moves ++ more
 unless-append true m moves more = refl
@@ -56,28 +56,56 @@ pruned_names-append (Remove name ∷ made) more =
 pruned_names-append (Looked name there ∷ made) more = pruned_names-append made more
 pruned_names-append (Sync ∷ made) more = pruned_names-append made more
 
+abbrev Pruned : Type 0
+Pruned = ℕ × List ℕ
+
+removed-append : (t : Bool) (count : ℕ) (name : List ℕ) (made more : List Move) →
+    ((c : ℕ) → prunings_from c (made ++ more) ≡ prunings_from c made ++ prunings_from (c + length (other_moves made)) more) →
+    with_pruning t count name (prunings_from (counted t count) (made ++ more)) ≡
+    with_pruning t count name (prunings_from (counted t count) made) ++ prunings_from (count + length (unless_pruning (not t) (Remove name) (other_moves made))) more
+removed-append true count name made more later =
+    later (count + 1) ∙ ap (λ (c : ℕ). prunings_from (count + 1) made ++ prunings_from c more) (omega arith)
+removed-append false count name made more later = ap (λ (l : List Pruned). (count, name) ∷ l) (later count)
+
+other-append : (count : ℕ) (made more : List Move) →
+    ((c : ℕ) → prunings_from c (made ++ more) ≡ prunings_from c made ++ prunings_from (c + length (other_moves made)) more) →
+    prunings_from (count + 1) (made ++ more) ≡ prunings_from (count + 1) made ++ prunings_from (count + suc (length (other_moves made))) more
+other-append count made more later = later (count + 1) ∙ ap (λ (c : ℕ). prunings_from (count + 1) made ++ prunings_from c more) (omega arith)
+
+pub prunings-append : (made more : List Move) (count : ℕ) → prunings_from count (made ++ more) ≡ prunings_from count made ++ prunings_from (count + length (other_moves made)) more
+prunings-append [] more count = ap (λ (c : ℕ). prunings_from c more) (omega arith)
+prunings-append (Write n bytes ∷ made) more count = other-append count made more (prunings-append made more)
+prunings-append (Rename old new ∷ made) more count = other-append count made more (prunings-append made more)
+prunings-append (Remove n ∷ made) more count = removed-append (is_hidden n) count n made more (prunings-append made more)
+prunings-append (Looked n there ∷ made) more count = other-append count made more (prunings-append made more)
+prunings-append (Sync ∷ made) more count = other-append count made more (prunings-append made more)
+
+-- wherever it is counted from, nothing is taken away
+abbrev TakesNone : List Move → Type 0
+TakesNone moves = (count : ℕ) → prunings_from count moves ≡ []
+
 -- behind moves that take nothing away
-none-pruned : (made now more : List Move) → now ≡ made ++ more → pruned_names more ≡ [] → pruned_names now ≡ pruned_names made
+none-pruned : (made now more : List Move) → now ≡ made ++ more → TakesNone more → prunings now ≡ prunings made
 none-pruned made now more is none =
-    ap pruned_names is ∙ pruned_names-append made more ∙ ap (λ (l : List (List ℕ)). pruned_names made ++ l) none ∙ append-nil (pruned_names made)
+    ap prunings is ∙ prunings-append made more 0 ∙ ap (λ (l : List Pruned). prunings made ++ l) (none (0 + length (other_moves made))) ∙ append-nil (prunings made)
 
 -- one move that takes nothing away
-pub none-by : (m : Move) (made now : List Move) → pruned_names (m ∷ []) ≡ [] → now ≡ made ++ m ∷ [] → pruned_names now ≡ pruned_names made
+pub none-by : (m : Move) (made now : List Move) → TakesNone (m ∷ []) → now ≡ made ++ m ∷ [] → prunings now ≡ prunings made
 none-by m made now none is = none-pruned made now (m ∷ []) is none
 
-hidden-name : (name : List ℕ) (names : List (List ℕ)) → is_hidden name ≡ true → unless_hidden (is_hidden name) name names ≡ names
-hidden-name name names hidden = ap (λ (t : Bool). unless_hidden t name names) hidden
+hidden-takes-none : (name : List ℕ) → is_hidden name ≡ true → TakesNone (Remove name ∷ [])
+hidden-takes-none name hidden count = ap (λ (t : Bool). with_pruning t count name []) hidden
 
 -- neither does a write of a hidden file that failed
-none-by-failed : (name bytes : List ℕ) (more : List Move) → is_hidden name ≡ true → IsFailedWrite name bytes more → pruned_names more ≡ []
-none-by-failed name bytes more hidden (inl none) = ap pruned_names none
-none-by-failed name bytes more hidden (inr (inl gone)) = ap pruned_names gone ∙ hidden-name name [] hidden
-none-by-failed name bytes more hidden (inr (inr (front, rest, whole, inl wrote))) = ap pruned_names wrote
-none-by-failed name bytes more hidden (inr (inr (front, rest, whole, inr wrote))) = ap pruned_names wrote ∙ hidden-name name [] hidden
+none-by-failed : (name bytes : List ℕ) (more : List Move) → is_hidden name ≡ true → IsFailedWrite name bytes more → TakesNone more
+none-by-failed name bytes more hidden (inl none) count = ap (prunings_from count) none
+none-by-failed name bytes more hidden (inr (inl gone)) count = ap (prunings_from count) gone ∙ hidden-takes-none name hidden count
+none-by-failed name bytes more hidden (inr (inr (front, rest, whole, inl wrote))) count = ap (prunings_from count) wrote
+none-by-failed name bytes more hidden (inr (inr (front, rest, whole, inr wrote))) count = ap (prunings_from count) wrote ∙ hidden-takes-none name hidden (count + 1)
 
 pub failed-pruned : (name bytes : List ℕ) (made now : List Move) → is_hidden name ≡ true → ((more : List Move) × (now ≡ made ++ more) × IsFailedWrite name bytes more) →
-    pruned_names now ≡ pruned_names made
+    prunings now ≡ prunings made
 failed-pruned name bytes made now hidden (more, is, failed) = none-pruned made now more is (none-by-failed name bytes more hidden failed)
 
-pub removed-pruned : (name : List ℕ) (made now : List Move) → is_hidden name ≡ true → now ≡ made ++ Remove name ∷ [] → pruned_names now ≡ pruned_names made
-removed-pruned name made now hidden is = none-pruned made now (Remove name ∷ []) is (hidden-name name [] hidden)
+pub removed-pruned : (name : List ℕ) (made now : List Move) → is_hidden name ≡ true → now ≡ made ++ Remove name ∷ [] → prunings now ≡ prunings made
+removed-pruned name made now hidden is = none-pruned made now (Remove name ∷ []) is (hidden-takes-none name hidden)

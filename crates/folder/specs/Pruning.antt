@@ -1,5 +1,5 @@
 -- A folder from which old files are taken away, besides what else is done to it.
-use Rattle.std.specs.Prelude.{◌≡◌, ◌⊎◌, ℕ, ◌++◌, Bool, true, false, not, None, List, [], ◌∷◌}
+use Rattle.std.specs.Prelude.{◌≡◌, ◌⊎◌, ℕ, ◌+◌, ◌++◌, Bool, true, false, not, None, List, [], ◌∷◌}
 use Rattle.folder.specs.Moves.{Files, Move, Write, Rename, Remove, Looked, Sync, Same, is_hidden, standing}
 use Rattle.folder.specs.Kills.{CutOff}
 use Rattle.folder.specs.PowerLoss.{disk_after}
@@ -36,6 +36,24 @@ abbrev pub pruned_names : List Move → List (List ℕ)
 pruned_names [] = []
 pruned_names (Remove name ∷ moves) = unless_hidden (is_hidden name) name (pruned_names moves)
 pruned_names (m ∷ moves) = pruned_names moves
+
+-- a hidden file that is removed counts as another move, and one that is served stands with the count
+abbrev pub counted : Bool → ℕ → ℕ
+counted true count = count + 1
+counted false count = count
+
+abbrev pub with_pruning : Bool → ℕ → List ℕ → List (ℕ × List ℕ) → List (ℕ × List ℕ)
+with_pruning true count name rest = rest
+with_pruning false count name rest = (count, name) ∷ rest
+
+-- the files that are served and that these moves removed, each behind how many of the other moves
+abbrev pub prunings_from : ℕ → List Move → List (ℕ × List ℕ)
+prunings_from count [] = []
+prunings_from count (Remove name ∷ moves) = with_pruning (is_hidden name) count name (prunings_from (counted (is_hidden name) count) moves)
+prunings_from count (m ∷ moves) = prunings_from (count + 1) moves
+
+abbrev pub prunings : List Move → List (ℕ × List ℕ)
+prunings moves = prunings_from 0 moves
 
 -- each file is renamed from a hidden name, as one that is put
 abbrev pub AreFromHidden : List Move → Type 0

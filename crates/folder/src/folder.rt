@@ -13,8 +13,9 @@ pub trait Folder {
     /// `KillMayLeave` says what is left then.
     ghost made: { Self → List Move };
 
-    /// The names of the files that were taken away besides, unknown to whoever puts files into it: by no method of this trait.
-    ghost pruned: { Self → List (List ℕ) };
+    /// The files that were taken away besides, unknown to whoever puts files into it, by no method of this trait: each behind how
+    /// many of the moves made, and its name.
+    ghost pruned: { Self → List (ℕ × List ℕ) };
 
     /// Writes a file anew, whether there is one of its name or not.
     fn write(&mut self, name: &str, bytes: &[u8]) -> Result<(), FolderFault>

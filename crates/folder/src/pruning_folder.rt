@@ -1,6 +1,6 @@
 ghost use Rattle.std.specs.Prelude.{◌≡◌, ◌++◌, ◌∷◌, [], true, IsErr, OnErr, OnOk};
 ghost use Rattle.folder.specs.Moves.{Remove, is_hidden};
-ghost use Rattle.folder.specs.Pruning.{other_moves, pruned_names};
+ghost use Rattle.folder.specs.Pruning.{other_moves, prunings};
 
 use crate::fault::FolderFault;
 use crate::folder::Folder;
@@ -55,7 +55,7 @@ impl<F: Folder> PruningFolder<F> {
 impl<F: Folder> Folder for PruningFolder<F> {
     ghost made = { λ p. other_moves (F.made p) };
 
-    ghost pruned = { λ p. pruned_names (F.made p) };
+    ghost pruned = { λ p. prunings (F.made p) };
 
     fn write(&mut self, name: &str, bytes: &[u8]) -> Result<(), FolderFault> {
         if !is_hidden(name) {

@@ -49,7 +49,7 @@ holds-nothing syncs made staged none idle = record {
 }
 
 -- no put changes whether the folder is synced
-marked-same : (syncs syncs_then : Bool) → sync_mark syncs ≡ sync_mark syncs_then → syncs_then ≡ syncs
+pub marked-same : (syncs syncs_then : Bool) → sync_mark syncs ≡ sync_mark syncs_then → syncs_then ≡ syncs
 marked-same true true same = refl
 marked-same true false same = absurd (cc same)
 marked-same false true same = absurd (cc same)

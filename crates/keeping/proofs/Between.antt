@@ -1,8 +1,8 @@
--- Behind whole blocks no media playlist in place lists what went.
+-- Behind whole blocks no playlist in place lists what went.
 use Rattle.std.specs.Prelude.{not}
 use Rattle.std.specs.List.{Contains}
 use Rattle.std.proofs.Common.{◌≡◌, ℕ, Bool, true, false, None, Some, List, [], ◌∷◌, ◌++◌, refl, sym, ap, ◌∙◌, subst, inl, inr, ◌⊎◌, append-nil}
-use Rattle.folder.specs.Moves.{Files, Looked, Move, Remove, Rename, Sync, Write, is_hidden, moved, standing, with_file}
+use Rattle.folder.specs.Moves.{Files, Looked, Move, Remove, Rename, Shows, Sync, Write, is_hidden, moved, standing, with_file}
 use Rattle.folder.specs.Puts.{Names, after_puts}
 use Rattle.folder.specs.Pruning.{AreFromHidden, SameBut, WasPruned, other_moves, pruned_names, unless_pruning}
 use Rattle.folder.specs.Syncing.{moves_when}
@@ -11,13 +11,13 @@ use Rattle.folder.proofs.Pruning.{SameBut-more, SameBut-pruned, SameBut-renamed,
 use Rattle.item_io.specs.Blocks.{AreBlocks}
 use Rattle.item_io.specs.Items.{ItemValue}
 use Rattle.item_io.specs.Outlets.{Grows, Held}
-use Rattle.item_io.specs.FolderMoves.{puts_of, sync_mark}
+use Rattle.item_io.specs.FolderMoves.{puts_of}
 use Rattle.item_io.proofs.Fitting.{blocks-fit}
-use Rattle.keeping.specs.Keepings.{AreTold, HoldsKept, IsGone, KeepingValue, keeping_at}
-use Rattle.keeping.specs.InPlace.{IsUnlistedIn, NoneIsListed}
-use Rattle.keeping.proofs.Left.{held-first, is-among}
-use Rattle.keeping.proofs.Placed.{in-place, unlisted-shown}
-use Rattle.keeping.proofs.Stopping.{left-same, seen-when}
+use Rattle.keeping.specs.Keepings.{AreTold, IsGone, KeepingValue}
+use Rattle.keeping.specs.Holding.{HoldsKept}
+use Rattle.keeping.specs.InPlace.{FramesFollow, NoneIsListed}
+use Rattle.keeping.proofs.Left.{held-first, held-of, is-among}
+use Rattle.keeping.proofs.Stopping.{missed, seen-when}
 
 abbrev Claim : List Move → Type 1
 Claim moves = (Went : List ℕ → Type 0) (a b : Files) → ((name : List ℕ) → Went name → is_hidden name ≡ false) → SameBut Went a b → AreFromHidden moves →
@@ -54,25 +54,30 @@ standing-but (Sync ∷ moves) Went a b shown but from = standing-but moves Went 
 
 -- of what is held
 pub holds-unlisted : (syncs : Bool) (made : List Move) (staged : List Names) (failures : ℕ) (renditions : List KeepingValue) (held : Held) → HoldsKept syncs made staged failures renditions held → failures ≡ 0 →
-    AreBlocks held.items → NoneIsListed made renditions
-holds-unlisted syncs made staged failures renditions held h well blocks files name has =
+    AreBlocks held.items → FramesFollow held.items → NoneIsListed made renditions
+holds-unlisted syncs made staged failures renditions held h well blocks follow files name has =
     let puts = puts_of held.items in
     let fit = blocks-fit held.items blocks in
     let moves : other_moves made ≡ moves_when syncs puts = h.files.made_are ∙ ap (λ (l : List Move). moves_when syncs puts ++ l) (h.files.none well) ∙ append-nil (moves_when syncs puts) in
     let from : AreFromHidden made = from-others made (subst AreFromHidden (sym moves) (when-from-hidden syncs puts fit.0)) in
     let g = h.gone name has in
-    let k = keeping_at renditions g.r in
-    let u = h.unlisted well g.r g.one g.number g.passed in
     let others = standing files (other_moves made) in
-    let seen : IsUnlistedIn others k.name g.number = unlisted-shown others (after_puts files puts) k.name g.number u.served
-    (λ n shown. ap (λ (l : List Move). standing files l n) moves ∙ seen-when syncs files puts fit.0 fit.1 n shown) (in-place k.name g.number held.items u files) in
+    let shows : Shows others (after_puts files puts) = λ n shown. ap (λ (l : List Move). standing files l n) moves ∙ seen-when syncs files puts fit.0 fit.1 n shown in
+    let all : held.items ≡ (held.items ++ []) ++ [] = sym (append-nil (held.items ++ []) ∙ append-nil held.items) in
     let but = standing-but made (λ n. ⊥) files files (λ n none. absurd none) (λ n. inl refl) from in
     let went : (n : List ℕ) → (⊥ ⊎ WasPruned made n) → IsGone renditions n = λ n was. elim was [ inl none ↦ absurd none | inr now ↦ h.gone n (is-among made n now) ] in
-    record { went = g; unlisted = left-same renditions (standing files made) others (λ n. ⊥ ⊎ WasPruned made n) k.name g.number but went seen }
+    missed renditions files (standing files made) others (λ n. ⊥ ⊎ WasPruned made n) name held.items held.items g but went follow fit.1 (h.unlisted well g.r g.one g.number g.passed)
+    (record {
+      given = [];
+      rest = [];
+      all_are = all;
+      later = tt;
+      shows = subst (λ (l : List ItemValue). Shows others (after_puts files (puts_of l))) (sym (append-nil held.items)) shows;
+    })
 
 pub between : (syncs syncs_then : Bool) (made made_then : List Move) (staged staged_then : List Names) (failures : ℕ) (renditions renditions_then : List KeepingValue) (items : List ItemValue) →
     made ≡ [] → staged ≡ [] → AreTold renditions [] → Grows (HoldsKept syncs made staged 0 renditions) (HoldsKept syncs_then made_then staged_then failures renditions_then) items →
-    failures ≡ 0 → AreBlocks items → NoneIsListed made_then renditions_then
-between syncs syncs_then made made_then staged staged_then failures renditions renditions_then items none idle told grows well blocks =
-    holds-unlisted syncs_then made_then staged_then failures renditions_then (record { before = sync_mark syncs; items = items })
-    (grows.follows (record { before = sync_mark syncs; items = [] }) (held-first syncs made staged renditions none idle told)) well blocks
+    failures ≡ 0 → AreBlocks items → FramesFollow items → NoneIsListed made_then renditions_then
+between syncs syncs_then made made_then staged staged_then failures renditions renditions_then items none idle told grows well blocks follow =
+    holds-unlisted syncs_then made_then staged_then failures renditions_then (held-of syncs items)
+    (grows.follows (held-of syncs []) (held-first syncs made staged renditions none idle told)) well blocks follow

@@ -1,21 +1,17 @@
--- What a keeping outlet holds.
+-- What went is gone, whatever comes behind it.
 use Rattle.std.specs.Prelude.{length, take, drop}
 use Rattle.std.specs.List.{Contains}
-use Rattle.std.proofs.Common.{arith, ◌≡◌, ℕ, zero, suc, ◌+◌, ◌<◌, ◌≤◌, Bool, true, false, List, [], ◌∷◌, ◌++◌, refl, sym, ap, ◌∙◌, subst, inl, inr, append-nil}
+use Rattle.std.proofs.Common.{arith, ◌≡◌, ℕ, zero, suc, ◌+◌, ◌<◌, ◌≤◌, Bool, true, false, List, [], ◌∷◌, ◌++◌, refl, sym, ap, ◌∙◌, subst, inl, inr}
 use Rattle.std.proofs.lemmas.List.Elements.{All-contains, Contains-append_cases, Contains-append_right}
 use Rattle.keeping.proofs.Taking.{Contains-take-more, taken-on}
 use Rattle.retention.specs.Steps.{MayGo}
 use Rattle.folder.specs.Moves.{Move, is_hidden}
-use Rattle.folder.specs.Pruning.{other_moves, pruned_names, unless_hidden}
+use Rattle.folder.specs.Pruning.{pruned_names, unless_hidden}
 use Rattle.folder.proofs.OtherMoves.{pruned_names-append}
 use Rattle.item_io.specs.Items.{ItemValue, FramesItem, MasterItem, MediaItem, SegmentItem}
-use Rattle.item_io.specs.FileNames.{is_named, segment_file_name}
-use Rattle.item_io.specs.Outlets.{BreaksOff, Grows, Held, with_items}
-use Rattle.item_io.specs.FolderMoves.{FolderState, HoldsFiles, HoldsFilesUpTo}
-use Rattle.item_io.proofs.Growing.{Grows-nil}
-use Rattle.keeping.specs.Keepings.{AreAsOf, AreGone, AreNotedBy, AreOut, AreUnlisted, ComesInTurn, GoBehind, IsGone, IsPassed, IsUnlisted, KeepingState, KeepingValue, KeptBy, KeptUpTo, LetsGo, SweptBehind, WentOf, keeping_at, removals, removals_of}
-use Rattle.keeping.proofs.Telling.{AreSame, IsSame, gone-all-same, noted-all-same, same-all, told-behind, told-more}
-use Rattle.keeping.proofs.Unlisting.{unlisted-behind, unlisted-put}
+use Rattle.item_io.specs.FileNames.{segment_file_name}
+use Rattle.keeping.specs.Keepings.{AreAsOf, AreGone, AreNotedBy, GoBehind, IsGone, IsPassed, KeepingValue, LetsGo, SweptBehind, WentOf, keeping_at, removals, removals_of}
+use Rattle.keeping.proofs.Telling.{AreSame, IsSame, gone-all-same}
 
 -- what was gone is gone still
 pub went-still : (old new : KeepingValue) (number : ℕ) → IsSame old new → WentOf old number → WentOf new number
@@ -39,17 +35,6 @@ gone-still old new name same gone =
 
 pub all-gone-still : (names names_then : List (List ℕ)) (old new : List KeepingValue) → names_then ≡ names → AreSame old new → AreGone names old → AreGone names_then new
 all-gone-still names names_then old new is same gone name has = gone-still old new name same (gone name (subst (λ (l : List (List ℕ)). Contains l name) is has))
-
--- what was gone, and isn't listed by these items, is so still
-pub out-still : (names names_then : List (List ℕ)) (old new : List KeepingValue) (items : List ItemValue) → names_then ≡ names → AreSame old new → AreGone names old → AreUnlisted old items →
-    AreOut names_then new items
-unfolding gone-still
-out-still names names_then old new items is same gone unlisted name has =
-    let g = gone name (subst (λ (l : List (List ℕ)). Contains l name) is has) in
-    record {
-      went = gone-still old new name same g;
-      unlisted = subst (λ (text : List ℕ). IsUnlisted text g.number items) (sym (same.each g.r).name) (unlisted g.r g.one g.number g.passed);
-    }
 
 -- what has one name
 one-name : (name other : List ℕ) → Contains (name ∷ []) other → other ≡ name
@@ -157,101 +142,6 @@ gone-behind (FramesItem p) old new made made_then (inl (within, did)) gone = gon
 gone-behind (FramesItem p) old new made made_then (inr (beyond, is, same)) gone =
     all-gone-still (pruned_names made) (pruned_names made_then) old new (ap pruned_names same) (gone-all-same (FramesItem p) old new made made_then (inr (beyond, is, same))) gone
 gone-behind (MasterItem text) old new made made_then went gone = all-gone-still (pruned_names made) (pruned_names made_then) old new (ap pruned_names went.1) (gone-all-same (MasterItem text) old new made made_then went) gone
-
--- the files of an outlet
-abbrev Holds : {F : Type 0} → (F → List Move) → FolderState F → Held → Type 0
-Holds made f = HoldsFiles f.syncs (other_moves (made f.folder)) f.staged f.failures
-
--- a put was refused before anything was done
-failed-files : (syncs : Bool) (made : List Move) (staged : _) (f : ℕ) (held : Held) → HoldsFiles syncs made staged f held → HoldsFiles syncs made staged (f + 1) held
-failed-files syncs made staged f held h = record {
-  marked = h.marked;
-  next = h.next;
-  more = h.more;
-  made_are = h.made_are;
-  stopped = h.stopped;
-  none = λ none. absurd (omega (arith, none));
-  staged_are = λ none. absurd (omega (arith, none));
-}
-
-pub refused : {F : Type 0} (made : F → List Move) (o : KeepingState F) (renditions : List KeepingValue) → renditions ≡ o.renditions →
-    Grows (KeptBy made o) (KeptBy made (record { files = record o.files { failures = o.files.failures + 1 }; renditions = renditions; lags = o.lags })) []
-refused {F} made o renditions is = record {
-  follows = λ held h. (Grows-nil (KeptBy made (record { files = record o.files { failures = o.files.failures + 1 }; renditions = renditions; lags = o.lags }))).follows held (record {
-    files = failed-files o.files.syncs (other_moves (made o.files.folder)) o.files.staged o.files.failures held h.files;
-    told = λ none. absurd (omega (arith, none));
-    gone = subst (AreGone (pruned_names (made o.files.folder))) (sym is) h.gone;
-    unlisted = λ none. absurd (omega (arith, none));
-  });
-}
-
-pub refused-first : {F : Type 0} (made : F → List Move) (o : KeepingState F) (renditions : List KeepingValue) (item : ItemValue) → renditions ≡ o.renditions → o.files.failures ≡ 0 →
-    BreaksOff (KeptBy made o) (KeptUpTo made (record { files = record o.files { failures = o.files.failures + 1 }; renditions = renditions; lags = o.lags })) [] item
-refused-first {F} made o renditions item is well = record {
-  follows = λ held h. subst (λ (items : List ItemValue). KeptUpTo made (record { files = record o.files { failures = o.files.failures + 1 }; renditions = renditions; lags = o.lags }) (record { before = held.before; items = items }) item)
-      (sym (append-nil held.items)) (record {
-        files = record { marked = h.files.marked; more = h.files.more; made_are = h.files.made_are; stopped = inl (inl (h.files.none well)) };
-        gone = subst (AreGone (pruned_names (made o.files.folder))) (sym is) h.gone;
-        unlisted = out-still (pruned_names (made o.files.folder)) (pruned_names (made o.files.folder)) o.renditions renditions held.items refl (same-all o.renditions renditions is) h.gone (h.unlisted well);
-      });
-}
-
-pub refused-by : {F : Type 0} (made : F → List Move) (o : KeepingState F) (files : FolderState F) (renditions : List KeepingValue) (item : ItemValue) → files ≡ record o.files { failures = o.files.failures + 1 } →
-    renditions ≡ o.renditions → o.files.failures ≡ 0 → BreaksOff (KeptBy made o) (KeptUpTo made (record { files = files; renditions = renditions; lags = o.lags })) [] item
-refused-by {F} made o files renditions item counted is well =
-    subst (λ (f : FolderState F). BreaksOff (KeptBy made o) (KeptUpTo made (record { files = f; renditions = renditions; lags = o.lags })) [] item) (sym counted)
-    (refused-first made o renditions item is well)
-
--- a put failed in the folder
-pub put-failed : {F : Type 0} (made : F → List Move) (o n : KeepingState F) (item : ItemValue) → AreNotedBy item o.renditions n.renditions →
-    Grows (Holds made o.files) (Holds made n.files) [] → n.files.failures ≡ o.files.failures + 1 → pruned_names (made n.files.folder) ≡ pruned_names (made o.files.folder) →
-    Grows (KeptBy made o) (KeptBy made n) []
-put-failed made o n item noted grows more same = record {
-  follows = λ held h. record {
-    files = grows.follows held h.files;
-    told = λ none. absurd (omega (arith, none, more));
-    gone = all-gone-still (pruned_names (made o.files.folder)) (pruned_names (made n.files.folder)) o.renditions n.renditions same (noted-all-same item o.renditions n.renditions noted) h.gone;
-    unlisted = λ none. absurd (omega (arith, none, more));
-  };
-}
-
-pub put-broke : {F : Type 0} (made : F → List Move) (o n : KeepingState F) (item : ItemValue) → AreNotedBy item o.renditions n.renditions →
-    BreaksOff (Holds made o.files) (HoldsFilesUpTo n.files.syncs (other_moves (made n.files.folder))) [] item → pruned_names (made n.files.folder) ≡ pruned_names (made o.files.folder) →
-    o.files.failures ≡ 0 → BreaksOff (KeptBy made o) (KeptUpTo made n) [] item
-put-broke made o n item noted breaks same well = record {
-  follows = λ held h. record {
-    files = breaks.follows held h.files;
-    gone = all-gone-still (pruned_names (made o.files.folder)) (pruned_names (made n.files.folder)) o.renditions n.renditions same (noted-all-same item o.renditions n.renditions noted) h.gone;
-    unlisted = subst (λ (items : List ItemValue). AreOut (pruned_names (made n.files.folder)) n.renditions items) (sym (append-nil held.items))
-        (out-still (pruned_names (made o.files.folder)) (pruned_names (made n.files.folder)) o.renditions n.renditions held.items same (noted-all-same item o.renditions n.renditions noted) h.gone (h.unlisted well));
-  };
-}
-
--- an item was put, and segments went behind it
-pub put-well : {F : Type 0} (made : F → List Move) (o m n : KeepingState F) (item : ItemValue) → AreNotedBy item o.renditions m.renditions → ComesInTurn item m.renditions → is_named item ≡ true →
-    Grows (Holds made o.files) (Holds made m.files) (item ∷ []) → m.files.failures ≡ o.files.failures → pruned_names (made m.files.folder) ≡ pruned_names (made o.files.folder) →
-    GoBehind item m.renditions n.renditions (made m.files.folder) (made n.files.folder) → other_moves (made n.files.folder) ≡ other_moves (made m.files.folder) → n.files ≡ record m.files { folder = n.files.folder } →
-    Grows (KeptBy made o) (KeptBy made n) (item ∷ [])
-put-well {F} made o m n item noted turn named grows well same behind others is = record {
-  follows = λ held h.
-      let failures : n.files.failures ≡ m.files.failures = ap (λ (f : FolderState F). f.failures) is in
-      let held_now : Holds made n.files (with_items held (item ∷ [])) =
-      subst (λ (f : FolderState F). HoldsFiles f.syncs (other_moves (made n.files.folder)) f.staged f.failures (with_items held (item ∷ []))) (sym is)
-      (subst (λ (moves : List Move). HoldsFiles m.files.syncs moves m.files.staged m.files.failures (with_items held (item ∷ []))) (sym others) (grows.follows held h.files)) in
-      record {
-        files = held_now;
-        told = λ none.
-            let before : o.files.failures ≡ 0 = omega (arith, none, failures, well) in
-            told-behind item (held.items ++ item ∷ []) m.renditions n.renditions (made m.files.folder) (made n.files.folder) behind
-            (told-more held.items item o.renditions m.renditions noted (h.told before));
-        gone = gone-behind item m.renditions n.renditions (made m.files.folder) (made n.files.folder) behind
-            (all-gone-still (pruned_names (made o.files.folder)) (pruned_names (made m.files.folder)) o.renditions m.renditions same (noted-all-same item o.renditions m.renditions noted) h.gone);
-        unlisted = λ none.
-            let before : o.files.failures ≡ 0 = omega (arith, none, failures, well) in
-            unlisted-behind item (held.items ++ item ∷ []) m.renditions n.renditions (made m.files.folder) (made n.files.folder) behind
-            (unlisted-put item held.items o.renditions m.renditions named noted turn (h.unlisted before));
-      };
-}
 
 -- what went of older segments
 pub swept-behind : (item : ItemValue) (o m n : List KeepingValue) → AreNotedBy item o m → SweptBehind item m n → SweptBehind item o n

@@ -4,10 +4,12 @@ pub mod OneByOne
 pub mod Telling
 pub mod Unlisting
 pub mod Keeps
+pub mod Standing
 pub mod Placed
 pub mod Stopping
 pub mod Losing
 pub mod Refused
 pub mod Turns
+pub mod Putting
 pub mod Left
 pub mod Between

@@ -1,4 +1,4 @@
--- Wherever a loss of power stops a process, no media playlist in place lists what went.
+-- Wherever a loss of power stops a process, no playlist in place lists what went.
 use Rattle.std.proofs.Common.{◌≡◌, ℕ, Bool, true, false, List, [], ◌∷◌, ◌++◌, refl, sym, ap, ◌∙◌, subst, inl, inr, ◌⊎◌, append-nil, append_assoc}
 use Rattle.std.proofs.lemmas.List.{append_cancel_left}
 use Rattle.folder.specs.Moves.{Files, Looked, Move, Remove, Rename, Same, Sync, Write, moved, standing}
@@ -15,9 +15,9 @@ use Rattle.item_io.specs.Items.{ItemValue}
 use Rattle.item_io.specs.FolderMoves.{puts_of}
 use Rattle.item_io.proofs.Fitting.{given-fit, puts-append}
 use Rattle.keeping.specs.Keepings.{IsGone, KeepingValue, keeping_at}
-use Rattle.keeping.specs.InPlace.{EachLossOfPowerLeavesUnlisted, IsUnlistedIn, WentBehind, WentInTurn}
-use Rattle.keeping.proofs.Placed.{by-prefix, in-place, unlisted-shown}
-use Rattle.keeping.proofs.Stopping.{IsRemovedAt, fit-behind, fit-front, left-same, moves-append, removed-at, seen-when}
+use Rattle.keeping.specs.InPlace.{EachLossOfPowerLeavesUnlisted, FramesFollow, WentBehind, WentInTurn}
+use Rattle.keeping.proofs.Placed.{not-empty}
+use Rattle.keeping.proofs.Stopping.{IsReached, IsRemovedAt, fit-behind, fit-front, missed, moves-append, reached, removed-at, seen-when}
 
 -- where more may be on the disk, more may be left
 disk-more : (now : Files) (disk more : Files → Type 0) (m : Move) → ((c : Files) → disk c → more c) → (c : Files) → disk_behind now disk m c → disk_behind now more m c
@@ -59,10 +59,6 @@ each-settled (q ∷ block) p =
     let r = each-settled block p in
     (placing q ∷ Sync ∷ r.0, ap (λ (l : List Move). placing q ∷ Sync ∷ l) r.1)
 
-not-empty : (staged : List Put) (p : Put) → staged ++ p ∷ [] ≡ [] → ⊥
-not-empty [] p is = cc is
-not-empty (q ∷ staged) p is = cc is
-
 settled-next : (puts staged : List Put) (p : Put) (ends : Bool) → staged_after (staged_with ends staged p) puts ≡ [] →
     (puts ≡ []) ⊎ ((front : List Move) × (synced_moves_behind (staged_with ends staged p) puts ≡ front ++ Sync ∷ [])) →
     (front : List Move) × (writing p ∷ (synced_placings ends staged p ++ synced_moves_behind (staged_with ends staged p) puts) ≡ front ++ Sync ∷ [])
@@ -87,10 +83,10 @@ pub whole-settled : (puts : List Put) → staged_after [] puts ≡ [] → IsSett
 whole-settled puts whole = elim (moves-settled puts [] whole) [ inl none ↦ inl (ap synced_moves_of none) | inr some ↦ inr some ]
 
 -- behind a moment at which a segment went
-loss-unlisted : (files whole : Files) (renditions : List KeepingValue) (items : List ItemValue) (before behind rest : List Move) (name : List ℕ) → MayBePut [] (puts_of items) →
+loss-reached : (files whole : Files) (renditions : List KeepingValue) (all items tail : List ItemValue) (before behind rest : List Move) (name : List ℕ) → all ≡ items ++ tail → MayBePut [] (puts_of items) →
     (w : WentBehind true renditions items before name) → other_moves (before ++ Remove name ∷ behind) ++ other_moves rest ≡ synced_moves_of (puts_of items) →
-    disk_after files (Same files) (other_moves (before ++ Remove name ∷ behind)) whole → IsUnlistedIn whole (keeping_at renditions w.went.r).name w.went.number
-loss-unlisted files whole renditions items before behind rest name fit w total at =
+    disk_after files (Same files) (other_moves (before ++ Remove name ∷ behind)) whole → IsReached files whole (keeping_at renditions w.went.r).name w.went.number w.put all
+loss-reached files whole renditions all items tail before behind rest name is fit w total at =
     let k = keeping_at renditions w.went.r in
     let put = puts_of w.put in
     let first = synced_moves_of put in
@@ -98,25 +94,24 @@ loss-unlisted files whole renditions items before behind rest name fit w total a
     let later = other_moves (Remove name ∷ behind) in
     let split : other_moves (before ++ Remove name ∷ behind) ≡ first ++ later = other_moves-append before (Remove name ∷ behind) ∙ ap (λ (l : List Move). l ++ later) w.moves in
     let puts : puts_of items ≡ put ++ puts_of w.rest = ap puts_of w.all ∙ puts-append w.put w.rest in
-    let all : first ++ (later ++ other_moves rest) ≡ first ++ synced_moves_of (puts_of w.rest) =
+    let both : first ++ (later ++ other_moves rest) ≡ first ++ synced_moves_of (puts_of w.rest) =
     sym (append_assoc first later (other_moves rest)) ∙ ap (λ (l : List Move). l ++ other_moves rest) (sym split) ∙ total ∙ ap synced_moves_of puts
     ∙ moves-append true put (puts_of w.rest) w.whole in
-    let tail : later ++ other_moves rest ≡ synced_moves_of (puts_of w.rest) = append_cancel_left first (later ++ other_moves rest) (synced_moves_of (puts_of w.rest)) all in
+    let tail_is : later ++ other_moves rest ≡ synced_moves_of (puts_of w.rest) = append_cancel_left first (later ++ other_moves rest) (synced_moves_of (puts_of w.rest)) both in
     let disk : Files → Type 0 = λ c. disk_after files (Same files) first c in
     let then_at = disk-append first later files (Same files) whole (subst (λ (l : List Move). disk_after files (Same files) l whole) split at) in
     let may : PowerLossMayLeave b disk (synced_moves_of (puts_of w.rest)) whole =
-    subst (λ (l : List Move). PowerLossMayLeave b disk l whole) tail (at-loss b disk later (other_moves rest) whole then_at) in
+    subst (λ (l : List Move). PowerLossMayLeave b disk l whole) tail_is (at-loss b disk later (other_moves rest) whole then_at) in
     let same = loss-more (synced_moves_of (puts_of w.rest)) b disk (Same b) (settled-disk first files (whole-settled put w.whole)) whole may in
     let fits : MayBePut [] (put ++ puts_of w.rest) = subst (λ (l : List Put). MayBePut [] l) puts fit in
     let fit_rest : MayBePut [] (puts_of w.rest) = subst (λ (l : List Put). MayBePut l (puts_of w.rest)) w.whole (fit-behind [] put (puts_of w.rest) fits) in
-    let seen = seen-when true files put (fit-front [] put (puts_of w.rest) fits) w.whole in
-    by-prefix k.name w.went.number b w.rest whole w.unlisted.served w.later (each-loss b (puts_of w.rest) fit_rest whole same)
-    (unlisted-shown b (after_puts files put) k.name w.went.number w.unlisted.served seen (in-place k.name w.went.number w.put w.unlisted files))
+    reached files b whole k.name w.went.number w.put w.rest tail all (is ∙ ap (λ (l : List ItemValue). l ++ tail) w.all) w.later
+    (seen-when true files put (fit-front [] put (puts_of w.rest) fits) w.whole) (each-loss b (puts_of w.rest) fit_rest whole same)
 
 -- wherever a loss of power stops the moves of some items
-pub losses-unlisted : (made : List Move) (renditions : List KeepingValue) (all items rest : List ItemValue) → AreBlocks all → all ≡ items ++ rest →
+pub losses-unlisted : (made : List Move) (renditions : List KeepingValue) (all items rest : List ItemValue) → AreBlocks all → FramesFollow all → all ≡ items ++ rest →
     other_moves made ≡ synced_moves_of (puts_of items) → WentInTurn true made renditions items → EachLossOfPowerLeavesUnlisted made items renditions
-losses-unlisted made renditions all items rest blocks is moves turn files left may =
+losses-unlisted made renditions all items rest blocks follow is moves turn files left may =
     let fit : MayBePut [] (puts_of items) = given-fit all items rest blocks is in
     let from : AreFromHidden made = from-others made (subst AreFromHidden (sym moves) (when-from-hidden true (puts_of items) fit)) in
     let p = each-loss-pruned files made from left may in
@@ -133,9 +128,12 @@ losses-unlisted made renditions all items rest blocks is moves turn files left m
         | inr (was, none) ↦
             let at = removed-at p.front name was in
             let w = behind name at in
-            let unlisted : IsUnlistedIn p.whole (keeping_at renditions w.went.r).name w.went.number = loss-unlisted files p.whole renditions items at.before at.behind p.rest name fit w
-            (subst (λ (l : List Move). other_moves l ++ other_moves p.rest ≡ synced_moves_of (puts_of items)) at.all total)
-            (subst (λ (l : List Move). disk_after files (Same files) (other_moves l) p.whole) at.all p.at) in
-            inr (record { went = w.went; unlisted = left-same renditions left p.whole (WasPruned p.front) (keeping_at renditions w.went.r).name w.went.number p.but gone unlisted }, none)
+            inr (
+              missed renditions files left p.whole (WasPruned p.front) name w.put all w.went p.but gone follow w.whole w.unlisted
+                  (loss-reached files p.whole renditions all items rest at.before at.behind p.rest name is fit w
+                  (subst (λ (l : List Move). other_moves l ++ other_moves p.rest ≡ synced_moves_of (puts_of items)) at.all total)
+                  (subst (λ (l : List Move). disk_after files (Same files) (other_moves l) p.whole) at.all p.at)),
+              none,
+            )
       ];
     }

@@ -1,9 +1,8 @@
--- Where a put failed: wherever a process is stopped, no media playlist in place lists what went.
+-- Where a put failed: wherever a process is stopped, no playlist in place lists what went.
 use Rattle.std.specs.Prelude.{drop}
 use Rattle.std.proofs.Common.{◌≡◌, ℕ, Bool, true, false, List, [], ◌∷◌, ◌++◌, get_or, refl, sym, ap, ap₂, ◌∙◌, subst, inl, inr, ◌⊎◌, append-nil, append_assoc}
 use Rattle.std.proofs.lemmas.List.{append_cancel_left}
-use Rattle.playlist_text.specs.Names.{is_name}
-use Rattle.folder.specs.Moves.{Files, Move, Remove, Same, standing}
+use Rattle.folder.specs.Moves.{Files, Move, Remove, Same, Shows, standing}
 use Rattle.folder.specs.Kills.{KillMayLeave}
 use Rattle.folder.specs.Puts.{MayBePut, Put, after_puts, staged_after, staged_with}
 use Rattle.folder.specs.PowerLoss.{PowerLossMayLeave, disk_after, synced_moves_of}
@@ -22,30 +21,21 @@ use Rattle.item_io.specs.Items.{ItemValue, FramesItem, MasterItem, MediaItem, Se
 use Rattle.item_io.specs.FolderMoves.{ends_block, put_of, puts_of}
 use Rattle.item_io.proofs.Fitting.{given-fit, puts-append}
 use Rattle.keeping.specs.Keepings.{AllBeginBehind, IsGone, KeepingValue, keeping_at}
-use Rattle.keeping.specs.InPlace.{EachKillLeavesUnlisted, EachLossOfPowerLeavesUnlisted, IsUnlistedIn, WentBehind, WentInTurn}
+use Rattle.keeping.specs.InPlace.{EachKillLeavesUnlisted, EachLossOfPowerLeavesUnlisted, FramesFollow, WentBehind, WentInTurn}
 use Rattle.keeping.proofs.Losing.{at-loss, disk-append, loss-more, settled-disk, whole-settled}
-use Rattle.keeping.proofs.Placed.{by-prefix, in-place, unlisted-shown}
-use Rattle.keeping.proofs.Stopping.{IsRemovedAt, at-behind, fit-behind, fit-front, left-same, moves-append, removed-at, seen-when}
+use Rattle.keeping.proofs.Placed.{not-empty, open-last}
+use Rattle.keeping.proofs.Stopping.{IsReached, IsRemovedAt, at-behind, fit-behind, fit-front, missed, moves-append, reached, removed-at, seen-when}
 use Rattle.keeping.proofs.Unlisting.{all-begin-append}
 
 split-last : (xs : List Put) → (xs ≡ []) ⊎ ((front : List Put) × (last : Put) × (xs ≡ front ++ last ∷ []))
 split-last [] = inl refl
 split-last (x ∷ xs) = elim (split-last xs) [ inl none ↦ inr ([], x, ap (λ (l : List Put). x ∷ l) none) | inr (front, last, is) ↦ inr (x ∷ front, last, ap (λ (l : List Put). x ∷ l) is) ]
 
-not-empty : (staged : List Put) (p : Put) → staged ++ p ∷ [] ≡ [] → ⊥
-not-empty [] p is = cc is
-not-empty (q ∷ staged) p is = cc is
-
 same-fronts : (xs ys : List Put) (x y : Put) → xs ++ x ∷ [] ≡ ys ++ y ∷ [] → xs ≡ ys
 same-fronts [] [] x y is = refl
 same-fronts [] (b ∷ ys) x y is = absurd (not-empty ys y (sym (ap (λ (l : List Put). drop 1 l) is)))
 same-fronts (a ∷ xs) [] x y is = absurd (not-empty xs x (ap (λ (l : List Put). drop 1 l) is))
 same-fronts (a ∷ xs) (b ∷ ys) x y is = ap₂ (λ (p : Put) (l : List Put). p ∷ l) (ap (λ (l : List Put). get_or l 0 a) is) (same-fronts xs ys x y (ap (λ (l : List Put). drop 1 l) is))
-
-open-last : (puts : List Put) (p : Put) → p.ends ≡ false → staged_after [] (puts ++ p ∷ []) ≡ [] → ⊥
-open-last puts p opens whole =
-    let staged = staged_after [] puts in
-    not-empty staged p (sym (ap (λ (t : Bool). staged_with t staged p) opens) ∙ sym (staged_after-append [] puts (p ∷ [])) ∙ whole)
 
 -- a last file that doesn't end its block isn't in place
 prefix-less : (files : Files) (puts : List Put) (p : Put) (left : Files) → p.ends ≡ false → HasPrefix files (puts ++ p ∷ []) left → HasPrefix files puts left
@@ -71,17 +61,20 @@ prefix-less files puts p left opens has =
     ]
 
 -- what is left of further items, the last of which was refused
-reaches-more : (name : List ℕ) (number : ℕ) (b whole : Files) (items : List ItemValue) (item : ItemValue) → AllBeginBehind name number (item ∷ []) → is_name name ≡ true → AllBeginBehind name number items →
-    HasPrefix b (puts_of items ++ put_of item ∷ []) whole → IsUnlistedIn b name number → IsUnlistedIn whole name number
-reaches-more name number b whole items item one named begin has is =
-    by-prefix name number b (items ++ item ∷ []) whole named (all-begin-append name number items (item ∷ []) begin one) (subst (λ (l : List Put). HasPrefix b l whole) (sym (puts-append items (item ∷ []))) has) is
+reached-more : (files b whole : Files) (name : List ℕ) (number : ℕ) (put items rest all : List ItemValue) (item : ItemValue) → AllBeginBehind name number (item ∷ []) → all ≡ (put ++ items) ++ item ∷ rest →
+    AllBeginBehind name number items → Shows b (after_puts files (puts_of put)) → HasPrefix b (puts_of items ++ put_of item ∷ []) whole → IsReached files whole name number put all
+reached-more files b whole name number put items rest all item one is later shows has =
+    reached files b whole name number put (items ++ item ∷ []) rest all
+    (is ∙ sym (append_assoc (put ++ items) (item ∷ []) rest) ∙ ap (λ (l : List ItemValue). l ++ rest) (append_assoc put items (item ∷ [])))
+    (all-begin-append name number items (item ∷ []) later one) shows (subst (λ (l : List Put). HasPrefix b l whole) (sym (puts-append items (item ∷ []))) has)
 
-reaches : (name : List ℕ) (number : ℕ) (b whole : Files) (items : List ItemValue) (item : ItemValue) → is_name name ≡ true → AllBeginBehind name number items →
-    HasPrefix b (puts_of items ++ put_of item ∷ []) whole → IsUnlistedIn b name number → IsUnlistedIn whole name number
-reaches name number b whole items (SegmentItem s) named begin has is = reaches-more name number b whole items (SegmentItem s) tt named begin has is
-reaches name number b whole items (MediaItem p) named begin has is = by-prefix name number b items whole named begin (prefix-less b (puts_of items) (put_of (MediaItem p)) whole refl has) is
-reaches name number b whole items (FramesItem p) named begin has is = reaches-more name number b whole items (FramesItem p) tt named begin has is
-reaches name number b whole items (MasterItem text) named begin has is = reaches-more name number b whole items (MasterItem text) tt named begin has is
+reached-refused : (files b whole : Files) (name : List ℕ) (number : ℕ) (put items rest all : List ItemValue) (item : ItemValue) → all ≡ (put ++ items) ++ item ∷ rest → AllBeginBehind name number items →
+    Shows b (after_puts files (puts_of put)) → HasPrefix b (puts_of items ++ put_of item ∷ []) whole → IsReached files whole name number put all
+reached-refused files b whole name number put items rest all (SegmentItem s) is later shows has = reached-more files b whole name number put items rest all (SegmentItem s) tt is later shows has
+reached-refused files b whole name number put items rest all (MediaItem p) is later shows has =
+    reached files b whole name number put items (MediaItem p ∷ rest) all is later shows (prefix-less b (puts_of items) (put_of (MediaItem p)) whole refl has)
+reached-refused files b whole name number put items rest all (FramesItem p) is later shows has = reached-more files b whole name number put items rest all (FramesItem p) tt is later shows has
+reached-refused files b whole name number put items rest all (MasterItem text) is later shows has = reached-more files b whole name number put items rest all (MasterItem text) tt is later shows has
 
 stop-when : (syncs : Bool) (files : Files) (puts : List Put) (next : Put) (more : List Move) → MayBePut [] (puts ++ next ∷ []) →
     IsFailedPut (placings_when syncs next.ends (staged_after [] puts) next) next more → (left : Files) → KillMayLeave files (moves_when syncs puts ++ more) left → HasPrefix files (puts ++ next ∷ []) left
@@ -119,11 +112,11 @@ tail-of syncs items put rest more later behind all whole total =
     append_cancel_left first (later ++ behind) (last ++ more)
     (sym (append_assoc first later behind) ∙ total ∙ ap (λ (l : List Move). l ++ more) items_are ∙ append_assoc first last more)
 
-kill-refused : (syncs : Bool) (files whole : Files) (renditions : List KeepingValue) (items : List ItemValue) (item : ItemValue) (more before behind rest : List Move) (name : List ℕ) →
-    MayBePut [] (puts_of items ++ put_of item ∷ []) → IsFailedPut (placings_when syncs (ends_block item) (staged_after [] (puts_of items)) (put_of item)) (put_of item) more →
+kill-refused : (syncs : Bool) (files whole : Files) (renditions : List KeepingValue) (all items last : List ItemValue) (item : ItemValue) (more before behind rest : List Move) (name : List ℕ) →
+    all ≡ items ++ item ∷ last → MayBePut [] (puts_of items ++ put_of item ∷ []) → IsFailedPut (placings_when syncs (ends_block item) (staged_after [] (puts_of items)) (put_of item)) (put_of item) more →
     (w : WentBehind syncs renditions items before name) → other_moves (before ++ Remove name ∷ behind) ++ other_moves rest ≡ moves_when syncs (puts_of items) ++ more →
-    AreAt files (other_moves (before ++ Remove name ∷ behind)) (other_moves rest) whole → IsUnlistedIn whole (keeping_at renditions w.went.r).name w.went.number
-kill-refused syncs files whole renditions items item more before behind rest name fit stopped w total at =
+    AreAt files (other_moves (before ++ Remove name ∷ behind)) (other_moves rest) whole → IsReached files whole (keeping_at renditions w.went.r).name w.went.number w.put all
+kill-refused syncs files whole renditions all items last item more before behind rest name is fit stopped w total at =
     let k = keeping_at renditions w.went.r in
     let put = puts_of w.put in
     let first = moves_when syncs put in
@@ -135,16 +128,14 @@ kill-refused syncs files whole renditions items item more before behind rest nam
     let may : KillMayLeave (standing files first) (moves_when syncs (puts_of w.rest) ++ more) whole =
     subst (λ (l : List Move). KillMayLeave (standing files first) l whole) tail (at-kill (standing files first) later (other_moves rest) whole then_at) in
     let parts = parts-of syncs items w.put w.rest item more w.all w.whole fit stopped in
-    let seen = seen-when syncs files put parts.fit_put w.whole in
-    reaches k.name w.went.number (standing files first) whole w.rest item w.unlisted.served w.later
-    (stop-when syncs (standing files first) (puts_of w.rest) (put_of item) more parts.fit_rest parts.stopped whole may)
-    (unlisted-shown (standing files first) (after_puts files put) k.name w.went.number w.unlisted.served seen (in-place k.name w.went.number w.put w.unlisted files))
+    reached-refused files (standing files first) whole k.name w.went.number w.put w.rest last all item (is ∙ ap (λ (l : List ItemValue). l ++ item ∷ last) w.all) w.later
+    (seen-when syncs files put parts.fit_put w.whole) (stop-when syncs (standing files first) (puts_of w.rest) (put_of item) more parts.fit_rest parts.stopped whole may)
 
-loss-refused : (files whole : Files) (renditions : List KeepingValue) (items : List ItemValue) (item : ItemValue) (more before behind rest : List Move) (name : List ℕ) →
-    MayBePut [] (puts_of items ++ put_of item ∷ []) → IsFailedPut (placings_when true (ends_block item) (staged_after [] (puts_of items)) (put_of item)) (put_of item) more →
+loss-refused : (files whole : Files) (renditions : List KeepingValue) (all items end : List ItemValue) (item : ItemValue) (more before behind rest : List Move) (name : List ℕ) →
+    all ≡ items ++ item ∷ end → MayBePut [] (puts_of items ++ put_of item ∷ []) → IsFailedPut (placings_when true (ends_block item) (staged_after [] (puts_of items)) (put_of item)) (put_of item) more →
     (w : WentBehind true renditions items before name) → other_moves (before ++ Remove name ∷ behind) ++ other_moves rest ≡ synced_moves_of (puts_of items) ++ more →
-    disk_after files (Same files) (other_moves (before ++ Remove name ∷ behind)) whole → IsUnlistedIn whole (keeping_at renditions w.went.r).name w.went.number
-loss-refused files whole renditions items item more before behind rest name fit stopped w total at =
+    disk_after files (Same files) (other_moves (before ++ Remove name ∷ behind)) whole → IsReached files whole (keeping_at renditions w.went.r).name w.went.number w.put all
+loss-refused files whole renditions all items end item more before behind rest name is fit stopped w total at =
     let k = keeping_at renditions w.went.r in
     let put = puts_of w.put in
     let first = synced_moves_of put in
@@ -159,15 +150,14 @@ loss-refused files whole renditions items item more before behind rest name fit 
     let may : PowerLossMayLeave b disk last whole = subst (λ (l : List Move). PowerLossMayLeave b disk l whole) tail (at-loss b disk later (other_moves rest) whole then_at) in
     let same = loss-more last b disk (Same b) (settled-disk first files (whole-settled put w.whole)) whole may in
     let parts = parts-of true items w.put w.rest item more w.all w.whole fit stopped in
-    let seen = seen-when true files put parts.fit_put w.whole in
-    reaches k.name w.went.number b whole w.rest item w.unlisted.served w.later (each-lost-stop b (puts_of w.rest) (put_of item) more parts.fit_rest parts.stopped whole same)
-    (unlisted-shown b (after_puts files put) k.name w.went.number w.unlisted.served seen (in-place k.name w.went.number w.put w.unlisted files))
+    reached-refused files b whole k.name w.went.number w.put w.rest end all item (is ∙ ap (λ (l : List ItemValue). l ++ item ∷ end) w.all) w.later
+    (seen-when true files put parts.fit_put w.whole) (each-lost-stop b (puts_of w.rest) (put_of item) more parts.fit_rest parts.stopped whole same)
 
 -- wherever a kill stops the moves of some items, and some of those of the next one, which was refused
-pub kills-refused : (syncs : Bool) (made more : List Move) (renditions : List KeepingValue) (all items rest : List ItemValue) (item : ItemValue) → AreBlocks all → all ≡ items ++ item ∷ rest →
+pub kills-refused : (syncs : Bool) (made more : List Move) (renditions : List KeepingValue) (all items rest : List ItemValue) (item : ItemValue) → AreBlocks all → FramesFollow all → all ≡ items ++ item ∷ rest →
     other_moves made ≡ moves_when syncs (puts_of items) ++ more → IsFailedPut (placings_when syncs (ends_block item) (staged_after [] (puts_of items)) (put_of item)) (put_of item) more →
     AreFromHidden made → WentInTurn syncs made renditions items → EachKillLeavesUnlisted made (items ++ item ∷ []) renditions
-kills-refused syncs made more renditions all items rest item blocks is moves stopped from turn files left may =
+kills-refused syncs made more renditions all items rest item blocks follow is moves stopped from turn files left may =
     let one : puts_of (items ++ item ∷ []) ≡ puts_of items ++ put_of item ∷ [] = puts-append items (item ∷ []) in
     let fit : MayBePut [] (puts_of items ++ put_of item ∷ []) =
     subst (λ (l : List Put). MayBePut [] l) one (given-fit all (items ++ item ∷ []) rest blocks (is ∙ sym (append_assoc items (item ∷ []) rest))) in
@@ -186,17 +176,20 @@ kills-refused syncs made more renditions all items rest item blocks is moves sto
         | inr (was, none) ↦
             let at = removed-at p.front name was in
             let w = behind name at in
-            let unlisted : IsUnlistedIn p.whole (keeping_at renditions w.went.r).name w.went.number = kill-refused syncs files p.whole renditions items item more at.before at.behind p.rest name fit stopped w
-            (subst (λ (l : List Move). other_moves l ++ other_moves p.rest ≡ moves_when syncs (puts_of items) ++ more) at.all total)
-            (subst (λ (l : List Move). AreAt files (other_moves l) (other_moves p.rest) p.whole) at.all p.at) in
-            inr (record { went = w.went; unlisted = left-same renditions left p.whole (WasPruned p.front) (keeping_at renditions w.went.r).name w.went.number p.but gone unlisted }, none)
+            inr (
+              missed renditions files left p.whole (WasPruned p.front) name w.put all w.went p.but gone follow w.whole w.unlisted
+                  (kill-refused syncs files p.whole renditions all items rest item more at.before at.behind p.rest name is fit stopped w
+                  (subst (λ (l : List Move). other_moves l ++ other_moves p.rest ≡ moves_when syncs (puts_of items) ++ more) at.all total)
+                  (subst (λ (l : List Move). AreAt files (other_moves l) (other_moves p.rest) p.whole) at.all p.at)),
+              none,
+            )
       ];
     }
 
-pub losses-refused : (made more : List Move) (renditions : List KeepingValue) (all items rest : List ItemValue) (item : ItemValue) → AreBlocks all → all ≡ items ++ item ∷ rest →
+pub losses-refused : (made more : List Move) (renditions : List KeepingValue) (all items rest : List ItemValue) (item : ItemValue) → AreBlocks all → FramesFollow all → all ≡ items ++ item ∷ rest →
     other_moves made ≡ synced_moves_of (puts_of items) ++ more → IsFailedPut (placings_when true (ends_block item) (staged_after [] (puts_of items)) (put_of item)) (put_of item) more →
     AreFromHidden made → WentInTurn true made renditions items → EachLossOfPowerLeavesUnlisted made (items ++ item ∷ []) renditions
-losses-refused made more renditions all items rest item blocks is moves stopped from turn files left may =
+losses-refused made more renditions all items rest item blocks follow is moves stopped from turn files left may =
     let one : puts_of (items ++ item ∷ []) ≡ puts_of items ++ put_of item ∷ [] = puts-append items (item ∷ []) in
     let fit : MayBePut [] (puts_of items ++ put_of item ∷ []) =
     subst (λ (l : List Put). MayBePut [] l) one (given-fit all (items ++ item ∷ []) rest blocks (is ∙ sym (append_assoc items (item ∷ []) rest))) in
@@ -215,9 +208,12 @@ losses-refused made more renditions all items rest item blocks is moves stopped 
         | inr (was, none) ↦
             let at = removed-at p.front name was in
             let w = behind name at in
-            let unlisted : IsUnlistedIn p.whole (keeping_at renditions w.went.r).name w.went.number = loss-refused files p.whole renditions items item more at.before at.behind p.rest name fit stopped w
-            (subst (λ (l : List Move). other_moves l ++ other_moves p.rest ≡ synced_moves_of (puts_of items) ++ more) at.all total)
-            (subst (λ (l : List Move). disk_after files (Same files) (other_moves l) p.whole) at.all p.at) in
-            inr (record { went = w.went; unlisted = left-same renditions left p.whole (WasPruned p.front) (keeping_at renditions w.went.r).name w.went.number p.but gone unlisted }, none)
+            inr (
+              missed renditions files left p.whole (WasPruned p.front) name w.put all w.went p.but gone follow w.whole w.unlisted
+                  (loss-refused files p.whole renditions all items rest item more at.before at.behind p.rest name is fit stopped w
+                  (subst (λ (l : List Move). other_moves l ++ other_moves p.rest ≡ synced_moves_of (puts_of items) ++ more) at.all total)
+                  (subst (λ (l : List Move). disk_after files (Same files) (other_moves l) p.whole) at.all p.at)),
+              none,
+            )
       ];
     }

@@ -6,17 +6,17 @@ use Rattle.std.proofs.lemmas.List.{append_cancel_left, take-append-le, take_all}
 use Rattle.std.proofs.lemmas.List.Elements.{Contains-append_cases, Contains-append_right}
 use Rattle.folder.specs.Moves.{Looked, Move, Remove, Rename, Sync, Write, is_hidden}
 use Rattle.folder.specs.Puts.{Put, staged_after, staged_with}
-use Rattle.folder.specs.Pruning.{other_moves, pruned_names, unless_hidden, unless_pruning}
+use Rattle.folder.specs.Pruning.{counted, other_moves, pruned_names, prunings, prunings_from, unless_hidden, unless_pruning, with_pruning}
 use Rattle.folder.specs.Syncing.{moves_when}
 use Rattle.folder.proofs.Kills.{staged_after-append}
-use Rattle.folder.proofs.OtherMoves.{other_moves-append}
+use Rattle.folder.proofs.OtherMoves.{other_moves-append, prunings-append}
 use Rattle.item_io.specs.Items.{ItemValue, PlaylistValue, FramesItem, MasterItem, MediaItem, SegmentItem}
 use Rattle.item_io.specs.FileNames.{is_named}
 use Rattle.item_io.specs.FolderMoves.{put_of, puts_of}
 use Rattle.item_io.proofs.Fitting.{puts-append}
 use Rattle.keeping.specs.Keepings.{AllBeginBehind, AreGone, AreNotedBy, AreUnlisted, ComesInTurn, GoBehind, IsGone, IsPassed, IsUnlisted, KeepingValue, LetsGo, keeping_at, removals, removals_of}
 use Rattle.keeping.specs.InPlace.{WentInTurn}
-use Rattle.keeping.specs.Turns.{AreInTurn, IsAfter, counted, prunings, prunings_from, with_pruning}
+use Rattle.keeping.specs.Turns.{AreInTurn, IsAfter}
 use Rattle.keeping.proofs.Stopping.{moves-append}
 use Rattle.keeping.proofs.Telling.{AreSame, gone-all-same, noted-all-same}
 use Rattle.keeping.proofs.Unlisting.{all-begin-append, begins, unlisted-behind, unlisted-put}
@@ -24,27 +24,6 @@ use Rattle.keeping.proofs.Keeps.{gone-behind, gone-still}
 
 abbrev Pruned : Type 0
 Pruned = ℕ × List ℕ
-
-removed-append : (t : Bool) (count : ℕ) (name : List ℕ) (made more : List Move) →
-    ((c : ℕ) → prunings_from c (made ++ more) ≡ prunings_from c made ++ prunings_from (c + length (other_moves made)) more) →
-    with_pruning t count name (prunings_from (counted t count) (made ++ more)) ≡
-    with_pruning t count name (prunings_from (counted t count) made) ++ prunings_from (count + length (unless_pruning (not t) (Remove name) (other_moves made))) more
-removed-append true count name made more later =
-    later (count + 1) ∙ ap (λ (c : ℕ). prunings_from (count + 1) made ++ prunings_from c more) (omega arith)
-removed-append false count name made more later = ap (λ (l : List Pruned). (count, name) ∷ l) (later count)
-
-other-append : (count : ℕ) (made more : List Move) →
-    ((c : ℕ) → prunings_from c (made ++ more) ≡ prunings_from c made ++ prunings_from (c + length (other_moves made)) more) →
-    prunings_from (count + 1) (made ++ more) ≡ prunings_from (count + 1) made ++ prunings_from (count + suc (length (other_moves made))) more
-other-append count made more later = later (count + 1) ∙ ap (λ (c : ℕ). prunings_from (count + 1) made ++ prunings_from c more) (omega arith)
-
-pub prunings-append : (made more : List Move) (count : ℕ) → prunings_from count (made ++ more) ≡ prunings_from count made ++ prunings_from (count + length (other_moves made)) more
-prunings-append [] more count = ap (λ (c : ℕ). prunings_from c more) (omega arith)
-prunings-append (Write n bytes ∷ made) more count = other-append count made more (prunings-append made more)
-prunings-append (Rename old new ∷ made) more count = other-append count made more (prunings-append made more)
-prunings-append (Remove n ∷ made) more count = removed-append (is_hidden n) count n made more (prunings-append made more)
-prunings-append (Looked n there ∷ made) more count = other-append count made more (prunings-append made more)
-prunings-append (Sync ∷ made) more count = other-append count made more (prunings-append made more)
 
 -- the first of some
 first-of : (x : Pruned) (xs : List Pruned) → Contains (x ∷ xs) x
@@ -166,7 +145,8 @@ turns-more syncs pruned items item old new same turn turns count name has =
           (one-begins item new turn g.r g.one g.number g.passed);
     }
 
-turns-still : (syncs : Bool) (pruned : List Pruned) (items : List ItemValue) (old new : List KeepingValue) → AreSame old new → AreInTurn syncs pruned old items → AreInTurn syncs pruned new items
+-- segments that went in turn did so still
+pub turns-still : (syncs : Bool) (pruned : List Pruned) (items : List ItemValue) (old new : List KeepingValue) → AreSame old new → AreInTurn syncs pruned old items → AreInTurn syncs pruned new items
 unfolding gone-still
 turns-still syncs pruned items old new same turns count name has =
     let w = turns count name has in

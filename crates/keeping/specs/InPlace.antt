@@ -1,6 +1,8 @@
--- What the media playlists in place list, wherever a process is stopped that takes segments away.
-use Rattle.std.specs.Prelude.{◌≡◌, ℕ, ◌++◌, Bool, false, Some, List, [], ◌∷◌, codes}
-use Rattle.std.specs.List.{Contains}
+-- What the playlists in place list, wherever a process is stopped that takes segments away.
+use Rattle.std.specs.Prelude.{◌≡◌, ◌≢◌, ℕ, ◌++◌, Bool, true, false, Option, Some, None, List, [], ◌∷◌, codes}
+use Rattle.std.specs.List.{All, Contains}
+use Rattle.playlist_text.specs.Lines.{text_of}
+use Rattle.playlist_text.specs.Names.{is_name}
 use Rattle.folder.specs.Moves.{Files, Move, Remove, Same, is_hidden, standing}
 use Rattle.folder.specs.Kills.{KillMayLeave}
 use Rattle.folder.specs.PowerLoss.{PowerLossMayLeave}
@@ -8,30 +10,71 @@ use Rattle.folder.specs.Prefixes.{HasPrefix, IsFailedPut}
 use Rattle.folder.specs.Pruning.{SameBut, other_moves, pruned_names}
 use Rattle.folder.specs.Puts.{staged_after}
 use Rattle.folder.specs.Syncing.{moves_when, placings_when}
-use Rattle.item_io.specs.Items.{ItemValue}
+use Rattle.item_io.specs.Items.{ItemValue, PlaylistValue, FramesItem, MasterItem, MediaItem, SegmentItem}
 use Rattle.item_io.specs.FolderMoves.{ends_block, put_of, puts_of}
 use Rattle.keeping.specs.Keepings.{AllBeginBehind, BeginsBehind, IsGone, IsUnlisted, KeepingValue, keeping_at}
 
--- the file of a rendition's media playlist
+-- the files of a rendition's playlists
 abbrev pub media_file : List ℕ → List ℕ
 media_file name = name ++ codes ".m3u8"
 
--- The media playlist of this name that is in place begins behind this number: it lists no segment up to it.
-pub record IsUnlistedIn (files : Files) (name : List ℕ) (number : ℕ) : Type 0 where
-  pub text : List ℕ
-  pub in_place : files (media_file name) ≡ Some text
-  pub behind : BeginsBehind number text
+abbrev pub frames_file : List ℕ → List ℕ
+frames_file name = name ++ codes ".iframes.m3u8"
 
--- a segment of this name was taken away, and the media playlist of its rendition that is in place doesn't list it
+-- a line that is a URI: it isn't blank, and doesn't begin with '#' as tags and comments do (RFC 8216, 4.1)
+abbrev pub IsUri : List ℕ → Type 0
+IsUri [] = ⊥
+IsUri (b ∷ line) = b ≢ 35
+
+-- Each URI of an I-frame playlist is a line of this media playlist: it lists no segment that this one doesn't.
+pub record ListsNoMore (media frames : List ℕ) : Type 0 where
+  pub lines : List (List ℕ)
+  pub media_is : media ≡ text_of lines
+  pub frame_lines : List (List ℕ)
+  pub frames_is : frames ≡ text_of frame_lines
+  pub listed : All (λ line. IsUri line → Contains lines line) frame_lines
+
+-- The text is an I-frame playlist that lists only segments which a media playlist lists that begins behind this number.
+pub record FramesBeginBehind (number : ℕ) (text : List ℕ) : Type 0 where
+  pub media : List ℕ
+  pub begins : BeginsBehind number media
+  pub no_more : ListsNoMore media text
+
+-- Behind each media playlist stands the I-frame playlist of its rendition, which lists no segment that it doesn't list, and such a
+-- playlist stands nowhere else.
+abbrev pub FramesFollowOn : Option PlaylistValue → List ItemValue → Type 0
+FramesFollowOn None [] = Unit {0}
+FramesFollowOn None (SegmentItem s ∷ items) = FramesFollowOn None items
+FramesFollowOn None (MediaItem p ∷ items) = (is_name p.name ≡ true) × FramesFollowOn (Some p) items
+FramesFollowOn None (FramesItem q ∷ items) = ⊥
+FramesFollowOn None (MasterItem text ∷ items) = FramesFollowOn None items
+FramesFollowOn (Some p) [] = Unit {0}
+FramesFollowOn (Some p) (SegmentItem s ∷ items) = ⊥
+FramesFollowOn (Some p) (MediaItem m ∷ items) = ⊥
+FramesFollowOn (Some p) (FramesItem q ∷ items) = (q.name ≡ p.name) × ListsNoMore p.text q.text × FramesFollowOn None items
+FramesFollowOn (Some p) (MasterItem text ∷ items) = ⊥
+
+abbrev pub FramesFollow : List ItemValue → Type 0
+FramesFollow items = FramesFollowOn None items
+
+-- the file of this name is in place, and so are its bytes
+pub record HasIn (files : Files) (file : List ℕ) (Is : List ℕ → Type 0) : Type 0 where
+  pub text : List ℕ
+  pub in_place : files file ≡ Some text
+  pub so : Is text
+
+-- A segment of this name was taken away. The media playlist of its rendition that is in place begins behind it, so it doesn't list it;
+-- and the I-frame playlist in place lists only segments that such a media playlist lists.
 pub record IsMissed (renditions : List KeepingValue) (files : Files) (name : List ℕ) : Type 0 where
   pub went : IsGone renditions name
-  pub unlisted : IsUnlistedIn files (keeping_at renditions went.r).name went.number
+  pub unlisted : HasIn files (media_file (keeping_at renditions went.r).name) (BeginsBehind went.number)
+  pub frames : HasIn files (frames_file (keeping_at renditions went.r).name) (FramesBeginBehind went.number)
 
--- Whatever stood in the folder before these moves: behind them no media playlist in place lists a segment that was taken away.
+-- Whatever stood in the folder before these moves: behind them no playlist in place lists a segment that was taken away.
 abbrev pub NoneIsListed : List Move → List KeepingValue → Type 0
 NoneIsListed made renditions = (files : Files) (name : List ℕ) → Contains (pruned_names made) name → IsMissed renditions (standing files made) name
 
--- a prefix of these items is left, but that segments may be missing which were taken away, and which no media playlist in place lists
+-- a prefix of these items is left, but that segments may be missing which were taken away, and which no playlist in place lists
 pub record IsLeftUnlisted (items : List ItemValue) (renditions : List KeepingValue) (files left : Files) : Type 0 where
   pub whole : Files
   pub prefix : HasPrefix files (puts_of items) whole

@@ -3,14 +3,8 @@ use Rattle.std.specs.Prelude.{◌≡◌, ◌≢◌, ◌⊎◌, ℕ, zero, suc, �
 use Rattle.std.specs.List.{All, Contains}
 use Rattle.playlist_text.specs.MediaLines.{Entry, Listing}
 use Rattle.playlist_text.specs.Names.{is_name}
-use Rattle.folder.specs.Moves.{Files, Move, Remove}
-use Rattle.folder.specs.Kills.{KillMayLeave}
-use Rattle.folder.specs.Puts.{Names}
-use Rattle.folder.specs.Prefixes.{HasPrefix}
-use Rattle.folder.specs.Pruning.{SameBut, other_moves, pruned_names}
+use Rattle.folder.specs.Moves.{Move, Remove}
 use Rattle.item_io.specs.Items.{ItemValue, PlaylistValue, SegmentItem, MediaItem, FramesItem, MasterItem}
-use Rattle.item_io.specs.Outlets.{Held}
-use Rattle.item_io.specs.FolderMoves.{FolderState, HoldsFiles, HoldsFilesUpTo, puts_of}
 use Rattle.item_io.specs.FileNames.{segment_file_name}
 use Rattle.media_reading.specs.MediaTexts.{IsListing, listing_text}
 use Rattle.retention.specs.declared.step.Step.{Step}
@@ -256,47 +250,3 @@ pub record IsUnlisted (name : List ℕ) (number : ℕ) (items : List ItemValue) 
 abbrev pub AreUnlisted : List KeepingValue → List ItemValue → Type 0
 AreUnlisted renditions items = (r : ℕ) → r < length renditions → (number : ℕ) → IsPassed (keeping_at renditions r) number →
     IsUnlisted (keeping_at renditions r).name number items
-
--- a segment of this name was taken away, which the last media playlist of its rendition among these items doesn't list
-pub record IsOut (renditions : List KeepingValue) (items : List ItemValue) (name : List ℕ) : Type 0 where
-  pub went : IsGone renditions name
-  pub unlisted : IsUnlisted (keeping_at renditions went.r).name went.number items
-
-abbrev pub AreOut : List (List ℕ) → List KeepingValue → List ItemValue → Type 0
-AreOut names renditions items = (name : List ℕ) → Contains names name → IsOut renditions items name
-
--- a keeping outlet, as contracts see it: the outlet of files, its renditions, and whether a segment that might go couldn't be removed
-pub record KeepingState (F : Type 0) : Type 0 where
-  pub files : FolderState F
-  pub renditions : List KeepingValue
-  pub lags : Bool
-
--- The folder's moves, but for what was taken away, are those of the items held; what was taken away are segments that might go, by the
--- media playlists held, and that the last of these doesn't list.
-pub record HoldsKept (syncs : Bool) (made : List Move) (staged : List Names) (failures : ℕ) (renditions : List KeepingValue) (held : Held) : Type 0 where
-  pub files : HoldsFiles syncs (other_moves made) staged failures held
-  pub told : failures ≡ 0 → AreTold renditions held.items
-  pub gone : AreGone (pruned_names made) renditions
-  pub unlisted : failures ≡ 0 → AreUnlisted renditions held.items
-
-pub record HoldsKeptUpTo (syncs : Bool) (made : List Move) (renditions : List KeepingValue) (held : Held) (item : ItemValue) : Type 0 where
-  pub files : HoldsFilesUpTo syncs (other_moves made) held item
-  pub gone : AreGone (pruned_names made) renditions
-  pub unlisted : AreOut (pruned_names made) renditions held.items
-
--- what a keeping outlet holds
-abbrev pub KeptBy : {F : Type 0} → (F → List Move) → KeepingState F → Held → Type 0
-KeptBy made o = HoldsKept o.files.syncs (made o.files.folder) o.files.staged o.files.failures o.renditions
-
-abbrev pub KeptUpTo : {F : Type 0} → (F → List Move) → KeepingState F → Held → ItemValue → Type 0
-KeptUpTo made o = HoldsKeptUpTo o.files.syncs (made o.files.folder) o.renditions
-
--- a prefix of these items is left, but that segments which were taken away may be missing
-pub record IsLeftBut (items : List ItemValue) (renditions : List KeepingValue) (files left : Files) : Type 0 where
-  pub whole : Files
-  pub prefix : HasPrefix files (puts_of items) whole
-  pub but : SameBut (IsGone renditions) left whole
-
--- Whatever stood in the folder before these moves: so it is wherever a kill stops them.
-abbrev pub EachKillLeavesBut : List Move → List ItemValue → List KeepingValue → Type 0
-EachKillLeavesBut made items renditions = (files : Files) (left : Files) → KillMayLeave files made left → IsLeftBut items renditions files left

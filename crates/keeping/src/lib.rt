@@ -10,8 +10,5 @@ mod outlet;
 mod removing;
 
 pub use keeping::{Behind, Keeping};
-pub use laws::{
-    given_items_are_left_but_what_went, no_playlist_in_place_lists_what_went, segments_go_in_turn,
-    what_went_is_not_listed,
-};
+pub use laws::{given_items_are_left_but_what_went, what_went_is_not_listed};
 pub use outlet::KeepingOutlet;

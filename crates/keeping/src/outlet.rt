@@ -3,7 +3,8 @@ ghost use Rattle.folder.specs.Pruning.{other_moves};
 ghost use Rattle.item_io.specs.Items.{item_value};
 ghost use Rattle.item_io.specs.Outlets.{BreaksOff, Grows};
 ghost use Rattle.item_io.specs.Views.{outlet_view};
-ghost use Rattle.keeping.specs.Keepings.{AllWent, AreNotedBy, ComesInTurn, GoBehind, HasNameIf, KeptBy, KeptUpTo, SweptBehind, keeping_at, removed_of};
+ghost use Rattle.keeping.specs.Keepings.{AllWent, AreNotedBy, ComesInTurn, GoBehind, HasNameIf, SweptBehind, keeping_at, removed_of};
+ghost use Rattle.keeping.specs.Holding.{KeptBy, KeptUpTo};
 
 use crate::keeping::Keeping;
 use folder::{Folder, PruningFolder};
@@ -26,7 +27,7 @@ pub struct KeepingOutlet<F> {
 }
 
 impl<F> Model for KeepingOutlet<F> {
-    ghost use Rattle.keeping.specs.Keepings.{KeepingState};
+    ghost use Rattle.keeping.specs.Holding.{KeepingState};
 
     ghost Value = { KeepingState F };
 

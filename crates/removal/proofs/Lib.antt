@@ -1,3 +1,3 @@
-pub mod FromHidden
+pub mod Following
 pub mod Kept
 pub mod Untold

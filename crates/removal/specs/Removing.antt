@@ -1,7 +1,6 @@
 -- What a run leaves of a folder from which old segments go.
 use Rattle.std.specs.Prelude.{◌≡◌, ℕ, Bool, true, false, List}
-use Rattle.folder.specs.Moves.{Files, Move, Same}
-use Rattle.folder.specs.PowerLoss.{PowerLossMayLeave}
+use Rattle.folder.specs.Moves.{Move}
 use Rattle.item_io.specs.Items.{ItemValue}
 use Rattle.item_io.specs.Views.{OutletView, SourceView, outlet_view}
 use Rattle.item_io.specs.FolderMoves.{new_outlet}
@@ -9,7 +8,9 @@ use Rattle.ladder_items.specs.Ladder.{Ladder}
 use Rattle.ladder_items.specs.Items.{Part}
 use Rattle.ladder_items.specs.Weave.{Weaves}
 use Rattle.ladder_items.specs.Runs.{Run, run_of}
-use Rattle.keeping.specs.Keepings.{EachKillLeavesBut, IsLeftBut, KeepingState, KeepingValue, KeptBy, KeptUpTo}
+use Rattle.keeping.specs.Keepings.{KeepingValue}
+use Rattle.keeping.specs.Holding.{KeepingState, KeptBy, KeptUpTo}
+use Rattle.keeping.specs.InPlace.{EachKillLeavesUnlisted, EachLossOfPowerLeavesUnlisted}
 use Rattle.commands.specs.declared.destination.Destination.{Destination}
 
 -- an outlet of a folder from which old segments go, as a run sees it
@@ -24,16 +25,11 @@ new_keeping into renditions = record { files = new_outlet into.syncs into.folder
 abbrev pub kept_run : {X F : Type 0} → SourceView X → (F → List Move) → ℕ → List X → List X → KeepingState F → KeepingState F → Run X (KeepingState F)
 kept_run input made most before now outlet outlet_now = run_of input (kept_view made) most before now outlet outlet_now
 
--- Whatever stood in the folder before these moves, and was on the disk: so it is wherever a loss of power stops them.
-abbrev pub EachLossOfPowerLeavesBut : List Move → List ItemValue → List KeepingValue → Type 0
-EachLossOfPowerLeavesBut made items renditions =
-    (files : Files) (left : Files) → PowerLossMayLeave files (Same files) made left → IsLeftBut items renditions files left
-
 -- Whatever stood in the folder before these moves, a kill at any moment of them leaves a prefix of a weave of the renditions, but that
--- segments which went may be missing; and where the folder is synced, so does a loss of power.
+-- segments may be missing which went, and which no playlist in place lists; and where the folder is synced, so does a loss of power.
 pub record LeavesKept (ladder : Ladder) (syncs : Bool) (made : List Move) (renditions : List KeepingValue) : Type 0 where
   pub parts : List Part
   pub items : List ItemValue
   pub weave : Weaves ladder parts items
-  pub killed : EachKillLeavesBut made items renditions
-  pub lost : syncs ≡ true → EachLossOfPowerLeavesBut made items renditions
+  pub killed : EachKillLeavesUnlisted made items renditions
+  pub lost : syncs ≡ true → EachLossOfPowerLeavesUnlisted made items renditions

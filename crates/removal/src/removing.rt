@@ -26,9 +26,9 @@ use std::thread::Threads;
 /// [`Keeping`] has it. Behind each item the herald is told how many were removed.
 ///
 /// Wherever the process is killed, also after a fault, the folder shows what stood there before with a prefix of a weave of the
-/// renditions over it, whole files alone, but that segments which were removed may be missing. A folder that is synced holds
-/// that on the disk too, wherever the machine loses its power. Once it has ended well, no media playlist in place lists a segment
-/// that was removed.
+/// renditions over it, whole files alone, but that segments may be missing which were removed, and which no playlist in place
+/// lists. A folder that is synced holds that on the disk too, wherever the machine loses its power. Once it has ended well, no
+/// playlist in place lists a segment that was removed.
 pub fn pack_and_remove<
     S: Source + Drop,
     F: Folder + Drop,

@@ -4,7 +4,7 @@ ghost use Rattle.std.specs.Prelude.{◌≡◌, ◌+◌, ◌<◌, ◌^◌, ◌∷
 ghost use Rattle.item_io.specs.Items.{item_value};
 ghost use Rattle.item_io.specs.Outlets.{BreaksOff, Grows};
 ghost use Rattle.item_io.specs.Views.{outlet_view};
-ghost use Rattle.keeping.specs.Keepings.{KeptBy, KeptUpTo};
+ghost use Rattle.keeping.specs.Holding.{KeptBy, KeptUpTo};
 
 use folder::Folder;
 use item_io::{Item, Outlet, OutletFault};
@@ -25,7 +25,7 @@ pub struct Tallied<'t, F, T> {
 }
 
 impl<'t, F, T> Model for Tallied<'t, F, T> {
-    ghost use Rattle.keeping.specs.Keepings.{KeepingState};
+    ghost use Rattle.keeping.specs.Holding.{KeepingState};
 
     ghost Value = { KeepingState F };
 

@@ -1,6 +1,6 @@
 use Rattle.std.proofs.Common.{ap, refl, sym}
 use Rattle.folder.specs.Moves.{Rename}
-use Rattle.folder.specs.Pruning.{other_moves, pruned_names}
+use Rattle.folder.specs.Pruning.{other_moves, prunings}
 use Rattle.folder.proofs.Results.{OnErr-map, OnOk-map, either-way}
 use Rattle.folder.proofs.OtherMoves.{another, none-by}
 use Rattle.folder.proofs.pruning_folder.PruningFolderFolder.rename.Goals as goal
@@ -14,5 +14,5 @@ returns-clause-kept g c = rw (sym c.self.view_is) (OnErr-map c.rename.result (ap
 pub returns-clause-pruned : goal.returns-clause-pruned
 returns-clause-pruned g c = rw (sym c.self.view_is)
     (either-way c.rename.result
-    (OnOk-map c.rename.result (none-by (Rename c.args.old.now c.args.new.now) _ _ refl) c.rename.ensures.made)
-    (OnErr-map c.rename.result (ap pruned_names) c.rename.ensures.kept))
+    (OnOk-map c.rename.result (none-by (Rename c.args.old.now c.args.new.now) _ _ (λ count. refl)) c.rename.ensures.made)
+    (OnErr-map c.rename.result (ap prunings) c.rename.ensures.kept))

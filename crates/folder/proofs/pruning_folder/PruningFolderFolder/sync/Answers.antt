@@ -1,6 +1,6 @@
 use Rattle.std.proofs.Common.{ap, refl, sym}
 use Rattle.folder.specs.Moves.{Sync}
-use Rattle.folder.specs.Pruning.{other_moves, pruned_names}
+use Rattle.folder.specs.Pruning.{other_moves, prunings}
 use Rattle.folder.proofs.Results.{OnErr-map, OnOk-map, either-way}
 use Rattle.folder.proofs.OtherMoves.{another, none-by}
 use Rattle.folder.proofs.pruning_folder.PruningFolderFolder.sync.Goals as goal
@@ -14,5 +14,5 @@ returns-clause-kept g c = rw (sym c.self.view_is) (OnErr-map c.sync.result (ap o
 pub returns-clause-pruned : goal.returns-clause-pruned
 returns-clause-pruned g c = rw (sym c.self.view_is)
     (either-way c.sync.result
-    (OnOk-map c.sync.result (none-by Sync _ _ refl) c.sync.ensures.made)
-    (OnErr-map c.sync.result (ap pruned_names) c.sync.ensures.kept))
+    (OnOk-map c.sync.result (none-by Sync _ _ (λ count. refl)) c.sync.ensures.made)
+    (OnErr-map c.sync.result (ap prunings) c.sync.ensures.kept))

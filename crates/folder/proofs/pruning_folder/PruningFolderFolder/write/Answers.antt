@@ -15,5 +15,5 @@ returns-clause-pruned g c =
     let hidden : is_hidden c.args.name.now ≡ true = sym c.is_hidden.ensures ∙ c.if-not-is_hidden.false in
     rw (sym c.self.view_is)
     (either-way c.write.result
-    (OnOk-map c.write.result (none-by (Write c.args.name.now c.args.bytes.now) _ _ refl) c.write.ensures.made)
+    (OnOk-map c.write.result (none-by (Write c.args.name.now c.args.bytes.now) _ _ (λ count. refl)) c.write.ensures.made)
     (OnErr-map c.write.result (failed-pruned c.args.name.now c.args.bytes.now _ _ hidden) c.write.ensures.cut_off))

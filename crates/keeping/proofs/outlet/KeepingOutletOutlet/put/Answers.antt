@@ -1,6 +1,6 @@
 use Rattle.std.proofs.Common.{rules, sym}
 use Rattle.item_io.specs.Items.{item_value}
-use Rattle.keeping.proofs.Keeps.{put-broke, put-failed, put-well, refused-by}
+use Rattle.keeping.proofs.Putting.{put-broke, put-failed, put-well, refused-by}
 use Rattle.keeping.proofs.outlet.KeepingOutletOutlet.put.Goals as goal
 
 pub returns-then-is_err-clause-refused : goal.returns-then-is_err-clause-refused
@@ -15,10 +15,10 @@ returns-in-Err-clause-kept g c = rw (sym c.self.view_is)
 pub returns-in-Err-clause-refused : goal.returns-in-Err-clause-refused
 returns-in-Err-clause-refused g c = rw (sym c.self.view_is)
     (λ well. put-broke g.F.Folder.made (record { files = c.self.inside.files; renditions = c.self.inside.renditions.items; lags = c.self.inside.lags }) (record { files = c.put.new.self; renditions = c.note.new.renditions.items; lags = c.self.inside.lags })
-    (item_value c.args.item.now) (search rules) (c.in-Err.ensures.refused well) c.put.ensures.pruned well)
+    (item_value c.args.item.now) (search rules) (c.in-Err.ensures.refused well) c.put.ensures.syncs c.put.ensures.pruned well)
 
 pub returns-clause-grown : goal.returns-clause-grown
 returns-clause-grown g c = rw (sym c.self.view_is)
     (put-well g.F.Folder.made (record { files = c.self.inside.files; renditions = c.self.inside.renditions.items; lags = c.self.inside.lags }) (record { files = c.put.new.self; renditions = c.note.new.renditions.items; lags = c.self.inside.lags })
     (record { files = c.let_go.new.files; renditions = c.let_go.new.renditions.items; lags = c.is_err-self-inside.result })
-    (item_value c.args.item.now) (search rules) (search rules) c.in_default.ensures.named c.in_default.ensures.grown c.in_default.ensures.ok c.put.ensures.pruned c.let_go.ensures.gone c.let_go.ensures.others c.let_go.ensures.same)
+    (item_value c.args.item.now) (search rules) (search rules) c.in_default.ensures.named c.in_default.ensures.grown c.in_default.ensures.ok c.put.ensures.syncs c.put.ensures.pruned c.let_go.ensures.gone c.let_go.ensures.others c.let_go.ensures.same)
