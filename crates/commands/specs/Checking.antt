@@ -89,7 +89,7 @@ pub record WritesChecked (gives : List ℕ → List ℕ → Type 0) (keys : List
   pub well : ChecksWell gives keys playlist checked
   pub written : Appends held held_then (checked_line checked)
 
--- it is whole, and the writer got a beginning of that line
+-- it is whole, and the writer got a prefix of that line
 pub record BeginsChecked (gives : List ℕ → List ℕ → Type 0) (keys : List (List ℕ)) (playlist : List ℕ) (held held_then : Option (List ℕ)) : Type 0 where
   pub checked : Checked
   pub well : ChecksWell gives keys playlist checked

@@ -18,13 +18,13 @@ pub record WritesSummary (ladder : Ladder) (report : Report) (held held_then : O
   pub is : IsSummaryOf ladder report text
   pub written : Appends held held_then text
 
--- the writer got a beginning of it
+-- the writer got a prefix of it
 pub record BeginsSummary (ladder : Ladder) (report : Report) (held held_then : Option (List ℕ)) : Type 0 where
   pub text : List ℕ
   pub is : IsSummaryOf ladder report text
   pub begun : WritesBeginning held held_then text
 
--- all was packed and shown, and the writer got a beginning of the summary
+-- all was packed and shown, and the writer got a prefix of the summary
 pub record EndsUnwritten {X Y : Type 0} (run : Run X Y) (ladder : Ladder) (workers : ℕ) (old new : List SnapshotFacts) (held held_then : Option (List ℕ)) : Type 0 where
   pub report : Report
   pub packed : IsPackedShown run ladder workers old new report

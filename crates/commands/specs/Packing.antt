@@ -43,7 +43,7 @@ pub record StopsPacking (ladder : Ladder) (left left_then held held_then : Optio
   pub weave : Weaves ladder parts items
   pub written : Appends held held_then (lines_of items)
 
--- The work was cut off behind the items given: with the rest they are what a beginning of the stream gives.
+-- The work was cut off behind the items given: with the rest they are what a prefix of the stream gives.
 pub record CutsPackingOff (ladder : Ladder) (left left_then : Option (List ℕ)) (given rest : List ItemValue) : Type 0 where
   pub stream : List ℕ
   pub parts : List Part
@@ -58,7 +58,7 @@ pub record WantsMemory (ladder : Ladder) (left left_then held held_then : Option
   pub cut : CutsPackingOff ladder left left_then given rest
   pub written : Appends held held_then (lines_of given)
 
--- At a put that failed: the writer got the lines of these items, and a beginning of the lines of the next one.
+-- At a put that failed: the writer got the lines of these items, and a prefix of the lines of the next one.
 pub record FailsToPut (ladder : Ladder) (left left_then held held_then : Option (List ℕ)) : Type 0 where
   pub given : List ItemValue
   pub next : ItemValue

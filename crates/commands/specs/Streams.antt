@@ -23,7 +23,7 @@ pub record WritesSealed (key vector : List ℕ) (left left_then held held_then :
   pub read : ReadsAll left left_then bytes
   pub written : Appends held held_then (sealed_line key vector bytes)
 
--- All that the reader gave was sealed, and the writer got a beginning of that line.
+-- All that the reader gave was sealed, and the writer got a prefix of that line.
 pub record BeginsSealed (key vector : List ℕ) (left left_then held held_then : Option (List ℕ)) : Type 0 where
   pub bytes : List ℕ
   pub read : ReadsAll left left_then bytes
@@ -49,7 +49,7 @@ pub record WritesOpened (key vector : List ℕ) (left left_then held held_then :
   pub seals : Seals key vector plain sealed
   pub written : Appends held held_then (hex_line plain)
 
--- The reader gave a sealed text, and the writer got a beginning of that line.
+-- The reader gave a sealed text, and the writer got a prefix of that line.
 pub record BeginsOpened (key vector : List ℕ) (left left_then held held_then : Option (List ℕ)) : Type 0 where
   pub sealed : List ℕ
   pub read : ReadsDigits left left_then sealed

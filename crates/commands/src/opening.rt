@@ -106,7 +106,7 @@ fn decode_line(alloc: Global, line: &[u8]) -> Result<Vec<u8>, OpeningFault>
 ///
 /// Unread is told exactly where a read failed, and ReadLimit exactly where 2^40 reads each gave a byte. BadHex is told
 /// before NotBlocks, and that before BadPadding. Before every fault but Unwritten nothing was written; at Unwritten a
-/// beginning of that line was.
+/// prefix of that line was.
 pub fn open<S: Source, W: Write>(
     alloc: Global,
     key: &Key,

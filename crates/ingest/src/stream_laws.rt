@@ -13,7 +13,7 @@ ghost use Rattle.ingest.specs.Lanes.{made_of};
 ghost use Rattle.ingest.specs.Output.{output, bodies, BeginWith};
 
 /// The bodies of a rendition's segments, joined, are the accepted packets of its stream from the first cut on: all of
-/// them where the stream has no fault, and a beginning of them in the segments of each beginning of its plans.
+/// them where the stream has no fault, and a prefix of them in the segments of each prefix of its plans.
 pub fn bodies_are_the_accepted_packets()
     ensures whole { (r : ℕ) (s : CutSettings) (stream : List ℕ) → fault_of r s stream ≡ None →
         bodies (plans_of r s stream) ≡ output s (packets stream) }

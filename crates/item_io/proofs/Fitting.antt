@@ -110,7 +110,7 @@ blocks-fit (MasterItem text ∷ items) blocks =
     let later = blocks-fit items blocks in
     ((served-master text, tt, later.0), later.1)
 
--- a beginning of what is fit
+-- a prefix of what is fit
 fit-front : (staged puts more : List Put) → MayBePut staged (puts ++ more) → MayBePut staged puts
 fit-front staged [] more fit = tt
 fit-front staged (p ∷ puts) more fit = (fit.0, fit.1, fit-front (staged_with p.ends staged p) puts more fit.2)

@@ -22,7 +22,7 @@ pub record StopsAtOnce (ladder : Ladder) (r : ℕ) (streams : List (List ℕ)) (
   pub piece : (more : List ℕ) × (length more ≤ PIECE) × (stream_at streams r ≡ stream_at earlier r ++ more)
   pub others : (k : ℕ) → (k ≡ r → ⊥) → stream_at streams k ≡ stream_at earlier k
 
--- The run was stopped at once: the items put are a beginning of a weave of beginnings, and nothing was read behind them.
+-- The run was stopped at once: the items put are a prefix of a weave of prefixes, and nothing was read behind them.
 pub record IsCutAtOnce {X Y : Type 0} (run : Run X Y) (ladder : Ladder) : Type 0 where
   pub cut : IsCutShort run ladder
   pub in_turn : ℕ

@@ -294,7 +294,7 @@ fn files_of_the_system(rt: HostRuntime) -> Result<(), Fail> {
     Ok(())
 }
 
-/// The fault of a check whose writer takes so many bytes, and whether those are a beginning of the line.
+/// The fault of a check whose writer takes so many bytes, and whether those are a prefix of the line.
 fn told_to_a_full_writer(
     alloc: Global,
     files: &MemoryFiles,

@@ -1,4 +1,4 @@
-//! Salted vectors, playlists of an event, as many renditions as there may be, and each beginning of a stream.
+//! Salted vectors, playlists of an event, as many renditions as there may be, and each prefix of a stream.
 use crate::allowed::NAMES;
 use crate::back::is_whole;
 use crate::cases::SEVEN;
@@ -153,7 +153,7 @@ fn as_many_renditions_as_there_may_be(rt: HostRuntime) -> Result<(), Fail> {
     Ok(())
 }
 
-/// What a beginning of the stream of two segments gives, from so many bytes on: the fault, or how many microseconds are
+/// What a prefix of the stream of two segments gives, from so many bytes on: the fault, or how many microseconds are
 /// told; and how many items.
 const BEGINNINGS: [(usize, Result<u128, PackFault>, usize); 6] = [
     (0, Err(PackFault::NoProgram(0)), 0),
@@ -185,7 +185,7 @@ fn is_as_wanted<R: Threads + Wait + Sync>(
     Ok(right)
 }
 
-/// The first length of a beginning of a stream that gives otherwise.
+/// The first length of a prefix of a stream that gives otherwise.
 fn first_other_beginning<R: Threads + Wait + Sync>(
     rt: &R,
     alloc: Global,

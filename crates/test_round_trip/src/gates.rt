@@ -53,7 +53,7 @@ const THREE: Play = Play {
 };
 
 /// What three workers make of the three segments, where so many may be outstanding and the gate looks so often: the fault, how
-/// many items are given, and whether those are a beginning of these.
+/// many items are given, and whether those are a prefix of these.
 fn told_of_three<R: Threads + Wait + Sync>(
     rt: &R,
     alloc: Global,

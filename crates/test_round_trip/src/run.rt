@@ -117,7 +117,7 @@ pub fn played_each_way<R: Threads + Wait + Sync>(
     run_each_way(rt, alloc, &[&stream], play.ways, &settings)
 }
 
-/// What is told of it then, and whether its items are a beginning of these.
+/// What is told of it then, and whether its items are a prefix of these.
 pub fn told_beside<R: Threads + Wait + Sync>(
     rt: &R,
     alloc: Global,

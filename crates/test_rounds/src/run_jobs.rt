@@ -237,7 +237,7 @@ pub(crate) fn told<G: Gate + Sync, R: Threads + Wait + Sync>(
     Ok(ended.told(seen))
 }
 
-/// The same, and whether the items that it gave are a beginning of these.
+/// The same, and whether the items that it gave are a prefix of these.
 pub(crate) fn told_beside<G: Gate + Sync, R: Threads + Wait + Sync>(
     rt: &R,
     alloc: Global,

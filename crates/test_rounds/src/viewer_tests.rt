@@ -99,7 +99,7 @@ fn sees_the_run(viewer: Viewer, items: &[Item]) -> bool {
     false
 }
 
-/// Packs while each viewer looks in a thread of its own, and tells how many saw a beginning of what the run shows, up to its
+/// Packs while each viewer looks in a thread of its own, and tells how many saw a prefix of what the run shows, up to its
 /// end.
 fn watched<'r, R: Threads + Wait + Sync>(
     rt: &'r R,
