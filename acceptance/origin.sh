@@ -1,6 +1,7 @@
 #!/usr/bin/env bash
-# origin.sh PROGRAM: a channel as docs/OPERATING.md has it, with the files of samples/origin: an encoder into FIFOs, the packager,
-# nginx, and what reads over HTTP from the first playlist on: a strict client, ffmpeg, mpv, GStreamer, streamlink and Chromium.
+# origin.sh PROGRAM: a channel as docs/OPERATING.md has it, with the files of samples/origin, run by systemd from their unit files: an
+# encoder into FIFOs, the packager, nginx, and what reads over HTTP from the first playlist on: a strict client, ffmpeg, mpv, GStreamer,
+# streamlink and Chromium.
 # Meanwhile the packager is killed, its input falls silent and comes back, the encoder is killed, and a rendition is added. Each player
 # has to go on over all of it. REHEARSAL_SECONDS says for how long at the least, 60 where it isn't set; PLAYERS names fewer players. The
 # last line says what was seen.
@@ -25,7 +26,11 @@ at() {
 
 installs_players
 makes_channel
-goes_on_air "$samples/channel" "$work/channel.conf"
+if starts_station; then
+    goes_on_air_at_the_station
+else
+    goes_on_air "$samples/channel" "$work/channel.conf"
+fi
 starts_players
 begin=$SECONDS
 
@@ -49,8 +54,13 @@ text = text[:end] + entry + text[end:]
 end = text.index("\n)", text.index("encoder=(")) + 1
 open(path, "w").write(text[:end] + output + text[end:])
 PY
-"$samples/make_folder" "$work/channel.conf" || fail 'the folder is not made again'
-starts inputs "$samples/inputs" "$work/channel.conf"
+if [ -n "$station" ]; then
+    settles
+    in_station systemctl restart "${unit_of[inputs]}" || fail 'the inputs are not held again'
+else
+    "$samples/make_folder" "$work/channel.conf" || fail 'the folder is not made again'
+    starts inputs "$samples/inputs" "$work/channel.conf"
+fi
 sends KILL packager || fail 'no packager to kill'
 sends KILL encoder || fail 'no encoder to kill'
 
@@ -72,4 +82,6 @@ grep -q '^low ' "$work/client.log" || fail 'the rendition that was added was not
 grep -q '^tshls_segments_total{rendition="low"} [1-9]' "$folder/page/channel.prom" || fail 'the metrics do not tell the new rendition'
 # the folder is bounded: a window and what is kept behind it
 [ "$(find "$folder/hls" -name 'sd.*.ts' | wc -l)" -le 60 ] || fail 'segments pile up'
+# what was killed twice was started again twice
+[ -z "$station" ] || [ "$(restarts packager) $(restarts encoder)" = '2 2' ] || fail "systemd restarted them $(restarts packager) and $(restarts encoder) times"
 told "$work/client.log" "$work/followed"
