@@ -2,9 +2,9 @@
 """removals.py PROGRAM LIBRARY FOLDER [HOURS]: a live ladder of two whose old segments go, an hour of stream as fast as it comes.
 
 Runs that go on behind one another: the first one keeps all, the others have --remove. LIBRARY (log_moves.c) tells each file that
-was renamed or removed, in order, and behind each of them the folder is looked at: no listed segment is missing, none went before
-its own duration and that of the longest playlist that listed it had passed since it left (RFC 8216, 6.2.2), and no more is kept
-than the rule needs. Time stamps pass their wrap.
+was renamed or removed, in order, and behind each of them the folder is looked at: no segment is missing that a playlist of segments
+or of I-frames lists, none went before its own duration and that of the longest playlist that listed it had passed since it left
+(RFC 8216, 6.2.2), and no more is kept than the rule needs. Time stamps pass their wrap.
 """
 
 import os
@@ -50,6 +50,7 @@ class Watch:
 
     def __init__(self, name):
         self.name, self.there, self.listed, self.now, self.wrong = name, set(), range(0), 0, []
+        self.framed = set()  # the segments that the I-frame playlist lists
         # for each segment how long it is, how long the longest playlist was that listed it, and when it left
         self.lasts, self.longest, self.left, self.kept = {}, {}, {}, 0
 
@@ -70,7 +71,7 @@ class Watch:
     def went(self, number):
         """A segment was removed."""
         self.there.discard(number)
-        if number in self.listed:
+        if number in self.listed or number in self.framed:
             self.wrong.append(f"{self.name}.{number} went, and it is listed")
             return
         since, least = self.now - self.left[number], self.lasts[number] + self.longest[number]
@@ -78,11 +79,14 @@ class Watch:
             self.wrong.append(f"{self.name}.{number} went {since} us after it left, and not {least}")
 
     def look(self):
-        self.wrong += [f"{self.name}.{number} is listed, and isn't there" for number in self.listed if number not in self.there]
+        self.wrong += [f"{self.name}.{number} is listed, and isn't there" for number in {*self.listed, *self.framed} - self.there]
 
     def move(self, what, rest, file):
         if what == "rename" and rest == "m3u8":
             self.lists(file.read_text())
+            self.look()
+        elif what == "rename" and rest == "iframes.m3u8":
+            self.framed = {int(it) for it in re.findall(rf"^{self.name}\.(\d+)\.ts$", file.read_text(), re.M)}
             self.look()
         elif rest.endswith(".ts") and rest[:-3].isdigit():
             number = int(rest[:-3])
@@ -115,6 +119,8 @@ def main():
             kept, longest, row = sum(map(watch.lasts.get, watch.there)), max(watch.longest.values()), max(watch.lasts.values())
             if number and kept > 3 * longest + 4 * row:
                 watch.wrong.append(f"run {number}: {kept} us are kept, where a playlist lasts {longest} at the most")
+            if not watch.framed:
+                watch.wrong.append("no I-frame playlist was seen")
             if not number and removed:
                 watch.wrong.append(f"{removed} segments went without --remove")
             if number and not removed:
