@@ -30,9 +30,9 @@ fn expect<'s>(collector: &mut Collector<'s>, plan: PlanRef<'s>) -> &'static str 
     }
 }
 
-/// Takes a piece, and again where it is given back for want of memory. Tells how it went.
-fn collect<'s>(collector: &mut Collector<'s>, piece: Sealed<'s>) -> &'static str {
-    let back = match collector.collect(piece) {
+/// Takes a segment, and again where it is given back for want of memory. Tells how it went.
+fn collect<'s>(collector: &mut Collector<'s>, segment: Sealed<'s>) -> &'static str {
+    let back = match collector.collect(segment) {
         Ok(_) => return "at once",
         Err(CollectFault::NoMemory(back)) => back,
         Err(_) => return "wrong",
@@ -43,7 +43,7 @@ fn collect<'s>(collector: &mut Collector<'s>, piece: Sealed<'s>) -> &'static str
     }
 }
 
-/// How many pieces are handed out.
+/// How many segments are handed out.
 fn handed_out(collector: &mut Collector<'_>) -> usize {
     let mut count: usize = 0;
     for _ in 0..3 {
@@ -65,7 +65,7 @@ pub(crate) fn expecting<R: Print>(rt: &R, alloc: Global, plans: &[Plan]) -> Opti
     Some(())
 }
 
-/// Takes the pieces of two plans, the later one first, and hands them out. None where there is no memory to begin.
+/// Takes the segments of two plans, the later one first, and hands them out. None where there is no memory to begin.
 pub(crate) fn collecting<R: Print>(rt: &R, alloc: Global, plans: &[Plan]) -> Option<()> {
     let (first, second) = (plans.first()?, plans.get(1)?);
     let (early, late) = (sealed(alloc, first)?, sealed(alloc, second)?);

@@ -9,7 +9,7 @@ use std::marker::Brand;
 use std::sync::Wait;
 use std::sync::ledger::{Blank, Ledger, Share};
 use std::thread::{self, JoinHandle, Threads};
-use work_desk::{Desk, FreeGate, Opened, Outcome, Pass, Piece, Tally, work};
+use work_desk::{Delivery, Desk, FreeGate, Opened, Outcome, Pass, Tally, work};
 
 const WORKERS: usize = 2;
 
@@ -44,13 +44,13 @@ impl Taken {
         }
     }
 
-    fn note(&mut self, piece: &Piece<'_>) {
-        match self.came.get_mut(piece.number as usize) {
+    fn note(&mut self, delivery: &Delivery<'_>) {
+        match self.came.get_mut(delivery.number as usize) {
             Some(came) if !*came => *came = true,
             _ => self.right = false,
         }
-        match &piece.outcome {
-            Outcome::Sealed(sealed) if sealed.plan().number == piece.number => {
+        match &delivery.outcome {
+            Outcome::Sealed(sealed) if sealed.plan().number == delivery.number => {
                 self.told.sealed = self.told.sealed.saturating_add(1);
             }
             Outcome::Refused => self.told.refused = self.told.refused.saturating_add(1),
@@ -86,10 +86,10 @@ fn drive<'p, L: Ledger, M: Ledger, R: Wait>(
     }
     desk.close(rt);
     for _ in rt.forever() {
-        let Some(piece) = desk.wait_done(rt, taker) else {
+        let Some(delivery) = desk.wait_done(rt, taker) else {
             break;
         };
-        taken.note(&piece);
+        taken.note(&delivery);
     }
     taken
 }

@@ -7,9 +7,9 @@ use Rattle.std.proofs.lemmas.List.{length-map, get_or-map, drop_all, nil_from_le
 use Rattle.std.proofs.lemmas.List.Sums.{sum_by-cons}
 use Rattle.cutter.specs.Plans.{SegmentPlan}
 use Rattle.segment_job.specs.Rotation.{KeyRotation}
-use Rattle.flow_core.specs.Lanes.{LaneValue, first_lane}
-use Rattle.flow_core.specs.Gatherings.{Gathering, no_lane, awaited, lanes_from}
-use Rattle.flow_core.proofs.Gathering.{lanes-count}
+use Rattle.flow_core.specs.Sequences.{SequenceValue, first_sequence}
+use Rattle.flow_core.specs.Gatherings.{Gathering, no_sequence, awaited, sequences_from}
+use Rattle.flow_core.proofs.Gathering.{sequences-count}
 use Rattle.live_board.specs.Snapshots.{Known}
 use Rattle.item_io.specs.Views.{OutletView, SourceView}
 use Rattle.ladder_items.specs.Ladder.{Ladder, RenditionValue, no_rendition, rendition_at}
@@ -19,27 +19,27 @@ use Rattle.ladder_items.proofs.Worlds.{parts-of, parts-length}
 use Rattle.rounds.specs.declared.run.course.Course.{Course}
 use Rattle.rounds.specs.Showing.{counts_of}
 use Rattle.rounds.specs.Courses.{Start, IsOn}
-use Rattle.rounds.specs.Rounds.{InRound, expected, unfed_of, pieces_of, gathered}
+use Rattle.rounds.specs.Rounds.{InRound, expected, unfed_of, segments_in, gathered}
 
 -- the keys of all renditions
 abbrev pub keys-of : Ladder → List KeyRotation
 keys-of ladder = map (λ (r : RenditionValue). r.keys) ladder.renditions
 
 -- a rendition of a new collector
-lanes-at : (r : ℕ) (keys : List KeyRotation) (starts : List ℕ) (k : ℕ) (d : KeyRotation) → k < length keys
-    → (n : ℕ) → n ≡ r + k → slice_index_or (lanes_from r keys starts) k no_lane ≡ first_lane n (slice_index_or keys k d) (slice_index_or starts n 0)
-lanes-at r [] starts k d below n is = absurd (omega (arith, below))
-lanes-at r (x ∷ keys) starts zero d below n is = let same : r ≡ n = omega (arith, is) in ap (λ (m : ℕ). first_lane m x (slice_index_or starts m 0)) same
-lanes-at r (x ∷ keys) starts (suc k) d below n is = lanes-at (r + 1) keys starts k d (omega (arith, below)) n (omega (arith, is))
+sequences-at : (r : ℕ) (keys : List KeyRotation) (starts : List ℕ) (k : ℕ) (d : KeyRotation) → k < length keys
+    → (n : ℕ) → n ≡ r + k → slice_index_or (sequences_from r keys starts) k no_sequence ≡ first_sequence n (slice_index_or keys k d) (slice_index_or starts n 0)
+sequences-at r [] starts k d below n is = absurd (omega (arith, below))
+sequences-at r (x ∷ keys) starts zero d below n is = let same : r ≡ n = omega (arith, is) in ap (λ (m : ℕ). first_sequence m x (slice_index_or starts m 0)) same
+sequences-at r (x ∷ keys) starts (suc k) d below n is = sequences-at (r + 1) keys starts k d (omega (arith, below)) n (omega (arith, is))
 
 -- it expects nothing
-expects-none : (r : ℕ) (keys : List KeyRotation) (starts : List ℕ) (k : ℕ) → expected (slice_index_or (lanes_from r keys starts) k no_lane) ≡ []
+expects-none : (r : ℕ) (keys : List KeyRotation) (starts : List ℕ) (k : ℕ) → expected (slice_index_or (sequences_from r keys starts) k no_sequence) ≡ []
 expects-none r [] starts k = refl
 expects-none r (x ∷ keys) starts zero = refl
 expects-none r (x ∷ keys) starts (suc k) = expects-none (r + 1) keys starts k
 
 -- and has gathered what was given before it
-gathered-from : (r : ℕ) (keys : List KeyRotation) (starts : List ℕ) → r + length keys ≡ length starts → gathered (lanes_from r keys starts) ≡ sum (drop r starts)
+gathered-from : (r : ℕ) (keys : List KeyRotation) (starts : List ℕ) → r + length keys ≡ length starts → gathered (sequences_from r keys starts) ≡ sum (drop r starts)
 gathered-from r [] starts each = sym (ap sum (drop_all r starts (omega (arith, each))))
 gathered-from r (x ∷ keys) starts each =
     let more : suc r ≡ r + 1 = omega arith in
@@ -49,22 +49,22 @@ gathered-from r (x ∷ keys) starts each =
     omega (arith, rest, here, same)
 
 -- nothing is awaited
-awaits-none : (lanes : List LaneValue) (k : ℕ) → awaited lanes ≡ 0 → expected (slice_index_or lanes k no_lane) ≡ []
+awaits-none : (sequences : List SequenceValue) (k : ℕ) → awaited sequences ≡ 0 → expected (slice_index_or sequences k no_sequence) ≡ []
 awaits-none [] k none = refl
-awaits-none (l ∷ lanes) zero none = ap (map (λ slot. slot.plan)) (nil_from_length l.slots (omega (arith, none)))
-awaits-none (l ∷ lanes) (suc k) none = awaits-none lanes k (omega (arith, none))
+awaits-none (l ∷ sequences) zero none = ap (map (λ slot. slot.plan)) (nil_from_length l.slots (omega (arith, none)))
+awaits-none (l ∷ sequences) (suc k) none = awaits-none sequences k (omega (arith, none))
 
-gathered-none : (lanes : List LaneValue) (counts : List ℕ) → length lanes ≡ length counts → awaited lanes ≡ 0
-    → ((k : ℕ) → k < length lanes → (slice_index_or lanes k no_lane).next ≡ slice_index_or counts k 0) → gathered lanes ≡ sum counts
+gathered-none : (sequences : List SequenceValue) (counts : List ℕ) → length sequences ≡ length counts → awaited sequences ≡ 0
+    → ((k : ℕ) → k < length sequences → (slice_index_or sequences k no_sequence).next ≡ slice_index_or counts k 0) → gathered sequences ≡ sum counts
 gathered-none [] [] each none nexts = refl
 gathered-none [] (n ∷ counts) each none nexts = absurd (omega (arith, each))
-gathered-none (l ∷ lanes) [] each none nexts = absurd (omega (arith, each))
-gathered-none (l ∷ lanes) (n ∷ counts) each none nexts =
-    let rest = gathered-none lanes counts (omega (arith, each)) (omega (arith, none)) (λ k below. nexts (suc k) (omega (arith, below))) in
+gathered-none (l ∷ sequences) [] each none nexts = absurd (omega (arith, each))
+gathered-none (l ∷ sequences) (n ∷ counts) each none nexts =
+    let rest = gathered-none sequences counts (omega (arith, each)) (omega (arith, none)) (λ k below. nexts (suc k) (omega (arith, below))) in
     let first : l.next ≡ n = nexts zero (omega arith) in
-    let pieces : pieces_of l.slots ≡ 0 = ap pieces_of (nil_from_length l.slots (omega (arith, none))) in
+    let segments : segments_in l.slots ≡ 0 = ap segments_in (nil_from_length l.slots (omega (arith, none))) in
     let all = sum_by-cons (λ n. n) n counts in
-    omega (arith, rest, first, pieces, all)
+    omega (arith, rest, first, segments, all)
 
 module _ (X Y : Type 0) (input : SourceView X) (out : OutletView Y) (ladder : Ladder) (start : Start X Y) where
   -- how many renditions show something
@@ -77,29 +77,29 @@ module _ (X Y : Type 0) (input : SourceView X) (out : OutletView Y) (ladder : La
 
   -- a round begins
   pub in-first : (spools : List (List SegmentPlan)) (course : Course X Y) (shows : Known) (g : Gathering) → length spools ≡ length ladder.renditions
-      → g.lanes ≡ lanes_from 0 (keys-of ladder) (counts_of course.playlists.items)
+      → g.sequences ≡ sequences_from 0 (keys-of ladder) (counts_of course.playlists.items)
       → IsOn input out ladder start course shows (unfed_of spools) → InRound input out ladder start spools course shows g
   in-first spools course shows g each is on =
       let counts = counts_of course.playlists.items in
       let keys = keys-of ladder in
-      let size : length g.lanes ≡ length ladder.renditions = ap length is ∙ (lanes-count 0 keys counts ∙ length-map ladder.renditions (λ (r : RenditionValue). r.keys)) in
+      let size : length g.sequences ≡ length ladder.renditions = ap length is ∙ (sequences-count 0 keys counts ∙ length-map ladder.renditions (λ (r : RenditionValue). r.keys)) in
       record {
         waiting = unfed_of spools;
         on = on;
-        waits = λ k. ap (λ (l : List SegmentPlan). l ++ unfed_of spools k) (sym (ap (λ (ls : List LaneValue). expected (slice_index_or ls k no_lane)) is ∙ expects-none 0 keys counts k));
+        waits = λ k. ap (λ (l : List SegmentPlan). l ++ unfed_of spools k) (sym (ap (λ (ls : List SequenceValue). expected (slice_index_or ls k no_sequence)) is ∙ expects-none 0 keys counts k));
         each = size;
         all = each;
         nexts = λ k below.
-            ap (λ (ls : List LaneValue). (slice_index_or ls k no_lane).next) is
-            ∙ ap (λ (l : LaneValue). l.next) (lanes-at 0 keys counts k (rendition_at ladder k).keys (omega (arith, below, size, length-map ladder.renditions (λ (r : RenditionValue). r.keys))) k (omega arith));
+            ap (λ (ls : List SequenceValue). (slice_index_or ls k no_sequence).next) is
+            ∙ ap (λ (l : SequenceValue). l.next) (sequences-at 0 keys counts k (rendition_at ladder k).keys (omega (arith, below, size, length-map ladder.renditions (λ (r : RenditionValue). r.keys))) k (omega arith));
         keys = λ k below.
-            ap (λ (ls : List LaneValue). (slice_index_or ls k no_lane).keys) is
-            ∙ (ap (λ (l : LaneValue). l.keys) (lanes-at 0 keys counts k (rendition_at ladder k).keys (omega (arith, below, size, length-map ladder.renditions (λ (r : RenditionValue). r.keys))) k (omega arith))
+            ap (λ (ls : List SequenceValue). (slice_index_or ls k no_sequence).keys) is
+            ∙ (ap (λ (l : SequenceValue). l.keys) (sequences-at 0 keys counts k (rendition_at ladder k).keys (omega (arith, below, size, length-map ladder.renditions (λ (r : RenditionValue). r.keys))) k (omega arith))
             ∙ get_or-map (λ (r : RenditionValue). r.keys) ladder.renditions k no_rendition (rendition_at ladder k).keys (omega (arith, below, size)));
       }
 
-  pub in-begun : (course : Course X Y) (shows : Known) (waiting : ℕ → List SegmentPlan) (g : Gathering) → g.lanes ≡ lanes_from 0 (keys-of ladder) (counts_of course.playlists.items)
-      → IsOn input out ladder start course shows waiting → gathered g.lanes ≡ sum (counts_of course.playlists.items)
+  pub in-begun : (course : Course X Y) (shows : Known) (waiting : ℕ → List SegmentPlan) (g : Gathering) → g.sequences ≡ sequences_from 0 (keys-of ladder) (counts_of course.playlists.items)
+      → IsOn input out ladder start course shows waiting → gathered g.sequences ≡ sum (counts_of course.playlists.items)
   in-begun course shows waiting g is on =
       let counts = counts_of course.playlists.items in
       let keys = keys-of ladder in
@@ -120,14 +120,14 @@ module _ (X Y : Type 0) (input : SourceView X) (out : OutletView Y) (ladder : La
   }
 
   -- it ends
-  pub in-last : (left : List (List SegmentPlan)) (course : Course X Y) (shows : Known) (g : Gathering) → awaited g.lanes ≡ 0 → ((k : ℕ) → unfed_of left k ≡ [])
+  pub in-last : (left : List (List SegmentPlan)) (course : Course X Y) (shows : Known) (g : Gathering) → awaited g.sequences ≡ 0 → ((k : ℕ) → unfed_of left k ≡ [])
       → InRound input out ladder start left course shows g → IsOn input out ladder start course shows (λ k. [])
   in-last left course shows g none fed i =
-      let all : (k : ℕ) → i.waiting k ≡ [] = λ k. i.waits k ∙ (ap (λ (l : List SegmentPlan). l ++ unfed_of left k) (awaits-none g.lanes k none) ∙ fed k) in
+      let all : (k : ℕ) → i.waiting k ≡ [] = λ k. i.waits k ∙ (ap (λ (l : List SegmentPlan). l ++ unfed_of left k) (awaits-none g.sequences k none) ∙ fed k) in
       let path : i.waiting ≡ (λ k. []) = λ j k. all k j in
       subst (λ (w : ℕ → List SegmentPlan). IsOn input out ladder start course shows w) path i.on
 
-  pub in-given : (left : List (List SegmentPlan)) (course : Course X Y) (shows : Known) (g : Gathering) → awaited g.lanes ≡ 0
-      → InRound input out ladder start left course shows g → gathered g.lanes ≡ sum (counts_of course.playlists.items)
+  pub in-given : (left : List (List SegmentPlan)) (course : Course X Y) (shows : Known) (g : Gathering) → awaited g.sequences ≡ 0
+      → InRound input out ladder start left course shows g → gathered g.sequences ≡ sum (counts_of course.playlists.items)
   in-given left course shows g none i =
-      gathered-none g.lanes (counts_of course.playlists.items) (i.each ∙ sym (counts-each course shows i.waiting i.on)) none (λ k below. i.nexts k below)
+      gathered-none g.sequences (counts_of course.playlists.items) (i.each ∙ sym (counts-each course shows i.waiting i.on)) none (λ k below. i.nexts k below)

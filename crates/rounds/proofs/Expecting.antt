@@ -10,9 +10,9 @@ use Rattle.std.proofs.lemmas.Option.{get_or_from_slice_get, slice_get_within}
 use Rattle.cutter.specs.Plans.{SegmentPlan}
 use Rattle.cutter.specs.Ordered.{IsPlan}
 use Rattle.flow_core.specs.declared.slot.Slot.{Slot}
-use Rattle.flow_core.specs.Lanes.{LaneValue, following, with_plan}
-use Rattle.flow_core.specs.Gatherings.{Gathering, lane_at, with_lane}
-use Rattle.flow_core.proofs.Flowing.{lane-same, lane-other, field-kept}
+use Rattle.flow_core.specs.Sequences.{SequenceValue, following, with_plan}
+use Rattle.flow_core.specs.Gatherings.{Gathering, sequence_at, with_sequence}
+use Rattle.flow_core.proofs.Flowing.{sequence-same, sequence-other, field-kept}
 use Rattle.live_board.specs.Snapshots.{Known}
 use Rattle.item_io.specs.Views.{OutletView, SourceView}
 use Rattle.ladder_items.specs.Ladder.{Ladder}
@@ -20,21 +20,21 @@ use Rattle.ladder_items.specs.Items.{part_at, count}
 use Rattle.ladder_items.proofs.Worlds.{InOrder, parts-of, parts-length}
 use Rattle.rounds.specs.declared.run.course.Course.{Course}
 use Rattle.rounds.specs.Courses.{Start}
-use Rattle.rounds.specs.Rounds.{InRound, expected, unfed_of, pieces_of, gathered}
+use Rattle.rounds.specs.Rounds.{InRound, expected, unfed_of, segments_in, gathered}
 use Rattle.rounds.proofs.Collecting.{gathered-set}
 use Rattle.rounds.proofs.Running.{waits-next}
 use Rattle.rounds.proofs.Rounding.{count-at}
 
--- no piece came for a plan that is expected now
-pub pieces-more : (slots : List Slot) (plan : SegmentPlan) → pieces_of (slots ++ record { plan = plan; piece = None } ∷ []) ≡ pieces_of slots
-pieces-more [] plan = refl
-pieces-more (s ∷ slots) plan = omega (arith, pieces-more slots plan)
+-- no segment came for a plan that is expected now
+pub segments-more : (slots : List Slot) (plan : SegmentPlan) → segments_in (slots ++ record { plan = plan; segment = None } ∷ []) ≡ segments_in slots
+segments-more [] plan = refl
+segments-more (s ∷ slots) plan = omega (arith, segments-more slots plan)
 
-pub expects-gathered : (g h : Gathering) (r : ℕ) (plan : SegmentPlan) → r < length g.lanes → h ≡ with_lane g r (with_plan (lane_at g r) plan) → gathered h.lanes ≡ gathered g.lanes
+pub expects-gathered : (g h : Gathering) (r : ℕ) (plan : SegmentPlan) → r < length g.sequences → h ≡ with_sequence g r (with_plan (sequence_at g r) plan) → gathered h.sequences ≡ gathered g.sequences
 expects-gathered g h r plan below is =
-    let moved = gathered-set g r (with_plan (lane_at g r) plan) below in
-    let same = pieces-more (lane_at g r).slots plan in
-    ap (λ (x : Gathering). gathered x.lanes) is ∙ omega (arith, moved, same)
+    let moved = gathered-set g r (with_plan (sequence_at g r) plan) below in
+    let same = segments-more (sequence_at g r).slots plan in
+    ap (λ (x : Gathering). gathered x.sequences) is ∙ omega (arith, moved, same)
 
 -- the next plan of a spool that is being fed
 pub next-unfed : (unfed : List (List SegmentPlan)) (r i : ℕ) (spool : List SegmentPlan) (plan : SegmentPlan) → r < length unfed → slice_get spool i ≡ Some plan
@@ -69,43 +69,43 @@ all-fed left n all fed k = fed-by (nat_lt k n) left n k refl all fed
 module _ (X Y : Type 0) (input : SourceView X) (out : OutletView Y) (ladder : Ladder) (start : Start X Y) (unfed : List (List SegmentPlan)) (course : Course X Y) (shows : Known) (g : Gathering)
     (i : InRound input out ladder start unfed course shows g) (r : ℕ) (below : r < length ladder.renditions) (plan : SegmentPlan) (left : List SegmentPlan) (is : unfed_of unfed r ≡ plan ∷ left) where
   -- the next plan of a rendition follows those that are expected
-  pub plan-follows : InOrder ladder → IsPlan r ladder.cut (following (lane_at g r)) plan
+  pub plan-follows : InOrder ladder → IsPlan r ladder.cut (following (sequence_at g r)) plan
   plan-follows order =
       let parts = parts-of ladder i.on.world.events in
       let each = parts-length ladder i.on.world.events in
-      let front = expected (lane_at g r) in
-      let size : length front ≡ length (lane_at g r).slots = length-map (lane_at g r).slots (λ (slot : Slot). slot.plan) in
+      let front = expected (sequence_at g r) in
+      let size : length front ≡ length (sequence_at g r).slots = length-map (sequence_at g r).slots (λ (slot : Slot). slot.plan) in
       let next = i.nexts r (omega (arith, below, i.each)) in
       let shown = count-at ladder parts course.playlists.items r each (omega (arith, each, below)) i.on.world.shown_are in
-      let number : count (part_at parts r) + length front ≡ following (lane_at g r) = omega (arith, size, next, shown) in
+      let number : count (part_at parts r) + length front ≡ following (sequence_at g r) = omega (arith, size, next, shown) in
       subst (λ (n : ℕ). IsPlan r ladder.cut n plan) number
       (waits-next X Y input out ladder start course shows i.waiting i.on order r below front plan left (i.waits r ∙ ap (λ (l : List SegmentPlan). front ++ l) is))
 
   -- it is expected now
-  pub in-expect : (h : Gathering) → h ≡ with_lane g r (with_plan (lane_at g r) plan) → InRound input out ladder start (slice_set unfed r left) course shows h
+  pub in-expect : (h : Gathering) → h ≡ with_sequence g r (with_plan (sequence_at g r) plan) → InRound input out ladder start (slice_set unfed r left) course shows h
   in-expect h same =
-      let lane = lane_at g r in
-      let then = with_plan lane plan in
-      let c = with_lane g r then in
-      let inner : r < length g.lanes = omega (arith, below, i.each) in
+      let sequence = sequence_at g r in
+      let then = with_plan sequence plan in
+      let c = with_sequence g r then in
+      let inner : r < length g.sequences = omega (arith, below, i.each) in
       let inner_unfed : r < length unfed = omega (arith, below, i.all) in
-      let size = length-set g.lanes r then in
-      let wait : (k : ℕ) → i.waiting k ≡ expected (lane_at c k) ++ unfed_of (slice_set unfed r left) k =
+      let size = length-set g.sequences r then in
+      let wait : (k : ℕ) → i.waiting k ≡ expected (sequence_at c k) ++ unfed_of (slice_set unfed r left) k =
       λ k.
-      elim (cases_eq k r) as (λ _. i.waiting k ≡ expected (lane_at c k) ++ unfed_of (slice_set unfed r left) k) [
+      elim (cases_eq k r) as (λ _. i.waiting k ≡ expected (sequence_at c k) ++ unfed_of (slice_set unfed r left) k) [
         | inl q ↦
-            let here : expected (lane_at c k) ≡ expected lane ++ plan ∷ [] =
-            ap expected (lane-same g r k then inner q) ∙ map-append (λ (s : Slot). s.plan) lane.slots (record { plan = plan; piece = None } ∷ []) in
+            let here : expected (sequence_at c k) ≡ expected sequence ++ plan ∷ [] =
+            ap expected (sequence-same g r k then inner q) ∙ map-append (λ (s : Slot). s.plan) sequence.slots (record { plan = plan; segment = None } ∷ []) in
             let fed : unfed_of (slice_set unfed r left) k ≡ left = ap (unfed_of (slice_set unfed r left)) q ∙ get_or-set_same unfed r left [] inner_unfed in
             ap i.waiting q
             ∙ (i.waits r
-            ∙ (ap (λ (l : List SegmentPlan). expected lane ++ l) is
-            ∙ (sym (append_assoc (expected lane) (plan ∷ []) left)
-            ∙ (ap (λ (l : List SegmentPlan). l ++ left) (sym here) ∙ ap (λ (l : List SegmentPlan). expected (lane_at c k) ++ l) (sym fed)))))
+            ∙ (ap (λ (l : List SegmentPlan). expected sequence ++ l) is
+            ∙ (sym (append_assoc (expected sequence) (plan ∷ []) left)
+            ∙ (ap (λ (l : List SegmentPlan). l ++ left) (sym here) ∙ ap (λ (l : List SegmentPlan). expected (sequence_at c k) ++ l) (sym fed)))))
         | inr q ↦
             i.waits k
-            ∙ (ap (λ (l : LaneValue). expected l ++ unfed_of unfed k) (sym (lane-other g r k then q))
-            ∙ ap (λ (l : List SegmentPlan). expected (lane_at c k) ++ l) (sym (get_or-set_other unfed r k left [] q)))
+            ∙ (ap (λ (l : SequenceValue). expected l ++ unfed_of unfed k) (sym (sequence-other g r k then q))
+            ∙ ap (λ (l : List SegmentPlan). expected (sequence_at c k) ++ l) (sym (get_or-set_other unfed r k left [] q)))
       ] in
       subst (λ (d : Gathering). InRound input out ladder start (slice_set unfed r left) course shows d) (sym same) (record {
         waiting = i.waiting;
@@ -113,6 +113,6 @@ module _ (X Y : Type 0) (input : SourceView X) (out : OutletView Y) (ladder : La
         waits = wait;
         each = size ∙ i.each;
         all = length-set unfed r left ∙ i.all;
-        nexts = λ k small. field-kept (λ (l : LaneValue). l.next) g r then inner refl k _ refl ∙ i.nexts k (omega (arith, small, size));
-        keys = λ k small. field-kept (λ (l : LaneValue). l.keys) g r then inner refl k _ refl ∙ i.keys k (omega (arith, small, size));
+        nexts = λ k small. field-kept (λ (l : SequenceValue). l.next) g r then inner refl k _ refl ∙ i.nexts k (omega (arith, small, size));
+        keys = λ k small. field-kept (λ (l : SequenceValue). l.keys) g r then inner refl k _ refl ∙ i.keys k (omega (arith, small, size));
       })

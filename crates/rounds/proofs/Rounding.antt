@@ -1,4 +1,4 @@
--- A round on its way: the next piece of a rendition is given.
+-- A round on its way: the next segment of a rendition is given.
 use Rattle.std.proofs.Common.{◌≡◌, ◌∙◌, inl, inr, ℕ, ◌+◌, ◌<◌, ◌≤◌, ◌^◌, Bool, true, false, List, [], ◌∷◌, ◌++◌, length, map, drop, Some, refl, ap, sym, subst, arith, length-append}
 use Rattle.std.specs.Prelude.{nat_lt}
 use Rattle.std.specs.List.{slice_get, slice_index_or}
@@ -10,10 +10,10 @@ use Rattle.cutter.specs.Plans.{SegmentPlan}
 use Rattle.segment_job.specs.Segments.{SealedSegment, sealed_segment}
 use Rattle.flow_core.specs.declared.slot.Slot.{Slot}
 use Rattle.flow_core.specs.Slots.{leading}
-use Rattle.flow_core.specs.Lanes.{LaneValue, passed}
-use Rattle.flow_core.specs.Gatherings.{Gathering, no_lane, lane_at, with_lane, awaited}
+use Rattle.flow_core.specs.Sequences.{SequenceValue, passed}
+use Rattle.flow_core.specs.Gatherings.{Gathering, no_sequence, sequence_at, with_sequence, awaited}
 use Rattle.flow_core.proofs.Gathering.{awaited-set}
-use Rattle.flow_core.proofs.Flowing.{lane-same, lane-other, inside}
+use Rattle.flow_core.proofs.Flowing.{sequence-same, sequence-other, inside}
 use Rattle.live_board.specs.Snapshots.{Known}
 use Rattle.item_io.specs.Views.{OutletView, SourceView}
 use Rattle.ladder_items.specs.declared.fault.PackFault.{PackFault}
@@ -29,7 +29,7 @@ use Rattle.ladder_items.proofs.Worlds.{InOrder, parts-of, parts-length}
 use Rattle.rounds.specs.declared.run.course.Course.{Course}
 use Rattle.rounds.specs.Showing.{counts_of}
 use Rattle.rounds.specs.Courses.{Gave, GaveSome, IsHeld, ReadsNone, Start, IsStopped, SaysSudden}
-use Rattle.rounds.specs.Rounds.{Keeps, InRound, NoneReady, expected, unfed_of, pieces_of, gathered}
+use Rattle.rounds.specs.Rounds.{Keeps, InRound, NoneReady, expected, unfed_of, segments_in, gathered}
 use Rattle.rounds.proofs.Collecting.{gathered-set}
 use Rattle.rounds.proofs.Steps.{counts-are}
 use Rattle.rounds.proofs.Running.{stage-of, stopped-here, first-next, waits-going, on-failures, on-gave, on-ungiven, row-moved, row-begins}
@@ -41,41 +41,41 @@ count-at ladder parts shown k each below is =
     ap (λ (l : List ℕ). slice_index_or l k 0) (counts-are ladder parts shown each is) ∙ get_or-map count parts k no_part 0 below
 
 -- the first slot
-front-of : (slots : List Slot) (plan : SegmentPlan) (piece : SealedSegment) → slice_get slots 0 ≡ Some (record { plan = plan; piece = Some piece })
-    → (map (λ (slot : Slot). slot.plan) slots ≡ plan ∷ map (λ (slot : Slot). slot.plan) (drop 1 slots)) × (pieces_of slots ≡ 1 + pieces_of (drop 1 slots))
-front-of [] plan piece at = cc
-front-of (s ∷ slots) plan piece at =
-    let is : s ≡ record { plan = plan; piece = Some piece } = cc in
-    (ap (λ (x : Slot). x.plan ∷ map (λ (slot : Slot). slot.plan) slots) is, ap (λ (x : Slot). pieces_of (x ∷ slots)) is)
+front-of : (slots : List Slot) (plan : SegmentPlan) (segment : SealedSegment) → slice_get slots 0 ≡ Some (record { plan = plan; segment = Some segment })
+    → (map (λ (slot : Slot). slot.plan) slots ≡ plan ∷ map (λ (slot : Slot). slot.plan) (drop 1 slots)) × (segments_in slots ≡ 1 + segments_in (drop 1 slots))
+front-of [] plan segment at = cc
+front-of (s ∷ slots) plan segment at =
+    let is : s ≡ record { plan = plan; segment = Some segment } = cc in
+    (ap (λ (x : Slot). x.plan ∷ map (λ (slot : Slot). slot.plan) slots) is, ap (λ (x : Slot). segments_in (x ∷ slots)) is)
 
-one-less : (slots : List Slot) (plan : SegmentPlan) (piece : SealedSegment) → slice_get slots 0 ≡ Some (record { plan = plan; piece = Some piece }) → length (drop 1 slots) + 1 ≡ length slots
-one-less [] plan piece at = cc
-one-less (s ∷ slots) plan piece at = omega arith
+one-less : (slots : List Slot) (plan : SegmentPlan) (segment : SealedSegment) → slice_get slots 0 ≡ Some (record { plan = plan; segment = Some segment }) → length (drop 1 slots) + 1 ≡ length slots
+one-less [] plan segment at = cc
+one-less (s ∷ slots) plan segment at = omega arith
 
--- a piece that is handed out counts on
-pub passed-gathered : (g : Gathering) (r : ℕ) (plan : SegmentPlan) (piece : SealedSegment) → slice_get (lane_at g r).slots 0 ≡ Some (record { plan = plan; piece = Some piece })
-    → gathered (with_lane g r (passed (lane_at g r))).lanes ≡ gathered g.lanes
-passed-gathered g r plan piece at =
-    let moved = gathered-set g r (passed (lane_at g r)) (inside g r 0 _ at) in
-    let front = (front-of (lane_at g r).slots plan piece at).1 in
+-- a segment that is handed out counts on
+pub passed-gathered : (g : Gathering) (r : ℕ) (plan : SegmentPlan) (segment : SealedSegment) → slice_get (sequence_at g r).slots 0 ≡ Some (record { plan = plan; segment = Some segment })
+    → gathered (with_sequence g r (passed (sequence_at g r))).sequences ≡ gathered g.sequences
+passed-gathered g r plan segment at =
+    let moved = gathered-set g r (passed (sequence_at g r)) (inside g r 0 _ at) in
+    let front = (front-of (sequence_at g r).slots plan segment at).1 in
     omega (arith, moved, front)
 
 -- and leaves one plan fewer
-pub passed-fewer : (g : Gathering) (r : ℕ) (plan : SegmentPlan) (piece : SealedSegment) → slice_get (lane_at g r).slots 0 ≡ Some (record { plan = plan; piece = Some piece })
-    → awaited (with_lane g r (passed (lane_at g r))).lanes + 1 ≡ awaited g.lanes
-passed-fewer g r plan piece at =
-    let moved = awaited-set g.lanes r (passed (lane_at g r)) (inside g r 0 _ at) in
-    let front : length (drop 1 (lane_at g r).slots) + 1 ≡ length (lane_at g r).slots = one-less (lane_at g r).slots plan piece at in
+pub passed-fewer : (g : Gathering) (r : ℕ) (plan : SegmentPlan) (segment : SealedSegment) → slice_get (sequence_at g r).slots 0 ≡ Some (record { plan = plan; segment = Some segment })
+    → awaited (with_sequence g r (passed (sequence_at g r))).sequences + 1 ≡ awaited g.sequences
+passed-fewer g r plan segment at =
+    let moved = awaited-set g.sequences r (passed (sequence_at g r)) (inside g r 0 _ at) in
+    let front : length (drop 1 (sequence_at g r).slots) + 1 ≡ length (sequence_at g r).slots = one-less (sequence_at g r).slots plan segment at in
     omega (arith, moved, front)
 
 -- where the renditions of a collector have nothing in front, none does
-dry-by : (b : Bool) (g : Gathering) (n k : ℕ) → nat_lt k n ≡ b → length g.lanes ≤ n → ((k : ℕ) → k < n → leading (lane_at g k).slots ≡ 0) → leading (lane_at g k).slots ≡ 0
+dry-by : (b : Bool) (g : Gathering) (n k : ℕ) → nat_lt k n ≡ b → length g.sequences ≤ n → ((k : ℕ) → k < n → leading (sequence_at g k).slots ≡ 0) → leading (sequence_at g k).slots ≡ 0
 dry-by true g n k is few dry = dry k (grind (arith, nat_tests, is))
 dry-by false g n k is few dry =
-    let past : length g.lanes ≤ k = grind (arith, nat_tests, is, few) in
-    ap (λ (l : LaneValue). leading l.slots) (get_or-eq_default g.lanes no_lane past)
+    let past : length g.sequences ≤ k = grind (arith, nat_tests, is, few) in
+    ap (λ (l : SequenceValue). leading l.slots) (get_or-eq_default g.sequences no_sequence past)
 
-pub none-ready : (g : Gathering) (n : ℕ) → length g.lanes ≤ n → ((k : ℕ) → k < n → leading (lane_at g k).slots ≡ 0) → NoneReady g
+pub none-ready : (g : Gathering) (n : ℕ) → length g.sequences ≤ n → ((k : ℕ) → k < n → leading (sequence_at g k).slots ≡ 0) → NoneReady g
 none-ready g n few dry k = dry-by (nat_lt k n) g n k refl few dry
 
 -- a held segment leaves the outlet's count of failures
@@ -83,7 +83,7 @@ pub held-sudden : (fault : PackFault) (n : ℕ) → IsHeld fault → SaysSudden 
 held-sudden fault n held = subst (λ (f : PackFault). SaysSudden f n n) (sym held.2) refl
 
 module _ (X Y : Type 0) (input : SourceView X) (out : OutletView Y) (ladder : Ladder) where
-  -- pieces came
+  -- segments came
   pub in-keeps : (start : Start X Y) (unfed : List (List SegmentPlan)) (course : Course X Y) (shows : Known) (g h : Gathering) → Keeps g h
       → InRound input out ladder start unfed course shows g → InRound input out ladder start unfed course shows h
   in-keeps start unfed course shows g h keeps i = record {
@@ -105,61 +105,61 @@ module _ (X Y : Type 0) (input : SourceView X) (out : OutletView Y) (ladder : La
       → out.failures course.outlet < 2 ^ 63
   in-failures start unfed course shows g i = (on-failures X Y input out ladder start course shows i.waiting i.on).1
 
-  -- the piece that came for the first plan of a rendition
+  -- the segment that came for the first plan of a rendition
   module _ (start : Start X Y) (unfed : List (List SegmentPlan)) (course : Course X Y) (shows : Known) (g : Gathering) (i : InRound input out ladder start unfed course shows g) (order : InOrder ladder)
-      (r : ℕ) (piece : SealedSegment) (at : slice_get (lane_at g r).slots 0 ≡ Some (record { plan = piece.plan; piece = Some piece })) where
+      (r : ℕ) (segment : SealedSegment) (at : slice_get (sequence_at g r).slots 0 ≡ Some (record { plan = segment.plan; segment = Some segment })) where
     pub in-within : r < length ladder.renditions
     in-within = omega (arith, inside g r 0 _ at, i.each)
 
-    pub in-front : i.waiting r ≡ piece.plan ∷ (expected (passed (lane_at g r)) ++ unfed_of unfed r)
-    in-front = i.waits r ∙ ap (λ (l : List SegmentPlan). l ++ unfed_of unfed r) (front-of (lane_at g r).slots piece.plan piece at).0
+    pub in-front : i.waiting r ≡ segment.plan ∷ (expected (passed (sequence_at g r)) ++ unfed_of unfed r)
+    in-front = i.waits r ∙ ap (λ (l : List SegmentPlan). l ++ unfed_of unfed r) (front-of (sequence_at g r).slots segment.plan segment at).0
 
-    pub in-next : IsNext ladder r (parts-of ladder i.on.world.events) course.playlists.items piece.plan
-    in-next = first-next X Y input out ladder start course shows i.waiting i.on order r in-within piece.plan _ in-front
+    pub in-next : IsNext ladder r (parts-of ladder i.on.world.events) course.playlists.items segment.plan
+    in-next = first-next X Y input out ladder start course shows i.waiting i.on order r in-within segment.plan _ in-front
 
-    pub in-sealed : piece ≡ sealed_segment (lane_at g r).keys piece.plan → piece ≡ sealed_segment (rendition_at ladder r).keys piece.plan
-    in-sealed sealed = sealed ∙ ap (λ keys. sealed_segment keys piece.plan) (i.keys r (inside g r 0 _ at))
+    pub in-sealed : segment ≡ sealed_segment (sequence_at g r).keys segment.plan → segment ≡ sealed_segment (rendition_at ladder r).keys segment.plan
+    in-sealed sealed = sealed ∙ ap (λ keys. sealed_segment keys segment.plan) (i.keys r (inside g r 0 _ at))
 
-    pub in-gave : (now : Course X Y) (shows_now : Known) (h : Gathering) → Gave out ladder (parts-of ladder i.on.world.events) (Row r piece.plan) course now shows.list shows_now.list
-        → ReadsNone course now → shows_now.board ≡ shows.board → h ≡ with_lane g r (passed (lane_at g r)) → InRound input out ladder start unfed now shows_now h
+    pub in-gave : (now : Course X Y) (shows_now : Known) (h : Gathering) → Gave out ladder (parts-of ladder i.on.world.events) (Row r segment.plan) course now shows.list shows_now.list
+        → ReadsNone course now → shows_now.board ≡ shows.board → h ≡ with_sequence g r (passed (sequence_at g r)) → InRound input out ladder start unfed now shows_now h
     in-gave now shows_now h gave none board is =
-        let then = passed (lane_at g r) in
-        let c = with_lane g r then in
+        let then = passed (sequence_at g r) in
+        let c = with_sequence g r then in
         let inner = inside g r 0 _ at in
         let parts = parts-of ladder i.on.world.events in
         let each = parts-length ladder i.on.world.events in
         let within : r < length parts = omega (arith, each, in-within) in
         let s = stage-of X Y input out ladder start course shows i.waiting i.on r in-within in
-        let still : ℕ → List SegmentPlan = λ k. expected (lane_at c k) ++ unfed_of unfed k in
-        let here = lane-same g r r then inner refl in
-        let o = on-gave X Y input out ladder start r course now shows shows_now i.waiting still (Row r piece.plan) s.2 i.on s.3 refl (waits-going X Y input out ladder start course shows i.waiting i.on r in-within piece.plan _ in-front)
+        let still : ℕ → List SegmentPlan = λ k. expected (sequence_at c k) ++ unfed_of unfed k in
+        let here = sequence-same g r r then inner refl in
+        let o = on-gave X Y input out ladder start r course now shows shows_now i.waiting still (Row r segment.plan) s.2 i.on s.3 refl (waits-going X Y input out ladder start course shows i.waiting i.on r in-within segment.plan _ in-front)
         gave none board
-        (rw here (row-moved X Y input out ladder start course shows i.waiting i.on r in-within piece.plan _ in-front))
-        (λ k other. ap (λ (l : LaneValue). expected l ++ unfed_of unfed k) (lane-other g r k then other) ∙ sym (i.waits k)) in
-        let next : (k : ℕ) → k < length g.lanes → (lane_at c k).next ≡ slice_index_or (counts_of now.playlists.items) k 0 =
+        (rw here (row-moved X Y input out ladder start course shows i.waiting i.on r in-within segment.plan _ in-front))
+        (λ k other. ap (λ (l : SequenceValue). expected l ++ unfed_of unfed k) (sequence-other g r k then other) ∙ sym (i.waits k)) in
+        let next : (k : ℕ) → k < length g.sequences → (sequence_at c k).next ≡ slice_index_or (counts_of now.playlists.items) k 0 =
         λ k below.
         let inside_k : k < length parts = omega (arith, each, below, i.each) in
         let old = count-at ladder parts course.playlists.items k each inside_k i.on.world.shown_are in
-        let new = count-at ladder (after parts (Row r piece.plan)) now.playlists.items k (after-each parts r piece.plan ∙ each) (omega (arith, inside_k, after-each parts r piece.plan)) gave.shown in
-        elim (cases_eq k r) as (λ _. (lane_at c k).next ≡ slice_index_or (counts_of now.playlists.items) k 0) [
+        let new = count-at ladder (after parts (Row r segment.plan)) now.playlists.items k (after-each parts r segment.plan ∙ each) (omega (arith, inside_k, after-each parts r segment.plan)) gave.shown in
+        elim (cases_eq k r) as (λ _. (sequence_at c k).next ≡ slice_index_or (counts_of now.playlists.items) k 0) [
           | inl q ↦
-              let grew : count (part_at (after parts (Row r piece.plan)) k) ≡ count (part_at parts k) + 1 =
-              ap (λ (j : ℕ). count (part_at (after parts (Row r piece.plan)) j)) q
-              ∙ (ap count (grown-at parts r piece.plan within) ∙ (length-append (part_at parts r).plans (piece.plan ∷ []) ∙ ap (λ (j : ℕ). count (part_at parts j) + 1) (sym q))) in
-              let was : (lane_at c k).next ≡ (lane_at g k).next + 1 = ap (λ (l : LaneValue). l.next) (lane-same g r k then inner q) ∙ ap (λ (j : ℕ). (lane_at g j).next + 1) (sym q) in
+              let grew : count (part_at (after parts (Row r segment.plan)) k) ≡ count (part_at parts k) + 1 =
+              ap (λ (j : ℕ). count (part_at (after parts (Row r segment.plan)) j)) q
+              ∙ (ap count (grown-at parts r segment.plan within) ∙ (length-append (part_at parts r).plans (segment.plan ∷ []) ∙ ap (λ (j : ℕ). count (part_at parts j) + 1) (sym q))) in
+              let was : (sequence_at c k).next ≡ (sequence_at g k).next + 1 = ap (λ (l : SequenceValue). l.next) (sequence-same g r k then inner q) ∙ ap (λ (j : ℕ). (sequence_at g j).next + 1) (sym q) in
               omega (arith, was, i.nexts k below, old, grew, new)
           | inr q ↦
-              let same = ap count (after-other r k parts (Row r piece.plan) refl q) in
-              let was = ap (λ (l : LaneValue). l.next) (lane-other g r k then q) in
+              let same = ap count (after-other r k parts (Row r segment.plan) refl q) in
+              let was = ap (λ (l : SequenceValue). l.next) (sequence-other g r k then q) in
               omega (arith, was, i.nexts k below, old, same, new)
         ] in
-        let key : (k : ℕ) → k < length g.lanes → (lane_at c k).keys ≡ (rendition_at ladder k).keys =
+        let key : (k : ℕ) → k < length g.sequences → (sequence_at c k).keys ≡ (rendition_at ladder k).keys =
         λ k below.
-        elim (cases_eq k r) as (λ _. (lane_at c k).keys ≡ (rendition_at ladder k).keys) [
-          | inl q ↦ ap (λ (l : LaneValue). l.keys) (lane-same g r k then inner q) ∙ (ap (λ (j : ℕ). (lane_at g j).keys) (sym q) ∙ i.keys k below)
-          | inr q ↦ ap (λ (l : LaneValue). l.keys) (lane-other g r k then q) ∙ i.keys k below
+        elim (cases_eq k r) as (λ _. (sequence_at c k).keys ≡ (rendition_at ladder k).keys) [
+          | inl q ↦ ap (λ (l : SequenceValue). l.keys) (sequence-same g r k then inner q) ∙ (ap (λ (j : ℕ). (sequence_at g j).keys) (sym q) ∙ i.keys k below)
+          | inr q ↦ ap (λ (l : SequenceValue). l.keys) (sequence-other g r k then q) ∙ i.keys k below
         ] in
-        let size = length-set g.lanes r then in
+        let size = length-set g.sequences r then in
         subst (λ (d : Gathering). InRound input out ladder start unfed now shows_now d) (sym is) (record {
           waiting = still;
           on = o.0;
@@ -170,10 +170,10 @@ module _ (X Y : Type 0) (input : SourceView X) (out : OutletView Y) (ladder : La
           keys = λ k below. key k (omega (arith, below, size));
         })
 
-    pub in-ungiven : (now : Course X Y) (shows_now : Known) (fault : PackFault) → GaveSome out ladder (parts-of ladder i.on.world.events) (Row r piece.plan) course now shows.list shows_now.list
+    pub in-ungiven : (now : Course X Y) (shows_now : Known) (fault : PackFault) → GaveSome out ladder (parts-of ladder i.on.world.events) (Row r segment.plan) course now shows.list shows_now.list
         → ReadsNone course now → shows_now.board ≡ shows.board → SaysFailures fault (out.failures course.outlet) (out.failures now.outlet)
         → IsStopped input out ladder start now shows_now fault
     in-ungiven now shows_now fault gave none board says =
         let s = stage-of X Y input out ladder start course shows i.waiting i.on r in-within in
-        on-ungiven X Y input out ladder start r course now shows shows_now i.waiting (Row r piece.plan) s.2 fault i.on s.3 refl (waits-going X Y input out ladder start course shows i.waiting i.on r in-within piece.plan _ in-front)
-        gave none board (row-begins X Y input out ladder start course shows i.waiting i.on r in-within piece.plan _ in-front) says
+        on-ungiven X Y input out ladder start r course now shows shows_now i.waiting (Row r segment.plan) s.2 fault i.on s.3 refl (waits-going X Y input out ladder start course shows i.waiting i.on r in-within segment.plan _ in-front)
+        gave none board (row-begins X Y input out ladder start course shows i.waiting i.on r in-within segment.plan _ in-front) says

@@ -1,10 +1,10 @@
--- A round: plans are expected, and pieces come for them.
+-- A round: plans are expected, and segments come for them.
 use Rattle.std.specs.Prelude.{◌≡◌, ◌≢◌, ℕ, ◌+◌, ◌<◌, ◌≤◌, sum, List, [], ◌∷◌, ◌++◌, map, length, slice_index_or, slice_set}
 use Rattle.cutter.specs.Plans.{SegmentPlan}
 use Rattle.flow_core.specs.declared.slot.Slot.{Slot}
 use Rattle.flow_core.specs.Slots.{leading, one_more}
-use Rattle.flow_core.specs.Gatherings.{Gathering, lane_at, lanes_from}
-use Rattle.flow_core.specs.Lanes.{LaneValue}
+use Rattle.flow_core.specs.Gatherings.{Gathering, sequence_at, sequences_from}
+use Rattle.flow_core.specs.Sequences.{SequenceValue}
 use Rattle.live_board.specs.Snapshots.{Known}
 use Rattle.item_io.specs.Views.{OutletView, SourceView}
 use Rattle.ladder_items.specs.declared.fault.PackFault.{PackFault}
@@ -18,33 +18,33 @@ use Rattle.rounds.specs.Courses.{Start, IsBetween, IsOn, IsStopped, ReadsMore, R
 use Rattle.rounds.specs.Showing.{counts_of}
 
 -- the plans that a rendition of a collector expects, in order
-abbrev pub expected : LaneValue → List SegmentPlan
-expected lane = map (λ (slot : Slot). slot.plan) lane.slots
+abbrev pub expected : SequenceValue → List SegmentPlan
+expected sequence = map (λ (slot : Slot). slot.plan) sequence.slots
 
 -- the same plans are expected
 pub record Keeps (old new : Gathering) : Type 0 where
   pub most : new.most ≡ old.most
-  pub count : length new.lanes ≡ length old.lanes
-  pub each : (k : ℕ) → ((lane_at new k).keys ≡ (lane_at old k).keys) × ((lane_at new k).next ≡ (lane_at old k).next) × (expected (lane_at new k) ≡ expected (lane_at old k))
+  pub count : length new.sequences ≡ length old.sequences
+  pub each : (k : ℕ) → ((sequence_at new k).keys ≡ (sequence_at old k).keys) × ((sequence_at new k).next ≡ (sequence_at old k).next) × (expected (sequence_at new k) ≡ expected (sequence_at old k))
 
 -- the renditions of a collector are the ladder's, under their keys
 pub record HasKeys (ladder : Ladder) (g : Gathering) : Type 0 where
-  pub each : length g.lanes ≡ length ladder.renditions
-  pub keys : (k : ℕ) → k < length g.lanes → (lane_at g k).keys ≡ (rendition_at ladder k).keys
+  pub each : length g.sequences ≡ length ladder.renditions
+  pub keys : (k : ℕ) → k < length g.sequences → (sequence_at g k).keys ≡ (rendition_at ladder k).keys
 
 -- no sealed segment stands in front of any rendition: what could be given was
 abbrev pub NoneReady : Gathering → Type 0
-NoneReady g = (k : ℕ) → leading (lane_at g k).slots ≡ 0
+NoneReady g = (k : ℕ) → leading (sequence_at g k).slots ≡ 0
 
--- how many pieces stand in slots
-abbrev pub pieces_of : List Slot → ℕ
-pieces_of [] = 0
-pieces_of (slot ∷ slots) = one_more slot.piece 0 + pieces_of slots
+-- how many segments stand in slots
+abbrev pub segments_in : List Slot → ℕ
+segments_in [] = 0
+segments_in (slot ∷ slots) = one_more slot.segment 0 + segments_in slots
 
--- the numbers of the first plans that weren't handed out, and how many pieces came for plans from there on
-abbrev pub gathered : List LaneValue → ℕ
+-- the numbers of the first plans that weren't handed out, and how many segments came for plans from there on
+abbrev pub gathered : List SequenceValue → ℕ
 gathered [] = 0
-gathered (lane ∷ lanes) = lane.next + pieces_of lane.slots + gathered lanes
+gathered (sequence ∷ sequences) = sequence.next + segments_in sequence.slots + gathered sequences
 
 -- the plans of a rendition among lists of plans, one for each rendition
 abbrev pub unfed_of : List (List SegmentPlan) → ℕ → List SegmentPlan
@@ -55,11 +55,11 @@ unfed_of unfed k = slice_index_or unfed k []
 pub record InRound {X Y : Type 0} (input : SourceView X) (out : OutletView Y) (ladder : Ladder) (start : Start X Y) (unfed : List (List SegmentPlan)) (course : Course X Y) (shows : Known) (g : Gathering) : Type 0 where
   pub waiting : ℕ → List SegmentPlan
   pub on : IsOn input out ladder start course shows waiting
-  pub waits : (k : ℕ) → waiting k ≡ expected (lane_at g k) ++ unfed_of unfed k
-  pub each : length g.lanes ≡ length ladder.renditions
+  pub waits : (k : ℕ) → waiting k ≡ expected (sequence_at g k) ++ unfed_of unfed k
+  pub each : length g.sequences ≡ length ladder.renditions
   pub all : length unfed ≡ length ladder.renditions
-  pub nexts : (k : ℕ) → k < length g.lanes → (lane_at g k).next ≡ slice_index_or (counts_of course.playlists.items) k 0
-  pub keys : (k : ℕ) → k < length g.lanes → (lane_at g k).keys ≡ (rendition_at ladder k).keys
+  pub nexts : (k : ℕ) → k < length g.sequences → (sequence_at g k).next ≡ slice_index_or (counts_of course.playlists.items) k 0
+  pub keys : (k : ℕ) → k < length g.sequences → (sequence_at g k).keys ≡ (rendition_at ladder k).keys
 
 -- the run stands here in a round, of which these plans aren't fed yet
 abbrev pub StandsIn : {X Y L M R : Type 0} → SourceView X → OutletView Y → Ladder → Start X Y → List (List SegmentPlan) → Round X Y L M R → Type 0
@@ -85,7 +85,7 @@ Breaks {X} {Y} input out ladder old new fault =
 
 -- no more right segments were taken than were gathered
 abbrev pub IsFair : {X Y L M R : Type 0} → Round X Y L M R → Round X Y L M R → Type 0
-IsFair old new = new.taker.right + gathered old.collector.lanes ≤ old.taker.right + gathered new.collector.lanes
+IsFair old new = new.taker.right + gathered old.collector.sequences ≤ old.taker.right + gathered new.collector.sequences
 
 -- in a round nothing was read
 abbrev pub ReadsNoneIn : {X Y L M R : Type 0} → Round X Y L M R → Round X Y L M R → Type 0
@@ -93,15 +93,15 @@ ReadsNoneIn old new = ReadsNone old.broadcast.course new.broadcast.course
 
 -- nothing is in front of rendition r
 abbrev pub IsDry : {X Y L M R : Type 0} → ℕ → Round X Y L M R → Type 0
-IsDry r at = leading (lane_at at.collector r).slots ≡ 0
+IsDry r at = leading (sequence_at at.collector r).slots ≡ 0
 
 -- but for rendition r, the collector is as it was
 abbrev pub KeepsOthers : {X Y L M R : Type 0} → ℕ → Round X Y L M R → Round X Y L M R → Type 0
-KeepsOthers r old new = (k : ℕ) → k ≢ r → lane_at new.collector k ≡ lane_at old.collector k
+KeepsOthers r old new = (k : ℕ) → k ≢ r → sequence_at new.collector k ≡ sequence_at old.collector k
 
 -- what was gathered and what was taken are as many as before
 abbrev pub KeepsCounts : {X Y L M R : Type 0} → Round X Y L M R → Round X Y L M R → Type 0
-KeepsCounts old new = (gathered new.collector.lanes ≡ gathered old.collector.lanes) × (new.taker.right ≡ old.taker.right)
+KeepsCounts old new = (gathered new.collector.sequences ≡ gathered old.collector.sequences) × (new.taker.right ≡ old.taker.right)
 
 -- some run stands here, and `plan` is the first of rendition r that isn't fed yet
 abbrev pub IsFirstUnfed : {X Y L M R : Type 0} → SourceView X → OutletView Y → Ladder → ℕ → SegmentPlan → Round X Y L M R → Type 0
@@ -175,7 +175,7 @@ SwapsOne {X} {Y} input out r old new full =
 
 -- the collector expects nothing yet, and each of its renditions stands behind the segments that were given of it
 abbrev pub IsBehind : {X Y L M R : Type 0} → Ladder → Round X Y L M R → Type 0
-IsBehind ladder at = at.collector.lanes ≡ lanes_from 0 (map (λ (r : RenditionValue). r.keys) ladder.renditions) (counts_of at.broadcast.course.playlists.items)
+IsBehind ladder at = at.collector.sequences ≡ sequences_from 0 (map (λ (r : RenditionValue). r.keys) ladder.renditions) (counts_of at.broadcast.course.playlists.items)
 
 -- What the calling thread made of each run that stood there with these full spools: all of them was given. It took no more right
 -- segments than were given.

@@ -15,11 +15,11 @@ use std::test::Fail;
 enum Event {
     /// The plan at a place is expected.
     Expect(usize),
-    /// The piece of the plan at a place comes.
+    /// The segment of the plan at a place comes.
     Give(usize),
     /// The same, under another key.
     GiveWrong(usize),
-    /// A rendition hands out a piece.
+    /// A rendition hands out a segment.
     HandOut(usize),
     /// Whether these plans are missing.
     Misses(&'static [Name]),
@@ -61,7 +61,7 @@ fn expect<'s>(collector: &mut Collector<'s>, things: &'s Things, at: usize) -> R
     }
 }
 
-/// A piece of the plan at a place comes, sealed under these keys.
+/// A segment of the plan at a place comes, sealed under these keys.
 fn give<'s>(
     collector: &mut Collector<'s>,
     things: &'s Things,
@@ -71,13 +71,13 @@ fn give<'s>(
     let Some(plan) = things.plans.get(at) else {
         return Ok(Nothing);
     };
-    let piece = seal_plan(things.alloc, plan.lend(), keys)?;
-    Ok(received(&collector.collect(piece)))
+    let segment = seal_plan(things.alloc, plan.lend(), keys)?;
+    Ok(received(&collector.collect(segment)))
 }
 
 fn hand_out(collector: &mut Collector<'_>, rendition: usize) -> Told {
     match collector.next(rendition) {
-        Some(piece) => Shown(name(piece.plan())),
+        Some(segment) => Shown(name(segment.plan())),
         None => Nothing,
     }
 }
@@ -159,7 +159,7 @@ fn check(
 }
 
 #[test]
-fn pieces_in_any_order(rt: HostRuntime) -> Result<(), Fail> {
+fn segments_in_any_order(rt: HostRuntime) -> Result<(), Fail> {
     let steps = [
         (Expect(0), Done),
         (Expect(1), Done),
@@ -180,7 +180,7 @@ fn pieces_in_any_order(rt: HostRuntime) -> Result<(), Fail> {
 }
 
 #[test]
-fn pieces_that_are_not_right(rt: HostRuntime) -> Result<(), Fail> {
+fn segments_that_are_not_right(rt: HostRuntime) -> Result<(), Fail> {
     let steps = [
         (Give(0), Stray((0, 0))),
         (Follows(0), Next(0)),
@@ -198,7 +198,7 @@ fn pieces_that_are_not_right(rt: HostRuntime) -> Result<(), Fail> {
 }
 
 #[test]
-fn a_thousand_pieces_come_back(rt: HostRuntime) -> Result<(), Fail> {
+fn a_thousand_segments_come_back(rt: HostRuntime) -> Result<(), Fail> {
     let first = [(Expect(0), Done), (Expect(1), Done), (Give(1), Came(0))];
     let mut steps = Vec::from_array(rt.alloc(), first)?;
     for _ in 0..500 {

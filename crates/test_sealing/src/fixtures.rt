@@ -59,7 +59,7 @@ pub(crate) fn plans_of(alloc: Global, stream: &[&[u8]]) -> Result<Vec<Plan>, Fai
     Ok(plans)
 }
 
-/// Plans, and keys under which their pieces are right or wrong.
+/// Plans, and keys under which their segments are right or wrong.
 #[derive(Drop)]
 pub(crate) struct Things {
     pub(crate) alloc: Global,

@@ -106,8 +106,8 @@ impl<'s, L: Ledger, M: Ledger> Bench<'s, L, M> {
         claim: Claim<'s>,
         keys: &Keys,
     ) -> Result<bool, AllocError> {
-        let piece = seal_plan(alloc, claim.plan(), keys)?;
-        Ok(self.flow.deliver(claim, piece))
+        let segment = seal_plan(alloc, claim.plan(), keys)?;
+        Ok(self.flow.deliver(claim, segment))
     }
 
     /// Ends the claim that stands the longest.
@@ -137,7 +137,7 @@ impl<'s, L: Ledger, M: Ledger> Bench<'s, L, M> {
         }
     }
 
-    /// Receives the piece of a plan, sealed under these keys.
+    /// Receives the segment of a plan, sealed under these keys.
     fn receive(
         &mut self,
         things: &'s Things,
@@ -151,13 +151,13 @@ impl<'s, L: Ledger, M: Ledger> Bench<'s, L, M> {
         if self.flow.thrown() > 9 {
             return Err(Fail::from("too many were thrown away"));
         }
-        let piece = seal_plan(things.alloc, plan, keys)?;
-        Ok(thrown(received(&self.flow.receive(piece))))
+        let segment = seal_plan(things.alloc, plan, keys)?;
+        Ok(thrown(received(&self.flow.receive(segment))))
     }
 
     fn publish(&mut self, rendition: usize) -> Told {
         match self.flow.publish(rendition) {
-            Some(piece) => Told::Shown(name(piece.plan())),
+            Some(segment) => Told::Shown(name(segment.plan())),
             None => Told::Nothing,
         }
     }
@@ -214,7 +214,7 @@ impl<'s, L: Ledger, M: Ledger> Bench<'s, L, M> {
     }
 }
 
-/// What a flow does with a piece that its collector gives back.
+/// What a flow does with a segment that its collector gives back.
 fn thrown(told: Told) -> Told {
     match told {
         Told::Stray(_) | Told::Double(_) => Told::Thrown,

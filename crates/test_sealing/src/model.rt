@@ -18,7 +18,7 @@ pub(crate) enum Letter {
     Refuse,
     Hold,
     Take,
-    /// A piece under another key turns up.
+    /// A segment under another key turns up.
     Stray,
     /// The first missing segment of a rendition is sealed apart.
     Own(usize),
@@ -38,7 +38,7 @@ pub(crate) enum Made {
 }
 
 /// What is seen from outside: how many plans are outstanding, whether it is closed, something waits or is done, how many
-/// pieces were thrown away, whether there is room, and the numbers that two renditions expect next.
+/// segments were thrown away, whether there is room, and the numbers that two renditions expect next.
 #[derive(Clone, Copy, PartialEq, Eq)]
 pub(crate) struct Seen {
     pub outstanding: usize,
@@ -115,8 +115,8 @@ impl Model {
                 return true;
             }
         }
-        for piece in &self.done {
-            if piece.0 == name {
+        for done in &self.done {
+            if done.0 == name {
                 return true;
             }
         }
@@ -207,7 +207,7 @@ impl Model {
         Ok(Told::Done)
     }
 
-    /// A right piece of an expected number that had none comes, and any other is thrown away.
+    /// A right segment of an expected number that had none comes, and any other is thrown away.
     fn receive(&mut self, name: Name, made: Made) -> Result<Told, AllocError> {
         let first = has(&self.expected, name) && !has(&self.came, name);
         if made == Made::Right && first {

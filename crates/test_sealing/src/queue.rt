@@ -68,8 +68,8 @@ impl<'s, L: Ledger, M: Ledger> Hands<'s, L, M> {
 
     /// Delivers a claim, sealed.
     fn deliver(&mut self, things: &Things, claim: Claim<'s>) -> Result<bool, AllocError> {
-        let piece = seal_plan(things.alloc, claim.plan(), &things.right)?;
-        Ok(self.queue.deliver(claim, piece))
+        let segment = seal_plan(things.alloc, claim.plan(), &things.right)?;
+        Ok(self.queue.deliver(claim, segment))
     }
 
     /// Ends the claim that was made last.
@@ -88,7 +88,7 @@ impl<'s, L: Ledger, M: Ledger> Hands<'s, L, M> {
     fn take(&mut self) -> Told {
         let Hands { queue, taker, .. } = self;
         match queue.take(taker) {
-            Some(piece) => given(&piece),
+            Some(delivery) => given(&delivery),
             None => Nothing,
         }
     }

@@ -1,7 +1,7 @@
 //! What is answered to a test.
 
 use cutter::PlanRef;
-use flow_core::{Claim, CollectFault, Collected, FeedFault, Outcome, Piece};
+use flow_core::{Claim, CollectFault, Collected, Delivery, FeedFault, Outcome};
 use std::alloc::AllocError;
 
 /// A plan, by its rendition and its number.
@@ -26,7 +26,7 @@ pub(crate) enum Told {
     Held(Name),
     /// So many segments of the rendition stand without a gap.
     Came(u64),
-    /// Why a piece isn't taken. It comes back.
+    /// Why a segment isn't taken. It comes back.
     Stray(Name),
     Double(Name),
     Thrown,
@@ -72,21 +72,21 @@ pub(crate) fn ended(stood: bool) -> Told {
     if stood { Told::Done } else { Told::Nothing }
 }
 
-/// What is told of a piece that a queue or a desk gives.
-pub(crate) fn given(piece: &Piece<'_>) -> Told {
-    match &piece.outcome {
-        Outcome::Sealed(sealed) => Told::Sealed((piece.rendition, sealed.plan().number)),
-        Outcome::Refused => Told::Refused((piece.rendition, piece.number)),
-        Outcome::Held => Told::Held((piece.rendition, piece.number)),
+/// What is told of a delivery of a queue or a desk.
+pub(crate) fn given(delivery: &Delivery<'_>) -> Told {
+    match &delivery.outcome {
+        Outcome::Sealed(sealed) => Told::Sealed((delivery.rendition, sealed.plan().number)),
+        Outcome::Refused => Told::Refused((delivery.rendition, delivery.number)),
+        Outcome::Held => Told::Held((delivery.rendition, delivery.number)),
     }
 }
 
-/// What is told of a piece that a collector or a flow takes or gives back.
+/// What is told of a segment that a collector or a flow takes or gives back.
 pub(crate) fn received(answer: &Result<Collected, CollectFault<'_>>) -> Told {
     match answer {
         Ok(collected) => Told::Came(collected.ready),
-        Err(CollectFault::Stray(piece)) => Told::Stray(name(piece.plan())),
-        Err(CollectFault::Double(piece)) => Told::Double(name(piece.plan())),
-        Err(CollectFault::NoMemory(piece)) => Told::NoMemory(name(piece.plan())),
+        Err(CollectFault::Stray(segment)) => Told::Stray(name(segment.plan())),
+        Err(CollectFault::Double(segment)) => Told::Double(name(segment.plan())),
+        Err(CollectFault::NoMemory(segment)) => Told::NoMemory(name(segment.plan())),
     }
 }

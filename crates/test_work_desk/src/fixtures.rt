@@ -11,7 +11,7 @@ use std::sync::Wait;
 use std::sync::ledger::{Blank, Ledger, Share};
 use std::test::Fail;
 use std::thread::{self, JoinHandle, Threads};
-use work_desk::{Desk, FeedFault, Gate, Opened, Outcome, Pass, Piece, Tally, work};
+use work_desk::{Delivery, Desk, FeedFault, Gate, Opened, Outcome, Pass, Tally, work};
 
 /// What is run: so many plans by so many workers, over a desk on which so many may be outstanding.
 #[derive(Drop)]
@@ -32,7 +32,7 @@ pub(crate) struct Told {
     pub(crate) sealed: u64,
     pub(crate) refused: u64,
     pub(crate) held: u64,
-    /// Pieces that came twice or weren't asked for, and answers that have no reason.
+    /// Deliveries that came twice or weren't asked for, and answers that have no reason.
     pub(crate) wrong: u64,
     pub(crate) claims: u64,
     pub(crate) left: usize,
@@ -67,13 +67,13 @@ impl Taken {
         self.told.wrong = self.told.wrong.saturating_add(1);
     }
 
-    fn note(&mut self, piece: &Piece<'_>) {
-        match self.came.get_mut(piece.number as usize) {
+    fn note(&mut self, delivery: &Delivery<'_>) {
+        match self.came.get_mut(delivery.number as usize) {
             Some(came) if !*came => *came = true,
             _ => self.is_wrong(),
         }
-        match &piece.outcome {
-            Outcome::Sealed(sealed) if sealed.plan().number == piece.number => {
+        match &delivery.outcome {
+            Outcome::Sealed(sealed) if sealed.plan().number == delivery.number => {
                 self.told.sealed = self.told.sealed.saturating_add(1);
             }
             Outcome::Sealed(_) => self.is_wrong(),
@@ -100,11 +100,11 @@ fn feed_one<'p, L: Ledger, M: Ledger, R: Wait>(
                 return;
             }
         }
-        let Some(piece) = desk.wait_done(rt, taker) else {
+        let Some(delivery) = desk.wait_done(rt, taker) else {
             taken.is_wrong();
             return;
         };
-        taken.note(&piece);
+        taken.note(&delivery);
     }
 }
 
@@ -139,10 +139,10 @@ fn take_all<L: Ledger, M: Ledger, R: Wait>(
     taken: &mut Taken,
 ) {
     for _ in rt.forever() {
-        let Some(piece) = desk.wait_done(rt, taker) else {
+        let Some(delivery) = desk.wait_done(rt, taker) else {
             break;
         };
-        taken.note(&piece);
+        taken.note(&delivery);
     }
 }
 

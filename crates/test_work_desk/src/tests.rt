@@ -193,7 +193,7 @@ fn feed<'s, L: Ledger, M: Ledger, R: Wait>(
 }
 
 /// Feeds plan 0 twice and then plan 1, and plan 1 again where the desk was stopped. Tells each answer, and whether a claim
-/// and a piece come then.
+/// and a delivery come then.
 fn fed_with<'s, L: Ledger, M: Ledger, R: Wait>(
     rt: &R,
     alloc: Global,

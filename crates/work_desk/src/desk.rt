@@ -8,7 +8,7 @@ ghost use Rattle.work_desk.specs.Waiting.{GivesBack};
 use crate::pass::Pass;
 use crate::steps::{claim, claim_more, deliver, take, take_awaited, taker_waits, workers_wait};
 use cutter::PlanRef;
-use flow_core::{Claim, FeedFault, Outcome, Piece, Queue};
+use flow_core::{Claim, Delivery, FeedFault, Outcome, Queue};
 use std::alloc::{AllocError, Global};
 use std::sync::atomic::{AtomicUsize, Ordering};
 use std::sync::ledger::{Blank, Ledger, Share};
@@ -138,7 +138,7 @@ impl<'s, L: Ledger, M: Ledger> Desk<'s, L, M> {
     }
 
     /// Takes what has been done the longest; none where nothing is done. It waits for the lock alone.
-    pub fn take_done<R: Wait>(&self, rt: &R, pass: &mut Pass<M>) -> Option<Piece<'s>>
+    pub fn take_done<R: Wait>(&self, rt: &R, pass: &mut Pass<M>) -> Option<Delivery<'s>>
         ensures counted { IfSome result (λ _. pass.new.count ≡ pass.old.count + 1) }
         ensures uncounted { IfNone result (pass.new.count ≡ pass.old.count) }
         ensures number { pass.new.number ≡ pass.old.number }
@@ -147,7 +147,7 @@ impl<'s, L: Ledger, M: Ledger> Desk<'s, L, M> {
     }
 
     /// Waits until something is done, and takes what has been done the longest. None where nothing is outstanding.
-    pub fn wait_done<R: Wait>(&self, rt: &R, pass: &mut Pass<M>) -> Option<Piece<'s>>
+    pub fn wait_done<R: Wait>(&self, rt: &R, pass: &mut Pass<M>) -> Option<Delivery<'s>>
         ensures counted { IfSome result (λ _. pass.new.count ≡ pass.old.count + 1) }
         ensures uncounted { IfNone result (pass.new.count ≡ pass.old.count) }
         ensures number { pass.new.number ≡ pass.old.number }

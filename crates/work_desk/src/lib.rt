@@ -4,7 +4,7 @@
 //! [`Desk::new`] opens one, with a [`Pass`] for each worker and one for the taker. A worker is a thread that runs [`work`].
 //! Under the desk's lock stands a queue of `flow_core`, and each call makes one step of it: what can't be said of a call
 //! that takes a lock, the queue's own contract says. What comes of a call is known by its type: a claim is of one plan, a
-//! sealed piece is its own plan's, and the count of a pass is its share of the queue's books.
+//! sealed segment is its own plan's, and the count of a pass is its share of the queue's books.
 #![tactic(auto)]
 
 mod desk;
@@ -15,7 +15,7 @@ mod steps;
 mod worker;
 
 pub use desk::{Desk, Opened};
-pub use flow_core::{Claim, FeedFault, Outcome, Piece};
+pub use flow_core::{Claim, Delivery, FeedFault, Outcome};
 pub use gate::{FreeGate, Gate};
 pub use pass::{Pass, Tally};
 pub use worker::work;

@@ -2,7 +2,7 @@
 
 ghost use Rattle.std.specs.Prelude.{◌≡◌, IfOk, IfErr};
 ghost use Rattle.segment_job.specs.Segments.{sealed_from};
-ghost use Rattle.flow_core.specs.declared.piece.Outcome.TheVariants.{Sealed as IsSealed};
+ghost use Rattle.flow_core.specs.declared.outcome.Outcome.TheVariants.{Sealed as IsSealed};
 ghost use Rattle.flow_core.specs.Queues.{IsOwnOutcome};
 ghost use Rattle.work_desk.specs.Works.{IsBegun, IsTurnedAway};
 

@@ -7,7 +7,7 @@ ghost use Rattle.flow_core.specs.Steps.{Claims, Delivers, Gives, IsFirst};
 ghost use Rattle.work_desk.specs.Waiting.{WorkersWait, TakerWaits};
 
 use crate::pass::Pass;
-use flow_core::{Claim, Outcome, Piece, Queue};
+use flow_core::{Claim, Delivery, Outcome, Queue};
 use std::sync::ledger::Ledger;
 
 /// Whether workers wait.
@@ -84,8 +84,8 @@ pub fn deliver<'s, L: Ledger, M: Ledger>(
     ensures no { (In claim.entry queue.old.claimed → ⊥) → queue.new ≡ queue.old }
 {
     match outcome {
-        Outcome::Sealed(piece) => {
-            let _ = queue.deliver(claim, piece);
+        Outcome::Sealed(segment) => {
+            let _ = queue.deliver(claim, segment);
         }
         Outcome::Refused => {
             let _ = queue.refuse(claim);
@@ -100,28 +100,28 @@ pub fn deliver<'s, L: Ledger, M: Ledger>(
 pub fn take<'s, L: Ledger, M: Ledger>(
     queue: &mut Queue<'s, L, M>,
     pass: &mut Pass<M>,
-) -> Option<Piece<'s>>
-    ensures some { IfSome result (λ piece. Gives queue.old piece queue.new) }
-    ensures first { IfSome result (λ piece. IsFirst piece queue.old.done queue.new.done) }
+) -> Option<Delivery<'s>>
+    ensures some { IfSome result (λ delivery. Gives queue.old delivery queue.new) }
+    ensures first { IfSome result (λ delivery. IsFirst delivery queue.old.done queue.new.done) }
     ensures none { IfNone result ((queue.new ≡ queue.old) × (queue.old.done ≡ [])) }
     ensures counted { IfSome result (λ _. pass.new.count ≡ pass.old.count + 1) }
     ensures uncounted { IfNone result (pass.new.count ≡ pass.old.count) }
     ensures number { pass.new.number ≡ pass.old.number }
 {
     let Pass { count, share, .. } = pass;
-    let piece = queue.take(share)?;
+    let delivery = queue.take(share)?;
     *count += 1;
-    Some(piece)
+    Some(delivery)
 }
 
 /// Takes what has been done the longest; none where nothing is outstanding.
 pub fn take_awaited<'s, L: Ledger, M: Ledger>(
     queue: &mut Queue<'s, L, M>,
     pass: &mut Pass<M>,
-) -> Option<Piece<'s>>
+) -> Option<Delivery<'s>>
     requires { TakerWaits queue.old → ⊥ }
-    ensures some { IfSome result (λ piece. Gives queue.old piece queue.new) }
-    ensures first { IfSome result (λ piece. IsFirst piece queue.old.done queue.new.done) }
+    ensures some { IfSome result (λ delivery. Gives queue.old delivery queue.new) }
+    ensures first { IfSome result (λ delivery. IsFirst delivery queue.old.done queue.new.done) }
     ensures none { IfNone result ((queue.new ≡ queue.old) × (outstanding queue.old ≡ 0)) }
     ensures counted { IfSome result (λ _. pass.new.count ≡ pass.old.count + 1) }
     ensures uncounted { IfNone result (pass.new.count ≡ pass.old.count) }

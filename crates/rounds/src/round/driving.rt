@@ -1,7 +1,7 @@
 //! Driving: the calling thread feeds the full spools, reads the next round, and gives what is expected.
 
 ghost use Rattle.std.specs.Prelude.{◌≡◌, ◌<◌, ◌≤◌, IfErr, IfOk, OnOk, length, map};
-ghost use Rattle.flow_core.specs.Gatherings.{lanes_from};
+ghost use Rattle.flow_core.specs.Gatherings.{sequences_from};
 ghost use Rattle.ladder_items.specs.Ladder.{RenditionValue};
 ghost use Rattle.rounds.specs.Courses.{ReadsMore};
 ghost use Rattle.rounds.specs.Rounds.{Breaks, IsBehind, IsBroken, IsDriven, IsFair, IsSomeFull, IsSomewhere, Moves};
@@ -28,7 +28,7 @@ pub fn collector_behind<'s>(
 ) -> Result<Collector<'s>, AllocError>
     ensures { IfOk result (λ collector. collector ≡ record {
       most = settings.now.queue;
-      lanes = lanes_from 0 (map (λ (r : RenditionValue). r.keys) settings.now.renditions) (counts_of playlists.now);
+      sequences = sequences_from 0 (map (λ (r : RenditionValue). r.keys) settings.now.renditions) (counts_of playlists.now);
     }) }
 {
     let keys = copy_keys(alloc, &settings.renditions)?;

@@ -2,8 +2,8 @@
 
 ghost use Rattle.std.specs.Prelude.{◌≡◌, ◌<◌, ◌≤◌, IfErr, OnOk, length};
 ghost use Rattle.cutter.specs.Lent.{lent};
-ghost use Rattle.flow_core.specs.Gatherings.{awaited, lane_at, with_lane};
-ghost use Rattle.flow_core.specs.Lanes.{following, with_plan};
+ghost use Rattle.flow_core.specs.Gatherings.{awaited, sequence_at, with_sequence};
+ghost use Rattle.flow_core.specs.Sequences.{following, with_plan};
 ghost use Rattle.ladder_items.specs.declared.fault.PackFault.TheVariants.{NoMemory};
 ghost use Rattle.rounds.specs.Rounds.{Breaks, BreaksAll, BreaksSpool, FeedsAll, FeedsPlan, FeedsSpool, HasAllUnfed, IsFirstUnfed, IsUnfed};
 ghost use Rattle.rounds.specs.Rounds.{HasKeys, IsFair, Keeps, ReadsNoneIn, gathered};
@@ -97,12 +97,12 @@ impl<'d, 's, 'r, S: Source, O: Outlet, L: Ledger, M: Ledger, R: Wait> Round<
 
 /// Has the collector expect a plan, for which there is room.
 fn expect<'s>(collector: &mut Collector<'s>, plan: PlanRef<'s>) -> Result<(), PackFault>
-    requires room { awaited collector.old.lanes < collector.old.most }
-    requires rendition { plan.rendition < length collector.old.lanes }
-    requires number { plan.number ≡ following (lane_at collector.old plan.rendition) }
+    requires room { awaited collector.old.sequences < collector.old.most }
+    requires rendition { plan.rendition < length collector.old.sequences }
+    requires number { plan.number ≡ following (sequence_at collector.old plan.rendition) }
     requires low { plan.number ≤ LAST_SEGMENT }
     ensures ok { OnOk result (collector.new
-        ≡ with_lane collector.old plan.entry.rendition (with_plan (lane_at collector.old plan.entry.rendition) (lent plan.entry))) }
+        ≡ with_sequence collector.old plan.entry.rendition (with_plan (sequence_at collector.old plan.entry.rendition) (lent plan.entry))) }
     ensures fault { IfErr result (λ fault. fault ≡ NoMemory) }
 {
     match collector.expect(plan) {
@@ -122,7 +122,7 @@ fn offer<'s, L: Ledger, M: Ledger, R: Wait>(
 ) -> Result<(), PackFault>
     requires keys { HasKeys settings.now collector.old }
     ensures keeps { Keeps collector.old collector.new }
-    ensures more { gathered collector.old.lanes ≤ gathered collector.new.lanes }
+    ensures more { gathered collector.old.sequences ≤ gathered collector.new.sequences }
     ensures fault { IfErr result (λ fault. fault ≡ NoMemory) }
 {
     match desk.feed(rt, plan) {

@@ -56,7 +56,7 @@ impl<'d, 's, 'r, S: Source, O: Outlet, L: Ledger, M: Ledger, R: Wait> Round<
         ensures err { IfErr result (Breaks S.input O.output settings.now self.old self.new) }
         ensures none_read { ReadsNoneIn self.old self.new }
         ensures counts { OnOk result (KeepsCounts self.old self.new) }
-        ensures fewer { IfOk result (λ any. any ≡ true → awaited self.new.collector.lanes < awaited self.old.collector.lanes) }
+        ensures fewer { IfOk result (λ any. any ≡ true → awaited self.new.collector.sequences < awaited self.old.collector.sequences) }
         ensures dry { IfOk result (λ any. any ≡ false → IsDry r self.new) }
         ensures others { OnOk result (KeepsOthers r self.old self.new) }
     {

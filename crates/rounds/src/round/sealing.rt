@@ -2,14 +2,14 @@
 
 ghost use Rattle.std.specs.Prelude.{◌≡◌, ◌≢◌, ◌<◌, ◌≤◌, ◌^◌, ◌+◌, [], true, false, IfErr, OnErr, OnOk, length};
 ghost use Rattle.cutter.specs.Lent.{lent};
-ghost use Rattle.flow_core.specs.Gatherings.{lane_at, missing_in};
-ghost use Rattle.flow_core.specs.Lanes.{IsRight, Lacks};
-ghost use Rattle.flow_core.specs.declared.piece.Outcome.TheVariants.{Held as HeldBack};
+ghost use Rattle.flow_core.specs.Gatherings.{sequence_at, missing_in};
+ghost use Rattle.flow_core.specs.Sequences.{IsRight, Lacks};
+ghost use Rattle.flow_core.specs.declared.outcome.Outcome.TheVariants.{Held as HeldBack};
 ghost use Rattle.ladder_items.specs.declared.fault.PackFault.TheVariants.{Held, NoMemory};
 ghost use Rattle.rounds.specs.Rounds.{HasKeys, Keeps, gathered};
 
 use cutter::PlanRef;
-use flow_core::{Collector, Outcome, Piece};
+use flow_core::{Collector, Delivery, Outcome};
 use ladder_items::{PackFault, Settings};
 use segment_job::{Sealed, seal_plan};
 use std::alloc::Global;
@@ -18,10 +18,10 @@ use std::alloc::Global;
 #[tactic(auto, using(crate::proofs::Collecting::keeps_same))]
 fn collect<'s>(collector: &mut Collector<'s>, sealed: Sealed<'s>) -> bool
     ensures keeps { Keeps collector.old collector.new }
-    ensures right { result ≡ true → gathered collector.new.lanes ≡ gathered collector.old.lanes + 1 }
+    ensures right { result ≡ true → gathered collector.new.sequences ≡ gathered collector.old.sequences + 1 }
     ensures wrong { result ≡ false → collector.new ≡ collector.old }
-    ensures sure { IsRight (lane_at collector.old sealed.entry.plan.rendition) sealed.entry → result ≡ true }
-    ensures fewer { result ≡ true → length (missing_in collector.new.lanes) + 1 ≡ length (missing_in collector.old.lanes) }
+    ensures sure { IsRight (sequence_at collector.old sealed.entry.plan.rendition) sealed.entry → result ≡ true }
+    ensures fewer { result ≡ true → length (missing_in collector.new.sequences) + 1 ≡ length (missing_in collector.old.sequences) }
 {
     let Ok(_) = collector.collect(sealed) else {
         return false;
@@ -33,19 +33,19 @@ fn collect<'s>(collector: &mut Collector<'s>, sealed: Sealed<'s>) -> bool
 #[tactic(auto, using(crate::proofs::Collecting::keeps_same))]
 pub fn take_in<'s>(
     collector: &mut Collector<'s>,
-    done: Piece<'s>,
+    done: Delivery<'s>,
     right: &mut u64,
     thrown: &mut u64,
 ) -> Result<(), PackFault>
     requires few { right.old + thrown.old + 1 < 2 ^ 64 }
     ensures keeps { Keeps collector.old collector.new }
     ensures counted { right.new + thrown.new ≡ right.old + thrown.old + 1 }
-    ensures fair { right.new + gathered collector.old.lanes ≡ right.old + gathered collector.new.lanes }
+    ensures fair { right.new + gathered collector.old.sequences ≡ right.old + gathered collector.new.sequences }
     ensures held { OnErr result (done.entry.outcome ≡ HeldBack) }
     ensures unheld { OnOk result (done.entry.outcome ≢ HeldBack) }
     ensures fault { IfErr result (λ fault. fault ≡ Held done.entry.rendition done.entry.number) }
 {
-    let Piece {
+    let Delivery {
         rendition,
         number,
         outcome,
@@ -80,9 +80,9 @@ pub fn seal_own<'s>(
 ) -> Result<(), PackFault>
     requires keys { HasKeys settings.now collector.old }
     ensures keeps { Keeps collector.old collector.new }
-    ensures more { gathered collector.old.lanes ≤ gathered collector.new.lanes }
-    ensures fewer { OnOk result (Lacks (lane_at collector.old plan.entry.rendition) (lent plan.entry)
-        → length (missing_in collector.new.lanes) < length (missing_in collector.old.lanes)) }
+    ensures more { gathered collector.old.sequences ≤ gathered collector.new.sequences }
+    ensures fewer { OnOk result (Lacks (sequence_at collector.old plan.entry.rendition) (lent plan.entry)
+        → length (missing_in collector.new.sequences) < length (missing_in collector.old.sequences)) }
     ensures fault { IfErr result (λ fault. fault ≡ NoMemory) }
 {
     let Some(rendition) = settings.renditions.get(plan.rendition) else {
@@ -102,8 +102,8 @@ pub fn seal_missing(
 ) -> Result<(), PackFault>
     requires keys { HasKeys settings.now collector.old }
     ensures keeps { Keeps collector.old collector.new }
-    ensures more { gathered collector.old.lanes ≤ gathered collector.new.lanes }
-    ensures all { OnOk result (missing_in collector.new.lanes ≡ []) }
+    ensures more { gathered collector.old.sequences ≤ gathered collector.new.sequences }
+    ensures all { OnOk result (missing_in collector.new.sequences ≡ []) }
     ensures fault { IfErr result (λ fault. fault ≡ NoMemory) }
 {
     while let Some(plan) = collector.first_missing() {

@@ -8,7 +8,7 @@ ghost use Rattle.rounds.specs.Rounds.{Breaks, HasKeys, IsFair, IsSomewhere, Keep
 use crate::round::machine::Round;
 use crate::round::sealing::{seal_missing, take_in};
 use crate::round::taker::Taker;
-use flow_core::{Collector, Piece};
+use flow_core::{Collector, Delivery};
 use item_io::{Outlet, Source};
 use ladder_items::{PackFault, Settings};
 use std::alloc::Global;
@@ -33,7 +33,7 @@ impl<'d, 's, 'r, S: Source, O: Outlet, L: Ledger, M: Ledger, R: Wait> Round<
         ensures err { IfErr result (Breaks S.input O.output settings.now self.old self.new) }
         ensures none_read { ReadsNoneIn self.old self.new }
         ensures fair { OnOk result (IsFair self.old self.new) }
-        ensures room { OnOk result (awaited self.new.collector.lanes < self.new.collector.most) }
+        ensures room { OnOk result (awaited self.new.collector.sequences < self.new.collector.most) }
     {
         for _ in self.broadcast.held.rt.forever() {
             if self.collector.room() {
@@ -51,7 +51,7 @@ impl<'d, 's, 'r, S: Source, O: Outlet, L: Ledger, M: Ledger, R: Wait> Round<
         ensures err { IfErr result (Breaks S.input O.output settings.now self.old self.new) }
         ensures none_read { ReadsNoneIn self.old self.new }
         ensures fair { OnOk result (IsFair self.old self.new) }
-        ensures all { OnOk result (awaited self.new.collector.lanes ≡ 0) }
+        ensures all { OnOk result (awaited self.new.collector.sequences ≡ 0) }
     {
         for _ in self.broadcast.held.rt.forever() {
             if self.collector.awaited() == 0 {
@@ -108,7 +108,7 @@ fn hand_out<'s, L: Ledger, M: Ledger, R: Wait>(
     desk: &Desk<'s, L, M>,
     wait: bool,
     pass: &mut Pass<M>,
-) -> Option<Piece<'s>>
+) -> Option<Delivery<'s>>
     ensures counted { IfSome result (λ _. pass.new.count ≡ pass.old.count + 1) }
     ensures uncounted { IfNone result (pass.new.count ≡ pass.old.count) }
 {
@@ -127,7 +127,7 @@ fn take_one<'s, L: Ledger, M: Ledger, R: Wait>(
     collector: &mut Collector<'s>,
 ) -> Result<bool, PackFault>
     ensures keeps { Keeps collector.old collector.new }
-    ensures fair { taker.new.right + gathered collector.old.lanes ≡ taker.old.right + gathered collector.new.lanes }
+    ensures fair { taker.new.right + gathered collector.old.sequences ≡ taker.old.right + gathered collector.new.sequences }
     ensures fault { IfErr result IsHeld }
 {
     let Taker {
@@ -151,7 +151,7 @@ fn take_all<'s, L: Ledger, M: Ledger, R: Wait>(
     collector: &mut Collector<'s>,
 ) -> Result<(), PackFault>
     ensures keeps { Keeps collector.old collector.new }
-    ensures fair { taker.new.right + gathered collector.old.lanes ≡ taker.old.right + gathered collector.new.lanes }
+    ensures fair { taker.new.right + gathered collector.old.sequences ≡ taker.old.right + gathered collector.new.sequences }
     ensures fault { IfErr result IsHeld }
 {
     for _ in rt.forever() {
@@ -173,7 +173,7 @@ fn wait_or_seal<'s, L: Ledger, M: Ledger, R: Wait>(
 ) -> Result<(), PackFault>
     requires keys { HasKeys settings.now collector.old }
     ensures keeps { Keeps collector.old collector.new }
-    ensures fair { taker.new.right + gathered collector.old.lanes ≤ taker.old.right + gathered collector.new.lanes }
+    ensures fair { taker.new.right + gathered collector.old.sequences ≤ taker.old.right + gathered collector.new.sequences }
     ensures fault { IfErr result (λ fault. (n : ℕ) → SaysSudden fault n n) }
 {
     if !take_one(rt, desk, true, taker, collector)? {

@@ -1,6 +1,6 @@
 use Rattle.std.proofs.Common.{◌∙◌, refl, ap}
 use Rattle.std.proofs.lemmas.Result.{IfOk-at_ok}
-use Rattle.flow_core.specs.Gatherings.{Gathering, lanes_from}
+use Rattle.flow_core.specs.Gatherings.{Gathering, sequences_from}
 use Rattle.rounds.specs.Showing.{counts_of}
 use Rattle.rounds.proofs.Running.{stopped-here}
 use Rattle.rounds.proofs.Driven.{keys-of}
@@ -11,5 +11,5 @@ returns-in_default-clause-err g c start on = stopped-here _ _ _ _ _ start _ _ _ 
 
 pub drive-answer-requires-clause-behind : goal.drive-answer-requires-clause-behind
 drive-answer-requires-clause-behind g c =
-    ap (λ (x : Gathering). x.lanes) (IfOk-at_ok _ c.in-Ok.is c.collector_behind-collector.ensures)
-    ∙ ap (λ l. lanes_from 0 (keys-of c.args.setup.now.settings.now) (counts_of l)) c.deref.ensures.value
+    ap (λ (x : Gathering). x.sequences) (IfOk-at_ok _ c.in-Ok.is c.collector_behind-collector.ensures)
+    ∙ ap (λ l. sequences_from 0 (keys-of c.args.setup.now.settings.now) (counts_of l)) c.deref.ensures.value

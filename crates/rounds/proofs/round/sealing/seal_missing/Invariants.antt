@@ -6,8 +6,8 @@ use Rattle.rounds.proofs.round.sealing.seal_missing.Given as goal
 abbrev pub invariant-loop-plan : goal.invariant-loop-plan
 invariant-loop-plan l = record {
   keeps : Keeps l.fn.collector l.collector;
-  more : gathered l.fn.collector.lanes ≤ gathered l.collector.lanes;
+  more : gathered l.fn.collector.sequences ≤ gathered l.collector.sequences;
 }
 
 abbrev pub decreases-loop-plan : goal.decreases-loop-plan
-decreases-loop-plan l = length (missing_in l.collector.lanes)
+decreases-loop-plan l = length (missing_in l.collector.sequences)

@@ -5,5 +5,5 @@ use Rattle.rounds.proofs.round.taking.take_all.Given as goal
 abbrev pub invariant-loop : goal.invariant-loop
 invariant-loop g l = record {
   keeps : Keeps l.fn.collector l.collector;
-  fair : l.taker.right + gathered l.fn.collector.lanes ≡ l.fn.taker.right + gathered l.collector.lanes;
+  fair : l.taker.right + gathered l.fn.collector.sequences ≡ l.fn.taker.right + gathered l.collector.sequences;
 }

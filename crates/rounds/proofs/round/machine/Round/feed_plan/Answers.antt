@@ -2,8 +2,8 @@ use Rattle.std.proofs.Common.{◌≡◌, ◌∙◌, refl, ap, sym, subst, arith}
 use Rattle.std.proofs.lemmas.Result.{err_from_is_err_and}
 use Rattle.cutter.specs.Lent.{lent}
 use Rattle.ingest.proofs.Ordered.{made_of-at}
-use Rattle.flow_core.specs.Lanes.{following, with_plan}
-use Rattle.flow_core.specs.Gatherings.{lane_at, with_lane}
+use Rattle.flow_core.specs.Sequences.{following, with_plan}
+use Rattle.flow_core.specs.Gatherings.{sequence_at, with_sequence}
 use Rattle.ladder_items.proofs.Worlds.{InOrder}
 use Rattle.rounds.proofs.Rounding.{in-keeps, in-stopped}
 use Rattle.rounds.proofs.Expecting.{plan-follows, in-expect, expects-gathered}
@@ -31,7 +31,7 @@ expect-requires-clause-number g c =
     let order : InOrder c.args.settings.now = λ stop r. made_of-at stop r c.args.settings.now.cut in
     let now = c.in_ok-make_room.ensures.ok some.0 some.1 some.3 in
     let p = plan-follows _ _ _ _ _ some.0 some.1 _ _ _ now c.args.r c.requires.within (lent c.args.plan) some.2 some.4 order in
-    p.number ∙ ap (λ k. following (lane_at c.make_room.new.self.collector k)) (sym p.rendition)
+    p.number ∙ ap (λ k. following (sequence_at c.make_room.new.self.collector k)) (sym p.rendition)
 
 pub expect-requires-clause-low : goal.expect-requires-clause-low
 expect-requires-clause-low g c =
@@ -52,7 +52,7 @@ offer-requires g c =
     let order : InOrder c.args.settings.now = λ stop r. made_of-at stop r c.args.settings.now.cut in
     let now = c.in_ok-make_room.ensures.ok some.0 some.1 some.3 in
     let p = plan-follows _ _ _ _ _ some.0 some.1 _ _ _ now c.args.r c.requires.within (lent c.args.plan) some.2 some.4 order in
-    let made = subst (λ k. c.expect.new.collector ≡ with_lane c.make_room.new.self.collector k (with_plan (lane_at c.make_room.new.self.collector k) (lent c.args.plan))) p.rendition c.in_ok-expect.ensures.ok in
+    let made = subst (λ k. c.expect.new.collector ≡ with_sequence c.make_room.new.self.collector k (with_plan (sequence_at c.make_room.new.self.collector k) (lent c.args.plan))) p.rendition c.in_ok-expect.ensures.ok in
     let there = in-expect _ _ _ _ _ some.0 some.1 _ _ _ now c.args.r c.requires.within (lent c.args.plan) some.2 some.4 _ made in
     record { keys = record { each = there.each; keys = there.keys } }
 
@@ -66,7 +66,7 @@ returns-clause-ok g c start unfed left is old =
     let order : InOrder c.args.settings.now = λ stop r. made_of-at stop r c.args.settings.now.cut in
     let now = c.in_ok-make_room.ensures.ok start unfed old in
     let p = plan-follows _ _ _ _ _ start unfed _ _ _ now c.args.r c.requires.within (lent c.args.plan) left is order in
-    let made = subst (λ k. c.expect.new.collector ≡ with_lane c.make_room.new.self.collector k (with_plan (lane_at c.make_room.new.self.collector k) (lent c.args.plan))) p.rendition c.in_ok-expect.ensures.ok in
+    let made = subst (λ k. c.expect.new.collector ≡ with_sequence c.make_room.new.self.collector k (with_plan (sequence_at c.make_room.new.self.collector k) (lent c.args.plan))) p.rendition c.in_ok-expect.ensures.ok in
     in-keeps _ _ _ _ _ start _ _ _ _ _ c.in_ok-offer.ensures.keeps (in-expect _ _ _ _ _ start unfed _ _ _ now c.args.r c.requires.within (lent c.args.plan) left is _ made)
 
 pub returns-clause-fair : goal.returns-clause-fair

@@ -39,12 +39,12 @@ returns-clause-ok g c start unfed now =
 
 pub returns-clause-counts : goal.returns-clause-counts
 returns-clause-counts g c = (
-  ap (λ (x : Gathering). gathered x.lanes) c.in-Some.ensures.some ∙ passed-gathered c.args.self.now.collector c.args.r c.in-Some.sealed.plan c.in-Some.sealed c.in-Some.ensures.first,
+  ap (λ (x : Gathering). gathered x.sequences) c.in-Some.ensures.some ∙ passed-gathered c.args.self.now.collector c.args.r c.in-Some.sealed.plan c.in-Some.sealed c.in-Some.ensures.first,
   refl,
 )
 
 pub returns-clause-fewer : goal.returns-clause-fewer
 returns-clause-fewer g c any =
-    let now = ap (λ (x : Gathering). awaited x.lanes) c.in-Some.ensures.some in
+    let now = ap (λ (x : Gathering). awaited x.sequences) c.in-Some.ensures.some in
     let less = passed-fewer c.args.self.now.collector c.args.r c.in-Some.sealed.plan c.in-Some.sealed c.in-Some.ensures.first in
     omega (arith, now, less)

@@ -11,4 +11,4 @@ invariant-loop g l = record {
 }
 
 abbrev pub decreases-loop : goal.decreases-loop
-decreases-loop g l = awaited l.self.collector.lanes
+decreases-loop g l = awaited l.self.collector.sequences
