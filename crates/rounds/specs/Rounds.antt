@@ -1,11 +1,13 @@
 -- A round: plans are expected, and segments come for them.
-use Rattle.std.specs.Prelude.{◌≡◌, ◌≢◌, ℕ, ◌+◌, ◌<◌, ◌≤◌, sum, List, [], ◌∷◌, ◌++◌, map, length, slice_index_or, slice_set}
+use Rattle.std.specs.Prelude.{◌≡◌, ◌≢◌, ℕ, ◌+◌, ◌<◌, ◌≤◌, sum, List, [], ◌∷◌, ◌++◌, map, length, Some, slice_get, slice_index_or, slice_set, false}
 use Rattle.cutter.specs.Plans.{SegmentPlan}
 use Rattle.flow_core.specs.declared.slot.Slot.{Slot}
 use Rattle.flow_core.specs.Slots.{leading, one_more}
 use Rattle.flow_core.specs.Gatherings.{Gathering, sequence_at, sequences_from}
 use Rattle.flow_core.specs.Sequences.{SequenceValue}
 use Rattle.live_board.specs.Snapshots.{Known}
+use Rattle.ingest.specs.declared.lane.Lane.{Lane}
+use Rattle.ingest.specs.Lanes.{is_good}
 use Rattle.item_io.specs.Views.{OutletView, SourceView}
 use Rattle.ladder_items.specs.declared.fault.PackFault.{PackFault}
 use Rattle.ladder_items.specs.declared.fault.PackFault.TheVariants.{NoMemory}
@@ -25,7 +27,8 @@ expected sequence = map (λ (slot : Slot). slot.plan) sequence.slots
 pub record Keeps (old new : Gathering) : Type 0 where
   pub most : new.most ≡ old.most
   pub count : length new.sequences ≡ length old.sequences
-  pub each : (k : ℕ) → ((sequence_at new k).keys ≡ (sequence_at old k).keys) × ((sequence_at new k).next ≡ (sequence_at old k).next) × (expected (sequence_at new k) ≡ expected (sequence_at old k))
+  pub each : (k : ℕ) → ((sequence_at new k).keys ≡ (sequence_at old k).keys) × ((sequence_at new k).next ≡ (sequence_at old k).next)
+      × (expected (sequence_at new k) ≡ expected (sequence_at old k))
 
 -- the renditions of a collector are the ladder's, under their keys
 pub record HasKeys (ladder : Ladder) (g : Gathering) : Type 0 where
@@ -154,6 +157,17 @@ IsFull input out ladder start spools at = IsOn input out ladder start at.course 
 abbrev pub IsSomeFull : {X Y R : Type 0} → SourceView X → OutletView Y → Ladder → List (List SegmentPlan) → Broadcast X Y R → Type 0
 IsSomeFull {X} {Y} input out ladder spools at = (start : Start X Y) × IsFull input out ladder start spools at
 
+-- each rendition's full spool has what its lane had closed, and the lane stopped as before, or goes on
+abbrev pub TakesClosed : List Lane → List Lane → List (List SegmentPlan) → Type 0
+TakesClosed old new full = (k : ℕ) (lane now : Lane) → k < length full → slice_get old k ≡ Some lane → slice_get new k ≡ Some now
+    → (unfed_of full k ≡ lane.intake.filled) × (now.stop ≡ lane.stop)
+
+-- Ends are given when they are due: a rendition with nothing unfed in its full spool is ended exactly where its lane is good.
+abbrev pub HasDueEnds : {X Y : Type 0} → Ladder → List (List SegmentPlan) → Course X Y → Type 0
+HasDueEnds ladder spools course =
+    (k : ℕ) (lane : Lane) → k < length ladder.renditions → slice_get course.lanes.items k ≡ Some lane → unfed_of spools k ≡ []
+    → slice_index_or course.ended.items k false ≡ is_good lane.stop
+
 -- the spools of each run of which no plan waits were swapped out
 abbrev pub SwapsOut : {X Y : Type 0} → SourceView X → OutletView Y → Course X Y → Course X Y → List (List SegmentPlan) → Type 0
 SwapsOut {X} {Y} input out old new full =
@@ -175,7 +189,8 @@ SwapsOne {X} {Y} input out r old new full =
 
 -- the collector expects nothing yet, and each of its renditions stands behind the segments that were given of it
 abbrev pub IsBehind : {X Y L M R : Type 0} → Ladder → Round X Y L M R → Type 0
-IsBehind ladder at = at.collector.sequences ≡ sequences_from 0 (map (λ (r : RenditionValue). r.keys) ladder.renditions) (counts_of at.broadcast.course.playlists.items)
+IsBehind ladder at =
+    at.collector.sequences ≡ sequences_from 0 (map (λ (r : RenditionValue). r.keys) ladder.renditions) (counts_of at.broadcast.course.playlists.items)
 
 -- What the calling thread made of each run that stood there with these full spools: all of them was given. It took no more right
 -- segments than were given.

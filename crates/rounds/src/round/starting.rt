@@ -1,7 +1,7 @@
 //! Starts a round: opens its desk, and a scope of threads to work at it.
 
 ghost use Rattle.std.specs.Prelude.{◌≡◌, ◌<◌, ◌^◌, IfErr, OnOk, length};
-ghost use Rattle.rounds.specs.Rounds.{IsBroken, IsRound, IsSomeFull};
+ghost use Rattle.rounds.specs.Rounds.{HasDueEnds, IsBroken, IsRound, IsSomeFull};
 
 use crate::round::crew::Crew;
 use crate::round::scoped::in_scope;
@@ -19,7 +19,7 @@ use std::thread::Threads;
 use work_desk::{Desk, Gate, Opened};
 
 /// Runs a round: the workers seal the plans of the full spools, which are given in sequence, and meanwhile what is ready is read
-/// for the next round.
+/// for the next round. The ends that were due have been given.
 pub fn run_round<'r, S: Source + Drop, O: Outlet + Drop, G: Gate + Sync, R: Threads + Wait + Sync>(
     setup: &Setup<'_, G, R>,
     keys: &[Keys],
@@ -28,6 +28,7 @@ pub fn run_round<'r, S: Source + Drop, O: Outlet + Drop, G: Gate + Sync, R: Thre
 ) -> (BetweenRounds<'r, S, O, R>, Result<(), PackFault>)
     requires each { length spools.now ≡ length setup.now.settings.now.renditions }
     requires on { IsSomeFull S.input O.output setup.now.settings.now spools.now between.broadcast }
+    requires ends { HasDueEnds setup.now.settings.now spools.now between.broadcast.course }
     requires workers { length between.books.workers.items ≡ setup.now.workers }
     requires rounds { between.books.rounds < 2 ^ 46 }
     ensures ok { OnOk result.1 (IsRound S.input O.output setup.now.settings.now spools.now between.entry result.0) }

@@ -3,7 +3,7 @@
 ghost use Rattle.std.specs.Prelude.{◌≡◌, ◌+◌, ◌≤◌, IfErr, IfOk, OnErr, OnOk, length, sum};
 ghost use Rattle.rounds.specs.Courses.{HasGoodEnds, IsAllGiven, IsSomeBetween, NoneClosed, ReadsNone, StaysBetween, StopsBetween};
 ghost use Rattle.rounds.specs.Courses.{IsRun, ReadsMore, ReadsOn, ReadsShort};
-ghost use Rattle.rounds.specs.Rounds.{SwapsOut, SwapsShort};
+ghost use Rattle.rounds.specs.Rounds.{SwapsOut, SwapsShort, TakesClosed};
 ghost use Rattle.rounds.specs.Showing.{counts_of};
 
 use crate::round::starting::run_round;
@@ -56,6 +56,7 @@ fn swap_spools<'r, S: Source, O: Outlet, R: Wait>(
     ensures same { result.0.broadcast.course ≡ record between.entry.broadcast.course { lanes = result.0.broadcast.course.lanes } }
     ensures each { IfOk result.1 (λ full. length full.items ≡ length between.entry.broadcast.course.lanes.items) }
     ensures empty { OnOk result.1 (NoneClosed result.0.broadcast.course.lanes.items) }
+    ensures taken { IfOk result.1 (λ full. TakesClosed between.entry.broadcast.course.lanes.items result.0.broadcast.course.lanes.items full.items) }
     ensures held { result.0.broadcast.held.publisher ≡ between.entry.broadcast.held.publisher }
     ensures books { result.0.books ≡ between.entry.books }
 {

@@ -3,7 +3,7 @@
 ghost use Rattle.std.specs.Prelude.{◌≡◌, ◌≢◌, ◌<◌, [], ℕ, IfOk, OnErr, OnOk, Some, length, slice_get};
 ghost use Rattle.ingest.specs.declared.lane.Lane.{Lane};
 ghost use Rattle.rounds.specs.Courses.{NoneClosed};
-ghost use Rattle.rounds.specs.Rounds.{SwapsOne, SwapsOut, SwapsShort};
+ghost use Rattle.rounds.specs.Rounds.{SwapsOne, SwapsOut, SwapsShort, TakesClosed};
 
 use crate::run::course::Course;
 use cutter::Spool;
@@ -20,6 +20,7 @@ impl<S: Source, O: Outlet> Course<S, O> {
         ensures count { length self.new.lanes.items ≡ length self.old.lanes.items }
         ensures each { IfOk result (λ full. length full.items ≡ length self.old.lanes.items) }
         ensures empty { OnOk result (NoneClosed self.new.lanes.items) }
+        ensures taken { IfOk result (λ full. TakesClosed self.old.lanes.items self.new.lanes.items full.items) }
     {
         let mut full = Vec::new(alloc);
         for spool in spare {
@@ -35,6 +36,8 @@ impl<S: Source, O: Outlet> Course<S, O> {
         requires within { r < length self.old.lanes.items }
         ensures ok { IfOk result (SwapsOne S.input O.output r self.old self.new) }
         ensures empty { OnOk result ((lane : Lane) → slice_get self.new.lanes.items r ≡ Some lane → lane.intake.filled ≡ []) }
+        ensures taken { IfOk result (λ full. (lane now : Lane) → slice_get self.old.lanes.items r ≡ Some lane → slice_get self.new.lanes.items r ≡ Some now
+            → (full ≡ lane.intake.filled) × (now.stop ≡ lane.stop)) }
         ensures others { OnOk result ((k : ℕ) → k ≢ r → slice_get self.new.lanes.items k ≡ slice_get self.old.lanes.items k) }
         ensures err { OnErr result (self.new.lanes.items ≡ self.old.lanes.items) }
         ensures same { self.new ≡ record self.old { lanes = self.new.lanes } }

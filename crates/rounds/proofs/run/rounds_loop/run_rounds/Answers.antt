@@ -1,4 +1,7 @@
-use Rattle.std.proofs.Common.{◌∙◌, [], refl, ap, sym, subst, arith, length}
+use Rattle.std.proofs.Common.{◌≡◌, ◌∙◌, ◌<◌, [], false, refl, ap, sym, subst, arith, length}
+use Rattle.std.specs.List.{slice_index_or}
+use Rattle.std.proofs.lemmas.Option.{slice_get-get_or}
+use Rattle.ingest.specs.Lanes.{is_good}
 use Rattle.std.specs.Prelude.{sum}
 use Rattle.std.proofs.lemmas.Result.{IfErr-at_err, IfOk-at_ok}
 use Rattle.live_board.specs.Snapshots.{Known}
@@ -6,6 +9,7 @@ use Rattle.ladder_items.specs.declared.fault.PackFault.TheVariants.{NoMemory}
 use Rattle.rounds.specs.declared.run.books.Books.{Books}
 use Rattle.rounds.specs.declared.run.course.Course.{Course}
 use Rattle.rounds.specs.Showing.{counts_of}
+use Rattle.rounds.specs.Rounds.{unfed_of}
 use Rattle.rounds.specs.Courses.{HasClosed, IsOn, IsStopped, NoneClosed, turns_in}
 use Rattle.rounds.proofs.Between.{counted-more, counted-read, few-rounds, counted-round, on-turns, on-as, never, all-given}
 use Rattle.rounds.proofs.run.rounds_loop.run_rounds.Goals as goal
@@ -46,6 +50,22 @@ run_round-now-requires-clause-on g c κs within =
     let full = IfOk-at_ok _ c.in-Ok.is t.ok c.args.setup.now.settings.now some.0 _ on1 in
     let on2 = on-as _ _ _ some.0 _ _ _ _ c.deref-in-loop.result.now t.held c.deref-in-loop.ensures.value full in
     (some.0, on2)
+
+-- a full spool with nothing unfed is of a lane that had nothing closed when the ends were given
+pub run_round-now-requires-clause-ends : goal.run_round-now-requires-clause-ends
+run_round-now-requires-clause-ends g c κs within k lane below at none =
+    let some = c.requires.on in
+    let e = c.give_due_ends-now.ensures in
+    let t = c.swap_spools-now.ensures in
+    let on1 = IfOk-at_ok _ c.in_default.is e.ok some.0 (c.loop.invariant.on some.0 some.1) in
+    let lanes = c.give_due_ends-now.result.0.broadcast.course.lanes.items in
+    let small : k < length lanes = omega (arith, below, on1.world.same_lanes) in
+    let was = slice_get-get_or lanes k lane small in
+    let each = IfOk-at_ok _ c.in-Ok.is t.each in
+    let taken = IfOk-at_ok _ c.in-Ok.is t.taken k (slice_index_or lanes k lane) lane (omega (arith, small, each)) was at in
+    let nothing : unfed_of c.in-Ok.full.items k ≡ [] = ap (λ l. unfed_of l k) (sym c.deref-in-loop.ensures.value) ∙ none in
+    ap (λ (d : Course _ _). slice_index_or d.ended.items k false) t.same
+    ∙ (IfOk-at_ok _ c.in_default.is e.ended k (slice_index_or lanes k lane) below was (sym taken.0 ∙ nothing) ∙ ap is_good (sym taken.1))
 
 pub run_round-now-requires-clause-rounds : goal.run_round-now-requires-clause-rounds
 run_round-now-requires-clause-rounds g c κs within =

@@ -1,4 +1,4 @@
-use Rattle.std.proofs.Common.{◌≡◌, ◌∙◌, inl, inr, ◌∷◌, [], ◌++◌, List, refl, ap, sym, arith, rules, length, length-append, append_assoc}
+use Rattle.std.proofs.Common.{◌≡◌, ◌∙◌, ◌+◌, ◌≤◌, inl, inr, ◌∷◌, [], ◌++◌, List, refl, ap, sym, arith, rules, length, length-append, append_assoc}
 use Rattle.std.specs.List.{slice_get}
 use Rattle.std.proofs.lemmas.Bool.{cases_eq}
 use Rattle.std.specs.Vec.Iter.{into_iter_items}
@@ -16,6 +16,8 @@ loop-spool-init g c = record {
   same = refl;
   count = refl;
   rest = search rules;
+  taken = λ k lane now below at there. absurd (omega (arith, below, ap length c.new-full.ensures.items));
+  others = λ k past. refl;
   empty = λ k lane below at. absurd (omega (arith, below, ap length c.new-full.ensures.items));
   size = ap length c.new-full.ensures.items;
 }
@@ -50,6 +52,19 @@ loop-spool-preserved g c =
       count = c.in_ok-swap_one.ensures.count ∙ c.loop-spool.invariant.count;
       rest = append_assoc c.loop-spool.yielded (c.in-Some.spool ∷ []) (into_iter_items c.next.new.self)
           ∙ (ap (λ (l : List (List SegmentPlan)). c.loop-spool.yielded ++ l) (sym c.in-Some.ensures.steps.0) ∙ c.loop-spool.invariant.rest);
+      taken = λ k lane now below at there.
+          elim (cases_eq k r) as (λ _. (unfed_of c.push_reserved.new.self.items k ≡ lane.intake.filled) × (now.stop ≡ lane.stop)) [
+            | inl q ↦
+                let was = c.loop-spool.invariant.others k (omega (arith, q, len)) in
+                let one = c.in_ok-swap_one.ensures.taken lane now (ap (slice_get c.loop-spool.self.lanes.items) (sym q) ∙ (was ∙ at)) (ap (slice_get c.swap_one.new.self.lanes.items) (sym q) ∙ there) in
+                (ap (λ l. unfed_of l k) pushed ∙ (ap (unfed_of (full ++ x ∷ [])) (q ∙ len) ∙ (unfed-last full x ∙ one.0)), one.1)
+            | inr q ↦
+                let one = c.loop-spool.invariant.taken k lane now (omega (arith, below, q, len, ap length pushed, length-append full (x ∷ []))) at (sym (c.in_ok-swap_one.ensures.others k q) ∙ there) in
+                (ap (λ l. unfed_of l k) pushed ∙ (unfed-other full x k (λ e. q (e ∙ sym len)) ∙ one.0), one.1)
+          ];
+      others = λ k past.
+          let fewer : length full + 1 ≤ k = omega (arith, past, ap length pushed, length-append full (x ∷ [])) in
+          c.in_ok-swap_one.ensures.others k (λ q. omega (arith, fewer, q, len)) ∙ c.loop-spool.invariant.others k (omega (arith, fewer));
       empty = λ k lane below at.
           elim (cases_eq k r) as (λ _. lane.intake.filled ≡ []) [
             | inl q ↦ c.in_ok-swap_one.ensures.empty lane (ap (slice_get c.swap_one.new.self.lanes.items) (sym q) ∙ at)
