@@ -12,10 +12,13 @@ use Rattle.segment_job.specs.Rotation.{KeyRotation}
 use Rattle.segment_job.specs.Segments.{SealedSegment, sealed_segment}
 use Rattle.flow_core.specs.declared.slot.Slot.{Slot}
 use Rattle.flow_core.specs.Slots.{came, lacking, unless_came}
-use Rattle.flow_core.specs.Sequences.{SequenceValue, IsRight, Lacks, has_come, with_segment}
+use Rattle.flow_core.specs.declared.fault.CollectFault.{CollectFault}
+use Rattle.flow_core.specs.declared.fault.CollectFault.TheVariants.{Stray, Double, NoMemory}
+use Rattle.flow_core.specs.Sequences.{SequenceValue, IsRight, GivesBack, Lacks, has_come, with_segment}
 use Rattle.flow_core.specs.Gatherings.{Gathering, no_sequence, sequence_at, with_sequence, missing_in}
 use Rattle.flow_core.proofs.Flowing.{sequence-same, sequence-other, inside}
 use Rattle.ladder_items.specs.Ladder.{Ladder, rendition_at}
+use Rattle.rounds.specs.Collected.{Collects}
 use Rattle.rounds.specs.Rounds.{HasKeys, Keeps, expected, segments_in, gathered}
 
 pub keeps_same : (g h : Gathering) → h ≡ g → Keeps g h
@@ -68,6 +71,18 @@ not-come sequence segment right come =
     let behind : nat_lt segment.plan.number sequence.next ≡ false = grind (arith, nat_tests, right.ahead) in
     let empty : came (slice_get sequence.slots (segment.plan.number - sequence.next)) ≡ false = ap came right.expected in
     cc (behind, empty, come)
+
+-- a segment that was collected was right
+pub collects-right : (g h : Gathering) (segment : SealedSegment) → IsRight (sequence_at g segment.plan.rendition) segment
+    → h ≡ with_sequence g segment.plan.rendition (with_segment (sequence_at g segment.plan.rendition) segment) → Collects g segment h
+collects-right g h segment right is = record { right = λ again. is; wrong = λ not. absurd (not right) }
+
+-- one that was given back wasn't
+pub collects-wrong : (g h : Gathering) (segment : SealedSegment) (fault : CollectFault) → GivesBack (sequence_at g segment.plan.rendition) segment fault → h ≡ g → Collects g segment h
+collects-wrong g h segment (Stray back) told same = record { right = λ right. absurd (told.2 right); wrong = λ not. same }
+collects-wrong g h segment (Double back) told same =
+    record { right = λ right. absurd (not-come (sequence_at g segment.plan.rendition) segment right told.1); wrong = λ not. same }
+collects-wrong g h segment (NoMemory back) told same = absurd told
 
 -- one plan fewer lacks its segment
 lacking-set : (slots : List Slot) (i : ℕ) (plan : SegmentPlan) → slice_get slots i ≡ Some (record { plan = plan; segment = None }) → (segment : SealedSegment)

@@ -46,4 +46,7 @@ pub record IsTold (shown : List Shown) (lanes : List Lane) (books : Books) (repo
   pub numbers : IsReport shown (map (λ (lane : Lane). gone_of lane.stop) lanes) report
   pub workers : report.workers.items ≡ books.workers.items
   pub total : sum report.workers.items + report.own ≡ sum report.counts.items + report.thrown
+  -- what no worker's right segment is, the calling thread sealed
+  pub own : report.own + books.right ≡ sum report.counts.items
+  pub thrown : report.thrown ≡ books.thrown
   pub rounds : report.rounds ≡ books.rounds

@@ -1,5 +1,5 @@
 -- A run under way on many threads.
-use Rattle.std.specs.Prelude.{◌≡◌, ◌≢◌, ◌⊎◌, ℕ, ◌<◌, ◌≤◌, ◌^◌, List, [], ◌∷◌, ◌++◌, length, sum, None, Some, slice_get, slice_index_or, false}
+use Rattle.std.specs.Prelude.{◌≡◌, ◌≢◌, ℕ, ◌<◌, ◌≤◌, ◌^◌, List, [], ◌∷◌, ◌++◌, length, sum, None, Some, slice_get, slice_index_or, false}
 use Rattle.cutter.specs.Plans.{SegmentPlan}
 use Rattle.item_io.specs.Items.{ItemValue}
 use Rattle.live_board.specs.Snapshots.{SnapshotFacts, Known}

@@ -19,6 +19,7 @@ use ladder_items::{PackFault, Playlists, Settings};
 use std::alloc::{AllocError, Global};
 use std::sync::Wait;
 use std::sync::ledger::Ledger;
+use work_desk::Gate;
 
 /// A collector that goes on after the segments given so far.
 pub fn collector_behind<'s>(
@@ -36,12 +37,13 @@ pub fn collector_behind<'s>(
     Collector::starting(alloc, keys, starts, settings.queue as usize)
 }
 
-impl<'d, 's, 'r, S: Source, O: Outlet, L: Ledger, M: Ledger, R: Wait> Round<
+impl<'d, 's, 'r, S: Source, O: Outlet, G: Gate, L: Ledger, M: Ledger, R: Wait> Round<
     'd,
     's,
     'r,
     S,
     O,
+    G,
     L,
     M,
     R,

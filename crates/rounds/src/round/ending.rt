@@ -5,6 +5,7 @@ ghost use Rattle.rounds.specs.Rounds.{IsBroken, IsDriven, IsSomeFull};
 
 use crate::round::driving::collector_behind;
 use crate::round::machine::Round;
+use crate::round::sealer::Sealer;
 use crate::round::taker::Taker;
 use crate::run::between::BetweenRounds;
 use crate::run::setup::Setup;
@@ -13,7 +14,7 @@ use item_io::{Outlet, Source};
 use ladder_items::PackFault;
 use std::sync::Wait;
 use std::sync::ledger::Ledger;
-use work_desk::{Desk, Pass};
+use work_desk::{Desk, Gate, Pass};
 
 /// A round that the calling thread has driven to its end.
 #[derive(Drop)]
@@ -24,7 +25,7 @@ pub struct EndedRound<'r, S, O, M: Ledger, R: Wait> {
 }
 
 /// Does the calling thread's part of a round, taking and returning by value what it changes.
-pub fn driven<'s, 'r, S: Source, O: Outlet, G, L: Ledger, M: Ledger, R: Wait>(
+pub fn driven<'s, 'r, S: Source, O: Outlet, G: Gate, L: Ledger, M: Ledger, R: Wait>(
     setup: &Setup<'_, G, R>,
     spools: &'s [Spool],
     desk: &Desk<'s, L, M>,
@@ -53,8 +54,12 @@ pub fn driven<'s, 'r, S: Source, O: Outlet, G, L: Ledger, M: Ledger, R: Wait>(
             taker,
         };
     };
-    let mut round = Round {
+    let sealer = Sealer {
         alloc: setup.alloc,
+        gate: setup.gate,
+    };
+    let mut round = Round {
+        sealer,
         desk,
         broadcast,
         collector,
@@ -62,7 +67,7 @@ pub fn driven<'s, 'r, S: Source, O: Outlet, G, L: Ledger, M: Ledger, R: Wait>(
     };
     let answer = round.drive(setup.settings, setup.pace, spools);
     let Round {
-        alloc: _,
+        sealer: _,
         desk: _,
         broadcast,
         collector: _,
@@ -88,6 +93,7 @@ pub fn closed<'r, S, O, M: Ledger, R: Wait>(
     ensures answer { result.1 ≡ ended.entry.answer }
     ensures rounds { result.0.books.rounds ≡ ended.entry.between.books.rounds + 1 }
     ensures right { result.0.books.right ≡ ended.entry.between.books.right + ended.entry.taker.right }
+    ensures thrown { result.0.books.thrown ≡ ended.entry.between.books.thrown + ended.entry.taker.thrown + left }
     ensures each { length result.0.books.workers.items ≡ length ended.entry.between.books.workers.items }
 {
     let EndedRound {

@@ -1,31 +1,32 @@
 //! Feeding: the collector expects each plan of the full spools, and the plan goes to the desk or is sealed on this thread.
 
-ghost use Rattle.std.specs.Prelude.{◌≡◌, ◌<◌, ◌≤◌, IfErr, OnOk, length};
+ghost use Rattle.std.specs.Prelude.{◌≡◌, ◌⊎◌, ◌<◌, ◌≤◌, IfErr, OnOk, length};
 ghost use Rattle.cutter.specs.Lent.{lent};
 ghost use Rattle.flow_core.specs.Gatherings.{awaited, sequence_at, with_sequence};
 ghost use Rattle.flow_core.specs.Sequences.{following, with_plan};
 ghost use Rattle.ladder_items.specs.declared.fault.PackFault.TheVariants.{NoMemory};
 ghost use Rattle.rounds.specs.Rounds.{Breaks, BreaksAll, BreaksSpool, FeedsAll, FeedsPlan, FeedsSpool, HasAllUnfed, IsFirstUnfed, IsUnfed};
+ghost use Rattle.rounds.specs.Gated.{IsUnsealed};
 ghost use Rattle.rounds.specs.Rounds.{HasKeys, IsFair, Keeps, ReadsNoneIn, gathered};
 ghost use Rattle.limits.specs.declared.TheConstants.{LAST_SEGMENT};
 
 use crate::round::machine::Round;
-use crate::round::sealing::seal_own;
+use crate::round::sealer::Sealer;
 use cutter::{PlanRef, Spool};
-use flow_core::{Collector, FeedFault};
+use flow_core::Collector;
 use item_io::{Outlet, Source};
 use ladder_items::{PackFault, Settings};
-use std::alloc::Global;
 use std::sync::Wait;
 use std::sync::ledger::Ledger;
-use work_desk::Desk;
+use work_desk::{Desk, Gate};
 
-impl<'d, 's, 'r, S: Source, O: Outlet, L: Ledger, M: Ledger, R: Wait> Round<
+impl<'d, 's, 'r, S: Source, O: Outlet, G: Gate, L: Ledger, M: Ledger, R: Wait> Round<
     'd,
     's,
     'r,
     S,
     O,
+    G,
     L,
     M,
     R,
@@ -85,7 +86,7 @@ impl<'d, 's, 'r, S: Source, O: Outlet, L: Ledger, M: Ledger, R: Wait> Round<
         expect(&mut self.collector, plan)?;
         offer(
             self.broadcast.held.rt,
-            self.alloc,
+            &self.sealer,
             settings,
             self.desk,
             plan,
@@ -112,9 +113,9 @@ fn expect<'s>(collector: &mut Collector<'s>, plan: PlanRef<'s>) -> Result<(), Pa
 }
 
 /// Offers a plan to the workers. If the desk refuses it, it is sealed on this thread.
-fn offer<'s, L: Ledger, M: Ledger, R: Wait>(
+fn offer<'s, G: Gate, L: Ledger, M: Ledger, R: Wait>(
     rt: &R,
-    alloc: Global,
+    sealer: &Sealer<'_, G>,
     settings: &Settings,
     desk: &Desk<'s, L, M>,
     plan: PlanRef<'s>,
@@ -123,11 +124,8 @@ fn offer<'s, L: Ledger, M: Ledger, R: Wait>(
     requires keys { HasKeys settings.now collector.old }
     ensures keeps { Keeps collector.old collector.new }
     ensures more { gathered collector.old.sequences ≤ gathered collector.new.sequences }
-    ensures fault { IfErr result (λ fault. fault ≡ NoMemory) }
+    ensures fault { IfErr result (λ fault. (fault ≡ NoMemory) ⊎ IsUnsealed (G.lets sealer.now.gate.now) (G.stops sealer.now.gate.now) (lent plan.entry) fault) }
 {
-    match desk.feed(rt, plan) {
-        Ok(()) => Ok(()),
-        Err(FeedFault::NoMemory(_)) => Err(PackFault::NoMemory),
-        Err(_) => seal_own(alloc, settings, plan, collector),
-    }
+    let answer = desk.feed(rt, plan);
+    sealer.follow(answer, settings, plan, collector)
 }

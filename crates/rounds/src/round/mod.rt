@@ -8,6 +8,7 @@ pub mod joining;
 pub mod machine;
 pub mod ready;
 pub mod scoped;
+pub mod sealer;
 pub mod sealing;
 pub mod starting;
 pub mod taker;

@@ -9,13 +9,15 @@ use item_io::{Outlet, Source};
 use ladder_items::{PackFault, Settings};
 use std::sync::Wait;
 use std::sync::ledger::Ledger;
+use work_desk::Gate;
 
-impl<'d, 's, 'r, S: Source, O: Outlet, L: Ledger, M: Ledger, R: Wait> Round<
+impl<'d, 's, 'r, S: Source, O: Outlet, G: Gate, L: Ledger, M: Ledger, R: Wait> Round<
     'd,
     's,
     'r,
     S,
     O,
+    G,
     L,
     M,
     R,
@@ -64,7 +66,7 @@ impl<'d, 's, 'r, S: Source, O: Outlet, L: Ledger, M: Ledger, R: Wait> Round<
             return Ok(false);
         };
         self.broadcast
-            .give_segment(self.alloc, settings, r, sealed)?;
+            .give_segment(self.sealer.alloc, settings, r, sealed)?;
         Ok(true)
     }
 }

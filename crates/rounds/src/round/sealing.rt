@@ -5,14 +5,17 @@ ghost use Rattle.cutter.specs.Lent.{lent};
 ghost use Rattle.flow_core.specs.Gatherings.{sequence_at, missing_in};
 ghost use Rattle.flow_core.specs.Sequences.{IsRight, Lacks};
 ghost use Rattle.flow_core.specs.declared.outcome.Outcome.TheVariants.{Held as HeldBack};
-ghost use Rattle.ladder_items.specs.declared.fault.PackFault.TheVariants.{Held, NoMemory};
+ghost use Rattle.ladder_items.specs.declared.fault.PackFault.TheVariants.{Held};
+ghost use Rattle.rounds.specs.Collected.{Collects, TakesIn};
+ghost use Rattle.rounds.specs.Gated.{Follows, IsLeft, IsUnsealed, SealsOwn};
 ghost use Rattle.rounds.specs.Rounds.{HasKeys, Keeps, gathered};
 
+use crate::round::sealer::Sealer;
 use cutter::PlanRef;
-use flow_core::{Collector, Delivery, Outcome};
+use flow_core::{Collector, Delivery, FeedFault, Outcome};
 use ladder_items::{PackFault, Settings};
 use segment_job::{Sealed, seal_plan};
-use std::alloc::Global;
+use work_desk::Gate;
 
 /// Collects a sealed segment, and returns whether it was right.
 #[tactic(auto, using(crate::proofs::Collecting::keeps_same))]
@@ -22,6 +25,7 @@ fn collect<'s>(collector: &mut Collector<'s>, sealed: Sealed<'s>) -> bool
     ensures wrong { result ≡ false → collector.new ≡ collector.old }
     ensures sure { IsRight (sequence_at collector.old sealed.entry.plan.rendition) sealed.entry → result ≡ true }
     ensures fewer { result ≡ true → length (missing_in collector.new.sequences) + 1 ≡ length (missing_in collector.old.sequences) }
+    ensures collects { Collects collector.old sealed.entry collector.new }
 {
     let Ok(_) = collector.collect(sealed) else {
         return false;
@@ -41,6 +45,7 @@ pub fn take_in<'s>(
     ensures keeps { Keeps collector.old collector.new }
     ensures counted { right.new + thrown.new ≡ right.old + thrown.old + 1 }
     ensures fair { right.new + gathered collector.old.sequences ≡ right.old + gathered collector.new.sequences }
+    ensures taken { TakesIn done.entry.outcome collector.old collector.new }
     ensures held { OnErr result (done.entry.outcome ≡ HeldBack) }
     ensures unheld { OnOk result (done.entry.outcome ≢ HeldBack) }
     ensures fault { IfErr result (λ fault. fault ≡ Held done.entry.rendition done.entry.number) }
@@ -70,44 +75,73 @@ pub fn take_in<'s>(
     }
 }
 
-/// Seals a plan on this thread. If its sealed segment has come in the meantime, that one stays.
-#[tactic(auto, using(crate::proofs::Collecting::keeps_same))]
-pub fn seal_own<'s>(
-    alloc: Global,
-    settings: &Settings,
-    plan: PlanRef<'s>,
-    collector: &mut Collector<'s>,
-) -> Result<(), PackFault>
-    requires keys { HasKeys settings.now collector.old }
-    ensures keeps { Keeps collector.old collector.new }
-    ensures more { gathered collector.old.sequences ≤ gathered collector.new.sequences }
-    ensures fewer { OnOk result (Lacks (sequence_at collector.old plan.entry.rendition) (lent plan.entry)
-        → length (missing_in collector.new.sequences) < length (missing_in collector.old.sequences)) }
-    ensures fault { IfErr result (λ fault. fault ≡ NoMemory) }
-{
-    let Some(rendition) = settings.renditions.get(plan.rendition) else {
-        return Ok(());
-    };
-    let sealed = seal_plan(alloc, plan, &rendition.keys)?;
-    collect(collector, sealed);
-    Ok(())
-}
-
-/// Seals everything that is missing on this thread.
-#[tactic(auto, using(crate::proofs::Collecting::keeps_same))]
-pub fn seal_missing(
-    alloc: Global,
-    settings: &Settings,
-    collector: &mut Collector<'_>,
-) -> Result<(), PackFault>
-    requires keys { HasKeys settings.now collector.old }
-    ensures keeps { Keeps collector.old collector.new }
-    ensures more { gathered collector.old.sequences ≤ gathered collector.new.sequences }
-    ensures all { OnOk result (missing_in collector.new.sequences ≡ []) }
-    ensures fault { IfErr result (λ fault. fault ≡ NoMemory) }
-{
-    while let Some(plan) = collector.first_missing() {
-        seal_own(alloc, settings, plan, collector)?;
+impl<'g, G: Gate> Sealer<'g, G> {
+    /// Asks the gate about a plan, and seals it on this thread. If its sealed segment has come in the meantime, that one stays.
+    #[tactic(auto, using(crate::proofs::Collecting::keeps_same))]
+    pub fn seal_own<'s>(
+        &self,
+        settings: &Settings,
+        plan: PlanRef<'s>,
+        collector: &mut Collector<'s>,
+    ) -> Result<(), PackFault>
+        requires keys { HasKeys settings.now collector.old }
+        ensures keeps { Keeps collector.old collector.new }
+        ensures more { gathered collector.old.sequences ≤ gathered collector.new.sequences }
+        ensures ok { OnOk result (SealsOwn (G.lets self.now.gate.now) (lent plan.entry) collector.old collector.new) }
+        ensures err { OnErr result (collector.new ≡ collector.old) }
+        ensures fault { IfErr result (IsUnsealed (G.lets self.now.gate.now) (G.stops self.now.gate.now) (lent plan.entry)) }
+    {
+        if !self.gate.pass(plan.rendition, plan.number) {
+            return Err(PackFault::Held(plan.rendition, plan.number));
+        }
+        let Some(rendition) = settings.renditions.get(plan.rendition) else {
+            return Ok(());
+        };
+        let sealed = seal_plan(self.alloc, plan, &rendition.keys)?;
+        collect(collector, sealed);
+        Ok(())
     }
-    Ok(())
+
+    /// Does what the desk's answer to a plan asks for: a plan that the desk took is left to the workers, want of memory is told,
+    /// and a plan that it refused is sealed on this thread.
+    #[tactic(auto, using(crate::proofs::Collecting::keeps_same))]
+    pub fn follow<'s>(
+        &self,
+        answer: Result<(), FeedFault<'s>>,
+        settings: &Settings,
+        plan: PlanRef<'s>,
+        collector: &mut Collector<'s>,
+    ) -> Result<(), PackFault>
+        requires keys { HasKeys settings.now collector.old }
+        ensures keeps { Keeps collector.old collector.new }
+        ensures more { gathered collector.old.sequences ≤ gathered collector.new.sequences }
+        ensures follows { Follows (G.lets self.now.gate.now) (G.stops self.now.gate.now) (lent plan.entry) collector.old collector.new answer.entry result }
+    {
+        match answer {
+            Ok(()) => Ok(()),
+            Err(FeedFault::NoMemory(_)) => Err(PackFault::NoMemory),
+            Err(FeedFault::Full(_) | FeedFault::Closed(_) | FeedFault::Twice(_)) => {
+                self.seal_own(settings, plan, collector)
+            }
+        }
+    }
+
+    /// Seals everything that is missing on this thread.
+    #[tactic(auto, using(crate::proofs::Collecting::keeps_same))]
+    pub fn seal_missing(
+        &self,
+        settings: &Settings,
+        collector: &mut Collector<'_>,
+    ) -> Result<(), PackFault>
+        requires keys { HasKeys settings.now collector.old }
+        ensures keeps { Keeps collector.old collector.new }
+        ensures more { gathered collector.old.sequences ≤ gathered collector.new.sequences }
+        ensures all { OnOk result (missing_in collector.new.sequences ≡ []) }
+        ensures fault { IfErr result (IsLeft (G.lets self.now.gate.now) (G.stops self.now.gate.now) collector.new) }
+    {
+        while let Some(plan) = collector.first_missing() {
+            self.seal_own(settings, plan, collector)?;
+        }
+        Ok(())
+    }
 }

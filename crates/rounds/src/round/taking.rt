@@ -1,27 +1,29 @@
 //! Taking: takes in what is done at the desk, then gives what is ready.
 
-ghost use Rattle.std.specs.Prelude.{◌≡◌, ◌+◌, ◌<◌, ◌≤◌, ℕ, IfErr, IfNone, IfSome, OnOk};
+ghost use Rattle.std.specs.Prelude.{◌≡◌, ◌⊎◌, ◌+◌, ◌<◌, ◌≤◌, IfErr, IfNone, IfSome, OnOk};
 ghost use Rattle.flow_core.specs.Gatherings.{awaited};
-ghost use Rattle.rounds.specs.Courses.{IsHeld, SaysSudden};
+ghost use Rattle.rounds.specs.Courses.{IsHeld};
+ghost use Rattle.rounds.specs.Gated.{IsLeft};
 ghost use Rattle.rounds.specs.Rounds.{Breaks, HasKeys, IsFair, IsSomewhere, Keeps, Moves, NoneReady, ReadsNoneIn, gathered};
 
 use crate::round::machine::Round;
-use crate::round::sealing::{seal_missing, take_in};
+use crate::round::sealer::Sealer;
+use crate::round::sealing::take_in;
 use crate::round::taker::Taker;
 use flow_core::{Collector, Delivery};
 use item_io::{Outlet, Source};
 use ladder_items::{PackFault, Settings};
-use std::alloc::Global;
 use std::sync::Wait;
 use std::sync::ledger::Ledger;
-use work_desk::{Desk, Pass};
+use work_desk::{Desk, Gate, Pass};
 
-impl<'d, 's, 'r, S: Source, O: Outlet, L: Ledger, M: Ledger, R: Wait> Round<
+impl<'d, 's, 'r, S: Source, O: Outlet, G: Gate, L: Ledger, M: Ledger, R: Wait> Round<
     'd,
     's,
     'r,
     S,
     O,
+    G,
     L,
     M,
     R,
@@ -72,7 +74,7 @@ impl<'d, 's, 'r, S: Source, O: Outlet, L: Ledger, M: Ledger, R: Wait> Round<
     {
         wait_or_seal(
             self.broadcast.held.rt,
-            self.alloc,
+            &self.sealer,
             settings,
             self.desk,
             &mut self.taker,
@@ -163,9 +165,9 @@ fn take_all<'s, L: Ledger, M: Ledger, R: Wait>(
 }
 
 /// Waits until something is done, and takes it in. If nothing is outstanding, seals what is missing on this thread.
-fn wait_or_seal<'s, L: Ledger, M: Ledger, R: Wait>(
+fn wait_or_seal<'s, G: Gate, L: Ledger, M: Ledger, R: Wait>(
     rt: &R,
-    alloc: Global,
+    sealer: &Sealer<'_, G>,
     settings: &Settings,
     desk: &Desk<'s, L, M>,
     taker: &mut Taker<M>,
@@ -174,10 +176,10 @@ fn wait_or_seal<'s, L: Ledger, M: Ledger, R: Wait>(
     requires keys { HasKeys settings.now collector.old }
     ensures keeps { Keeps collector.old collector.new }
     ensures fair { taker.new.right + gathered collector.old.sequences ≤ taker.old.right + gathered collector.new.sequences }
-    ensures fault { IfErr result (λ fault. (n : ℕ) → SaysSudden fault n n) }
+    ensures fault { IfErr result (λ fault. IsHeld fault ⊎ IsLeft (G.lets sealer.now.gate.now) (G.stops sealer.now.gate.now) collector.new fault) }
 {
     if !take_one(rt, desk, true, taker, collector)? {
-        seal_missing(alloc, settings, collector)?;
+        sealer.seal_missing(settings, collector)?;
     }
     Ok(())
 }

@@ -29,7 +29,7 @@ use work_desk::Gate;
 /// every answer.
 ///
 /// The publisher must have as many renditions as the settings, none of them with a segment, and there must be 1 to 64 workers;
-/// otherwise the answer is Settings. A worker asks the gate before it seals a segment: the answer is Held if it isn't let
+/// otherwise the answer is Settings. The gate is asked before a segment is sealed: the answer is Held if it isn't let
 /// through. Want of memory (a thread that can't be started counts as that), a failed put and a held segment stop the run at
 /// once. Every thread that was started has ended by the time it answers.
 pub fn pack_parallel<S: Source + Drop, O: Outlet + Drop, G: Gate + Sync, R: Threads + Wait + Sync>(

@@ -27,6 +27,8 @@ fn report_with(
     ensures numbers { IfOk result (IsReport playlists.now (map (λ lane. gone_of lane.stop) lanes.now)) }
     ensures workers { IfOk result (λ report. report.workers.items ≡ books.workers.items) }
     ensures total { IfOk result (λ report. sum report.workers.items + report.own ≡ sum report.counts.items + report.thrown) }
+    ensures own { IfOk result (λ report. report.own + books.right ≡ sum report.counts.items) }
+    ensures thrown { IfOk result (λ report. report.thrown ≡ books.thrown) }
     ensures rounds { IfOk result (λ report. report.rounds ≡ books.rounds) }
 {
     let Books {

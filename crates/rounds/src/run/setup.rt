@@ -13,7 +13,7 @@ pub struct Setup<'a, G, R> {
     pub settings: &'a Settings,
     /// How many workers seal.
     pub workers: usize,
-    /// What each worker asks before it seals a segment.
+    /// What is asked before a segment is sealed, by a worker or by the calling thread.
     pub gate: &'a G,
     pub pace: Pace,
 }

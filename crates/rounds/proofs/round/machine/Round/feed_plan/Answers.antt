@@ -5,6 +5,7 @@ use Rattle.ingest.proofs.Ordered.{made_of-at}
 use Rattle.flow_core.specs.Sequences.{following, with_plan}
 use Rattle.flow_core.specs.Gatherings.{sequence_at, with_sequence}
 use Rattle.ladder_items.proofs.Worlds.{InOrder}
+use Rattle.rounds.proofs.Gates.{offered-sudden}
 use Rattle.rounds.proofs.Rounding.{in-keeps, in-stopped}
 use Rattle.rounds.proofs.Expecting.{plan-follows, in-expect, expects-gathered}
 use Rattle.rounds.proofs.round.machine.Round.feed_plan.Goals as goal
@@ -59,7 +60,8 @@ offer-requires g c =
 pub returns-in_err-offer-clause-err : goal.returns-in_err-offer-clause-err
 returns-in_err-offer-clause-err g c =
     let told = err_from_is_err_and c.from_residual-in_err-offer.result c.from_residual-in_err-offer.ensures.1 in
-    rw (told.1, told.2) (λ start unfed now. in-stopped _ _ _ _ _ start unfed _ _ _ _ (rw c.in_err-offer.ensures.fault refl) (c.in_ok-make_room.ensures.ok start unfed now))
+    rw (told.1, told.2) (λ start unfed now. in-stopped _ _ _ _ _ start unfed _ _ _ _
+    (offered-sudden (g.G.Gate.lets c.make_room.new.self.sealer.gate.now) (g.G.Gate.stops c.make_room.new.self.sealer.gate.now) (lent c.args.plan) _ (g.O.Outlet.output.failures c.make_room.new.self.broadcast.course.outlet) c.in_err-offer.ensures.fault) (c.in_ok-make_room.ensures.ok start unfed now))
 
 pub returns-clause-ok : goal.returns-clause-ok
 returns-clause-ok g c start unfed left is old =

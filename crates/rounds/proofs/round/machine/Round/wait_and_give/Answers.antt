@@ -1,4 +1,5 @@
 use Rattle.std.proofs.lemmas.Result.{err_from_is_err_and}
+use Rattle.rounds.proofs.Gates.{awaited-sudden}
 use Rattle.rounds.proofs.Rounding.{in-keeps, in-stopped}
 use Rattle.rounds.proofs.round.machine.Round.wait_and_give.Goals as goal
 
@@ -8,7 +9,8 @@ wait_or_seal-requires g c = let some = c.requires.somewhere in record { keys = r
 pub returns-in_err-wait_or_seal-clause-err : goal.returns-in_err-wait_or_seal-clause-err
 returns-in_err-wait_or_seal-clause-err g c =
     let told = err_from_is_err_and c.from_residual.result c.from_residual.ensures.1 in
-    rw (told.1, told.2) (λ start unfed now. in-stopped _ _ _ _ _ start unfed _ _ _ _ (c.in_err-wait_or_seal.ensures.fault (g.O.Outlet.output.failures c.args.self.now.broadcast.course.outlet)) now)
+    rw (told.1, told.2) (λ start unfed now. in-stopped _ _ _ _ _ start unfed _ _ _ _
+    (awaited-sudden (g.G.Gate.lets c.args.self.now.sealer.gate.now) (g.G.Gate.stops c.args.self.now.sealer.gate.now) c.wait_or_seal.new.collector _ (g.O.Outlet.output.failures c.args.self.now.broadcast.course.outlet) c.in_err-wait_or_seal.ensures.fault) now)
 
 pub take_and_give-requires : goal.take_and_give-requires
 take_and_give-requires g c = let some = c.requires.somewhere in record { somewhere = (some.0, some.1, in-keeps _ _ _ _ _ some.0 some.1 _ _ _ _ c.in_ok-wait_or_seal.ensures.keeps some.2) }

@@ -1,4 +1,4 @@
-use Rattle.std.proofs.Common.{◌≡◌, ℕ, List, length}
+use Rattle.std.proofs.Common.{◌≡◌, length}
 use Rattle.rounds.specs.Courses.{ReadsMore, ReadsOn}
 use Rattle.rounds.proofs.run.course.Course.read_ready.Given as goal
 

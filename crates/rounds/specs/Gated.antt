@@ -1,0 +1,36 @@
+-- What the calling thread seals itself: nothing without the gate.
+use Rattle.std.specs.Prelude.{◌≡◌, ◌⊎◌, ℕ, ◌<◌, length, Result, Ok, Err, IsOk, IsErrOf, MatchResult}
+use Rattle.cutter.specs.Plans.{SegmentPlan}
+use Rattle.flow_core.specs.declared.fault.FeedFault.{FeedFault}
+use Rattle.flow_core.specs.declared.fault.FeedFault.TheVariants.{Full, Closed, Twice, NoMemory as HadNone}
+use Rattle.flow_core.specs.Gatherings.{Gathering, sequence_at, missing_in}
+use Rattle.flow_core.specs.Sequences.{Lacks}
+use Rattle.ladder_items.specs.declared.fault.PackFault.{PackFault}
+use Rattle.ladder_items.specs.declared.fault.PackFault.TheVariants.{Held, NoMemory}
+
+-- the calling thread sealed a plan that was let through: a collector that lacked its segment lacks fewer now
+pub record SealsOwn (lets : ℕ → ℕ → Type 0) (plan : SegmentPlan) (old new : Gathering) : Type 0 where
+  pub passed : lets plan.rendition plan.number
+  pub fewer : Lacks (sequence_at old plan.rendition) plan → length (missing_in new.sequences) < length (missing_in old.sequences)
+
+-- it didn't seal a plan: the plan was held back, as the gate stops it, or was let through, and memory was wanting
+abbrev pub IsUnsealed : (lets stops : ℕ → ℕ → Type 0) → SegmentPlan → PackFault → Type 0
+IsUnsealed lets stops plan fault =
+    (fault ≡ Held plan.rendition plan.number) × stops plan.rendition plan.number ⊎ ((fault ≡ NoMemory) × lets plan.rendition plan.number)
+
+-- it didn't seal some plan whose segment a collector lacks
+abbrev pub IsLeft : (lets stops : ℕ → ℕ → Type 0) → Gathering → PackFault → Type 0
+IsLeft lets stops g fault = (plan : SegmentPlan) × Lacks (sequence_at g plan.rendition) plan × IsUnsealed lets stops plan fault
+
+-- it sealed a plan, or tells why not
+abbrev pub SealsOrTells : (lets stops : ℕ → ℕ → Type 0) → SegmentPlan → Gathering → Gathering → Result (Unit {0}) PackFault → Type 0
+SealsOrTells lets stops plan old new result = MatchResult result (λ done. SealsOwn lets plan old new) (λ fault. IsUnsealed lets stops plan fault × (new ≡ old))
+
+-- What follows from a desk's answer to a plan: one that it took is left to the workers, its want of memory is told, and one that it
+-- refused is sealed by the calling thread.
+abbrev pub Follows : (lets stops : ℕ → ℕ → Type 0) → SegmentPlan → Gathering → Gathering → Result (Unit {0}) FeedFault → Result (Unit {0}) PackFault → Type 0
+Follows lets stops plan old new (Ok done) result = IsOk result × (new ≡ old)
+Follows lets stops plan old new (Err (HadNone back)) result = IsErrOf result NoMemory × (new ≡ old)
+Follows lets stops plan old new (Err (Full back)) result = SealsOrTells lets stops plan old new result
+Follows lets stops plan old new (Err (Closed back)) result = SealsOrTells lets stops plan old new result
+Follows lets stops plan old new (Err (Twice back)) result = SealsOrTells lets stops plan old new result
