@@ -144,7 +144,7 @@ fn ladder_under(
         window: numbers.window,
         queue: pool.queue,
     };
-    if !is_allowed(alloc, &settings, settings.renditions.len())? {
+    if !is_allowed(&settings, settings.renditions.len()) {
         return Err(LadderFault::Settings);
     }
     Ok(settings)

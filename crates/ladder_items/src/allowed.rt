@@ -1,39 +1,41 @@
-ghost use Rattle.std.specs.Prelude.{◌≡◌, ◌<◌, ◌≤◌, ◌+◌, None, map, length, All, Decides, IfOk, MatchResult};
-ghost use Rattle.master_playlist.specs.Faults.{fault_of};
+ghost use Rattle.std.specs.Prelude.{◌≡◌, ◌<◌, ◌≤◌, ◌+◌, None, map, length, All, Decides};
+ghost use Rattle.master_playlist.specs.Faults;
 ghost use Rattle.media_playlist.specs.Gone.{IsSmall};
-ghost use Rattle.ladder_items.specs.Ladder.{unmeasured, IsProgram, IsCutAllowed, HasAll, GoesOn, IsWithinLimits, IsAllowed};
+ghost use Rattle.ladder_items.specs.Ladder.{unmeasured, IsProgram, IsCutAllowed, HasAll, GoesOn, IsAllowed};
 ghost use Rattle.ladder_items.specs.Ladder;
 ghost use Rattle.ladder_items.specs.Shown.{AreNextRows};
 ghost use Rattle.ladder_items.specs.declared.settings.TheConstants.{MOST_EARLIER};
+ghost use Rattle.limits.specs.declared.TheConstants.{MOST_RENDITIONS as MOST};
 
 use crate::earlier::follow;
 use crate::settings::{Kind, MOST_EARLIER, Rendition, Settings};
+use arrayvec::ArrayVec;
 use cutter::CutSettings;
 use limits::{
     LAST_SEGMENT, LEAST, MOST_FRAME, MOST_GAP, MOST_KEYS, MOST_PACKETS, MOST_QUEUE,
     MOST_RENDITIONS, MOST_TARGET, MOST_WINDOW, TICKS,
 };
-use master_playlist::{MasterFault, Variant, master_text};
+use master_playlist::{Variant, fault_of};
 use media_playlist::{Gone, Row};
 use segment_job::Keys;
-use std::alloc::{AllocError, Global};
+
+/// A place for each rendition that there may be.
+const PLACES: usize = MOST_RENDITIONS as usize;
 
 /// Whether the settings are within their limits, the keys of each rendition hold its salt and begin behind what came before,
-/// and there are as many inputs as renditions. Memory is asked for behind these, to see whether a master playlist can list the renditions.
-pub fn is_allowed(alloc: Global, settings: &Settings, inputs: usize) -> Result<bool, AllocError>
-    ensures { MatchResult result
-        (λ allowed. Decides allowed (IsAllowed settings.now × (inputs ≡ length settings.now.renditions)))
-        (λ _. IsWithinLimits settings.now × (inputs ≡ length settings.now.renditions)) }
+/// there are as many inputs as renditions, and a master playlist can list the renditions. It takes no memory.
+pub fn is_allowed(settings: &Settings, inputs: usize) -> bool
+    ensures { Decides result (IsAllowed settings.now × (inputs ≡ length settings.now.renditions)) }
 {
     if inputs != settings.renditions.len() || !is_ladder(settings) || !is_cut(settings.cut) {
-        return Ok(false);
+        return false;
     }
     if !hold_their_salts(&settings.renditions)
         || !go_on(settings.kind, settings.cut.target, &settings.renditions)
     {
-        return Ok(false);
+        return false;
     }
-    are_listable(alloc, &settings.renditions)
+    are_listable(&settings.renditions)
 }
 
 /// Whether the number of renditions, the window and the queue are within their limits.
@@ -136,30 +138,24 @@ fn is_up_to(value: u64, most: u64) -> bool
     LEAST <= value && value <= most
 }
 
-/// Whether a master playlist can list these renditions.
-fn are_listable(alloc: Global, renditions: &[Rendition]) -> Result<bool, AllocError>
-    ensures { IfOk result (λ listable. Decides listable (fault_of (map unmeasured renditions.now) ≡ None)) }
+/// Whether a master playlist can list these renditions, of which there aren't too many.
+fn are_listable(renditions: &[Rendition]) -> bool
+    requires { length renditions.now ≤ MOST }
+    ensures { Decides result (Faults.fault_of (map unmeasured renditions.now) ≡ None) }
 {
-    let variants = unmeasured_variants(alloc, renditions)?;
-    match master_text(alloc, &variants) {
-        Ok(_) => Ok(true),
-        Err(MasterFault::NoMemory) => Err(AllocError),
-        Err(_) => Ok(false),
-    }
+    fault_of(&unmeasured_variants(renditions)).is_none()
 }
 
 /// The renditions, of which nothing is measured yet.
-fn unmeasured_variants<'a>(
-    alloc: Global,
-    renditions: &'a [Rendition],
-) -> Result<Vec<Variant<'a>>, AllocError>
-    ensures { IfOk result (λ variants. variants.items ≡ map unmeasured renditions.now) }
+fn unmeasured_variants(renditions: &[Rendition]) -> ArrayVec<Variant<'_>, PLACES>
+    requires { length renditions.now ≤ MOST }
+    ensures { result.items ≡ map unmeasured renditions.now }
 {
-    let mut variants = Vec::new(alloc);
+    let mut variants = ArrayVec::new();
     for rendition in renditions {
-        variants.push(unmeasured(rendition))?;
+        variants.push(unmeasured(rendition));
     }
-    Ok(variants)
+    variants
 }
 
 /// A rendition of which nothing is measured yet.

@@ -6,7 +6,7 @@ mod laws;
 mod text;
 mod variant;
 
-pub use fault::MasterFault;
+pub use fault::{MasterFault, fault_of};
 pub use laws::faults_are_the_least;
 pub use text::master_text;
 pub use variant::Variant;

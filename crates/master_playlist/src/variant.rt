@@ -23,3 +23,19 @@ impl<'a> Model for Variant<'a> {
 
     ghost view = { listed };
 }
+
+/// A blank, for a place of an array that isn't used.
+impl Default for Variant<'_> {
+    fn default() -> Self {
+        Variant {
+            name: "",
+            codecs: "",
+            width: 0,
+            height: 0,
+            peak: 0,
+            average: 0,
+            frame_peak: 0,
+            frame_average: 0,
+        }
+    }
+}

@@ -25,7 +25,7 @@ use Rattle.rounds.specs.Showing.{shown_by, ends_of}
 use Rattle.rounds.specs.Courses.{Start, IsOn, IsStopped, IsCutShown, IsAllGiven, of_sudden, SaysSudden, turns_at}
 use Rattle.rounds.specs.declared.run.books.Books.{Books}
 use Rattle.rounds.specs.Begun.{IsTold}
-use Rattle.rounds.specs.Shown.{Fits, FitsThreads, IsPackedShown, IsTurnedAway, FaultSaysShown, of_shown}
+use Rattle.rounds.specs.Shown.{Fits, IsPackedShown, IsTurnedAway, FaultSaysShown, of_shown}
 use Rattle.rounds.proofs.Running.{stopped-here}
 use Rattle.rounds.proofs.Steps.{counts-are}
 use Rattle.rounds.proofs.Closing.{ended-at}
@@ -83,10 +83,10 @@ module _ (X Y : Type 0) (input : SourceView X) (out : OutletView Y) (ladder : La
       says-as (of_sudden (out.failures start.outlet) (out.failures start.outlet)) (of_shown run ladder workers start.shows.list start.shows.list) fault
       (λ no. absurd no) (λ r stop no. absurd no) (λ one. (cut, one)) (λ same. (cut, same)) (λ r n is same. (cut, same)) says
 
-  -- it doesn't fit, or memory was wanting
+  -- it doesn't fit, or fits and memory was wanting
   abbrev TurnedAway : Start X Y → ℕ → PackFault → Type 0
   TurnedAway start workers fault =
-      ((fault ≡ SettingsFault) × (Fits ladder (length start.sources) workers (counts_shown start.shows.list) → ⊥)) ⊎ ((fault ≡ NoMemory) × FitsThreads ladder workers (counts_shown start.shows.list))
+      ((fault ≡ SettingsFault) × (Fits ladder (length start.sources) workers (counts_shown start.shows.list) → ⊥)) ⊎ ((fault ≡ NoMemory) × Fits ladder (length start.sources) workers (counts_shown start.shows.list))
 
   pub unbegun-said : (start : Start X Y) (workers reads : ℕ) → ((k : ℕ) → closed_of k ladder.cut [] ≡ []) → (fault : PackFault) → TurnedAway start workers fault
       → FaultSaysShown (run_of input out reads start.sources start.sources start.outlet start.outlet) ladder workers start.shows.list start.shows.list fault
@@ -100,8 +100,8 @@ module _ (X Y : Type 0) (input : SourceView X) (out : OutletView Y) (ladder : La
   -- where it doesn't fit, nothing is read, put or shown
   pub turned-away : (start : Start X Y) (workers reads : ℕ) (fault : PackFault) → TurnedAway start workers fault
       → IsTurnedAway (run_of input out reads start.sources start.sources start.outlet start.outlet) ladder workers start.shows.list start.shows.list fault
-  turned-away start workers reads fault (inl x) = λ unfit. (inl x.0, refl, all_none out start.outlet, refl)
-  turned-away start workers reads fault (inr e) = λ unfit. (inr e, refl, all_none out start.outlet, refl)
+  turned-away start workers reads fault (inl x) = λ unfit. (x.0, refl, all_none out start.outlet, refl)
+  turned-away start workers reads fault (inr e) = λ unfit. absurd (unfit e.1)
 
   -- it was stopped at once
   pub stopped-shown : (start : Start X Y) (course : Course X Y) (shows : Known) (workers : ℕ) (fault : PackFault) → IsStopped input out ladder start course shows fault

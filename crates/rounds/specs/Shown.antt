@@ -70,10 +70,10 @@ of_shown run ladder workers old new = record {
 abbrev pub FaultSaysShown : {X Y : Type 0} → Run X Y → Ladder → ℕ → List SnapshotFacts → List SnapshotFacts → PackFault → Type 0
 FaultSaysShown run ladder workers old new fault = Says (of_shown run ladder workers old new) fault
 
--- A run that doesn't fit reads, puts and shows nothing: Settings is told, or want of memory, but only where workers and publisher fit.
+-- A run that doesn't fit reads, puts and shows nothing, and Settings is told.
 abbrev pub IsTurnedAway : {X Y : Type 0} → Run X Y → Ladder → ℕ → List SnapshotFacts → List SnapshotFacts → PackFault → Type 0
 IsTurnedAway run ladder workers old new fault =
-    (Fits ladder (length run.before) workers (counts_shown old) → ⊥) → ((fault ≡ SettingsFault) ⊎ ((fault ≡ NoMemory) × FitsThreads ladder workers (counts_shown old)))
+    (Fits ladder (length run.before) workers (counts_shown old) → ⊥) → (fault ≡ SettingsFault)
     × (run.now ≡ run.before) × PutAll run.out run.outlet run.outlet_now [] × (new ≡ old)
 
 -- where a run begins that gets these inputs, this outlet and this publisher, and may read an input so often
@@ -107,4 +107,4 @@ EndsAway input out ladder workers start ran fault = IsTurnedAway (run_to input o
 -- why a run isn't begun: it doesn't fit, or memory is wanting though workers and publisher fit
 abbrev pub IsUnbegun : Ladder → ℕ → ℕ → List ℕ → PackFault → Type 0
 IsUnbegun ladder inputs workers counts fault =
-    (fault ≡ SettingsFault) × (Fits ladder inputs workers counts → ⊥) ⊎ ((fault ≡ NoMemory) × FitsThreads ladder workers counts)
+    (fault ≡ SettingsFault) × (Fits ladder inputs workers counts → ⊥) ⊎ ((fault ≡ NoMemory) × Fits ladder inputs workers counts)

@@ -1,6 +1,6 @@
 //! The board on which a run publishes, before anything has been given.
 
-ghost use Rattle.std.specs.Prelude.{◌≡◌, ◌≤◌, IfOk, OnErr, [], Err, length, map, false, replicate, ◌⊎◌, All};
+ghost use Rattle.std.specs.Prelude.{◌≡◌, ◌≤◌, ◌∷◌, IfOk, OnErr, [], Err, length, map, false, replicate, ◌⊎◌, All};
 ghost use Rattle.std.specs.Arc.{arc_value};
 ghost use Rattle.std.specs.String.{string_bytes};
 ghost use Rattle.live_board.specs.Counts.{counts_shown};
@@ -30,6 +30,7 @@ pub fn opening_board<R: Wait>(
     viewers: usize,
 ) -> Result<(Publisher, Vec<Viewer>), BoardFault>
     requires { (1 ≤ viewers) × (viewers ≤ MOST_VIEWERS) }
+    ensures first { IfOk result (λ b. b.0.list ≡ none_shown renditions ∷ []) }
     ensures none { IfOk result (λ b. counts_shown b.0.list ≡ replicate renditions 0) }
     ensures count { IfOk result (λ b. length b.1.items ≡ viewers) }
     ensures viewers { IfOk result (λ b. All (λ v. v ≡ b.0) b.1.items) }

@@ -45,7 +45,7 @@ pub fn pack_serial<S: Source, O: Outlet>(
     ensures alone { IfOk result IsAlone }
     ensures allowed { OnOk result (IsAllowed settings.now × (length sources.old.items ≡ length settings.now.renditions)) }
     ensures breach { IfErr result (λ fault. ((IsAllowed settings.now × (length sources.old.items ≡ length settings.now.renditions)) → ⊥) →
-        ((fault ≡ SettingsFault) ⊎ (fault ≡ NoMemory)) × (sources.new.items ≡ sources.old.items) × PutAll O.output outlet.old outlet.new []) }
+        (fault ≡ SettingsFault) × (sources.new.items ≡ sources.old.items) × PutAll O.output outlet.old outlet.new []) }
 {
     pack_serial_reads(alloc, sources, settings, outlet, READS)
 }
@@ -74,9 +74,9 @@ pub fn pack_serial_reads<S: Source, O: Outlet>(
     ensures alone { IfOk result IsAlone }
     ensures allowed { OnOk result (IsAllowed settings.now × (length sources.old.items ≡ length settings.now.renditions)) }
     ensures breach { IfErr result (λ fault. ((IsAllowed settings.now × (length sources.old.items ≡ length settings.now.renditions)) → ⊥) →
-        ((fault ≡ SettingsFault) ⊎ (fault ≡ NoMemory)) × (sources.new.items ≡ sources.old.items) × PutAll O.output outlet.old outlet.new []) }
+        (fault ≡ SettingsFault) × (sources.new.items ≡ sources.old.items) × PutAll O.output outlet.old outlet.new []) }
 {
-    if !is_allowed(alloc, settings, sources.len())? {
+    if !is_allowed(settings, sources.len()) {
         return Err(PackFault::Settings);
     }
     let mut lanes = first_lanes(alloc, settings)?;

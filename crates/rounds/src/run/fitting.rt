@@ -1,33 +1,30 @@
 //! Whether a run fits its settings, its inputs, its workers and its publisher.
 
-ghost use Rattle.std.specs.Prelude.{◌≡◌, ◌≤◌, Decides, IfOk, OnErr, length, replicate};
+ghost use Rattle.std.specs.Prelude.{◌≡◌, Decides, length, replicate};
 ghost use Rattle.live_board.specs.Counts.{counts_shown};
-ghost use Rattle.rounds.specs.Shown.{Fits, FitsThreads};
+ghost use Rattle.rounds.specs.Shown.{Fits};
 
 use ladder_items::{Settings, is_allowed};
 use limits::{LEAST, MOST_WORKERS};
 use live_board::Publisher;
-use std::alloc::{AllocError, Global};
 
 /// Whether the settings are allowed, there are as many inputs as renditions, there are 1 to 64 workers, and the publisher has
-/// that many renditions, none of which has a segment.
+/// that many renditions, none of which has a segment. It takes no memory.
 pub fn fits(
-    alloc: Global,
     settings: &Settings,
     inputs: usize,
     workers: usize,
     publisher: &Publisher,
-) -> Result<bool, AllocError>
-    ensures fits { IfOk result (λ fits. Decides fits (Fits settings.now inputs workers (counts_shown publisher.now.list))) }
-    ensures scarce { OnErr result (FitsThreads settings.now workers (counts_shown publisher.now.list)) }
+) -> bool
+    ensures { Decides result (Fits settings.now inputs workers (counts_shown publisher.now.list)) }
 {
     if (workers as u64) < LEAST || workers as u64 > MOST_WORKERS {
-        return Ok(false);
+        return false;
     }
     if !shows_none(publisher.counts(), settings.renditions.len()) {
-        return Ok(false);
+        return false;
     }
-    is_allowed(alloc, settings, inputs)
+    is_allowed(settings, inputs)
 }
 
 /// Whether these are the counts of `renditions` renditions, none of which has a segment.

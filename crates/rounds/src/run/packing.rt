@@ -200,7 +200,7 @@ fn begin(
     ensures begun { IfOk result (IsBegun settings.now workers) }
     ensures fault { IfErr result (IsUnbegun settings.now inputs workers (counts_shown publisher.now.list)) }
 {
-    if !fits(alloc, settings, inputs, workers, publisher)? {
+    if !fits(settings, inputs, workers, publisher) {
         return Err(PackFault::Settings);
     }
     Ok(beginning(alloc, settings, workers)?)

@@ -30,6 +30,6 @@ returns-then-not-branch-clause-outside c = λ told.
       outside = λ keys made is within.
           let allowed : IsAllowed here = (within-any asked keys c.args.keys.now made here is is_here within).allowed in
           let each : c.len.result ≡ length c.in_ok-renditions.field-0.items = search rules in
-          let told = c.in_ok-is_allowed.ensures.1 (allowed, each) in
+          let told = c.is_allowed.ensures.1 (allowed, each) in
           cc (told, c.if-not-branch.true);
     }

@@ -11,14 +11,9 @@ use Rattle.ladder_items.proofs.Endings.{world-halted, world-packed, halted-says,
 use Rattle.serial_run.proofs.AtOnce.{sudden-unheld, told-unheld, none-at-once, stop-at-once}
 use Rattle.serial_run.proofs.serial.pack_serial_reads.Goals as goal
 
-pub returns-in_err-is_allowed-clause-fault : goal.returns-in_err-is_allowed-clause-fault
-returns-in_err-is_allowed-clause-fault g c =
-    let told = err_from_is_err_and c.from_residual.result c.from_residual.ensures.1 in
-    rw (told.1, told.2) ((nothing-given _ _ _ _ _ _ _ _ (λ k. closed_of-none k c.args.settings.now.cut)).0.cut, refl)
-
 pub returns-in_err-lanes-clause-fault : goal.returns-in_err-lanes-clause-fault
 returns-in_err-lanes-clause-fault g c =
-    let told = err_from_is_err_and c.from_residual-in_err-lanes.result c.from_residual-in_err-lanes.ensures.1 in
+    let told = err_from_is_err_and c.from_residual.result c.from_residual.ensures.1 in
     rw (told.1, told.2) ((nothing-given _ _ _ _ _ _ _ _ (λ k. closed_of-none k c.args.settings.now.cut)).0.cut, refl)
 
 pub returns-in_err-playlists-clause-fault : goal.returns-in_err-playlists-clause-fault
@@ -75,14 +70,9 @@ returns-clause-ok g c =
     (λ k lane at. c.in_default.ensures.none refl k lane (ap (λ lanes. slice_get lanes k) c.deref.ensures.value ∙ at))
     (rw (c.deref-3.ensures.value, c.deref-2.ensures.value) at c.in_ok-report_of.ensures.numbers) (λ k. omega (arith, turns-none ok.0 k, ok.1)) ok.2).0
 
-pub returns-in_err-is_allowed-clause-at_once : goal.returns-in_err-is_allowed-clause-at_once
-returns-in_err-is_allowed-clause-at_once g c =
-    let told = err_from_is_err_and c.from_residual.result c.from_residual.ensures.1 in
-    rw told.1 (λ sudden. none-at-once _ _ _ _ _ _ _ _ (λ k. closed_of-none k c.args.settings.now.cut))
-
 pub returns-in_err-lanes-clause-at_once : goal.returns-in_err-lanes-clause-at_once
 returns-in_err-lanes-clause-at_once g c =
-    let told = err_from_is_err_and c.from_residual-in_err-lanes.result c.from_residual-in_err-lanes.ensures.1 in
+    let told = err_from_is_err_and c.from_residual.result c.from_residual.ensures.1 in
     rw told.1 (λ sudden. none-at-once _ _ _ _ _ _ _ _ (λ k. closed_of-none k c.args.settings.now.cut))
 
 pub returns-in_err-playlists-clause-at_once : goal.returns-in_err-playlists-clause-at_once
