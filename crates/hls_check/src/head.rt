@@ -8,7 +8,7 @@ ghost use Rattle.hls_check.specs.Heads;
 ghost use Rattle.hls_check.specs.Heads.{IsSized, IsTheHead, told_tables};
 
 use psi_tables::{
-    Pmt, TableFault, append_section, pat_section, read_length, read_number, read_pid,
+    PAYLOAD, Pmt, TableFault, append_section, pat_section, read_length, read_number, read_pid,
 };
 use std::alloc::{AllocError, Global};
 use ts_packet::PACKET;
@@ -84,7 +84,7 @@ fn carried_section(alloc: Global, packets: &[u8]) -> Result<Option<Vec<u8>>, All
         packets.now ≡ section_packets pid counter section ++ rest → IsSomeAnd found (λ bytes. bytes.items ≡ section)) }
 {
     let len = 3 + read_length(packets, 6);
-    let count = (len + 184) / 184;
+    let count = (len + PAYLOAD) / PAYLOAD;
     if packets.len() < PACKET * count {
         return Ok(None);
     }
@@ -98,7 +98,7 @@ fn payloads(alloc: Global, count: usize, packets: &[u8]) -> Result<Vec<u8>, Allo
     requires few { count < 2 ^ 32 }
     requires there { PACKET * count ≤ length packets.now }
     ensures items { IfOk result (λ carried. carried.items ≡ Heads.payloads count packets.now) }
-    ensures len { IfOk result (λ carried. length carried.items ≡ 184 * count) }
+    ensures len { IfOk result (λ carried. length carried.items ≡ PAYLOAD * count) }
 {
     let mut carried = Vec::new(alloc);
     let mut rest = packets;

@@ -6,6 +6,9 @@ use crate::section::read_length;
 use std::alloc::{AllocError, Global};
 use ts_packet::Packet;
 
+/// The greatest section_length of a table (ISO/IEC 13818-1, 2.4.4.4 and 2.4.4.9).
+const MOST_LENGTH: usize = 1021;
+
 /// The sections that some bytes complete, and the front of the section that they leave begun.
 #[derive(Drop)]
 pub(crate) struct Brought {
@@ -21,7 +24,7 @@ fn is_whole(bytes: &[u8]) -> bool
         return false;
     }
     let length = read_length(bytes, 1);
-    length <= 1021 && 3 + length <= bytes.len()
+    length <= MOST_LENGTH && 3 + length <= bytes.len()
 }
 
 /// Whether a section stands at the front of which not all bytes are there.
@@ -36,7 +39,7 @@ fn is_open(bytes: &[u8]) -> bool
         return true;
     }
     let length = read_length(bytes, 1);
-    length <= 1021 && bytes.len() < 3 + length
+    length <= MOST_LENGTH && bytes.len() < 3 + length
 }
 
 /// The section at the front, where not all its bytes are there.
@@ -104,7 +107,7 @@ fn bring(alloc: Global, begun: &[u8], more: &[u8]) -> Result<Brought, AllocError
     first_in(alloc, &bytes)
 }
 
-/// Whether these bytes bring the section_length of a section that was begun, and it is above 1021.
+/// Whether these bytes bring the section_length of a section that was begun, and it is too long for a table.
 fn gives_up(begun: &[u8], more: &[u8]) -> bool
     ensures { result ≡ Rattle.psi_tables.specs.State.gives_up begun.now more.now }
 {
@@ -114,7 +117,7 @@ fn gives_up(begun: &[u8], more: &[u8]) -> bool
     }
     let high = if have == 1 { more[0] } else { begun[1] };
     let low = more[2 - have];
-    u16::from_be_bytes([high, low]) % 0x1000 > 1021
+    usize::from(u16::from_be_bytes([high, low]) % 0x1000) > MOST_LENGTH
 }
 
 /// The bytes of a packet with start indicator that belong to the section begun before it, and those behind them.

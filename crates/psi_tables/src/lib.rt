@@ -28,6 +28,6 @@ pub use laws::{
 pub use pat::{Pat, ProgramEntry};
 pub use pmt::{Pmt, StreamEntry};
 pub use section::{read_length, read_number, read_pid};
-pub use segment_head::{append_section, head, pat_section, pmt_packets};
+pub use segment_head::{PAYLOAD, append_section, head, pat_section, pmt_packets};
 pub use tables::Tables;
 pub use watch::Watch;

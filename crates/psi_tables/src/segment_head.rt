@@ -9,7 +9,7 @@ use std::alloc::{AllocError, Global};
 use ts_packet::PACKET;
 
 /// The bytes of a packet without an adaptation field behind its header.
-const PAYLOAD: usize = 184;
+pub const PAYLOAD: usize = 184;
 
 /// The packets that bring a segment its tables: one PAT packet with the one program, then the packets of the PMT section
 /// as it came (RFC 8216, 3.2; ISO/IEC 13818-1, 2.4.4). The counters are the continuity_counters of the first packet of

@@ -10,12 +10,7 @@ use live_board::Publisher;
 
 /// Whether the settings are allowed, there are as many inputs as renditions, there are 1 to 64 workers, and the publisher has
 /// that many renditions, none of which has a segment. It takes no memory.
-pub fn fits(
-    settings: &Settings,
-    inputs: usize,
-    workers: usize,
-    publisher: &Publisher,
-) -> bool
+pub fn fits(settings: &Settings, inputs: usize, workers: usize, publisher: &Publisher) -> bool
     ensures { Decides result (Fits settings.now inputs workers (counts_shown publisher.now.list)) }
 {
     if (workers as u64) < LEAST || workers as u64 > MOST_WORKERS {
