@@ -1,5 +1,5 @@
 //! Which segments of a rendition are kept.
-ghost use Rattle.std.specs.Prelude.{◌≡◌, ℕ, ◌+◌, ◌<◌, ◌≤◌, ◌^◌, [], ◌∷◌, ◌++◌, length, OnOk, OnErr};
+ghost use Rattle.std.specs.Prelude.{◌≡◌, ℕ, ◌+◌, ◌-◌, ◌<◌, ◌≤◌, ◌^◌, [], ◌∷◌, ◌++◌, length, OnOk, OnErr};
 ghost use Rattle.retention.specs.Steps.{first_of, IsKeptFrom};
 
 use crate::queue::{let_go, move_on};
@@ -72,8 +72,9 @@ impl Retention {
         self.gone
     }
 
-    /// The place of the first segment that is listed.
+    /// The place of the first segment that the last playlist lists; 0 where none came.
     pub fn first_listed(&self) -> u64
+        ensures is { result ≡ first_of self.now.steps (length self.now.steps - 1) }
         ensures rises { (i : ℕ) → i < length self.now.steps → first_of self.now.steps i ≤ result }
         ensures up_to { result ≤ length self.now.steps }
     {
