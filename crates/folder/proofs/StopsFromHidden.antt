@@ -1,5 +1,5 @@
 -- The moves of files that are put, and of one that failed, rename from hidden names alone.
-use Rattle.std.proofs.Common.{◌≡◌, Bool, true, false, List, [], ◌∷◌, ◌++◌, refl, sym, ap, ◌∙◌, subst, inl, inr, append-nil}
+use Rattle.std.proofs.Common.{◌≡◌, Bool, true, false, List, [], ◌∷◌, ◌++◌, sym, ap, ◌∙◌, subst, inl, inr, append-nil}
 use Rattle.folder.specs.Moves.{Looked, Move, Remove, Rename, Sync, Write}
 use Rattle.folder.specs.Kills.{IsFailedWrite}
 use Rattle.folder.specs.Puts.{MayBePut, Put, moves_behind, placings, staged_after, writing}

@@ -1,4 +1,9 @@
-ghost use Rattle.std.specs.Prelude.{◌≡◌, []};
+ghost use Rattle.std.specs.Prelude.{◌≡◌, ◌⊎◌, ◌++◌, ◌∷◌, [], true, false, List, IfOk, IsErr, OnErr, OnOk};
+ghost use Rattle.std.specs.Path.{path_buf_bytes, path_join};
+ghost use Rattle.std.specs.String.{string_bytes};
+ghost use Rattle.folder.specs.FileFolders.{folder_path};
+ghost use Rattle.folder.specs.Kills.{IsFailedWrite};
+ghost use Rattle.folder.specs.Moves.{Move, Sync, Write};
 
 use crate::fault::FolderFault;
 use crate::folder::Folder;
@@ -25,11 +30,13 @@ pub struct FileFolder<R> {
 }
 
 impl<R> FileFolder<R> {
-    ghost use Rattle.folder.specs.FileFolders.{file_moves};
+    ghost use Rattle.folder.specs.FileFolders.{file_moves, may_sync};
 
     /// The folder at a path, to which nothing was done yet. It can't be synced: `sync` fails.
     pub fn new(files: R, alloc: Global, path: String) -> FileFolder<R>
-        ensures { file_moves result ≡ [] }
+        ensures made { file_moves result ≡ [] }
+        ensures path { folder_path result ≡ string_bytes path }
+        ensures syncs { may_sync result ≡ false }
     {
         FileFolder {
             files,
@@ -42,7 +49,9 @@ impl<R> FileFolder<R> {
 
     /// The same, of which each file is synced as it is written, so that it can be synced as a whole.
     pub fn new_synced(files: R, alloc: Global, path: String) -> FileFolder<R>
-        ensures { file_moves result ≡ [] }
+        ensures made { file_moves result ≡ [] }
+        ensures path { folder_path result ≡ string_bytes path }
+        ensures syncs { may_sync result ≡ true }
     {
         FileFolder {
             files,
@@ -54,7 +63,9 @@ impl<R> FileFolder<R> {
     }
 
     /// The folder's path.
-    pub(crate) fn path(&self) -> &str {
+    pub(crate) fn path(&self) -> &str
+        ensures { result.now ≡ folder_path self.now }
+    {
         self.path.as_str()
     }
 
@@ -64,19 +75,27 @@ impl<R> FileFolder<R> {
     }
 
     /// The path of a file.
-    pub(crate) fn path_of(&self, name: &str) -> Result<PathBuf, AllocError> {
+    pub(crate) fn path_of(&self, name: &str) -> Result<PathBuf, AllocError>
+        ensures { IfOk result (λ path. path_buf_bytes path ≡ path_join (folder_path self.now) name.now) }
+    {
         Path::new(self.path.as_str()).join(self.alloc, name)
     }
 }
 
 impl<R: Files> Folder for FileFolder<R> {
-    ghost use Rattle.folder.specs.FileFolders.{file_moves};
+    ghost use Rattle.folder.specs.FileFolders.{file_moves, may_sync};
 
     ghost made = { λ f. file_moves f };
 
     ghost pruned = { λ f. [] };
 
-    fn write(&mut self, name: &str, bytes: &[u8]) -> Result<(), FolderFault> {
+    fn write(&mut self, name: &str, bytes: &[u8]) -> Result<(), FolderFault>
+        ensures made { OnOk result (file_moves self.new ≡ file_moves self.old ++ Write name.now bytes.now ∷ []) }
+        ensures cut_off { OnErr result ((more : List Move) × (file_moves self.new ≡ file_moves self.old ++ more) ×
+            IsFailedWrite name.now bytes.now more) }
+        ensures syncs { OnOk result (may_sync self.new ≡ may_sync self.old) }
+        ensures unsynced { OnErr result ((file_moves self.new ≡ file_moves self.old) ⊎ (may_sync self.new ≡ false)) }
+    {
         let path = self.path_of(name)?;
         match write_anew(&self.files, path.as_path(), bytes, self.syncs) {
             Ok(()) => {
@@ -123,7 +142,11 @@ impl<R: Files> Folder for FileFolder<R> {
         Ok(there)
     }
 
-    fn sync(&mut self) -> Result<(), FolderFault> {
+    fn sync(&mut self) -> Result<(), FolderFault>
+        ensures made { OnOk result (file_moves self.new ≡ file_moves self.old ++ Sync ∷ []) }
+        ensures kept { OnErr result (file_moves self.new ≡ file_moves self.old) }
+        ensures unsynced { may_sync self.old ≡ false → IsErr result }
+    {
         if !self.syncs || sync_path(&self.files, self.path.as_str()).is_err() {
             return Err(FolderFault);
         }

@@ -1,5 +1,8 @@
 //! The files of a folder of the file system are read.
-ghost use Rattle.std.specs.Prelude.{⊤};
+ghost use Rattle.std.specs.Prelude.{◌≡◌, ◌≢◌, ⊤};
+ghost use Rattle.std.specs.IoError.{error_kind};
+ghost use Rattle.std.specs.declared.io.ErrorKind.TheVariants.{OutOfMemory};
+ghost use Rattle.folder.specs.declared.read_fault.FolderReadFault.TheVariants.{NoMemory, Unread};
 
 use crate::file_folder::FileFolder;
 use crate::read_fault::FolderReadFault;
@@ -84,7 +87,10 @@ fn file_at<R: Files>(files: &R, path: Path<'_>) -> Result<Option<Metadata>, Fold
 }
 
 /// Why the system didn't read a file.
-fn fault_of(error: io::Error) -> FolderReadFault {
+fn fault_of(error: io::Error) -> FolderReadFault
+    ensures no_memory { error_kind error ≡ OutOfMemory → result ≡ NoMemory }
+    ensures unread { error_kind error ≢ OutOfMemory → result ≡ Unread }
+{
     match error.kind() {
         io::ErrorKind::OutOfMemory => FolderReadFault::NoMemory,
         _ => FolderReadFault::Unread,

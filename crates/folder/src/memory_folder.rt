@@ -1,6 +1,7 @@
-ghost use Rattle.std.specs.Prelude.{◌≡◌, ◌++◌, ◌∷◌, [], IfOk, OnErr, is_some};
+ghost use Rattle.std.specs.Prelude.{◌≡◌, ◌==◌, ◌-◌, ◌++◌, ◌∷◌, [], List, IfOk, IsErr, OnErr, OnOk, is_some};
 ghost use Rattle.std.specs.Option.{option_map};
-ghost use Rattle.folder.specs.Moves.{Looked, no_files, standing};
+ghost use Rattle.folder.specs.Kills.{IsFailedWrite};
+ghost use Rattle.folder.specs.Moves.{Looked, Move, Remove, Rename, Sync, Write, no_files, standing};
 
 use crate::fault::FolderFault;
 use crate::folder::Folder;
@@ -17,12 +18,13 @@ pub struct MemoryFolder {
 }
 
 impl MemoryFolder {
-    ghost use Rattle.folder.specs.MemoryFolders.{moves_in_memory};
+    ghost use Rattle.folder.specs.MemoryFolders.{fails_at, moves_in_memory};
     ghost use Rattle.folder.specs.MemoryMoves.{memory_moves};
 
     /// An empty folder, of which move `n` fails, counted from 1: none for 0.
     pub fn new(alloc: Global, n: u64) -> MemoryFolder
-        ensures { moves_in_memory result ≡ [] }
+        ensures empty { moves_in_memory result ≡ [] }
+        ensures fails { fails_at result ≡ n }
     {
         MemoryFolder {
             alloc,
@@ -47,7 +49,9 @@ impl MemoryFolder {
 
     /// Whether the next move is the one to fail.
     fn fails(&mut self) -> bool
-        ensures { moves_in_memory self.new ≡ moves_in_memory self.old }
+        ensures is { result ≡ (fails_at self.old == 1) }
+        ensures counts { fails_at self.new ≡ fails_at self.old - 1 }
+        ensures same { moves_in_memory self.new ≡ moves_in_memory self.old }
     {
         let fails = self.until == 1;
         self.until = self.until.saturating_sub(1);
@@ -56,13 +60,19 @@ impl MemoryFolder {
 }
 
 impl Folder for MemoryFolder {
-    ghost use Rattle.folder.specs.MemoryFolders.{moves_in_memory};
+    ghost use Rattle.folder.specs.MemoryFolders.{fails_at, moves_in_memory};
 
     ghost made = { λ f. moves_in_memory f };
 
     ghost pruned = { λ f. [] };
 
-    fn write(&mut self, name: &str, bytes: &[u8]) -> Result<(), FolderFault> {
+    fn write(&mut self, name: &str, bytes: &[u8]) -> Result<(), FolderFault>
+        ensures made { OnOk result (moves_in_memory self.new ≡ moves_in_memory self.old ++ Write name.now bytes.now ∷ []) }
+        ensures cut_off { OnErr result ((more : List Move) × (moves_in_memory self.new ≡ moves_in_memory self.old ++ more) ×
+            IsFailedWrite name.now bytes.now more) }
+        ensures fails { fails_at self.old ≡ 1 → IsErr result }
+        ensures counts { fails_at self.new ≡ fails_at self.old - 1 }
+    {
         if self.fails() {
             return Err(FolderFault);
         }
@@ -70,7 +80,12 @@ impl Folder for MemoryFolder {
         Ok(self.moves.push(made)?)
     }
 
-    fn rename(&mut self, old: &str, new: &str) -> Result<(), FolderFault> {
+    fn rename(&mut self, old: &str, new: &str) -> Result<(), FolderFault>
+        ensures made { OnOk result (moves_in_memory self.new ≡ moves_in_memory self.old ++ Rename old.now new.now ∷ []) }
+        ensures kept { OnErr result (moves_in_memory self.new ≡ moves_in_memory self.old) }
+        ensures fails { fails_at self.old ≡ 1 → IsErr result }
+        ensures counts { fails_at self.new ≡ fails_at self.old - 1 }
+    {
         if self.fails() {
             return Err(FolderFault);
         }
@@ -78,7 +93,12 @@ impl Folder for MemoryFolder {
         Ok(self.moves.push(made)?)
     }
 
-    fn remove(&mut self, name: &str) -> Result<(), FolderFault> {
+    fn remove(&mut self, name: &str) -> Result<(), FolderFault>
+        ensures made { OnOk result (moves_in_memory self.new ≡ moves_in_memory self.old ++ Remove name.now ∷ []) }
+        ensures kept { OnErr result (moves_in_memory self.new ≡ moves_in_memory self.old) }
+        ensures fails { fails_at self.old ≡ 1 → IsErr result }
+        ensures counts { fails_at self.new ≡ fails_at self.old - 1 }
+    {
         if self.fails() {
             return Err(FolderFault);
         }
@@ -90,6 +110,8 @@ impl Folder for MemoryFolder {
         ensures made { IfOk result (λ there. moves_in_memory self.new ≡ moves_in_memory self.old ++ Looked name.now there ∷ []) }
         ensures kept { OnErr result (moves_in_memory self.new ≡ moves_in_memory self.old) }
         ensures is_so { IfOk result (λ there. there ≡ is_some (standing no_files (moves_in_memory self.old) name.now)) }
+        ensures fails { fails_at self.old ≡ 1 → IsErr result }
+        ensures counts { fails_at self.new ≡ fails_at self.old - 1 }
     {
         if self.fails() {
             return Err(FolderFault);
@@ -100,7 +122,12 @@ impl Folder for MemoryFolder {
         Ok(there)
     }
 
-    fn sync(&mut self) -> Result<(), FolderFault> {
+    fn sync(&mut self) -> Result<(), FolderFault>
+        ensures made { OnOk result (moves_in_memory self.new ≡ moves_in_memory self.old ++ Sync ∷ []) }
+        ensures kept { OnErr result (moves_in_memory self.new ≡ moves_in_memory self.old) }
+        ensures fails { fails_at self.old ≡ 1 → IsErr result }
+        ensures counts { fails_at self.new ≡ fails_at self.old - 1 }
+    {
         if self.fails() {
             return Err(FolderFault);
         }

@@ -1,5 +1,5 @@
 //! The files of a folder in memory are read.
-ghost use Rattle.std.specs.Prelude.{◌≡◌, ⊤, Some, None, map, IfOk, OnOk};
+ghost use Rattle.std.specs.Prelude.{◌≡◌, ⊤, [], length, Ok, Some, None, map, IfOk, IsErrOf, IsOk, OnOk};
 ghost use Rattle.std.specs.Option.{option_map};
 ghost use Rattle.std.specs.String.{string_bytes};
 ghost use Rattle.folder.specs.MemoryFolders.{moves_in_memory};
@@ -24,28 +24,39 @@ impl FolderReader for MemoryFolder {
 
     ghost wants = { λ _. ⊤ };
 
-    fn names(&self, alloc: Global) -> Result<Vec<String>, FolderReadFault> {
+    fn names(&self, alloc: Global) -> Result<Vec<String>, FolderReadFault>
+        ensures ok { IfOk result (λ names. AreNames (standing no_files (moves_in_memory self.now)) (map string_bytes names.items)) }
+        ensures unread { IsErrOf result FolderReadFault.Unread → ⊥ }
+        ensures empty { moves_in_memory self.now ≡ [] → IsOk result }
+    {
         Ok(names_in(alloc, self)?)
     }
 
-    fn size(&self, name: &str) -> Result<Option<u64>, FolderReadFault> {
+    fn size(&self, name: &str) -> Result<Option<u64>, FolderReadFault>
+        ensures is { result ≡ Ok (option_map (λ bytes. length bytes) (standing no_files (moves_in_memory self.now) name.now)) }
+    {
         match self.find(name) {
             Some(bytes) => Ok(Some(bytes.len() as u64)),
             None => Ok(None),
         }
     }
 
-    fn read(&self, alloc: Global, name: &str) -> Result<Option<Vec<u8>>, FolderReadFault> {
-        match self.find(name) {
-            Some(bytes) => Ok(Some(bytes.to_vec(alloc)?)),
-            None => Ok(None),
-        }
+    fn read(&self, alloc: Global, name: &str) -> Result<Option<Vec<u8>>, FolderReadFault>
+        ensures ok { IfOk result (λ found. option_map (λ bytes. bytes.items) found ≡ standing no_files (moves_in_memory self.now) name.now) }
+        ensures unread { IsErrOf result FolderReadFault.Unread → ⊥ }
+        ensures absent { standing no_files (moves_in_memory self.now) name.now ≡ None → result ≡ Ok None }
+    {
+        let Some(bytes) = self.find(name) else {
+            return Ok(None);
+        };
+        Ok(Some(bytes.to_vec(alloc)?))
     }
 }
 
 /// The names of the files, each once.
 fn names_in(alloc: Global, folder: &MemoryFolder) -> Result<Vec<String>, AllocError>
-    ensures { IfOk result (λ names. AreNames (standing no_files (moves_in_memory folder.now)) (map string_bytes names.items)) }
+    ensures names { IfOk result (λ names. AreNames (standing no_files (moves_in_memory folder.now)) (map string_bytes names.items)) }
+    ensures empty { moves_in_memory folder.now ≡ [] → IsOk result }
 {
     let moves = folder.moves();
     let mut names = Vec::new(alloc);

@@ -1,5 +1,6 @@
-ghost use Rattle.std.specs.Prelude.{◌≡◌, ◌++◌, ◌∷◌, [], true, IsErr, OnErr, OnOk};
-ghost use Rattle.folder.specs.Moves.{Remove, is_hidden};
+ghost use Rattle.std.specs.Prelude.{◌≡◌, ◌++◌, ◌∷◌, [], List, false, true, IsErr, OnErr, OnOk};
+ghost use Rattle.folder.specs.Kills.{IsFailedWrite};
+ghost use Rattle.folder.specs.Moves.{Move, Remove, Write, is_hidden};
 ghost use Rattle.folder.specs.Pruning.{other_moves, prunings};
 
 use crate::fault::FolderFault;
@@ -57,8 +58,15 @@ impl<F: Folder> Folder for PruningFolder<F> {
 
     ghost pruned = { λ p. prunings (F.made p) };
 
-    fn write(&mut self, name: &str, bytes: &[u8]) -> Result<(), FolderFault> {
-        if !is_hidden(name) {
+    fn write(&mut self, name: &str, bytes: &[u8]) -> Result<(), FolderFault>
+        ensures made { OnOk result (other_moves (F.made self.new) ≡ other_moves (F.made self.old) ++ Write name.now bytes.now ∷ []) }
+        ensures cut_off { OnErr result ((more : List Move) × (other_moves (F.made self.new) ≡ other_moves (F.made self.old) ++ more) ×
+            IsFailedWrite name.now bytes.now more) }
+        ensures pruned { prunings (F.made self.new) ≡ prunings (F.made self.old) }
+        ensures served { is_hidden name.now ≡ false → IsErr result × (self.new ≡ self.old) }
+    {
+        let is_part = is_hidden(name);
+        if !is_part {
             return Err(FolderFault);
         }
         self.folder.write(name, bytes)
@@ -68,7 +76,12 @@ impl<F: Folder> Folder for PruningFolder<F> {
         self.folder.rename(old, new)
     }
 
-    fn remove(&mut self, name: &str) -> Result<(), FolderFault> {
+    fn remove(&mut self, name: &str) -> Result<(), FolderFault>
+        ensures made { OnOk result (other_moves (F.made self.new) ≡ other_moves (F.made self.old) ++ Remove name.now ∷ []) }
+        ensures kept { OnErr result (other_moves (F.made self.new) ≡ other_moves (F.made self.old)) }
+        ensures pruned { prunings (F.made self.new) ≡ prunings (F.made self.old) }
+        ensures served { is_hidden name.now ≡ false → IsErr result × (self.new ≡ self.old) }
+    {
         if !is_hidden(name) {
             return Err(FolderFault);
         }

@@ -19,8 +19,8 @@ loop-made-preserved c =
     after-more (standing no_files (moves_in_memory c.args.folder.now)) moves i m _ (map string_bytes c.loop-made.names.items) (map string_bytes c.add_name.new.names.items)
     c.loop-made.invariant c.named_by.ensures split c.in_ok-add_name.ensures
 
-pub returns : goal.returns
-returns c =
+pub returns-clause-names : goal.returns-clause-names
+returns-clause-names c =
     let moves = c.moves-moves.result.now in
     let files = standing no_files (moves_in_memory c.args.folder.now) in
     let same : standing no_files (memory_moves moves) ≡ files = ap (λ (l : List Move). standing no_files l) c.moves-moves.ensures in

@@ -12,7 +12,7 @@ returns-clause-cut_off g c = rw (sym c.self.view_is) (OnErr-map c.write.result (
 
 pub returns-clause-pruned : goal.returns-clause-pruned
 returns-clause-pruned g c =
-    let hidden : is_hidden c.args.name.now ≡ true = sym c.is_hidden.ensures ∙ c.if-not-is_hidden.false in
+    let hidden : is_hidden c.args.name.now ≡ true = sym c.is_hidden-is_part.ensures ∙ c.if-not-is_part.false in
     rw (sym c.self.view_is)
     (either-way c.write.result
     (OnOk-map c.write.result (none-by (Write c.args.name.now c.args.bytes.now) _ _ (λ count. refl)) c.write.ensures.made)
