@@ -6,17 +6,17 @@ use Rattle.std.specs.Str.{IsUtf8}
 use Rattle.std.proofs.lemmas.Option.{same_Some, none-some}
 use Rattle.std.proofs.lemmas.Str.{IsUtf8-from_ascii}
 use Rattle.playlist_text.specs.Names.{is_name}
-use Rattle.playlist_text.specs.MediaLines.{Listing, listing_lines, entries_lines, end_lines}
+use Rattle.playlist_text.specs.MediaLines.{Listing, head_lines, listing_lines, entries_lines, end_lines}
 use Rattle.std.proofs.lemmas.List.{take_all, length-append, take-append-drop}
 use Rattle.std.proofs.lemmas.Bool.{false≢true, ltb-true}
 use Rattle.media_reading.specs.declared.reading.Stage.{Stage}
 use Rattle.media_reading.specs.declared.reading.Stage.TheVariants.{Fresh, Tagged, Versioned, Targeted, Sequenced, Headed, Between, Broken, Keyed, Timed, Ended}
-use Rattle.media_reading.specs.State.{Tells, Progress, fresh, step, steps, listing_at, listing_of}
+use Rattle.media_reading.specs.State.{Tells, may_want, Progress, fresh, step, steps, listing_at, listing_of}
 use Rattle.std.proofs.lemmas.List.Elements.{All-cons, All-append, All-nil}
 use Rattle.std.proofs.Math.Seq.{take-append_seam, take-append-add}
 use Rattle.playlist_text.specs.Lines.{text_of}
 use Rattle.playlist_text.proofs.TextLines.{text_of-append}
-use Rattle.media_reading.specs.MediaTexts.{IsListing, AreFirst, IsLine, IsFirstWrong, listing_text}
+use Rattle.media_reading.specs.MediaTexts.{IsListing, AreFirst, IsLine, IsFirstWrong, MayWantMemory, Splits, listing_text}
 use Rattle.media_reading.proofs.Splitting.{steps-stop, steps-more, text-more, split-of, lines-same}
 use Rattle.media_reading.proofs.Going.{IsSound, lines_at, listed_lines, front_of, name_of}
 use Rattle.media_reading.proofs.Stepping.{step-lines}
@@ -83,6 +83,21 @@ one-listing l m here there same =
     let told : a.0 ≡ b.0 = same_Some a.0 b.0 (sym a.1 ∙ ap (steps fresh) same ∙ b.1) in
     same_Some l m (sym a.2 ∙ ap (λ (p : Progress). listing_at p.stage p) told ∙ b.2)
 
+-- a text splits into the lines that were taken, the next one and those behind it
+whole-split : (text rest line behind : List ℕ) (lines : List (List ℕ)) → text_of lines ++ rest ≡ text → All IsLine lines → IsLine line
+    → rest ≡ line ++ 10 ∷ behind → Splits text (lines ++ line ∷ (split-of behind).lines) (split-of behind).last
+whole-split text rest line behind lines whole each is split =
+    let more = split-of behind in
+    record {
+      whole =
+          sym (text-more lines line behind rest text whole split)
+          ∙ ap (λ x. text_of (lines ++ line ∷ []) ++ x) more.splits.whole
+          ∙ sym (append_assoc (text_of (lines ++ line ∷ [])) (text_of more.lines) more.last)
+          ∙ ap (λ x. x ++ more.last) (sym (text_of-append (lines ++ line ∷ []) more.lines) ∙ ap text_of (append_assoc lines (line ∷ []) more.lines));
+      lines_end = All-append IsLine lines (line ∷ more.lines) each (All-cons IsLine line more.lines is more.splits.lines_end);
+      last_is_open = more.splits.last_is_open;
+    }
+
 -- a line that may not come next is the first wrong one
 pub wrong-line : (text rest line behind : List ℕ) (lines : List (List ℕ)) (p : Progress) (number : ℕ) → text_of lines ++ rest ≡ text → All IsLine lines
     → steps fresh lines ≡ Some p → number ≡ length lines + 1 → IsLine line → rest ≡ line ++ 10 ∷ behind → step p line ≡ None → IsFirstWrong text number
@@ -94,15 +109,7 @@ wrong-line text rest line behind lines p number whole each taken counted is spli
     record {
       lines = all;
       last = more.last;
-      splits = record {
-        whole =
-            sym (text-more lines line behind rest text whole split)
-            ∙ ap (λ x. text_of (lines ++ line ∷ []) ++ x) more.splits.whole
-            ∙ sym (append_assoc (text_of (lines ++ line ∷ [])) (text_of more.lines) more.last)
-            ∙ ap (λ x. x ++ more.last) (sym (text_of-append (lines ++ line ∷ []) more.lines) ∙ ap text_of (append_assoc lines (line ∷ []) more.lines));
-        lines_end = All-append IsLine lines (line ∷ more.lines) each (All-cons IsLine line more.lines is more.splits.lines_end);
-        last_is_open = more.splits.last_is_open;
-      };
+      splits = whole-split text rest line behind lines whole each is split;
       place = length lines;
       is_next = counted;
       before = subst AreFirst (sym begun) (taken-first lines p taken);
@@ -221,3 +228,35 @@ steps-listing lines p l taken told =
     let going = steps-sound fresh p lines fresh-sound taken in
     let ended = told-lines p.stage p l going.0 told in
     (ended.0, ended.1 ∙ going.1)
+
+-- where memory may be wanted the head was told
+head-there : (stage : Stage) (p : Progress) (line : List ℕ) → may_want stage p line ≡ true → 5 ≤ length (lines_at stage p)
+unfolding head_lines
+head-there Fresh p line may = absurd (false≢true may)
+head-there Tagged p line may = absurd (false≢true may)
+head-there Versioned p line may = absurd (false≢true may)
+head-there Targeted p line may = absurd (false≢true may)
+head-there Sequenced p line may = absurd (false≢true may)
+head-there Headed p line may = omega arith
+head-there Between p line may = omega arith
+head-there Broken p line may = omega arith
+head-there Keyed p line may = absurd (false≢true may)
+head-there Timed p line may = omega arith
+head-there Ended p line may = absurd (false≢true may)
+
+-- memory was wanted at the next line
+pub wants-memory : (text rest line behind : List ℕ) (lines : List (List ℕ)) (p : Progress) → text_of lines ++ rest ≡ text → All IsLine lines
+    → steps fresh lines ≡ Some p → IsLine line → rest ≡ line ++ 10 ∷ behind → may_want p.stage p line ≡ true → MayWantMemory text
+wants-memory text rest line behind lines p whole each taken is split may =
+    let more = split-of behind in
+    let begun = take-append_seam lines (line ∷ more.lines) in
+    let told = steps-sound fresh p lines fresh-sound taken in
+    record {
+      lines = lines ++ line ∷ more.lines;
+      last = more.last;
+      splits = whole-split text rest line behind lines whole each is split;
+      place = length lines;
+      head = subst (λ (l : List (List ℕ)). 5 ≤ length l) told.1 (head-there p.stage p line may);
+      within = omega (arith, length-append lines (line ∷ more.lines));
+      before = subst AreFirst (sym begun) (taken-first lines p taken);
+    }

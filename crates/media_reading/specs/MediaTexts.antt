@@ -74,7 +74,18 @@ pub record IsFirstWrong (text : List ℕ) (n : ℕ) : Type 0 where
   pub wrong : ((place < length lines) × ¬ AreFirst (take (place + 1) lines))
       ⊎ ((place ≡ length lines) × ((l : Listing) → IsListing l → text ≢ listing_text l))
 
+-- Memory was wanted at a line: the lines before it begin those of some playlist, the head is among them, and it is none of those
+-- that are always the same.
+pub record MayWantMemory (text : List ℕ) : Type 0 where
+  pub lines : List (List ℕ)
+  pub last : List ℕ
+  pub splits : Splits text lines last
+  pub place : ℕ
+  pub head : 5 ≤ place
+  pub within : place < length lines
+  pub before : AreFirst (take place lines)
+
 -- why a text isn't read
 abbrev pub IsUnread : List ℕ → ListFault → Type 0
 IsUnread text (NotProfile n) = IsFirstWrong text n
-IsUnread text NoMemory = ⊤
+IsUnread text NoMemory = MayWantMemory text

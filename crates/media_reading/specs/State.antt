@@ -252,3 +252,20 @@ Moves false next old new = (next ≡ None) × (new ≡ old)
 abbrev pub Tells : Bool → Option Progress → Progress → Type 0
 Tells true next new = next ≡ Some new
 Tells false next new = next ≡ None
+
+-- a number is left for the next entry
+abbrev pub has_number : Progress → Bool
+has_number p = is_some (number_left p)
+
+-- A line behind which memory may be wanted, to keep what it tells or to compare it: one of a key, of a duration or of a segment, and
+-- none of the others.
+abbrev pub first_may_want : Progress → List ℕ → Bool
+first_may_want p line =
+    not (bytes_eq line (codes "#EXT-X-ENDLIST")) && has_number p && not (bytes_eq line (codes "#EXT-X-DISCONTINUITY"))
+
+abbrev pub may_want : Stage → Progress → List ℕ → Bool
+may_want Headed p line = not (bytes_eq line (codes "#EXT-X-PLAYLIST-TYPE:EVENT")) && first_may_want p line
+may_want Between p line = first_may_want p line
+may_want Broken p line = has_number p
+may_want Timed p line = has_number p && is_some p.name
+may_want _ p line = false

@@ -1,14 +1,15 @@
 //! The lines of a media playlist, one after another.
 
-ghost use Rattle.std.specs.Prelude.{◌≡◌, ◌≢◌, ◌<◌, ℕ, Some, None, true, false, IfOk, IfSome, MatchOption, option_map, ◌++◌, ◌==◌, codes};
+ghost use Rattle.std.specs.Prelude.{◌≡◌, ◌≢◌, ◌<◌, ℕ, Some, None, true, false, IfOk, OnErr, IfSome, MatchOption, option_map, ◌++◌, ◌==◌, codes};
 ghost use Rattle.std.specs.String.{string_bytes};
 ghost use Rattle.std.specs.List.{before_first};
 ghost use Rattle.playlist_text.specs.Uris.{escaped};
 ghost use Rattle.media_reading.specs.State;
 ghost use Rattle.media_reading.specs.State.{step, step_at, fresh, expect, begun, headed, key_in, salt_in, keyed, keyed_or_timed, timed};
 ghost use Rattle.media_reading.specs.State.{listed, listing_at, name_in, number_in, number_left, entered, key_begin, listing_at};
-ghost use Rattle.media_reading.specs.State.{progress_of, Moves, Tells};
-ghost use Rattle.media_reading.specs.declared.reading.Stage.TheVariants.{Versioned, Targeted, Sequenced};
+ghost use Rattle.media_reading.specs.State.{progress_of, Moves, Tells, has_number, first_may_want, may_want};
+ghost use Rattle.std.specs.Str.{bytes_eq};
+ghost use Rattle.media_reading.specs.declared.reading.Stage.TheVariants.{Versioned, Targeted, Sequenced, Headed, Timed};
 
 use crate::listing::{Entry, LAST_LISTED, Listing};
 use crate::numbers::{read_between, read_duration, read_tagged};
@@ -95,7 +96,8 @@ impl Reading {
     /// Takes the next line, and says whether it may come next.
     #[tactic(auto, unfolding(crate::specs::State::step))]
     pub fn take(&mut self, line: &[u8]) -> Result<bool, AllocError>
-        ensures { IfOk result (λ taken. Tells taken (step (progress_of self.old) line.now) (progress_of self.new)) }
+        ensures taken { IfOk result (λ taken. Tells taken (step (progress_of self.old) line.now) (progress_of self.new)) }
+        ensures scarce { OnErr result (may_want self.old.stage (progress_of self.old) line.now ≡ true) }
     {
         match self.stage {
             Stage::Fresh => Ok(self.take_text(line, b"#EXTM3U", Stage::Tagged)),
@@ -162,7 +164,8 @@ impl Reading {
     /// A playlist of an event begins at 0 (RFC 8216, 4.3.3.5).
     #[tactic(auto, unfolding(crate::specs::State::headed))]
     fn take_type(&mut self, line: &[u8]) -> Result<bool, AllocError>
-        ensures { IfOk result (λ taken. Tells taken (headed (progress_of self.old) line.now) (progress_of self.new)) }
+        ensures taken { IfOk result (λ taken. Tells taken (headed (progress_of self.old) line.now) (progress_of self.new)) }
+        ensures scarce { OnErr result (may_want Headed (progress_of self.old) line.now ≡ true) }
     {
         if line != b"#EXT-X-PLAYLIST-TYPE:EVENT".as_slice() {
             return self.take_first(line);
@@ -188,7 +191,8 @@ impl Reading {
 
     #[tactic(auto, unfolding(crate::specs::State::begun))]
     fn take_first(&mut self, line: &[u8]) -> Result<bool, AllocError>
-        ensures { IfOk result (λ taken. Tells taken (begun (progress_of self.old) line.now) (progress_of self.new)) }
+        ensures taken { IfOk result (λ taken. Tells taken (begun (progress_of self.old) line.now) (progress_of self.new)) }
+        ensures scarce { OnErr result (first_may_want (progress_of self.old) line.now ≡ true) }
     {
         if line == b"#EXT-X-ENDLIST".as_slice() {
             if self.entries.is_empty() {
@@ -204,7 +208,9 @@ impl Reading {
     }
 
     fn take_entry(&mut self, line: &[u8]) -> Result<bool, AllocError>
-        ensures { IfOk result (λ taken. Tells taken (entered (progress_of self.old) line.now) (progress_of self.new)) }
+        ensures taken { IfOk result (λ taken. Tells taken (entered (progress_of self.old) line.now) (progress_of self.new)) }
+        ensures number { OnErr result (has_number (progress_of self.old) ≡ true) }
+        ensures scarce { OnErr result (bytes_eq line.now (codes "#EXT-X-DISCONTINUITY") ≡ false) }
     {
         if line == b"#EXT-X-DISCONTINUITY".as_slice() {
             self.discontinuity = true;
@@ -216,7 +222,8 @@ impl Reading {
     }
 
     fn take_key_or_duration(&mut self, line: &[u8]) -> Result<bool, AllocError>
-        ensures { IfOk result (λ taken. Tells taken (keyed_or_timed (progress_of self.old) line.now) (progress_of self.new)) }
+        ensures taken { IfOk result (λ taken. Tells taken (keyed_or_timed (progress_of self.old) line.now) (progress_of self.new)) }
+        ensures scarce { OnErr result (has_number (progress_of self.old) ≡ true) }
     {
         if self.take_key(line)? {
             return Ok(true);
@@ -229,7 +236,8 @@ impl Reading {
 
     #[tactic(auto, unfolding(crate::specs::State::keyed))]
     fn take_key(&mut self, line: &[u8]) -> Result<bool, AllocError>
-        ensures { IfOk result (λ taken. Moves taken (keyed (progress_of self.old) line.now) (progress_of self.old) (progress_of self.new)) }
+        ensures scarce { OnErr result (has_number (progress_of self.old) ≡ true) }
+        ensures taken { IfOk result (λ taken. Moves taken (keyed (progress_of self.old) line.now) (progress_of self.old) (progress_of self.new)) }
     {
         let alloc = *self.entries.allocator();
         let Some(number) = self.next_number() else {
@@ -292,7 +300,8 @@ impl Reading {
 
     #[tactic(auto, unfolding(crate::specs::State::listed))]
     fn take_segment(&mut self, line: &[u8]) -> Result<bool, AllocError>
-        ensures { IfOk result (λ taken. Tells taken (listed (progress_of self.old) line.now) (progress_of self.new)) }
+        ensures taken { IfOk result (λ taken. Tells taken (listed (progress_of self.old) line.now) (progress_of self.new)) }
+        ensures scarce { OnErr result (may_want Timed (progress_of self.old) line.now ≡ true) }
     {
         let Some(number) = self.next_number() else {
             return Ok(false);

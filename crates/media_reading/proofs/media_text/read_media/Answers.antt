@@ -1,15 +1,18 @@
 use Rattle.std.proofs.lemmas.Bool.{false≢true, eqb-true}
-use Rattle.std.proofs.Common.{refl, ◌==◌, ◌≡◌, ◌∙◌, ◌++◌, ◌∷◌, ℕ, List, [], length, Some, sym, ap, arith, append-nil}
+use Rattle.std.proofs.Common.{refl, ◌==◌, ◌≡◌, ◌∙◌, ◌++◌, ◌∷◌, ℕ, List, [], length, Some, Ok, Err, sym, ap, subst, arith, append-nil}
+use Rattle.std.specs.Prelude.{Result, IfErr, IsErrAnd}
 use Rattle.std.proofs.lemmas.List.{length-append}
 use Rattle.std.proofs.lemmas.List.Elements.{All-nil, All-cons, All-append}
 use Rattle.std.proofs.lemmas.Option.{MatchOption-at_some, same_Some, none-some}
 use Rattle.playlist_text.specs.Lines.{text_of}
 use Rattle.playlist_text.proofs.TextLines.{text_of-nil}
-use Rattle.media_reading.specs.MediaTexts.{IsLine}
+use Rattle.media_reading.specs.declared.list_fault.ListFault.{ListFault}
+use Rattle.media_reading.specs.declared.list_fault.ListFault.TheVariants.{NoMemory}
+use Rattle.media_reading.specs.MediaTexts.{IsLine, IsUnread, MayWantMemory}
 use Rattle.media_reading.specs.State.{fresh, steps, progress_of}
 use Rattle.media_reading.proofs.Found.{MatchOption-none}
 use Rattle.media_reading.proofs.Splitting.{text-more, steps-more}
-use Rattle.media_reading.proofs.Taking.{wrong-line, wrong-end, text-lines, told-listing, wrong-not-listing, Tells-false, Tells-true, length-text, steps-listing}
+use Rattle.media_reading.proofs.Taking.{wrong-line, wrong-end, wants-memory, text-lines, told-listing, wrong-not-listing, Tells-false, Tells-true, length-text, steps-listing}
 use Rattle.media_reading.proofs.media_text.read_media.Goals as goal
 
 pub line-init : goal.line-init
@@ -30,7 +33,7 @@ line-preserved c =
       lines = held.lines ++ c.in-Some.line.now ∷ [];
       whole = text-more held.lines c.in-Some.line.now c.in-Some.behind.now c.line.rest.now c.args.text.now held.whole parts.1;
       each = All-append IsLine held.lines (c.in-Some.line.now ∷ []) held.each (All-cons IsLine c.in-Some.line.now [] parts.0 (All-nil IsLine));
-      taken = steps-more fresh (progress_of c.line.reading) held.lines c.in-Some.line.now _ held.taken (Tells-true _ _ _ c.if-not-branch.false c.in_ok-take.ensures);
+      taken = steps-more fresh (progress_of c.line.reading) held.lines c.in-Some.line.now _ held.taken (Tells-true _ _ _ c.if-not-branch.false c.in_ok-take.ensures.taken);
       number = omega (arith, length-append held.lines (c.in-Some.line.now ∷ []), held.number);
     }
 
@@ -39,7 +42,7 @@ returns-then-not-branch-clause-err c =
     let held = c.line.invariant in
     let parts = MatchOption-at_some _ _ _ c.in-Some.is c.split_line.ensures in
     wrong-line c.args.text.now c.line.rest.now c.in-Some.line.now c.in-Some.behind.now held.lines (progress_of c.line.reading) c.line.number held.whole held.each held.taken held.number
-    parts.0 parts.1 (Tells-false _ _ _ c.if-not-branch.true c.in_ok-take.ensures)
+    parts.0 parts.1 (Tells-false _ _ _ c.if-not-branch.true c.in_ok-take.ensures.taken)
 
 pub returns-then-not-branch-clause-reads : goal.returns-then-not-branch-clause-reads
 returns-then-not-branch-clause-reads c = λ l sound same.
@@ -92,3 +95,16 @@ returns-in-None-clause-err c =
 pub returns-in-None-clause-reads : goal.returns-in-None-clause-reads
 returns-in-None-clause-reads c = λ l sound same.
     absurd (wrong-not-listing c.args.text.now c.line.number (returns-in-None-clause-err c) l sound same)
+
+-- the fault is want of memory
+scarce-told : {A : Type 0} (text : List ℕ) (r : Result A ListFault) → IsErrAnd r (λ fault. fault ≡ NoMemory) → MayWantMemory text → IfErr r (IsUnread text)
+scarce-told text (Ok a) is may = absurd is
+scarce-told text (Err fault) is may = subst (IsUnread text) (sym is) may
+
+pub returns-in_err-take-clause-err : goal.returns-in_err-take-clause-err
+returns-in_err-take-clause-err c =
+    let held = c.line.invariant in
+    let parts = MatchOption-at_some _ _ _ c.in-Some.is c.split_line.ensures in
+    scarce-told c.args.text.now c.from_residual.result c.from_residual.ensures.1
+    (wants-memory c.args.text.now c.line.rest.now c.in-Some.line.now c.in-Some.behind.now held.lines (progress_of c.line.reading) held.whole held.each held.taken
+    parts.0 parts.1 c.in_err-take.ensures.scarce)
