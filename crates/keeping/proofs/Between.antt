@@ -1,10 +1,9 @@
 -- Behind whole blocks no playlist in place lists what went.
 use Rattle.std.specs.Prelude.{not}
-use Rattle.std.specs.List.{Contains}
 use Rattle.std.proofs.Common.{◌≡◌, ℕ, Bool, true, false, None, Some, List, [], ◌∷◌, ◌++◌, refl, sym, ap, ◌∙◌, subst, inl, inr, ◌⊎◌, append-nil}
 use Rattle.folder.specs.Moves.{Files, Looked, Move, Remove, Rename, Shows, Sync, Write, is_hidden, moved, standing, with_file}
 use Rattle.folder.specs.Puts.{Names, after_puts}
-use Rattle.folder.specs.Pruning.{AreFromHidden, SameBut, WasPruned, other_moves, pruned_names, unless_pruning}
+use Rattle.folder.specs.Pruning.{AreFromHidden, SameBut, WasPruned, other_moves, unless_pruning}
 use Rattle.folder.specs.Syncing.{moves_when}
 use Rattle.folder.proofs.FromHidden.{from-others, when-from-hidden}
 use Rattle.folder.proofs.Pruning.{SameBut-more, SameBut-pruned, SameBut-renamed, SameBut-with_file, same-hidden}

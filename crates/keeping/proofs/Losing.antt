@@ -2,7 +2,7 @@
 use Rattle.std.proofs.Common.{◌≡◌, ℕ, Bool, true, false, List, [], ◌∷◌, ◌++◌, refl, sym, ap, ◌∙◌, subst, inl, inr, ◌⊎◌, append-nil, append_assoc}
 use Rattle.std.proofs.lemmas.List.{append_cancel_left}
 use Rattle.folder.specs.Moves.{Files, Looked, Move, Remove, Rename, Same, Sync, Write, moved, standing}
-use Rattle.folder.specs.Puts.{MayBePut, Put, after_puts, placing, staged_after, staged_with, writing}
+use Rattle.folder.specs.Puts.{MayBePut, Put, placing, staged_after, staged_with, writing}
 use Rattle.folder.specs.PowerLoss.{PowerLossMayLeave, disk_after, disk_behind, synced_each, synced_moves_behind, synced_moves_of, synced_placings}
 use Rattle.folder.specs.Pruning.{AreFromHidden, WasPruned, other_moves}
 use Rattle.folder.proofs.FromHidden.{from-others, when-from-hidden}

@@ -1,5 +1,5 @@
 -- What a keeping outlet holds behind a put.
-use Rattle.std.proofs.Common.{arith, ◌≡◌, ℕ, ◌+◌, Bool, true, List, [], ◌∷◌, ◌++◌, sym, ap, ◌∙◌, subst, inl, refl, append-nil}
+use Rattle.std.proofs.Common.{arith, ◌≡◌, ℕ, ◌+◌, Bool, true, List, [], ◌∷◌, ◌++◌, sym, ap, ◌∙◌, subst, inl, append-nil}
 use Rattle.folder.specs.Moves.{Move}
 use Rattle.folder.specs.Pruning.{other_moves, pruned_names, prunings}
 use Rattle.folder.specs.Syncing.{moves_when}

@@ -4,7 +4,7 @@ use Rattle.std.proofs.Common.{◌≡◌, ℕ, Bool, true, false, List, [], ◌�
 use Rattle.std.proofs.lemmas.List.{append_cancel_left}
 use Rattle.folder.specs.Moves.{Files, Move, Remove, Same, Shows, standing}
 use Rattle.folder.specs.Kills.{KillMayLeave}
-use Rattle.folder.specs.Puts.{MayBePut, Put, after_puts, staged_after, staged_with}
+use Rattle.folder.specs.Puts.{MayBePut, Put, after_puts, staged_after}
 use Rattle.folder.specs.PowerLoss.{PowerLossMayLeave, disk_after, synced_moves_of}
 use Rattle.folder.specs.Prefixes.{HasPrefix, IsFailedPut}
 use Rattle.folder.specs.Pruning.{AreAt, AreFromHidden, WasPruned, other_moves}

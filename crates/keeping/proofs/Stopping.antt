@@ -1,13 +1,12 @@
 -- Wherever a process is stopped, no playlist in place lists what went.
-use Rattle.std.specs.List.{Contains}
-use Rattle.std.proofs.Common.{◌≡◌, ◌≢◌, ℕ, Bool, true, false, None, List, [], ◌∷◌, ◌++◌, refl, sym, ap, ◌∙◌, subst, inl, inr, append_assoc}
+use Rattle.std.proofs.Common.{◌≡◌, ◌≢◌, ℕ, Bool, true, false, List, [], ◌∷◌, ◌++◌, sym, ap, ◌∙◌, subst, inl, inr, append_assoc}
 use Rattle.std.proofs.lemmas.List.{append_cancel_left}
-use Rattle.folder.specs.Moves.{Files, Looked, Move, Remove, Rename, Same, Shows, Sync, Write, is_hidden, standing}
+use Rattle.folder.specs.Moves.{Files, Looked, Move, Remove, Rename, Shows, Sync, Write, is_hidden, standing}
 use Rattle.folder.specs.Kills.{CutOff, KillMayLeave}
 use Rattle.folder.specs.Puts.{MayBePut, Put, after_puts, moves_behind, staged_after, staged_with}
 use Rattle.folder.specs.Prefixes.{HasPrefix}
 use Rattle.folder.specs.PowerLoss.{synced_moves_behind}
-use Rattle.folder.specs.Pruning.{AreAt, AreFromHidden, SameBut, WasPruned, other_moves, pruned_names}
+use Rattle.folder.specs.Pruning.{AreAt, AreFromHidden, SameBut, WasPruned, other_moves}
 use Rattle.folder.specs.Syncing.{moves_when}
 use Rattle.folder.proofs.FromHidden.{at-kill, from-others, when-from-hidden}
 use Rattle.folder.proofs.Kills.{all-there, standing-append}

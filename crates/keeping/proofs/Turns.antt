@@ -1,22 +1,22 @@
 -- Behind which items segments go.
 use Rattle.std.specs.Prelude.{not, take}
 use Rattle.std.specs.List.{Contains}
-use Rattle.std.proofs.Common.{arith, ◌≡◌, ℕ, zero, suc, ◌+◌, ◌<◌, ◌≤◌, Bool, true, false, List, [], ◌∷◌, ◌++◌, length, map, refl, sym, ap, ap₂, ◌∙◌, subst, inl, inr, append-nil, append_assoc}
+use Rattle.std.proofs.Common.{arith, ◌≡◌, ℕ, zero, suc, ◌+◌, ◌<◌, Bool, true, false, List, [], ◌∷◌, ◌++◌, length, map, refl, sym, ap, ◌∙◌, subst, inl, inr, append-nil, append_assoc}
 use Rattle.std.proofs.lemmas.List.{append_cancel_left, take-append-le, take_all}
 use Rattle.std.proofs.lemmas.List.Elements.{Contains-append_cases, Contains-append_right}
 use Rattle.folder.specs.Moves.{Looked, Move, Remove, Rename, Sync, Write, is_hidden}
-use Rattle.folder.specs.Puts.{Put, staged_after, staged_with}
+use Rattle.folder.specs.Puts.{staged_after}
 use Rattle.folder.specs.Pruning.{counted, other_moves, pruned_names, prunings, prunings_from, unless_hidden, unless_pruning, with_pruning}
 use Rattle.folder.specs.Syncing.{moves_when}
 use Rattle.folder.proofs.Kills.{staged_after-append}
 use Rattle.folder.proofs.OtherMoves.{other_moves-append, prunings-append}
 use Rattle.item_io.specs.Items.{ItemValue, PlaylistValue, FramesItem, MasterItem, MediaItem, SegmentItem}
 use Rattle.item_io.specs.FileNames.{is_named}
-use Rattle.item_io.specs.FolderMoves.{put_of, puts_of}
+use Rattle.item_io.specs.FolderMoves.{puts_of}
 use Rattle.item_io.proofs.Fitting.{puts-append}
-use Rattle.keeping.specs.Keepings.{AllBeginBehind, AreGone, AreNotedBy, AreUnlisted, ComesInTurn, GoBehind, IsGone, IsPassed, IsUnlisted, KeepingValue, LetsGo, keeping_at, removals, removals_of}
+use Rattle.keeping.specs.Keepings.{AllBeginBehind, AreGone, AreNotedBy, AreUnlisted, ComesInTurn, GoBehind, IsPassed, IsUnlisted, KeepingValue, keeping_at}
 use Rattle.keeping.specs.InPlace.{WentInTurn}
-use Rattle.keeping.specs.Turns.{AreInTurn, IsAfter}
+use Rattle.keeping.specs.Turns.{AreInTurn}
 use Rattle.keeping.proofs.Stopping.{moves-append}
 use Rattle.keeping.proofs.Telling.{AreSame, gone-all-same, noted-all-same}
 use Rattle.keeping.proofs.Unlisting.{all-begin-append, begins, unlisted-behind, unlisted-put}

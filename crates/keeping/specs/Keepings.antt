@@ -102,6 +102,10 @@ pub record LetsGo (old new : KeepingValue) (made made_then : List Move) : Type 0
 abbrev pub SweepsOn : KeepingValue → KeepingValue → Type 0
 SweepsOn old new = 0 < new.gone → (new.swept ≡ length new.older) ⊎ (new.swept ≡ old.swept + 64)
 
+-- A segment that may go is there still: the next one, or, where one has gone, an older one.
+abbrev pub IsLeft : KeepingValue → Type 0
+IsLeft k = MayGo k.kept.least k.kept.steps k.gone ⊎ ((0 < k.gone) × (k.swept < length k.older))
+
 abbrev pub no_keeping : KeepingValue
 no_keeping = new_keeping [] 0 0
 
@@ -139,6 +143,17 @@ pub record IsInTurn (p : PlaylistValue) (renditions : List KeepingValue) : Type 
   pub named : p.rendition < length renditions → p.name ≡ (keeping_at renditions p.rendition).name
   pub goes_on : p.rendition < length renditions → GoesOn (keeping_at renditions p.rendition) p.text
 
+-- each rendition has this name if it is this one, and only then
+abbrev pub HasOwnName : List KeepingValue → List ℕ → ℕ → Type 0
+HasOwnName renditions name rendition = (r : ℕ) → r < length renditions → HasNameIf (keeping_at renditions r) name r rendition
+
+-- Only a media playlist is looked at: one of another name than its rendition's, or one of a rendition that is told of it.
+abbrev pub MayBeRefused : ItemValue → List KeepingValue → Type 0
+MayBeRefused (SegmentItem s) renditions = ⊥
+MayBeRefused (MediaItem p) renditions = ¬ HasOwnName renditions p.name p.rendition ⊎ (p.rendition < length renditions)
+MayBeRefused (FramesItem p) renditions = ⊥
+MayBeRefused (MasterItem text) renditions = ⊥
+
 abbrev pub ComesInTurn : ItemValue → List KeepingValue → Type 0
 ComesInTurn (SegmentItem s) renditions = Unit {0}
 ComesInTurn (MediaItem p) renditions = IsInTurn p renditions
@@ -159,6 +174,13 @@ AllWent (MediaItem p) renditions = Unit {0}
 AllWent (FramesItem p) renditions = p.rendition < length renditions →
     IsKeptFrom (keeping_at renditions p.rendition).kept.least (keeping_at renditions p.rendition).kept.steps (keeping_at renditions p.rendition).gone
 AllWent (MasterItem text) renditions = Unit {0}
+
+-- behind the last item of a block, a segment of its rendition is left that may go
+abbrev pub IsLeftBehind : ItemValue → List KeepingValue → Type 0
+IsLeftBehind (SegmentItem s) renditions = ⊥
+IsLeftBehind (MediaItem p) renditions = ⊥
+IsLeftBehind (FramesItem p) renditions = (p.rendition < length renditions) × IsLeft (keeping_at renditions p.rendition)
+IsLeftBehind (MasterItem text) renditions = ⊥
 
 -- behind the last item of a block, older segments of its rendition were taken away as they may be
 abbrev pub SweptBehind : ItemValue → List KeepingValue → List KeepingValue → Type 0

@@ -3,7 +3,7 @@ ghost use Rattle.std.specs.Prelude.{◌≡◌, ◌+◌, ◌<◌, ◌≤◌, ◌^
 ghost use Rattle.std.specs.String.{string_bytes};
 ghost use Rattle.folder.specs.Pruning.{other_moves};
 ghost use Rattle.retention.specs.Steps.{IsKeptFrom};
-ghost use Rattle.keeping.specs.Keepings.{GoesOn, IsNoted, IsStepOf, LetsGo, SweepsOn, below, new_keeping, resumed_keeping, steps_before};
+ghost use Rattle.keeping.specs.Keepings.{GoesOn, IsLeft, IsNoted, IsStepOf, LetsGo, SweepsOn, below, new_keeping, resumed_keeping, steps_before};
 
 use crate::removing::{take_places, take_some};
 use folder::{Folder, PruningFolder};
@@ -143,6 +143,9 @@ impl Keeping {
         ensures gone { LetsGo self.old self.new (F.made files.old.folder) (F.made files.new.folder) }
         ensures all { OnOk result (IsKeptFrom self.new.kept.least self.new.kept.steps self.new.gone) }
         ensures older { OnOk result (SweepsOn self.old self.new) }
+
+        // A failure leaves one that might have gone.
+        ensures left { OnErr result (IsLeft self.new) }
         ensures others { other_moves (F.made files.new.folder) ≡ other_moves (F.made files.old.folder) }
         ensures same { files.new ≡ record files.old { folder = files.new.folder } }
     {

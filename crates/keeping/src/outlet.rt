@@ -3,7 +3,7 @@ ghost use Rattle.folder.specs.Pruning.{other_moves};
 ghost use Rattle.item_io.specs.Items.{item_value};
 ghost use Rattle.item_io.specs.Outlets.{BreaksOff, Grows};
 ghost use Rattle.item_io.specs.Views.{outlet_view};
-ghost use Rattle.keeping.specs.Keepings.{AllWent, AreNotedBy, ComesInTurn, GoBehind, HasNameIf, SweptBehind, keeping_at, removed_of};
+ghost use Rattle.keeping.specs.Keepings.{AllWent, AreNotedBy, ComesInTurn, GoBehind, HasOwnName, IsLeftBehind, MayBeRefused, SweptBehind, keeping_at, removed_of};
 ghost use Rattle.keeping.specs.Holding.{KeptBy, KeptUpTo};
 
 use crate::keeping::Keeping;
@@ -91,6 +91,9 @@ impl<F: Folder> Outlet for KeepingOutlet<F> {
 
         // So did older ones, or 64 more of them.
         ensures older { OnOk result (self.new.lags ≡ false → SweptBehind (item_value item.now) self.old.renditions self.new.renditions) }
+
+        // Where one couldn't be removed, it is left.
+        ensures lags { OnOk result (self.new.lags ≡ true → IsLeftBehind (item_value item.now) self.new.renditions) }
     {
         if note(&mut self.renditions, self.alloc, item).is_err() {
             return Err(self.files.refuse());
@@ -120,6 +123,7 @@ fn note(renditions: &mut Vec<Keeping>, alloc: Global, item: &Item) -> Result<(),
     ensures ok { OnOk result (AreNotedBy (item_value item.now) renditions.old.items renditions.new.items) }
     ensures err { OnErr result (renditions.new.items ≡ renditions.old.items) }
     ensures turn { OnOk result (ComesInTurn (item_value item.now) renditions.new.items) }
+    ensures few { OnErr result (MayBeRefused (item_value item.now) renditions.old.items) }
 {
     let Item::Media {
         rendition,
@@ -145,7 +149,7 @@ fn note(renditions: &mut Vec<Keeping>, alloc: Global, item: &Item) -> Result<(),
 
 /// Whether a name is that of a rendition, if it is one of these, and of no other.
 fn is_own_name(renditions: &[Keeping], rendition: usize, name: &str) -> bool
-    ensures { result ≡ true → (r : ℕ) → r < length renditions.now → HasNameIf (keeping_at renditions.now r) name.now r rendition }
+    ensures { Decides result (HasOwnName renditions.now name.now rendition) }
 {
     for r in 0..renditions.len() {
         if has_name(renditions, r, name) != (r == rendition) {
@@ -173,6 +177,7 @@ fn let_go<F: Folder>(
     ensures gone { GoBehind (item_value item.now) renditions.old.items renditions.new.items (F.made files.old.folder) (F.made files.new.folder) }
     ensures went { OnOk result (AllWent (item_value item.now) renditions.new.items) }
     ensures older { OnOk result (SweptBehind (item_value item.now) renditions.old.items renditions.new.items) }
+    ensures left { OnErr result (IsLeftBehind (item_value item.now) renditions.new.items) }
     ensures others { other_moves (F.made files.new.folder) ≡ other_moves (F.made files.old.folder) }
     ensures same { files.new ≡ record files.old { folder = files.new.folder } }
 {

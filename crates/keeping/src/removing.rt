@@ -1,5 +1,5 @@
 //! Segments are taken away one after another.
-ghost use Rattle.std.specs.Prelude.{◌≡◌, ◌+◌, ◌≤◌, ◌⊎◌, ◌++◌, ◌∷◌, [], length, take, drop, OnErr, OnOk};
+ghost use Rattle.std.specs.Prelude.{◌≡◌, ◌+◌, ◌<◌, ◌≤◌, ◌⊎◌, ◌++◌, ◌∷◌, [], length, take, drop, OnErr, OnOk};
 ghost use Rattle.folder.specs.Moves.{Remove};
 ghost use Rattle.folder.specs.Pruning.{other_moves};
 ghost use Rattle.item_io.specs.FileNames.{segment_file_name};
@@ -24,6 +24,7 @@ pub(crate) fn take_places<F: Folder>(
     requires { gone.old ≤ until }
     ensures went { HaveGone name.now base gone.old gone.new until (F.made files.old.folder) (F.made files.new.folder) }
     ensures all { OnOk result (gone.new ≡ until) }
+    ensures left { OnErr result (gone.new < until) }
     ensures others { other_moves (F.made files.new.folder) ≡ other_moves (F.made files.old.folder) }
     ensures same { files.new ≡ record files.old { folder = files.new.folder } }
 {
@@ -48,6 +49,7 @@ pub(crate) fn take_some<F: Folder>(
     requires { swept.old ≤ length numbers.now }
     ensures went { Swept name.now numbers.now swept.old swept.new (F.made files.old.folder) (F.made files.new.folder) }
     ensures all { OnOk result ((swept.new ≡ length numbers.now) ⊎ (swept.new ≡ swept.old + 64)) }
+    ensures left { OnErr result (swept.new < length numbers.now) }
     ensures others { other_moves (F.made files.new.folder) ≡ other_moves (F.made files.old.folder) }
     ensures same { files.new ≡ record files.old { folder = files.new.folder } }
 {

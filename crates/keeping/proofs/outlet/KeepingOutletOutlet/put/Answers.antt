@@ -1,7 +1,16 @@
-use Rattle.std.proofs.Common.{rules, sym}
+use Rattle.std.proofs.Common.{rules, [], sym, subst}
+use Rattle.item_io.specs.FolderMoves.{FolderState}
+use Rattle.item_io.specs.Outlets.{Grows}
 use Rattle.item_io.specs.Items.{item_value}
-use Rattle.keeping.proofs.Putting.{put-broke, put-failed, put-well, refused-by}
+use Rattle.keeping.specs.Holding.{KeepingState, KeptBy}
+use Rattle.keeping.proofs.Putting.{put-broke, put-failed, put-well, refused, refused-by}
 use Rattle.keeping.proofs.outlet.KeepingOutletOutlet.put.Goals as goal
+
+pub returns-then-is_err-clause-kept : goal.returns-then-is_err-clause-kept
+returns-then-is_err-clause-kept g c = rw (sym c.self.view_is)
+    (let before : KeepingState _ = record { files = c.self.inside.files; renditions = c.self.inside.renditions.items; lags = c.self.inside.lags } in
+    subst (λ (f : FolderState _). Grows (KeptBy g.F.Folder.made before) (KeptBy g.F.Folder.made (record { files = f; renditions = c.note.new.renditions.items; lags = c.self.inside.lags })) [])
+    (sym c.refuse.ensures) (refused g.F.Folder.made before c.note.new.renditions.items (search rules)))
 
 pub returns-then-is_err-clause-refused : goal.returns-then-is_err-clause-refused
 returns-then-is_err-clause-refused g c = rw (sym c.self.view_is)
