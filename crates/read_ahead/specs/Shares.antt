@@ -27,3 +27,12 @@ is_full room blocks count backlog =
 abbrev pub room_for : Option ℕ → ℕ → ℕ
 room_for None inputs = ROOM
 room_for (Some ahead) inputs = max BLOCK (min (ahead * 2 ^ 20) (2 ^ 64 - 1) / max inputs 1)
+
+-- a sixteenth of the room is free again, so that a thread may go on that waits for room
+abbrev pub is_low : ℕ → Backlog → Bool
+is_low room backlog = nat_le backlog.bytes (room - room / 16)
+
+-- the backlog with a block more
+abbrev pub with_block : ℕ → Backlog → Backlog
+with_block count backlog =
+    record backlog { bytes = min (backlog.bytes + count) (2 ^ 64 - 1); blocks = min (backlog.blocks + 1) (2 ^ 64 - 1) }

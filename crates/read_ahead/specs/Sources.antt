@@ -1,10 +1,15 @@
 -- Sources that read ahead.
-use Rattle.std.specs.Prelude.{◌≡◌, ℕ, ◌<◌, ◌≤◌, List, [], length, drop, Option}
+use Rattle.std.specs.Prelude.{◌≡◌, ◌⊎◌, ℕ, ◌-◌, ◌<◌, ◌≤◌, Bool, true, false, List, [], ◌∷◌, ◌++◌, length, drop, Option, Some, None}
+use Rattle.std.specs.Time.{instant_nanos}
+use Rattle.std.specs.declared.time.Instant.{Instant}
 use Rattle.std.specs.Io.KnownBytes.{IsAtEnd, prepend_known}
 use Rattle.rtrb.specs.Ring.{received}
 use Rattle.read_ahead.specs.Messages.{untold}
 use Rattle.read_ahead.specs.declared.incoming.Incoming.{Incoming}
-use Rattle.read_ahead.specs.declared.incoming.Phase.TheVariants.{Opening, Ended}
+use Rattle.read_ahead.specs.declared.incoming.Phase.{Phase}
+use Rattle.read_ahead.specs.declared.incoming.Phase.TheVariants.{Opening, Going, Ended, Failed}
+use Rattle.read_ahead.specs.declared.message.Message.{Message}
+use Rattle.read_ahead.specs.declared.message.Message.TheVariants as Told
 
 -- the bytes that weren't given yet, where the input tells them: those of the front block, and those that weren't told
 abbrev pub rest_of : {I : Type 0} → (I → Option (List ℕ)) → Incoming I → Option (List ℕ)
@@ -23,3 +28,33 @@ pub record Seen : Type 0 where
   pub left : Option (List ℕ)
   pub reads : ℕ
   pub failures : ℕ
+
+-- how an input stands that was being opened, by what was told next
+abbrev pub opened_by : {I : Type 0} → Message I → Phase
+opened_by (Told.Asked s) = Failed
+opened_by Told.Opened = Going
+opened_by (Told.Bytes block) = Failed
+opened_by Told.End = Failed
+opened_by Told.Failed = Failed
+opened_by Told.Refused = Failed
+
+-- how an open one stands
+abbrev pub going_by : {I : Type 0} → Message I → Phase
+going_by (Told.Asked s) = Failed
+going_by Told.Opened = Failed
+going_by (Told.Bytes block) = Going
+going_by Told.End = Ended
+going_by Told.Failed = Failed
+going_by Told.Refused = Failed
+
+-- The next message was taken, and the input stands as that says; or none came, and it has failed.
+abbrev pub StandsBy : {I : Type 0} → (Message I → Phase) → List (Message I) → List (Message I) → Phase → Type 0
+StandsBy {I} phase_by before now phase =
+    ((now ≡ before) × (phase ≡ Failed)) ⊎ ((message : Message I) × (now ≡ before ++ message ∷ []) × (phase ≡ phase_by message))
+
+-- for how long an input was waited for since then, in nanoseconds: nothing where no more of it is given, or it isn't waited for
+abbrev pub silence_of : Bool → Option Instant → Option Instant → ℕ
+silence_of true since now = 0
+silence_of false None now = 0
+silence_of false (Some since) None = 0
+silence_of false (Some since) (Some now) = instant_nanos now - instant_nanos since

@@ -1,7 +1,7 @@
 //! How much of an input lies ready. What a source gives doesn't rest on it: it bounds how far inputs are read ahead, and tells how
 //! much a read gives.
-ghost use Rattle.std.specs.Prelude.{◌≡◌, ◌+◌, ◌-◌, ◌^◌, min, false, true};
-ghost use Rattle.read_ahead.specs.Shares.{is_full};
+ghost use Rattle.std.specs.Prelude.{◌≡◌, ◌-◌, false, not, true, MatchOption};
+ghost use Rattle.read_ahead.specs.Shares.{is_full, is_low, with_block};
 
 /// How much of an input was read and not given yet.
 #[derive(Drop)]
@@ -37,10 +37,30 @@ impl Backlog {
 
     /// A block of so many bytes lies ready.
     pub fn put(&mut self, count: usize)
-        ensures { self.new ≡ record self.old { bytes = min (self.old.bytes + count) (2 ^ 64 - 1); blocks = min (self.old.blocks + 1) (2 ^ 64 - 1) } }
+        ensures { self.new ≡ with_block count self.old }
     {
         self.bytes = self.bytes.saturating_add(count);
         self.blocks = self.blocks.saturating_add(1);
+    }
+
+    /// A block of so many bytes lies ready, unless it has to wait: none then. Otherwise answers whether more of the input is given.
+    pub fn try_put(&mut self, room: usize, blocks: usize, count: usize) -> Option<bool>
+        ensures { MatchOption result
+            ((is_full room blocks count self.old ≡ true) × (self.new ≡ self.old))
+            (λ given. (is_full room blocks count self.old ≡ false) × (self.new ≡ with_block count self.old) × (given ≡ not self.old.left)) }
+    {
+        if self.is_full(room, blocks, count) {
+            return None;
+        }
+        self.put(count);
+        Some(!self.left)
+    }
+
+    /// Whether so few bytes lie ready that a thread may go on that waits for room.
+    pub fn is_low(&self, room: usize) -> bool
+        ensures { result ≡ is_low room self.now }
+    {
+        self.bytes <= room - room / 16
     }
 
     /// A block was begun.

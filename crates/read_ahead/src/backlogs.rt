@@ -80,9 +80,8 @@ impl Backlogs {
             let Some(backlog) = counts.backlogs.get_mut(number) else {
                 return false;
             };
-            if !backlog.is_full(self.room, BLOCKS, count) {
-                backlog.put(count);
-                return !backlog.left;
+            if let Some(is_given) = backlog.try_put(self.room, BLOCKS, count) {
+                return is_given;
             }
             counts = taken.wait(rt, counts);
         }
@@ -210,7 +209,7 @@ impl Backlogs {
         let mut counts = self.counts.lock(rt);
         if let Some(backlog) = counts.backlogs.get_mut(number) {
             backlog.give(count);
-            if backlog.bytes <= self.room - self.room / 16 {
+            if backlog.is_low(self.room) {
                 self.wake(number);
             }
         }

@@ -3,7 +3,7 @@ ghost use Rattle.std.specs.Prelude.{◌≡◌, ◌≢◌, ◌+◌, ◌-◌, ◌�
 ghost use Rattle.std.specs.Io.KnownBytes.{Consumes, IsAtEnd, Keeps};
 ghost use Rattle.rtrb.specs.Ring.{received};
 ghost use Rattle.read_ahead.specs.Messages.{MayFollow};
-ghost use Rattle.read_ahead.specs.Sources.{IsSound, rest_of};
+ghost use Rattle.read_ahead.specs.Sources.{IsSound, StandsBy, going_by, opened_by, rest_of};
 ghost use Rattle.read_ahead.specs.declared.incoming.Phase.TheVariants.{Opening, Going, Ended, Failed};
 
 use crate::backlogs::Backlogs;
@@ -58,6 +58,7 @@ impl<I: Contents> Incoming<I> {
         requires { IsSound I.holds self.old }
         ensures sound { IsSound I.holds self.new }
         ensures same { rest_of I.holds self.new ≡ rest_of I.holds self.old }
+        ensures ready { (self.old.at < length self.old.front.items) ⊎ (self.old.phase ≡ Ended) ⊎ (self.old.phase ≡ Failed) → result ≡ true }
     {
         self.at < self.front.len()
             || matches!(self.phase, Phase::Ended | Phase::Failed)
@@ -70,6 +71,8 @@ impl<I: Contents> Incoming<I> {
         ensures sound { IsSound I.holds self.new }
         ensures same { rest_of I.holds self.new ≡ rest_of I.holds self.old }
         ensures phase { self.new.phase ≢ Opening }
+        ensures ended { self.old.phase ≡ Ended → self.new.phase ≡ Ended }
+        ensures failed { self.old.phase ≢ Ended → self.new.phase ≡ Failed }
     {
         if !matches!(self.phase, Phase::Ended) {
             self.fail();
@@ -82,6 +85,7 @@ impl<I: Contents> Incoming<I> {
         ensures sound { IsSound I.holds self.new }
         ensures same { rest_of I.holds self.new ≡ rest_of I.holds self.old }
         ensures phase { self.new.phase ≡ Failed }
+        ensures told { received self.new.consumer ≡ received self.old.consumer }
     {
         self.phase = Phase::Failed;
     }
@@ -93,6 +97,7 @@ impl<I: Contents> Incoming<I> {
         ensures sound { IsSound I.holds self.new }
         ensures same { rest_of I.holds self.new ≡ rest_of I.holds self.old }
         ensures phase { self.new.phase ≢ Opening }
+        ensures stands { StandsBy opened_by (received self.old.consumer) (received self.new.consumer) self.new.phase }
     {
         let Some(message) = wait_message(rt, &self.backlogs, self.number, &mut self.consumer) else {
             return self.fail();
@@ -116,6 +121,7 @@ impl<I: Contents> Incoming<I> {
         ensures same { rest_of I.holds self.new ≡ rest_of I.holds self.old }
         ensures some { (self.new.at < length self.new.front.items) ⊎ (self.new.phase ≢ Going) }
         ensures phase { self.new.phase ≢ Opening }
+        ensures stands { StandsBy going_by (received self.old.consumer) (received self.new.consumer) self.new.phase }
     {
         let Some(message) = wait_message(rt, &self.backlogs, self.number, &mut self.consumer) else {
             return self.fail();
@@ -192,6 +198,7 @@ impl<I: Contents> Incoming<I> {
         ensures gave { IfOk result (λ count. Consumes (rest_of I.holds self.old) (rest_of I.holds self.new) (take count buffer.new)) }
         ensures end { IfOk result (λ count. count ≡ 0 → 0 < length buffer.new → IsAtEnd (rest_of I.holds self.new)) }
         ensures kept { OnErr result (Keeps (rest_of I.holds self.old) (rest_of I.holds self.new)) }
+        ensures failed { OnErr result ((self.old.phase ≡ Failed) × (self.old.at ≡ length self.old.front.items)) }
     {
         if self.at < self.front.len() {
             return Ok(self.fill(rt, buffer));

@@ -1,9 +1,9 @@
 //! A thread for each input, and the sources of what they read.
-ghost use Rattle.std.specs.Prelude.{◌≡◌, [], All, map, length, IfOk};
+ghost use Rattle.std.specs.Prelude.{◌≡◌, [], All, Err, Ok, false, map, length, true, IfOk};
 ghost use Rattle.std.specs.String.{string_bytes};
 ghost use Rattle.rtrb.specs.Ring.{received, sent};
 ghost use Rattle.read_ahead.specs.Messages.{Asks};
-ghost use Rattle.read_ahead.specs.declared.starting.InputFault.TheVariants.{NoMemory};
+ghost use Rattle.read_ahead.specs.declared.starting.InputFault.TheVariants.{NoMemory, Unread};
 
 use crate::ahead::Ahead;
 use crate::backlogs::Backlogs;
@@ -75,11 +75,19 @@ where
 {
     let backlogs = Backlogs::new(&rt, alloc, inputs.len(), limits)?;
     let mut sources = start_all(rt, alloc, &backlogs, inputs)?;
-    if wait_open(&rt, &backlogs, &mut sources) {
-        Ok(sources)
-    } else {
-        Err(InputFault::Unread)
+    let are_open = wait_open(&rt, &backlogs, &mut sources);
+    begun(sources, are_open)
+}
+
+/// Sources that are all open; Unread where one can't be opened.
+fn begun<T: Drop>(sources: T, are_open: bool) -> Result<T, InputFault>
+    ensures open { are_open ≡ true → result ≡ Ok sources }
+    ensures unread { are_open ≡ false → result ≡ Err Unread }
+{
+    if !are_open {
+        return Err(InputFault::Unread);
     }
+    Ok(sources)
 }
 
 /// Starts a thread for each input, and answers their sources.

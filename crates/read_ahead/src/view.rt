@@ -1,6 +1,7 @@
 //! How inputs stand, for whoever watches a run. No claim on bytes rests on it.
-ghost use Rattle.std.specs.Prelude.{◌≡◌, true};
+ghost use Rattle.std.specs.Prelude.{◌≡◌};
 ghost use Rattle.std.specs.Duration.{as_nanos};
+ghost use Rattle.read_ahead.specs.Sources.{silence_of};
 
 use crate::backlog::Backlog;
 use crate::backlogs::Backlogs;
@@ -37,7 +38,7 @@ impl InputsView {
 /// How an input stands now that was waited for since then, if it is.
 pub fn state_of(backlog: &Backlog, since: Option<Instant>, now: Option<Instant>) -> InputState
     ensures bytes { result.bytes ≡ backlog.now.bytes }
-    ensures left { backlog.now.left ≡ true → as_nanos result.silent ≡ 0 }
+    ensures silent { as_nanos result.silent ≡ silence_of backlog.now.left since now }
 {
     InputState {
         bytes: backlog.bytes,
@@ -47,7 +48,7 @@ pub fn state_of(backlog: &Backlog, since: Option<Instant>, now: Option<Instant>)
 
 /// How long it has been waited for.
 fn silence(left: bool, since: Option<Instant>, now: Option<Instant>) -> Duration
-    ensures { left ≡ true → as_nanos result ≡ 0 }
+    ensures { as_nanos result ≡ silence_of left since now }
 {
     if left {
         return Duration::ZERO;

@@ -1,5 +1,5 @@
 use Rattle.rtrb.specs.Ring.{received}
-use Rattle.std.proofs.Common.{rules, refl, drop, subst}
+use Rattle.std.proofs.Common.{◌∙◌, inl, rules, refl, drop, subst}
 use Rattle.read_ahead.specs.declared.message.Message.TheVariants.{Bytes, End, Failed, Refused, Opened}
 use Rattle.read_ahead.specs.Messages.{MayFollow}
 use Rattle.read_ahead.proofs.Telling.{in_order, next_block, next_plain, next_end, some_more}
@@ -39,3 +39,6 @@ returns-in-End-clause-sound g c =
       empty = λ e. absurd (search (rules, e));
       ended = λ _. next_end g.I.Contents.holds (received s.consumer) (received c.wait_message.new.consumer) (in_order (received s.consumer) (received c.wait_message.new.consumer) c.in-Some.message (End) c.in-Some.ensures.order c.in-End.is) (subst (MayFollow g.I.Contents.holds (received s.consumer)) c.in-End.is c.in-Some.ensures.allowed);
     }
+
+pub returns-in_default-clause-stands : goal.returns-in_default-clause-stands
+returns-in_default-clause-stands g c = inl (c.fail.ensures.told ∙ c.wait_message.ensures.none (search rules), c.fail.ensures.phase)

@@ -1,5 +1,5 @@
 use Rattle.rtrb.specs.Ring.{received}
-use Rattle.std.proofs.Common.{refl, drop}
+use Rattle.std.proofs.Common.{◌∙◌, inl, rules, refl, drop}
 use Rattle.read_ahead.specs.declared.message.Message.TheVariants.{Opened, Refused}
 use Rattle.read_ahead.proofs.Telling.{in_order, next_plain}
 use Rattle.read_ahead.proofs.incoming.Incoming.wait_open.Goals as goal
@@ -13,3 +13,6 @@ pub returns-in-Refused-clause-same : goal.returns-in-Refused-clause-same
 returns-in-Refused-clause-same g c =
     let s = c.args.self.now in
     next_plain g.I.Contents.holds (received s.consumer) (received c.wait_message.new.consumer) Refused (drop s.at s.front.items) (in_order (received s.consumer) (received c.wait_message.new.consumer) c.in-Some.message Refused c.in-Some.ensures.order c.in-Refused.is) c.requires.sound.some refl
+
+pub returns-in_default-clause-stands : goal.returns-in_default-clause-stands
+returns-in_default-clause-stands g c = inl (c.fail.ensures.told ∙ c.wait_message.ensures.none (search rules), c.fail.ensures.phase)
