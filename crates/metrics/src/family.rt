@@ -1,6 +1,6 @@
 //! A metric of all renditions.
 
-ghost use Rattle.std.specs.Prelude.{◌≡◌, ◌++◌, map, option_map, OnOk};
+ghost use Rattle.std.specs.Prelude.{◌≡◌, ◌++◌, map, option_map, IsOk, None, OnOk};
 ghost use Rattle.metrics.specs.Format.{head_text, sample_line, fault_line};
 ghost use Rattle.metrics.specs.Samples.{facts_of, value_of, column_text, fault_of, faults_text};
 
@@ -74,7 +74,8 @@ fn push_fault(out: &mut Vec<u8>, name: &str, label: &str, fault: &str) -> Result
 
 /// Appends that of a rendition that has a fault.
 fn push_fault_of(out: &mut Vec<u8>, name: &str, sample: &Sample<'_>) -> Result<(), AllocError>
-    ensures { OnOk result (out.new.items ≡ out.old.items ++ fault_of name.now (facts_of sample.now).name (facts_of sample.now).fault) }
+    ensures told { OnOk result (out.new.items ≡ out.old.items ++ fault_of name.now (facts_of sample.now).name (facts_of sample.now).fault) }
+    ensures none { (facts_of sample.now).fault ≡ None → IsOk result }
 {
     match sample.fault {
         Some(fault) => push_fault(out, name, sample.name, fault),

@@ -31,6 +31,10 @@ pub enum GlanceFault {
 }
 
 impl From<AllocError> for GlanceFault {
+    ghost use Rattle.metrics.specs.declared.glance.GlanceFault.TheVariants.{NoMemory};
+
+    ghost from_gives = { λ _ fault. fault ≡ NoMemory };
+
     fn from(_error: AllocError) -> GlanceFault {
         GlanceFault::NoMemory
     }
