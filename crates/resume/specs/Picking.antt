@@ -1,5 +1,5 @@
 -- The I-frames that the lines of an I-frame playlist list (RFC 8216, 4.3.2.2 and 4.3.3.6).
-use Rattle.std.specs.Prelude.{ℕ, ◌==◌, ◌^◌, Bool, true, false, nat_eq, Option, if◌then◌else◌, List, [], ◌∷◌, ◌++◌, length, drop, unwrap_or, codes}
+use Rattle.std.specs.Prelude.{ℕ, ◌==◌, ◌&&◌, ◌||◌, ◌^◌, not, Bool, true, false, nat_eq, Option, if◌then◌else◌, List, [], ◌∷◌, ◌++◌, length, drop, unwrap_or, codes}
 use Rattle.std.specs.Fmt.{decimal}
 use Rattle.std.specs.List.{before_first, starts_with}
 use Rattle.playlist_text.specs.MediaLines.{duration_line}
@@ -33,6 +33,12 @@ offset_in line = told (number_in (λ n. codes "@" ++ decimal n) MOST (drop (leng
 
 abbrev pub begins : List ℕ → List ℕ → Bool
 begins line front = starts_with nat_eq line front
+
+-- a line that adds to what was picked, for which memory may be wanted: one of an I-frame's place or of a key
+abbrev pub may_want : Picks → List ℕ → Bool
+may_want p line =
+    not p.uri_next && not (begins line (codes "#EXTINF:"))
+    && (begins line (codes "#EXT-X-BYTERANGE:") || begins line (codes "#EXT-X-KEY:"))
 
 -- one line more
 unfoldable pub pick_line : Picks → List ℕ → Picks

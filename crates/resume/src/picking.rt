@@ -1,10 +1,10 @@
 //! The I-frames of an I-frame playlist. What is read here is trusted only once the whole text was written again.
 
-ghost use Rattle.std.specs.Prelude.{◌≡◌, ◌==◌, ◌++◌, ◌-◌, ◌<◌, ◌≤◌, ◌^◌, List, ℕ, All, IfOk, OnOk, IsSomeAnd, length, take, drop, slice_index_or};
+ghost use Rattle.std.specs.Prelude.{◌≡◌, ◌==◌, ◌++◌, ◌-◌, ◌<◌, ◌≤◌, ◌⊎◌, ◌^◌, List, ℕ, All, IfOk, IsNone, OnErr, OnOk, true, IsSomeAnd, length, take, drop, slice_index_or};
 ghost use Rattle.std.specs.List.{before_first};
 ghost use Rattle.playlist_text.specs.Lines.{text_of};
 ghost use Rattle.media_reading.specs.MediaTexts.{IsLine};
-ghost use Rattle.resume.specs.Picking.{no_picks, pick_line, pick_lines, len_in, offset_in};
+ghost use Rattle.resume.specs.Picking.{may_want, no_picks, pick_line, pick_lines, len_in, offset_in};
 ghost use Rattle.media_playlist.specs.Rows.{SegmentRow};
 ghost use Rattle.resume.specs.Picked.{picks_of};
 ghost use Rattle.resume.specs.Reading.{ArePicked};
@@ -39,7 +39,8 @@ impl Picked {
     /// Takes a line: behind each one of a key stand the I-frames of a segment.
     #[tactic(auto, unfolding(crate::specs::Picking::pick_line))]
     fn take(&mut self, line: &[u8]) -> Result<(), AllocError>
-        ensures { OnOk result (picks_of self.new ≡ pick_line (picks_of self.old) line.now) }
+        ensures taken { OnOk result (picks_of self.new ≡ pick_line (picks_of self.old) line.now) }
+        ensures scarce { OnErr result (may_want (picks_of self.old) line.now ≡ true) }
     {
         if self.uri_next {
             self.uri_next = false;
@@ -83,7 +84,8 @@ fn number_at(numbers: &[usize], place: usize, other: usize) -> usize
 
 /// The I-frames from one place up to another.
 fn part(frames: &[FrameRow], start: usize, end: usize) -> Option<&[FrameRow]>
-    ensures { start ≤ end → end ≤ length frames.now → IsSomeAnd result (λ part. part.now ≡ take (end - start) (drop start frames.now)) }
+    ensures some { start ≤ end → end ≤ length frames.now → IsSomeAnd result (λ part. part.now ≡ take (end - start) (drop start frames.now)) }
+    ensures none { (end < start) ⊎ (length frames.now < end) → IsNone result }
 {
     if end < start || frames.len() < end {
         return None;

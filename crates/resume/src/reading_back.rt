@@ -1,6 +1,6 @@
 //! The rows of what a media playlist lists.
 
-ghost use Rattle.std.specs.Prelude.{◌≡◌, ◌+◌, ◌≤◌, ℕ, List, All, length, IfOk, IfSome, IsSomeAnd, Decides};
+ghost use Rattle.std.specs.Prelude.{◌≡◌, ◌+◌, ◌≤◌, ℕ, List, All, length, IfOk, IfSome, IsSomeAnd, OnErr, Decides};
 ghost use Rattle.media_playlist.specs.Rows.{SegmentRow};
 ghost use Rattle.media_reading.specs.MediaTexts.{IsListing};
 ghost use Rattle.resume.specs.declared.restored.Wanted as TheWanted;
@@ -61,6 +61,7 @@ fn read_rows(
     ensures read { IfOk result (λ found. IfSome found (λ rows. AreRowsOf listing.now sizes.now rows.items)) }
     ensures whole { (first : ℕ) (rows : List SegmentRow) → AreRowsOf listing.now sizes.now rows →
         ArePicked (picks_of picked.now) first rows → IfOk result (λ found. IsSomeAnd found (λ it. it.items ≡ rows)) }
+    ensures scarce { OnErr result (length sizes.now ≡ length listing.now.entries) }
 {
     if sizes.len() != listing.entries.len() {
         return Ok(None);

@@ -1,6 +1,6 @@
 //! A rendition goes on from its playlists.
 
-ghost use Rattle.std.specs.Prelude.{◌≡◌, ◌≤◌, ◌⊎◌, false, length, IfOk, IfErr, IfSome, IsSomeAnd, MatchResult, OnOk, IsErrOf, Decides};
+ghost use Rattle.std.specs.Prelude.{◌≡◌, ◌≤◌, ◌⊎◌, false, length, IfOk, IfErr, IfSome, IsSomeAnd, MatchResult, OnErr, OnOk, IsErrOf, Decides};
 ghost use Rattle.limits.specs.declared.TheConstants.{MOST_TARGET};
 ghost use Rattle.playlist_text.specs.Lines.{text_of};
 ghost use Rattle.media_playlist.specs.Lines.{iframe_lines};
@@ -42,6 +42,9 @@ pub fn restore(
     ensures refused { (fault : TheFault.ResumeFault) → IsRefused wanted listing.now fault → IsErrOf result fault }
     ensures err { IfErr result (λ fault. IsRefused wanted listing.now fault
         ⊎ (IsAsWanted wanted listing.now × ((fault ≡ ResumeFault.Foreign) ⊎ (fault ≡ ResumeFault.NoMemory)))) }
+
+    // Memory is wanted only for playlists of this name.
+    ensures scarce { IsErrOf result ResumeFault.NoMemory → listing.now.name ≡ name.now }
 {
     look(wanted, listing)?;
     match restored_of(alloc, name, wanted, listing, frames, sizes)? {
@@ -108,6 +111,7 @@ fn restored_of(
     ensures restored { IfOk result (λ found. IfSome found (IsRestored name.now wanted listing.now frames.now sizes.now)) }
     ensures whole { (r : RestoredValue) → IsRestored name.now wanted listing.now frames.now sizes.now r →
         IfOk result (λ found. IsSomeAnd found (λ it. it ≡ r)) }
+    ensures scarce { OnErr result (listing.now.name ≡ name.now) }
 {
     if !is_named(listing, name) {
         return Ok(None);

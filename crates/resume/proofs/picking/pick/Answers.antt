@@ -27,7 +27,7 @@ line-preserved c =
       lines = held.lines ++ c.in-Some.line.now ∷ [];
       whole = text-more held.lines c.in-Some.line.now c.in-Some.behind.now c.line.rest.now c.args.text.now held.whole parts.1;
       each = All-append IsLine held.lines (c.in-Some.line.now ∷ []) held.each (All-cons IsLine c.in-Some.line.now [] parts.0 (All-nil IsLine));
-      picked = c.in_ok-take.ensures ∙ picks-more no_picks (picks_of c.line.picked) held.lines c.in-Some.line.now held.picked;
+      picked = c.in_ok-take.ensures.taken ∙ picks-more no_picks (picks_of c.line.picked) held.lines c.in-Some.line.now held.picked;
     }
 
 pub returns : goal.returns

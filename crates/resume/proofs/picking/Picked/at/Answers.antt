@@ -22,7 +22,7 @@ returns c = λ first rows d picked lt.
     let all : c.deref-3.result.now ≡ frames_of rows = c.deref-3.ensures.value ∙ picked.frames_are in
     let frames = (get_or rows i d).frames in
     let long : e - s ≡ length frames = omega (arith, start, end, is.end_is) in
-    let found = c.part.ensures (omega (arith, start, end, is.end_is)) (omega (arith, end, is.up_to, count, ap length all)) in
+    let found = c.part.ensures.some (omega (arith, start, end, is.end_is)) (omega (arith, end, is.up_to, count, ap length all)) in
     let are : take (e - s) (drop s c.deref-3.result.now) ≡ frames =
     ap (λ (k : ℕ). take k (drop s c.deref-3.result.now)) long ∙ ap (λ (xs : List FrameRow). take (length frames) (drop s xs)) all
     ∙ ap (λ (k : ℕ). take (length frames) (drop k (frames_of rows))) start ∙ is.are [] refl in
