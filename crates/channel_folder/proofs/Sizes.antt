@@ -1,6 +1,5 @@
 -- One more number, and one more listed segment with its size.
-use Rattle.std.proofs.Common.{arith, ◌≡◌, ◌<◌, refl, sym, subst, ℕ, zero, suc, List, [], ◌∷◌, ◌++◌, All, take, get_or}
-use Rattle.std.proofs.lemmas.List.{take_more}
+use Rattle.std.proofs.Common.{arith, ◌<◌, refl, sym, subst, ℕ, zero, suc, List, [], ◌∷◌, ◌++◌, All}
 use Rattle.std.proofs.lemmas.List.Elements.{All-append}
 use Rattle.playlist_text.specs.MediaLines.{Entry}
 use Rattle.channel_folder.specs.Reopened.{AreSizes, HasSize}

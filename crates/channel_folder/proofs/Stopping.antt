@@ -1,5 +1,5 @@
 -- The first rendition that doesn't go on.
-use Rattle.std.proofs.Common.{◌≡◌, ◌⊎◌, inl, inr, refl, ℕ, List, Option, Some, length}
+use Rattle.std.proofs.Common.{◌≡◌, inl, ℕ, List, Option, Some, length}
 use Rattle.std.specs.Prelude.{slice_get}
 use Rattle.ladder_items.specs.declared.settings.Kind.{Kind}
 use Rattle.resume.specs.Restoring.{RestoredValue}

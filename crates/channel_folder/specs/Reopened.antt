@@ -1,5 +1,5 @@
 -- What the renditions of a ladder go on behind, by what a folder holds.
-use Rattle.std.specs.Prelude.{◌≡◌, ◌⊎◌, ℕ, ◌<◌, ◌≤◌, Option, Some, None, List, [], ◌∷◌, length, map, All, slice_get}
+use Rattle.std.specs.Prelude.{◌≡◌, ℕ, ◌<◌, ◌≤◌, Option, Some, None, List, [], ◌∷◌, length, All, slice_get}
 use Rattle.folder.specs.Reads.{MayHaveSize}
 use Rattle.item_io.specs.FileNames.{segment_file_name}
 use Rattle.limits.specs.declared.TheConstants.{LAST_SEGMENT}

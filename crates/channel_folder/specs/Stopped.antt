@@ -1,9 +1,9 @@
 -- Why a channel doesn't go on.
-use Rattle.std.specs.Prelude.{◌≡◌, ◌≢◌, ◌⊎◌, ⊤, ℕ, ◌<◌, ◌≤◌, Option, Some, None, List, Contains, length, map, slice_get}
+use Rattle.std.specs.Prelude.{◌≡◌, ◌≢◌, ◌⊎◌, ⊤, ℕ, ◌<◌, ◌≤◌, Option, Some, List, ◌∷◌, ◌++◌, All, Contains, length, map, slice_get}
 use Rattle.std.specs.Str.{IsUtf8}
 use Rattle.item_io.specs.FileNames.{segment_file_name}
 use Rattle.playlist_text.specs.MediaLines.{Entry, Listing}
-use Rattle.media_reading.specs.MediaTexts.{IsListing, listing_text}
+use Rattle.media_reading.specs.MediaTexts.{IsListing, MayWantMemory, listing_text}
 use Rattle.ladder_items.specs.declared.settings.Kind.{Kind}
 use Rattle.resume.specs.declared.restored.Wanted.{Wanted}
 use Rattle.resume.specs.declared.fault.ResumeFault.{ResumeFault}
@@ -76,12 +76,21 @@ IsForeign Gives Lacks name wanted =
     ⊎ IsNoText Gives (media_file name) ⊎ IsNoText Gives (frames_file name)
     ⊎ IsNoPlaylist Gives name ⊎ AreApart Gives name wanted
 
--- a segment's file is there that isn't listed, and comes next or later
+-- of these numbers it is the first that isn't below another one
+pub record IsFirstFrom (next : ℕ) (numbers : List ℕ) (n : ℕ) : Type 0 where
+  pub front : List ℕ
+  pub rest : List ℕ
+  pub all : numbers ≡ front ++ n ∷ rest
+  pub below : All (λ m. m < next) front
+  pub from : next ≤ n
+
+-- a segment's file is there that isn't listed, and comes next or later: of several the first that was found
 pub record IsAhead (Gives : List ℕ → List ℕ → Type 0) (Lacks : List ℕ → Type 0) (numbers : List ℕ) (asked : Asked) (n : ℕ) : Type 0 where
   pub one : Option RestoredValue
   pub is : IsOf Gives Lacks asked.name.now asked.wanted one
   pub there : Contains numbers n
   pub past : next_of one ≤ n
+  pub first : IsFirstFrom (next_of one) numbers n
 
 -- that is the reason
 abbrev pub IsAheadBy : (List ℕ → List ℕ → Type 0) → (List ℕ → Type 0) → List ℕ → Asked → WhyNot → Type 0
@@ -118,7 +127,7 @@ IsStop Refuses Gives Lacks numbers a (Stopping.Why why) = IsWhy Gives Lacks numb
 -- .. where the text is none of a media playlist
 abbrev pub IsListStop : List ℕ → Stop → Type 0
 IsListStop text Stopping.Unread = ⊥
-IsListStop text Stopping.NoMemory = ⊤
+IsListStop text Stopping.NoMemory = MayWantMemory text
 IsListStop text (Stopping.Why why) = (why ≡ Foreign) × ((l : Listing) → IsListing l → text ≢ listing_text l)
 
 -- .. where the files of these segments aren't there

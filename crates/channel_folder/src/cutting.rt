@@ -1,5 +1,5 @@
 //! The block that a kill cut off.
-ghost use Rattle.std.specs.Prelude.{◌≡◌, IfOk, IsErrOf, Option, List, ℕ, codes, ◌++◌, ◌&&◌, not};
+ghost use Rattle.std.specs.Prelude.{◌≡◌, IfOk, IsErrOf, IsOk, None, Option, List, ℕ, codes, ◌++◌, ◌&&◌, not};
 ghost use Rattle.std.specs.Option.{option_map};
 ghost use Rattle.std.specs.String.{string_bytes};
 ghost use Rattle.playlist_text.specs.Uris.{escaped};
@@ -70,6 +70,7 @@ fn is_in_place<F: FolderReader>(
 ) -> Result<bool, FolderReadFault>
     ensures ok { IfOk result (IsInPlace (F.gives folder.now) (F.lacks folder.now) name.now next) }
     ensures unread { IsErrOf result FolderReadFault.Unread → F.refuses folder.now }
+    ensures none { next ≡ None → IsOk result }
 {
     let Some(n) = next else {
         return Ok(false);

@@ -1,8 +1,8 @@
 //! One rendition goes on by itself, or has no playlists.
-ghost use Rattle.std.specs.Prelude.{◌≡◌, ◌<◌, ◌≤◌, All, Contains, IfOk, IfErr, MatchOption};
+ghost use Rattle.std.specs.Prelude.{◌≡◌, ◌<◌, ◌≤◌, All, Contains, IfOk, IfErr, IfSome, MatchOption};
 ghost use Rattle.channel_folder.specs.Reopened;
 ghost use Rattle.channel_folder.specs.Reopened.{Stands, IsOf};
-ghost use Rattle.channel_folder.specs.Stopped.{IsStop, IsStopFrom};
+ghost use Rattle.channel_folder.specs.Stopped.{IsFirstFrom, IsStop, IsStopFrom};
 
 use crate::asked::Asked;
 use crate::fault::{Stop, WhyNot};
@@ -42,7 +42,8 @@ fn next_of(found: &Option<Restored>) -> u64
 
 /// The first number that isn't below one.
 fn first_from(numbers: &[u64], next: u64) -> Option<u64>
-    ensures { MatchOption result (All (λ n. n < next) numbers.now) (λ n. Contains numbers.now n × (next ≤ n)) }
+    ensures found { MatchOption result (All (λ n. n < next) numbers.now) (λ n. Contains numbers.now n × (next ≤ n)) }
+    ensures first { IfSome result (IsFirstFrom next numbers.now) }
 {
     for n in numbers {
         if *n >= next {

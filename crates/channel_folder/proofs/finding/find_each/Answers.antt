@@ -1,4 +1,4 @@
-use Rattle.std.proofs.Common.{arith, ◌≡◌, ◌≤◌, ◌+◌, sym, subst, ℕ, List, [], ◌∷◌, ◌++◌, Option, length, length-append}
+use Rattle.std.proofs.Common.{arith, ◌≡◌, ◌+◌, sym, subst, ℕ, List, [], ◌∷◌, ◌++◌, Option, length, length-append}
 use Rattle.resume.specs.Restoring.{RestoredValue}
 use Rattle.channel_folder.specs.Scans.{numbers_at}
 use Rattle.channel_folder.specs.Reopened.{StandTo, Stands}
