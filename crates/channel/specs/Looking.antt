@@ -45,12 +45,13 @@ pub record IsLastOfKey (rows : List SegmentRow) (i : ℕ) (row : SegmentRow) : T
 abbrev pub KeysOpen : (List ℕ → List ℕ → Type 0) → RenditionValue → List SegmentRow → Type 0
 KeysOpen Gives rendition rows = (i : ℕ) (row : SegmentRow) → IsLastOfKey rows i row → OpensAsListed Gives rendition row
 
--- the last segment of a key isn't opened
+-- The last segment of a key isn't opened, and those of keys whose last segment comes later are.
 pub record IsKeyFault (Refuses : Type 0) (Gives : List ℕ → List ℕ → Type 0) (Lacks : List ℕ → Type 0) (r : ℕ) (rendition : RenditionValue)
     (rows : List SegmentRow) (fault : ResumingFault) : Type 0 where
   pub place : ℕ
   pub row : SegmentRow
   pub last : IsLastOfKey rows place row
+  pub behind : (i : ℕ) (other : SegmentRow) → place < i → IsLastOfKey rows i other → OpensAsListed Gives rendition other
   pub told : IsRowFault Refuses Gives Lacks r rendition row fault
 
 -- the rows of earlier runs that a rendition goes on behind
@@ -67,7 +68,7 @@ abbrev pub AllKeysOpen : (List ℕ → List ℕ → Type 0) → List RenditionVa
 AllKeysOpen Gives renditions found = (r : ℕ) (rendition : RenditionValue) (one : Option RestoredValue) → slice_get renditions r ≡ Some rendition →
     slice_get found r ≡ Some one → KeysOpen Gives rendition (rows_of one)
 
--- those of one don't
+-- those of one don't, and it is the first of which they don't
 pub record IsLookFault (Refuses : Type 0) (Gives : List ℕ → List ℕ → Type 0) (Lacks : List ℕ → Type 0) (renditions : List RenditionValue)
     (found : List (Option RestoredValue)) (fault : ResumingFault) : Type 0 where
   pub r : ℕ
@@ -75,4 +76,6 @@ pub record IsLookFault (Refuses : Type 0) (Gives : List ℕ → List ℕ → Typ
   pub one : Option RestoredValue
   pub rendition_is : slice_get renditions r ≡ Some rendition
   pub one_is : slice_get found r ≡ Some one
+  pub before : (q : ℕ) (other : RenditionValue) (that : Option RestoredValue) → q < r → slice_get renditions q ≡ Some other →
+      slice_get found q ≡ Some that → KeysOpen Gives other (rows_of that)
   pub is : IsKeyFault Refuses Gives Lacks r rendition (rows_of one) fault

@@ -1,6 +1,6 @@
 //! Whether the keys of a ladder are those that its listed segments were sealed under.
 
-ghost use Rattle.std.specs.Prelude.{◌≡◌, ◌≢◌, ◌⊎◌, ◌↔◌, ◌<◌, ℕ, Some, true, false, IsTrue, ◌∷◌, [], All, length, map, slice_get, IfOk, IfErr, OnOk, Decides};
+ghost use Rattle.std.specs.Prelude.{◌≡◌, ◌≢◌, ◌⊎◌, ◌↔◌, ◌<◌, ℕ, Some, true, false, IsTrue, ◌∷◌, [], All, length, map, slice_get, IfOk, IfErr, OnErr, OnOk, Decides};
 ghost use Rattle.std.specs.String.{string_bytes};
 ghost use Rattle.item_io.specs.FileNames.{segment_file_name};
 ghost use Rattle.limits.specs.declared.TheConstants.{MOST_KEYS};
@@ -149,7 +149,8 @@ fn opens(
 
 /// Bytes with any fault but a want of memory don't open.
 fn not_opened(fault: UnpackFault) -> Result<bool, AllocError>
-    ensures { IfOk result (λ it. (it ≡ false) × (fault ≢ NoMemory)) }
+    ensures closed { IfOk result (λ it. (it ≡ false) × (fault ≢ NoMemory)) }
+    ensures scarce { OnErr result (fault ≡ NoMemory) }
 {
     match fault {
         UnpackFault::NoMemory => Err(AllocError),

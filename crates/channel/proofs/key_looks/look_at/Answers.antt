@@ -70,5 +70,6 @@ returns-in_err-open_row-clause-err g c =
       place = p;
       row = row;
       last = last-on rows c.loop-i.seen n p c.row.inside.key row from c.loop-i.invariant.marked c.row_at-row.ensures same (λ is. false≢true (sym c.if-mark.false ∙ c.mark.ensures.was.1 is));
+      behind = λ i other past last. c.loop-i.invariant.open_from i other (omega (arith, past, from)) last;
       told = c.in_err-open_row.ensures.err;
     })

@@ -29,6 +29,7 @@ returns-in_err-look_at-clause-err g c =
       one = c.found_at-one.result.now;
       rendition_is = c.rendition_at.ensures;
       one_is = c.found_at-one.ensures;
+      before = c.loop-r.invariant;
       is = subst (λ (l : List SegmentRow). IsKeyFault Refuses Gives Lacks c.loop-r.r c.rendition_at.result.now l c.in_err-look_at.field-0.0) c.rows_of.ensures c.in_err-look_at.ensures.err;
     })
 

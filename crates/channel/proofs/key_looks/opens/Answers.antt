@@ -25,4 +25,4 @@ returns c =
           (closed-alone c.args.rendition.now c.args.row.now c.args.bytes.items c.in_ok-listing.listing.salt c.in_ok-listing.listing.entries (map (λ s. s.items) c.deref.result.now) c.all.result.now c.in-Err.fault
           c.in_ok-listing.ensures.salt c.in_ok-listing.ensures.entries segments keys c.in-Err.ensures.err h.1 has),
     ))
-    c.not_opened.ensures
+    c.not_opened.ensures.closed
