@@ -8,8 +8,8 @@ pub renditions-requires-clause-whole : goal.renditions-requires-clause-whole
 renditions-requires-clause-whole c =
     subst (All IsWhole) (sym c.requires.each) (whole-entries (asked_of c.args.words c.args.numbers c.args.pool) c.requires.turns)
 
-pub returns-then-not-branch-clause-outside : goal.returns-then-not-branch-clause-outside
-returns-then-not-branch-clause-outside c = λ told.
+pub returns-then-not-is_allowed-clause-outside : goal.returns-then-not-is_allowed-clause-outside
+returns-then-not-is_allowed-clause-outside c = λ told.
     let asked = asked_of c.args.words c.args.numbers c.args.pool in
     let here : Ladder = record {
       renditions = c.in_ok-renditions.field-0.items;
@@ -31,5 +31,5 @@ returns-then-not-branch-clause-outside c = λ told.
           let allowed : IsAllowed here = (within-any asked keys c.args.keys.now made here is is_here within).allowed in
           let each : c.len.result ≡ length c.in_ok-renditions.field-0.items = search rules in
           let told = c.is_allowed.ensures.1 (allowed, each) in
-          cc (told, c.if-not-branch.true);
+          cc (told, c.if-not-is_allowed.true);
     }
