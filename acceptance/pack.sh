@@ -1,9 +1,21 @@
-# The checks of pack: of files as they are, and the summary.
+# The checks of pack: of files as they are, and the summary. Those of how it begins and ends stand in files of their own.
 # shellcheck shell=bash disable=SC2154
 
 ladder_of_one=v:avc1.4d401e:640x360:$key
 
 check_pack() {
+    check_packing
+    check_pack_ends
+    check_no_threads
+    check_stops
+    check_restarts
+    check_holding
+    check_served_ladder
+    check_live_ladder
+    check_metrics
+}
+
+check_packing() {
     [ -d "$work/worked" ] || check 'pack: the worked inputs are made' python3 "$here/standard_stream.py" "$work/worked"
     [ -d "$work/real" ] || check 'pack: the real streams are made' make_real_streams "$work/real"
     check 'pack: the standard stream' gives_standard_summary
@@ -16,14 +28,6 @@ check_pack() {
     check_ladders
     check_entries
     check_pack_settings
-    check_pack_ends
-    check_no_threads
-    check_stops
-    check_restarts
-    check_holding
-    check_served_ladder
-    check_live_ladder
-    check_metrics
 }
 
 # packs_into FOLDER WORDS..: into a new folder, and the program tells no fault.
