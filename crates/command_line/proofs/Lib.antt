@@ -1,1 +1,3 @@
 pub mod Adding
+mod Matched
+mod Refused

@@ -25,26 +25,27 @@ status_of (Packing fault) = 1
 status_of (LadderPacking fault) = 1
 status_of (Checking fault) = 1
 
--- a refused command line, a file of a key that gives none, or want of memory: nothing else was read, and nothing written
-abbrev pub IsOfCommandLine : Fault → Type 0
-IsOfCommandLine (Usage error) = Unit {0}
-IsOfCommandLine NotUtf8 = Unit {0}
-IsOfCommandLine (Cipher fault) = Unit {0}
-IsOfCommandLine (Settings fault) = Unit {0}
-IsOfCommandLine (KeyList fault) = Unit {0}
-IsOfCommandLine (Ladder fault) = Unit {0}
-IsOfCommandLine NoMemory = Unit {0}
-IsOfCommandLine Busy = ⊥
-IsOfCommandLine (Sealing fault) = ⊥
-IsOfCommandLine (Opening fault) = ⊥
-IsOfCommandLine (Resuming fault) = ⊥
-IsOfCommandLine (Unopened fault) = ⊥
-IsOfCommandLine (Packing fault) = ⊥
-IsOfCommandLine (LadderPacking fault) = ⊥
-IsOfCommandLine (Checking fault) = ⊥
+-- a refused command line, a file of a key that gives none, or want of memory: nothing else was read, and nothing written. That the line
+-- isn't one is told only where that may be
+abbrev pub IsRefused : Type 0 → Fault → Type 0
+IsRefused usage (Usage error) = usage
+IsRefused usage NotUtf8 = Unit {0}
+IsRefused usage (Cipher fault) = Unit {0}
+IsRefused usage (Settings fault) = Unit {0}
+IsRefused usage (KeyList fault) = Unit {0}
+IsRefused usage (Ladder fault) = Unit {0}
+IsRefused usage NoMemory = Unit {0}
+IsRefused usage Busy = ⊥
+IsRefused usage (Sealing fault) = ⊥
+IsRefused usage (Opening fault) = ⊥
+IsRefused usage (Resuming fault) = ⊥
+IsRefused usage (Unopened fault) = ⊥
+IsRefused usage (Packing fault) = ⊥
+IsRefused usage (LadderPacking fault) = ⊥
+IsRefused usage (Checking fault) = ⊥
 
 -- What a refusal of clap is told as: as want of memory where it is that, and else as a command line that isn't one.
 pub record IsRefusal (why : Error) (fault : Fault) : Type 0 where
   pub memory : kind_of why ≡ OutOfMemory → fault ≡ NoMemory
   pub usage : kind_of why ≢ OutOfMemory → fault ≡ Usage why
-  pub early : IsOfCommandLine fault
+  pub early : IsRefused (kind_of why ≢ OutOfMemory) fault

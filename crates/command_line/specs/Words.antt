@@ -5,6 +5,8 @@ use Rattle.std.specs.Str.Parse.{IsNumeral, digits_value, without_leading_plus}
 use Rattle.clap.specs.declared.parser.matches.Found.{Found}
 use Rattle.clap.specs.declared.parser.matches.ValueSource.{ValueSource}
 use Rattle.clap.specs.declared.parser.matches.ValueSource.TheVariants.{DefaultValue, CommandLine}
+use Rattle.commands.specs.declared.numbers.NumberWords.{NumberWords}
+use Rattle.commands.specs.declared.pool.PoolWords.{PoolWords}
 use Rattle.clap.specs.Words.{first_value, matched_of, one_text, raw_values}
 
 -- the value is from the words of the command line, and no default
@@ -57,3 +59,22 @@ pub record IsFlagOf (found : Found) (name : List ℕ) (flag : Bool) : Type 0 whe
   pub none : one_text found name ≡ None → flag ≡ false
   pub set : one_text found name ≡ Some (codes "true") → flag ≡ true
   pub unset : one_text found name ≡ Some (codes "false") → flag ≡ false
+
+-- the numbers of a packager that stand among the words
+pub record AreNumberWords (found : Found) (words : NumberWords) : Type 0 where
+  pub target_is : IsGivenNumber found (codes "target") words.target
+  pub segment_is : IsGivenNumber found (codes "segment") words.segment
+  pub window_is : IsGivenNumber found (codes "window") words.window
+  pub frame_is : IsGivenNumber found (codes "frame") words.frame
+  pub gap_is : IsGivenNumber found (codes "gap") words.gap
+  pub most_is : IsGivenNumber found (codes "most") words.most
+  pub period_is : IsGivenNumber found (codes "period") words.period
+  pub program_is : IsGivenNumber found (codes "program") words.program
+
+-- the numbers of the threads that seal, and of reading ahead, that stand among them
+pub record ArePoolWords (found : Found) (words : PoolWords) : Type 0 where
+  pub workers_is : IsGivenNumber found (codes "workers") words.workers
+  pub queue_is : IsGivenNumber found (codes "queue") words.queue
+  pub batch_is : IsGivenNumber found (codes "batch") words.batch
+  pub stall_is : IsGivenNumber found (codes "stall") words.stall
+  pub ahead_is : IsGivenNumber found (codes "ahead") words.ahead

@@ -35,7 +35,7 @@ pub fn explain<S: AsStr>(
     if matches!(fault, Fault::Usage(_)) {
         return Ok(None);
     }
-    let mut command = program(alloc)?;
+    let mut command = program(alloc, "")?;
     let Ok(matches) = command.try_get_matches_from_mut(words) else {
         return Ok(None);
     };

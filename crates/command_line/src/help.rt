@@ -1,8 +1,5 @@
 //! What help tells of the faults of each command.
 
-/// The version that `--version` prints.
-pub const VERSION: &str = "0.1.0";
-
 /// The faults of `seal`.
 pub const SEAL: &str = "\
 Faults, as 'tshls: NAME' on standard error:

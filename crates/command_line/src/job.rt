@@ -1,8 +1,9 @@
 //! The command line: which command it asks for, with its options as values.
-ghost use Rattle.std.specs.Prelude.{◌≡◌, codes, false, IfErr, IfOk};
-ghost use Rattle.clap.specs.Words.{app_of};
+ghost use Rattle.std.specs.Prelude.{◌≡◌, ⊤, codes, false, map, IfErr, IfOk};
+ghost use Rattle.clap.specs.Words.{app_of, found_of, subcommand_of, subcommand_rows_of};
 ghost use Rattle.clap.specs.declared.builder.command.Command.TheViews.{out-Command};
-ghost use Rattle.command_line.specs.Faults.{IsOfCommandLine};
+ghost use Rattle.command_line.specs.Faults.{IsRefused};
+ghost use Rattle.command_line.specs.Jobs.{AreCheckOptions, AreCipherOptions, AreSettings, IsCommand, IsJobOf, IsLadderJob, IsNoCall};
 ghost use Rattle.command_line.specs.Options.{GetsCommand, check_options, cipher_options, command_of, ladder_options, stream_options, tshls};
 
 use crate::fault::Fault;
@@ -62,15 +63,17 @@ pub struct LadderJob<'a> {
 }
 
 /// The job that the words of a command line ask for, the program's name first. Where they name files of keys, those are read
-/// behind all faults of the words, and nothing else is read or written.
+/// behind all faults of the words, and nothing else is read or written. The version is what `--version` prints behind that name.
 pub fn line<'a, S: AsStr, F: FileReader>(
     alloc: Global,
     files: &F,
     words: &'a [S],
+    version: &'a str,
 ) -> Result<Job<'a>, Fault>
-    ensures { IfErr result IsOfCommandLine }
+    ensures job { IfOk result (IsJobOf (F.gives files.now) (subcommand_of tshls (map S.text words.entry.now))) }
+    ensures fault { IfErr result (IsRefused (IsNoCall (map S.text words.entry.now))) }
 {
-    let mut command = program(alloc)?;
+    let mut command = program(alloc, version)?;
     let matches = command.try_get_matches_from_mut(words)?;
     job_of(alloc, files, &mut command, &matches)
 }
@@ -82,30 +85,82 @@ fn job_of<'a, F: FileReader>(
     command: &mut Command<'a>,
     matches: &ArgMatches<'a>,
 ) -> Result<Job<'a>, Fault>
-    ensures { IfErr result IsOfCommandLine }
+    ensures job { IfOk result (IsJobOf (F.gives files.now) (subcommand_rows_of matches.now)) }
+    ensures fault { IfErr result (IsRefused (IsCommand (subcommand_rows_of matches.now) → ⊥)) }
 {
-    match matches.subcommand() {
-        Some(("seal", options)) => {
-            let options = read_cipher_options(alloc, files, cipher_words(options))?;
-            return Ok(Job::Stream(StreamJob::Seal(options)));
+    let Some((name, options)) = matches.subcommand() else {
+        return Err(no_command(command));
+    };
+    match name {
+        "seal" => {
+            let options = cipher_options(alloc, files, options)?;
+            Ok(Job::Stream(StreamJob::Seal(options)))
         }
-        Some(("open", options)) => {
-            let options = read_cipher_options(alloc, files, cipher_words(options))?;
-            return Ok(Job::Stream(StreamJob::Open(options)));
+        "open" => {
+            let options = cipher_options(alloc, files, options)?;
+            Ok(Job::Stream(StreamJob::Open(options)))
         }
-        Some(("one", options)) => {
-            let words = packing_words(options);
-            let settings = read_settings(alloc, files, words, number_words(options))?;
-            return Ok(Job::Stream(StreamJob::One(settings)));
+        "one" => {
+            let settings = settings(alloc, files, options)?;
+            Ok(Job::Stream(StreamJob::One(settings)))
         }
-        Some(("pack", options)) => return Ok(Job::Ladder(ladder_job(alloc, files, options)?)),
-        Some(("check", options)) => {
-            let options = read_check_options(alloc, files, check_words(options))?;
-            return Ok(Job::Stream(StreamJob::Check(options)));
+        "pack" => {
+            let job = ladder_job(alloc, files, options)?;
+            Ok(Job::Ladder(job))
         }
-        _ => {}
+        "check" => {
+            let options = check_options(alloc, files, options)?;
+            Ok(Job::Stream(StreamJob::Check(options)))
+        }
+        _ => Err(no_command(command)),
     }
-    Err(Fault::from(command.error(ErrorKind::MissingSubcommand, "a command is wanted")?))
+}
+
+/// What a line without a command is told.
+fn no_command(command: &mut Command<'_>) -> Fault
+    ensures { IsRefused ⊤ result }
+{
+    match command.error(ErrorKind::MissingSubcommand, "a command is wanted") {
+        Ok(error) => Fault::from(error),
+        Err(_) => Fault::NoMemory,
+    }
+}
+
+/// The key and the vector that the words of `seal` or `open` tell.
+fn cipher_options<F: FileReader>(
+    alloc: Global,
+    files: &F,
+    options: &ArgMatches<'_>,
+) -> Result<CipherOptions, Fault>
+    ensures job { IfOk result (AreCipherOptions (F.gives files.now) (found_of options.now)) }
+    ensures fault { IfErr result (IsRefused ⊥) }
+{
+    Ok(read_cipher_options(alloc, files, cipher_words(options))?)
+}
+
+/// The settings that the words of `one` tell.
+fn settings<F: FileReader>(
+    alloc: Global,
+    files: &F,
+    options: &ArgMatches<'_>,
+) -> Result<Settings, Fault>
+    ensures job { IfOk result (AreSettings (F.gives files.now) (found_of options.now)) }
+    ensures fault { IfErr result (IsRefused ⊥) }
+{
+    let words = packing_words(options);
+    Ok(read_settings(alloc, files, words, number_words(options))?)
+}
+
+/// The keys and the playlist that the words of `check` tell.
+fn check_options<F: FileReader>(
+    alloc: Global,
+    files: &F,
+    options: &ArgMatches<'_>,
+) -> Result<CheckOptions, Fault>
+    ensures job { IfOk result (AreCheckOptions (F.gives files.now) (found_of options.now)) }
+    ensures fault { IfErr result (IsRefused ⊥) }
+{
+    Ok(read_check_options(alloc, files, check_words(options))?)
 }
 
 /// The ladder that the words of `pack` tell.
@@ -114,7 +169,8 @@ fn ladder_job<'a, F: FileReader>(
     files: &F,
     options: &ArgMatches<'a>,
 ) -> Result<LadderJob<'a>, Fault>
-    ensures { IfErr result IsOfCommandLine }
+    ensures job { IfOk result (IsLadderJob (F.gives files.now) (found_of options.now)) }
+    ensures fault { IfErr result (IsRefused ⊥) }
 {
     let entries = entry_words(alloc, options)?;
     let words = ladder_words(options, &entries);
@@ -187,13 +243,13 @@ fn with_check<'a>(alloc: Global, program: Command<'a>) -> Result<Command<'a>, Al
 }
 
 /// The program, with its commands in the order in which help shows them.
-pub(crate) fn program<'a>(alloc: Global) -> Result<Command<'a>, AllocError>
+pub(crate) fn program<'a>(alloc: Global, version: &'a str) -> Result<Command<'a>, AllocError>
     ensures app { IfOk result (λ made. app_of made ≡ tshls) }
     ensures globals { IfOk result (λ made. (out-Command made).has_globals ≡ false) }
 {
     let program = Command::new(alloc, "tshls")
         .about("MPEG-2 transport streams to encrypted HLS")
-        .version(help::VERSION)
+        .version(version)
         .subcommand_required(true)
         .arg_required_else_help(true);
     let program = with_seal(alloc, program)?;

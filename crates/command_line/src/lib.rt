@@ -10,7 +10,9 @@ mod options;
 mod pack_options;
 mod reasons;
 mod settings_reason;
+mod version_text;
 
 pub use explanation::explain;
 pub use fault::Fault;
 pub use job::{Job, LadderJob, StreamJob, line};
+pub use version_text::version;

@@ -3,7 +3,7 @@ ghost use Rattle.std.specs.Prelude.{◌≡◌, codes, false, map, option_map, If
 ghost use Rattle.clap.specs.Words.{first_value, found_of, rule_of};
 ghost use Rattle.command_line.specs.Options.{GetsOptions, check_options, cipher_options, form_options, number_option, numbered};
 ghost use Rattle.command_line.specs.Options.{rendition_options, stream_options, text_option};
-ghost use Rattle.command_line.specs.Words.{IsFlagOf, IsGivenNumber, IsNumberOf, given_text, is_given, text_of};
+ghost use Rattle.command_line.specs.Words.{AreNumberWords, IsFlagOf, IsGivenNumber, IsNumberOf, given_text, is_given, text_of};
 
 use clap::parser::ValueSource;
 use clap::{Arg, ArgAction, ArgMatches, Command};
@@ -189,14 +189,7 @@ pub(crate) fn with_numbers<'a>(
 
 /// The numbers that were given.
 pub fn number_words(options: &ArgMatches<'_>) -> NumberWords
-    ensures target { IsGivenNumber (found_of options.now) (codes "target") result.target }
-    ensures segment { IsGivenNumber (found_of options.now) (codes "segment") result.segment }
-    ensures window { IsGivenNumber (found_of options.now) (codes "window") result.window }
-    ensures frame { IsGivenNumber (found_of options.now) (codes "frame") result.frame }
-    ensures gap { IsGivenNumber (found_of options.now) (codes "gap") result.gap }
-    ensures most { IsGivenNumber (found_of options.now) (codes "most") result.most }
-    ensures period { IsGivenNumber (found_of options.now) (codes "period") result.period }
-    ensures program { IsGivenNumber (found_of options.now) (codes "program") result.program }
+    ensures { AreNumberWords (found_of options.now) result }
 {
     NumberWords {
         target: given_number(options, "target"),

@@ -2,7 +2,7 @@
 ghost use Rattle.std.specs.Prelude.{◌≡◌, ◌∷◌, [], codes, false, map, option_map, IfOk};
 ghost use Rattle.clap.specs.Words.{first_value, found_of, rule_of};
 ghost use Rattle.command_line.specs.Options.{GetsOptions, entries, flagged, ladder_options, text_option};
-ghost use Rattle.command_line.specs.Words.{IsFlagOf, IsGivenNumber, text_of, texts_of};
+ghost use Rattle.command_line.specs.Words.{ArePoolWords, IsFlagOf, text_of, texts_of};
 
 use crate::options::{
     NUMBERS, NumberOption, given_number, needed_text, text, with_forms, with_numbers,
@@ -190,11 +190,7 @@ pub fn metrics_word<'a>(options: &ArgMatches<'a>) -> Option<&'a str>
 
 /// The numbers of the threads that seal, and of reading ahead, as they were given.
 pub fn pool_words(options: &ArgMatches<'_>) -> PoolWords
-    ensures workers { IsGivenNumber (found_of options.now) (codes "workers") result.workers }
-    ensures queue { IsGivenNumber (found_of options.now) (codes "queue") result.queue }
-    ensures batch { IsGivenNumber (found_of options.now) (codes "batch") result.batch }
-    ensures stall { IsGivenNumber (found_of options.now) (codes "stall") result.stall }
-    ensures ahead { IsGivenNumber (found_of options.now) (codes "ahead") result.ahead }
+    ensures { ArePoolWords (found_of options.now) result }
 {
     PoolWords {
         workers: given_number(options, "workers"),

@@ -1,4 +1,4 @@
-use super::words::KeyFiles;
+use super::words::{KeyFiles, VERSION};
 use command_line::{Fault, explain, line};
 use commands::LadderPackingFault;
 use pipeline::PackFault;
@@ -19,7 +19,7 @@ fn is_explained(
     fault: Fault,
     text: &str,
 ) -> Result<bool, AllocError> {
-    let fault = match line(alloc, &KeyFiles, words) {
+    let fault = match line(alloc, &KeyFiles, words, VERSION) {
         Ok(_) => fault,
         Err(refused) => refused,
     };

@@ -1,4 +1,5 @@
-use super::words::told;
+use super::words::{VERSION, told};
+use command_line::version;
 use commands::{
     DEFAULT_FRAME, DEFAULT_GAP, DEFAULT_MOST, DEFAULT_NAME, DEFAULT_PERIOD, DEFAULT_QUEUE,
     DEFAULT_TARGET, DEFAULT_WINDOW, DEFAULT_WORKERS, MOST_AHEAD, MOST_STALL,
@@ -136,7 +137,9 @@ fn each_command_tells_its_faults(rt: HostRuntime) -> Result<(), Fail> {
 
 #[test]
 fn the_version(rt: HostRuntime) -> Result<(), Fail> {
-    let version = told(rt.alloc(), &["tshls", "--version"])?;
-    assert_eq!(rt; (version.0.as_str(), version.1), ("tshls 0.1.0\n", 2));
+    let version = version(rt.alloc(), "x86-64-v3")?;
+    assert_eq!(rt; version.as_str(), VERSION);
+    let told = told(rt.alloc(), &["tshls", "--version"])?;
+    assert_eq!(rt; (told.0.as_str(), told.1), ("tshls 0.1.0 x86-64-v3\n", 2));
     Ok(())
 }

@@ -1,4 +1,4 @@
-use super::words::{KEY, KeyFiles};
+use super::words::{KEY, KeyFiles, VERSION};
 use command_line::{Fault, Job, StreamJob, line};
 use pipeline::{Kind, Settings};
 use std::alloc::{AllocError, Global};
@@ -9,7 +9,7 @@ fn settings<'a>(alloc: Global, more: &[&'a str]) -> Result<Settings, Fault> {
     let mut words: Vec<&'a str> = Vec::new(alloc);
     words.extend_from_slice(&["tshls", "one", "--codecs", "avc1.4d401e"])?;
     words.extend_from_slice(more)?;
-    one_of(line(alloc, &KeyFiles, words.as_slice())?)
+    one_of(line(alloc, &KeyFiles, words.as_slice(), VERSION)?)
 }
 
 /// The settings of the command `one`.

@@ -1,4 +1,4 @@
-use super::words::KeyFiles;
+use super::words::{KeyFiles, VERSION};
 use command_line::{Job, LadderJob, line};
 use std::alloc::{AllocError, Global};
 use std::test::Fail;
@@ -38,7 +38,7 @@ fn asked(alloc: Global, more: &[&str]) -> Result<String, Fail> {
     let mut words = Vec::new(alloc);
     words.extend_from_slice(&["tshls", "pack"])?;
     words.extend_from_slice(more)?;
-    match line(alloc, &KeyFiles, words.as_slice()) {
+    match line(alloc, &KeyFiles, words.as_slice(), VERSION) {
         Ok(Job::Ladder(job)) => Ok(text_of(alloc, &job)?),
         Ok(_) => Err(Fail::from("another command")),
         Err(fault) => Ok(format!(in alloc; "{fault}")?),

@@ -6,6 +6,9 @@ use std::test::Fail;
 /// A key.
 pub const KEY: &str = "000102030405060708090a0b0c0d0e0f";
 
+/// What `--version` prints behind the program's name.
+pub const VERSION: &str = "0.1.0 x86-64-v3";
+
 /// Files of keys: `raw`, `hex`, `line` and `bad`.
 #[derive(Clone, Copy, Drop)]
 pub struct KeyFiles;
@@ -41,7 +44,7 @@ impl FileReader for KeyFiles {
 
 /// What a refused command line prints, and the status that it ends with; nothing and 0 where it isn't refused.
 pub fn told(alloc: Global, words: &[&str]) -> Result<(String, u8), AllocError> {
-    match line(alloc, &KeyFiles, words) {
+    match line(alloc, &KeyFiles, words, VERSION) {
         Ok(_) => Ok((String::new(alloc), 0)),
         Err(fault) => Ok((format!(in alloc; "{fault}")?, fault.status())),
     }
@@ -52,7 +55,7 @@ type Keys = (usize, [[u8; 16]; 2]);
 
 /// The keys that a command line of `check` asks for, and its playlist; or what its refusal prints. With the status.
 fn asked(alloc: Global, words: &[&str]) -> Result<(Keys, String, u8), AllocError> {
-    let options = match line(alloc, &KeyFiles, words) {
+    let options = match line(alloc, &KeyFiles, words, VERSION) {
         Ok(Job::Stream(StreamJob::Check(options))) => options,
         Ok(job) => {
             drop(job);

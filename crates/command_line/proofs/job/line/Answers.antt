@@ -1,0 +1,30 @@
+use Rattle.std.proofs.Common.{◌≡◌, ◌∙◌, ap, subst, sym, map, IfOk}
+use Rattle.std.proofs.lemmas.Result.{IfErr-weaker, err_from_is_err_and}
+use Rattle.clap.specs.Words.{is_simple, subcommand_of, subcommand_rows_of, takes}
+use Rattle.command_line.specs.Jobs.{IsCommand, IsJobOf}
+use Rattle.command_line.specs.Options.{tshls}
+use Rattle.command_line.proofs.Matched.{tshls_is_simple}
+use Rattle.command_line.proofs.Refused.{refused_for}
+use Rattle.command_line.proofs.job.line.Goals as goal
+
+pub returns-in_err-matches-clause-fault : goal.returns-in_err-matches-clause-fault
+returns-in_err-matches-clause-fault g c =
+    let words = map g.S.AsStr.text c.args.words.now in
+    let told = err_from_is_err_and c.from_residual-in_err-matches.result c.from_residual-in_err-matches.ensures.1 in
+    rw told.1 (refused_for told.0 (λ other taken _. other (c.in_err-matches.ensures.passes (ap (λ a. takes a words) c.in_ok-command.ensures.app ∙ taken))) told.2.early)
+
+pub returns-clause-job : goal.returns-clause-job
+returns-clause-job g c =
+    let app = c.in_ok-command.ensures.app in
+    let words = map g.S.AsStr.text c.args.words.now in
+    let matched : subcommand_rows_of c.in_ok-matches.matches ≡ subcommand_of tshls words =
+    (c.in_ok-matches.ensures.ok.2 (ap is_simple app ∙ tshls_is_simple)).1 ∙ ap (λ a. subcommand_of a words) app in
+    subst (λ it. IfOk c.job_of.result (IsJobOf (g.F.FileReader.gives c.args.files.now) it)) matched c.job_of.ensures.job
+
+pub returns-clause-fault : goal.returns-clause-fault
+returns-clause-fault g c =
+    let app = c.in_ok-command.ensures.app in
+    let words = map g.S.AsStr.text c.args.words.now in
+    let matched : subcommand_rows_of c.in_ok-matches.matches ≡ subcommand_of tshls words =
+    (c.in_ok-matches.ensures.ok.2 (ap is_simple app ∙ tshls_is_simple)).1 ∙ ap (λ a. subcommand_of a words) app in
+    IfErr-weaker c.job_of.result _ _ (λ fault is. refused_for fault (λ none _ command. none (subst IsCommand (sym matched) command)) is) c.job_of.ensures.fault

@@ -1,0 +1,178 @@
+//! What the program does, whatever processor it's built for.
+#![tactic(auto)]
+
+mod ladder;
+mod metrics_file;
+mod telling;
+mod told;
+mod watching;
+
+use crate::ladder::{Channel, begin_channel, pack_ladder};
+use crate::telling::{Teller, tell};
+use crate::told::Tellings;
+use command_line::{Fault, Job, LadderJob, StreamJob, line, version};
+use commands::{Packed, check, one, open, seal};
+use item_io::ReaderSource;
+use read_ahead::InputFiles;
+use std::alloc::{AllocError, AllocGlobal, Global};
+use std::fs::{File, Files, TryLockError};
+use std::io::Eprint;
+use std::process::ExitCode;
+use std::sync::{Arc, Wait};
+use std::thread::Threads;
+use std::time::Clock;
+use std::{env, io};
+
+/// Why the words of the command line can't be had.
+fn unread_words(error: io::Error) -> Fault {
+    match error.kind() {
+        io::ErrorKind::OutOfMemory => Fault::NoMemory,
+        _ => Fault::NotUtf8,
+    }
+}
+
+/// The words of the command line.
+fn words(rt: &HostRuntime) -> Result<Vec<String>, Fault> {
+    Ok(env::args(rt).map_err(unread_words)?.collect(rt.alloc())?)
+}
+
+/// Does what a command asks for that reads in the calling thread alone.
+fn stream(rt: &HostRuntime, job: StreamJob) -> Result<(), Fault> {
+    let alloc = rt.alloc();
+    match job {
+        StreamJob::Seal(options) => seal(
+            alloc,
+            &options.key,
+            &options.vector,
+            &mut ReaderSource::new(rt.stdin()),
+            &mut rt.stdout(),
+        )?,
+        StreamJob::Open(options) => open(
+            alloc,
+            &options.key,
+            &options.vector,
+            &mut ReaderSource::new(rt.stdin()),
+            &mut rt.stdout(),
+        )?,
+        StreamJob::One(settings) => {
+            let Packed { answer, .. } = one(alloc, &settings, rt.stdin(), rt.stdout());
+            answer?
+        }
+        StreamJob::Check(options) => check(
+            alloc,
+            rt,
+            &options.keys,
+            &options.playlist,
+            &mut rt.stdout(),
+        )?,
+    }
+    Ok(())
+}
+
+/// Packs a ladder, and tells how that ends. A fault that was told as it stood isn't told once more.
+fn pack<
+    R: Threads
+        + Wait
+        + Clock
+        + Eprint
+        + Files
+        + InputFiles
+        + AllocGlobal
+        + Clone
+        + Copy
+        + Send
+        + Sync
+        + Drop
+        + 'static,
+>(rt: R, host: &HostRuntime, words: &[String], job: LadderJob<'_>) -> ExitCode
+where
+    R::Reader: Send + 'static,
+    R::File: Send + 'static,
+    R::Dir: Send + 'static,
+{
+    let _held = match hold(host, job.folder) {
+        Ok(held) => held,
+        Err(fault) => return ended(host, words, Err(fault)),
+    };
+    let Channel { job, older } = match begin_channel(rt, host.alloc(), job) {
+        Ok(channel) => channel,
+        Err(fault) => return ended(host, words, Err(fault)),
+    };
+    let Ok((told, theirs)) = tellings(host.alloc()) else {
+        return ended(host, words, Err(Fault::NoMemory));
+    };
+    let teller = Teller::new(rt, *host, words, &job.options.settings, theirs);
+    let into = &mut host.stdout();
+    match pack_ladder(rt, host.alloc(), &job, older, into, &teller, told) {
+        Err(fault) if teller.has_told(&fault) => ExitCode::from(fault.status()),
+        Err(fault) => ended(host, words, Err(teller.seen(fault))),
+        Ok(()) => ended(host, words, Ok(())),
+    }
+}
+
+/// Where a run keeps what it tells of itself, once for the run and once for who watches it.
+fn tellings(alloc: Global) -> Result<(Arc<Tellings>, Arc<Tellings>), AllocError> {
+    let told = Arc::new(alloc, Tellings::new())?;
+    let theirs = Arc::try_clone(&told)?;
+    Ok((told, theirs))
+}
+
+/// Tells how the program ends.
+fn ended(rt: &HostRuntime, words: &[String], answer: Result<(), Fault>) -> ExitCode {
+    match answer {
+        Ok(()) => ExitCode::SUCCESS,
+        Err(fault) => {
+            tell(rt, words, &fault);
+            ExitCode::from(fault.status())
+        }
+    }
+}
+
+/// Takes the lock on a folder, so that one packager alone changes it. None where it can't be opened or locked: what is to be
+/// told of that is told where the first file is put.
+fn hold(rt: &HostRuntime, folder: &str) -> Result<Option<File>, Fault> {
+    let Ok(held) = File::open(rt, folder) else {
+        return Ok(None);
+    };
+    match held.try_lock() {
+        Ok(()) => Ok(Some(held)),
+        Err(TryLockError::WouldBlock) => Err(Fault::Busy),
+        Err(TryLockError::Error(_)) => Ok(None),
+    }
+}
+
+/// The program, built for this processor: it reads its words, does what they ask for, and tells how that ends.
+pub fn run<
+    R: Threads
+        + Wait
+        + Clock
+        + Eprint
+        + Files
+        + InputFiles
+        + AllocGlobal
+        + Clone
+        + Copy
+        + Send
+        + Sync
+        + Drop
+        + 'static,
+>(rt: R, host: HostRuntime, processor: &str) -> ExitCode
+where
+    R::Reader: Send + 'static,
+    R::File: Send + 'static,
+    R::Dir: Send + 'static,
+{
+    let words = match words(&host) {
+        Ok(words) => words,
+        Err(fault) => return ended(&host, &[], Err(fault)),
+    };
+    let Ok(version) = version(host.alloc(), processor) else {
+        return ended(&host, words.as_slice(), Err(Fault::NoMemory));
+    };
+    let answer = match line(host.alloc(), &host, words.as_slice(), version.as_str()) {
+        Ok(Job::Stream(job)) => stream(&host, job),
+        Ok(Job::Ladder(job)) => return pack(rt, &host, words.as_slice(), job),
+        Err(fault) => Err(fault),
+    };
+    ended(&host, words.as_slice(), answer)
+}
