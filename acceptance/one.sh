@@ -7,8 +7,8 @@ one=(one --codecs avc1.4d401e --size 640x360 --keys "$key")
 one_by_two_keys=(one --codecs avc1.4d401e --size 320x180 --keys "$key+$second_key")
 
 check_one() {
-    check 'one: the worked inputs are made' python3 "$here/standard_stream.py" "$work/worked"
-    check 'one: the real streams are made' make_real_streams "$work/real"
+    [ -d "$work/worked" ] || check 'one: the worked inputs are made' python3 "$here/standard_stream.py" "$work/worked"
+    [ -d "$work/real" ] || check 'one: the real streams are made' make_real_streams "$work/real"
     check_one_options
     check_worked_inputs
     check_real_streams
