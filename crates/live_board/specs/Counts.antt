@@ -1,5 +1,5 @@
 -- The counts of segments in a list of snapshots.
-use Rattle.std.specs.Prelude.{◌≡◌, ◌≢◌, ◌⊎◌, ℕ, ◌<◌, ◌≤◌, List, [], ◌∷◌, length, slice_index, slice_index_or, Option, Some, None}
+use Rattle.std.specs.Prelude.{◌≡◌, ◌≢◌, ◌⊎◌, ℕ, ◌<◌, ◌≤◌, ◌++◌, List, [], ◌∷◌, length, slice_index, slice_index_or, Option, Some, None}
 use Rattle.live_board.specs.Snapshots.{SnapshotFacts}
 
 -- the last snapshot
@@ -23,6 +23,10 @@ abbrev pub NeverFalls : List SnapshotFacts → Type 0
 NeverFalls [] = Unit {0}
 NeverFalls (s ∷ []) = Unit {0}
 NeverFalls (s ∷ t ∷ ts) = NoneFalls s.counts t.counts × NeverFalls (t ∷ ts)
+
+-- the snapshot may come next: where no count fell before, none falls to it
+abbrev pub MayFollow : List SnapshotFacts → SnapshotFacts → Type 0
+MayFollow list s = NeverFalls list → NeverFalls (list ++ s ∷ [])
 
 -- The least rendition whose count falls; or, where none falls and the numbers of renditions differ, the smaller of these. With the old count there, 0 where there is none.
 pub record IsBackwards (old new : List ℕ) (rendition shown : ℕ) : Type 0 where

@@ -1,6 +1,6 @@
 //! The history of a board: which snapshots it has shown, as proofs know it. All that is kept of it is its length.
 
-ghost use Rattle.std.specs.Prelude.{◌≡◌, ◌<◌, ◌++◌, ◌∷◌, [], length, IfSome, IfNone};
+ghost use Rattle.std.specs.Prelude.{◌≡◌, ◌<◌, ◌↔◌, ◌-◌, ◌^◌, ◌++◌, ◌∷◌, [], length, IsTrue, IfSome, IfNone};
 ghost use Rattle.ghost_list.specs.Lists.{IsBeginning};
 ghost use Rattle.live_board.specs.Counts.{NeverFalls};
 ghost use Rattle.live_board.specs.Histories.{head_of};
@@ -8,6 +8,7 @@ ghost use Rattle.live_board.specs.Histories.{head_of};
 use crate::snapshot::Snapshot;
 use logbook::{Gain, Offer, Plain, Play, Rule, Seen, Start, Word};
 use std::marker::Model;
+use std::sync::Wait;
 
 /// What holds of a history: its word is its length.
 pub struct HistoryRule;
@@ -56,8 +57,8 @@ impl Plain<Snapshot, Snapshot, u64> for Addition {
     ghost state = { λ snapshot. None };
 }
 
-/// The word of a board's history, which its publisher alone changes.
-pub type Head = Word<Snapshot, u64, HistoryRule>;
+/// The word of a board's history, which its head alone changes.
+type HeadWord = Word<Snapshot, u64, HistoryRule>;
 
 /// A beginning of the history of a board.
 #[derive(Drop)]
@@ -78,12 +79,59 @@ impl Model for History {
     ghost invariant = { λ h. (h.count ≡ length h.seen.log) × NeverFalls h.seen.log };
 }
 
-/// The history of a new board, and its word.
-pub fn new_history() -> (Head, History)
-    ensures { (result.1.list ≡ []) × (result.0 ≡ head_of result.1.board) }
+/// The one end at which a board's history grows, which its publisher holds: whatever is added to the history is known here.
+///
+/// Clauses see it as the whole history, and its board.
+#[derive(Drop)]
+pub struct Head {
+    word: HeadWord,
+    all: History,
+    ghost named: { word ≡ head_of all.board },
+}
+
+impl Model for Head {
+    ghost use Rattle.live_board.specs.Snapshots.{Known};
+
+    ghost Value = { Known };
+
+    ghost view = { λ h. h.all };
+}
+
+/// The head of a new board's history.
+pub fn new_history() -> Head
+    ensures { result.list ≡ [] }
 {
     let (seen, mut first, _second) = Seen::open(Start::alone(), 0, 0);
-    (Word::tracked(0, &mut first), History { count: 0, seen })
+    Head {
+        word: Word::tracked(0, &mut first),
+        all: History { count: 0, seen },
+    }
+}
+
+impl Head {
+    /// The whole history.
+    pub fn all(&self) -> &History
+        ensures { result.now ≡ self.now }
+    {
+        &self.all
+    }
+
+    /// Whether the history is as long as can be counted.
+    pub fn is_full(&self) -> bool
+        ensures { IsTrue result ↔ (length self.now.list ≡ 2 ^ 64 - 1) }
+    {
+        self.all.count == u64::MAX
+    }
+
+    /// Adds a snapshot. The head alone adds any: had somebody else, this would wait for good.
+    pub fn add<R: Wait>(&mut self, rt: &R, snapshot: &Snapshot)
+        requires room { length self.old.list < 2 ^ 64 - 1 }
+        requires rises { NeverFalls (self.old.list ++ snapshot.now ∷ []) }
+        ensures list { self.new.list ≡ self.old.list ++ snapshot.now ∷ [] }
+        ensures board { self.new.board ≡ self.old.board }
+    {
+        self.all = self.all.and(rt, &self.word, snapshot);
+    }
 }
 
 impl History {
@@ -129,36 +177,36 @@ impl History {
         }
     }
 
-    /// The history with one more snapshot. `None` where it is longer already, or as long as can be counted.
-    pub fn add(&self, head: &Head, snapshot: &Snapshot) -> Option<History>
+    /// The history with one more snapshot.
+    fn and<R: Wait>(&self, rt: &R, head: &HeadWord, snapshot: &Snapshot) -> History
         requires head { head.now ≡ head_of self.now.board }
+        requires room { length self.now.list < 2 ^ 64 - 1 }
         requires rises { NeverFalls (self.now.list ++ snapshot.now ∷ []) }
-        ensures { IfSome result (λ h. (h.list ≡ self.now.list ++ snapshot.now ∷ []) × (h.board ≡ self.now.board)) }
+        ensures { (result.list ≡ self.now.list ++ snapshot.now ∷ []) × (result.board ≡ self.now.board) }
     {
         let count = self.count;
-        if count == u64::MAX {
-            return None;
+        for _ in rt.forever() {
+            let mut seen = self.seen.again();
+            let mut offer: Offer<Snapshot, u64, HistoryRule, Nothing> = seen.plain::<
+                Nothing,
+                Snapshot,
+                Addition,
+            >(snapshot);
+            let mut pen = seen.no_pen();
+            let found = head.compare_exchange::<Addition, Nothing>(
+                count,
+                count + 1,
+                &mut seen,
+                &mut offer,
+                &mut pen,
+            );
+            if found == count {
+                return History {
+                    count: count + 1,
+                    seen,
+                };
+            }
         }
-        let mut seen = self.seen.again();
-        let mut offer: Offer<Snapshot, u64, HistoryRule, Nothing> = seen.plain::<
-            Nothing,
-            Snapshot,
-            Addition,
-        >(snapshot);
-        let mut pen = seen.no_pen();
-        let found = head.compare_exchange::<Addition, Nothing>(
-            count,
-            count + 1,
-            &mut seen,
-            &mut offer,
-            &mut pen,
-        );
-        if found != count {
-            return None;
-        }
-        Some(History {
-            count: count + 1,
-            seen,
-        })
+        unreachable!()
     }
 }

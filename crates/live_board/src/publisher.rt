@@ -1,17 +1,16 @@
 //! The publisher, and the board that it begins.
 
-ghost use Rattle.std.specs.Prelude.{◌≡◌, ◌≤◌, ◌++◌, ◌∷◌, [], length, All, IfOk, OnOk, OnErr, IfErr, Err, ◌⊎◌};
+ghost use Rattle.std.specs.Prelude.{◌≡◌, ◌≤◌, ◌++◌, ◌∷◌, [], length, All, vec_len, vec_capacity, IfSome, IfOk, OnOk, OnErr, IfErr, Err, ◌⊎◌};
 ghost use Rattle.ghost_list.specs.Lists.{IsBeginning};
 ghost use Rattle.left_right.specs.Sides.{view as known_by};
 ghost use Rattle.live_board.specs.declared.fault.BoardFault.TheVariants.{NoMemory, NoPlace};
 ghost use Rattle.live_board.specs.Counts.{counts_shown, NoneFalls};
-ghost use Rattle.live_board.specs.Histories.{head_of};
 ghost use Rattle.live_board.specs.Refusals.{Refuses};
 ghost use Rattle.live_board.specs.State.{knowing, moment_of, IsLast};
 
 use crate::counts::backwards;
 use crate::fault::BoardFault;
-use crate::history::{Head, History, new_history};
+use crate::history::{Head, new_history};
 use crate::rule::BoardWriter;
 use crate::snapshot::Snapshot;
 use crate::steps::{append_now, new_viewers, next_moment, show_now, two_copies};
@@ -25,11 +24,9 @@ use std::sync::Wait;
 /// Clauses see it as the list of snapshots that it showed, and its board.
 pub struct Publisher {
     writer: BoardWriter,
-    history: History,
     head: Head,
-    ghost named: { head ≡ head_of history.board },
-    ghost mine: { known_by writer.desk.place ≡ knowing history },
-    ghost shows: { (moment_of writer.desk.shown.value).history ≡ history },
+    ghost mine: { known_by writer.desk.place ≡ knowing head },
+    ghost shows: { (moment_of writer.desk.shown.value).history ≡ head },
     ghost last: { IsLast (moment_of writer.desk.shown.value) },
 }
 
@@ -38,7 +35,7 @@ impl Model for Publisher {
 
     ghost Value = { Known };
 
-    ghost view = { λ p. p.history };
+    ghost view = { λ p. p.head };
 }
 
 /// The most viewers of a board.
@@ -61,37 +58,52 @@ pub fn board<R: Wait>(
     let Ok(room) = Vec::with_capacity(alloc, viewers) else {
         return Err(BoardFault::NoMemory);
     };
-    let (head, empty) = new_history();
-    let Some(moment) = next_moment(alloc, &empty, &head, first) else {
+    let Some(publisher) = alone(rt, alloc, first, viewers) else {
         return Err(BoardFault::NoMemory);
     };
-    let history = moment.history.again();
-    let Some(writer) = two_copies(alloc, &moment, viewers) else {
-        return Err(BoardFault::NoMemory);
-    };
-    let mut writer = writer;
+    publisher.with_viewers(rt, room, viewers)
+}
+
+/// A publisher that shows the snapshot, with places for so many viewers. `None` for want of memory.
+fn alone<R: Wait>(rt: &R, alloc: Global, first: Snapshot, viewers: usize) -> Option<Publisher>
+    requires { (1 ≤ viewers) × (viewers ≤ MOST_VIEWERS) }
+    ensures { IfSome result (λ p. p.list ≡ first ∷ []) }
+{
+    let mut head = new_history();
+    let moment = next_moment(rt, alloc, &mut head, first)?;
+    let mut writer = two_copies(alloc, &moment, viewers)?;
     if writer.append(moment).is_err() {
         writer.take(rt);
-        return Err(BoardFault::NoMemory);
+        return None;
     }
-    let mut writer = show_now(rt, writer);
-    match new_viewers(&mut writer, &history, room, viewers) {
-        Ok(all) => Ok((
-            Publisher {
-                writer,
-                history,
-                head,
-            },
-            all,
-        )),
-        Err(fault) => {
-            writer.take(rt);
-            Err(fault)
-        }
-    }
+    let writer = show_now(rt, writer);
+    Some(Publisher { writer, head })
 }
 
 impl Publisher {
+    /// With so many viewers, in a vector that has room for them: or NoPlace, and the board ends.
+    fn with_viewers<R: Wait>(
+        self,
+        rt: &R,
+        room: Vec<Viewer>,
+        viewers: usize,
+    ) -> Result<(Publisher, Vec<Viewer>), BoardFault>
+        requires { (room.items ≡ []) × (vec_len room ≡ 0) × (viewers ≤ vec_capacity room) }
+        ensures list { IfOk result (λ b. b.0 ≡ self) }
+        ensures count { IfOk result (λ b. length b.1.items ≡ viewers) }
+        ensures viewers { IfOk result (λ b. All (λ v. v ≡ self) b.1.items) }
+        ensures fault { OnErr result (result ≡ Err NoPlace) }
+    {
+        let Publisher { mut writer, head } = self;
+        match new_viewers(&mut writer, head.all(), room, viewers) {
+            Ok(all) => Ok((Publisher { writer, head }, all)),
+            Err(fault) => {
+                writer.take(rt);
+                Err(fault)
+            }
+        }
+    }
+
     /// The counts that are shown, by rendition.
     #[tactic(auto, using(crate::proofs::Lists::counts_last))]
     pub fn counts(&self) -> &[u64]
@@ -140,28 +152,13 @@ impl Publisher {
         if let Some((rendition, shown)) = fallen {
             return (self, Err(BoardFault::Backwards { rendition, shown }));
         }
-        let Publisher {
-            writer,
-            history,
-            head,
-        } = self;
-        let before = history.again();
-        let Some(moment) = next_moment(alloc, &before, &head, snapshot) else {
-            let same = Publisher {
-                writer,
-                history,
-                head,
-            };
-            return (same, Err(BoardFault::NoMemory));
+        let Publisher { writer, mut head } = self;
+        let Some(moment) = next_moment(rt, alloc, &mut head, snapshot) else {
+            return (Publisher { writer, head }, Err(BoardFault::NoMemory));
         };
         // the history has the snapshot: from here on nothing is refused
-        let after = moment.history.again();
         let writer = show_now(rt, append_now(rt, writer, moment));
-        let next = Publisher {
-            writer,
-            history: after,
-            head,
-        };
+        let next = Publisher { writer, head };
         (next, Ok(()))
     }
 
@@ -172,16 +169,12 @@ impl Publisher {
         ensures own { IsBeginning viewer.old.list viewer.new.list }
         ensures board { viewer.new.board ≡ viewer.old.board }
     {
-        viewer.learn(&self.history);
+        viewer.learn(self.head.all());
     }
 
     /// Ends the board. It waits for viewers who look at it.
     pub fn end<R: Wait>(self, rt: &R) {
-        let Publisher {
-            writer,
-            history: _,
-            head: _,
-        } = self;
+        let Publisher { writer, head: _ } = self;
         writer.take(rt);
     }
 }

@@ -1,11 +1,10 @@
 //! The steps of a publisher: a moment is made, appended, shown; copies and viewers are made.
 
-ghost use Rattle.std.specs.Prelude.{◌≡◌, ◌≤◌, ◌++◌, ◌∷◌, [], length, drop, All, vec_len, vec_capacity, IfSome, IfOk, OnErr, Err};
+ghost use Rattle.std.specs.Prelude.{◌≡◌, ◌≤◌, ◌++◌, ◌∷◌, [], length, drop, All, vec_len, vec_capacity, IfSome, IfNone, IfOk, OnErr, Err};
 ghost use Rattle.std.specs.Arc.{arc_value};
 ghost use Rattle.left_right.specs.Sides.{view as known_by};
 ghost use Rattle.live_board.specs.declared.fault.BoardFault.TheVariants.{NoPlace};
-ghost use Rattle.live_board.specs.Counts.{NeverFalls};
-ghost use Rattle.live_board.specs.Histories.{head_of};
+ghost use Rattle.live_board.specs.Counts.{MayFollow};
 ghost use Rattle.live_board.specs.State.{knowing, moment_of, shown_after, IsLast, GoesOn};
 ghost use Rattle.live_board.specs.declared.publisher.TheConstants.{MOST_VIEWERS};
 
@@ -19,32 +18,31 @@ use left_right::writer::Writer;
 use std::alloc::Global;
 use std::sync::{Arc, Wait};
 
-/// The snapshot, with this history and it as the history that it ends. `None` for want of memory; the board's history then
-/// stays as it was.
+/// The snapshot, with the whole history, which it ends. `None` for want of memory, or where the history is as long as can be
+/// counted; the history is then as it was.
 #[tactic(auto, using(crate::proofs::Lists::last_is))]
-pub fn next_moment(
+pub fn next_moment<R: Wait>(
+    rt: &R,
     alloc: Global,
-    history: &History,
-    head: &Head,
+    head: &mut Head,
     snapshot: Snapshot,
 ) -> Option<Arc<Moment>>
-    requires head { head.now ≡ head_of history.now.board }
-    requires rises { NeverFalls (history.now.list ++ snapshot ∷ []) }
-    ensures history { IfSome result (λ m. (arc_value m).history.list ≡ history.now.list ++ snapshot ∷ []) }
-    ensures board { IfSome result (λ m. (arc_value m).history.board ≡ history.now.board) }
+    requires { MayFollow head.old.list snapshot }
+    ensures history { IfSome result (λ m. (arc_value m).history.list ≡ head.old.list ++ snapshot ∷ []) }
+    ensures whole { IfSome result (λ m. (arc_value m).history ≡ head.new) }
     ensures last { IfSome result (λ m. IsLast (arc_value m)) }
+    ensures none { IfNone result (head.new ≡ head.old) }
+    ensures board { head.new.board ≡ head.old.board }
 {
-    let mut moment = Arc::new(
-        alloc,
-        Moment {
-            snapshot,
-            history: history.again(),
-        },
-    )
-    .ok()?;
+    if head.is_full() {
+        return None;
+    }
+    let history = head.all().again();
+    let mut moment = Arc::new(alloc, Moment { snapshot, history }).ok()?;
     match Arc::get_mut(&mut moment) {
         Some(inside) => {
-            inside.history = history.add(head, &inside.snapshot)?;
+            head.add(rt, &inside.snapshot);
+            inside.history = head.all().again();
         }
         None => return None,
     }

@@ -1,10 +1,10 @@
 //! Viewers, which never wait.
 
-ghost use Rattle.std.specs.Prelude.{◌≡◌, Some, IfOk, IfErr};
+ghost use Rattle.std.specs.Prelude.{◌≡◌, ◌<◌, length, Some, IfOk, IfErr, OnErr};
 ghost use Rattle.ghost_list.specs.Lists.{IsBeginning};
 ghost use Rattle.left_right.specs.Sides.{view as known_by};
 ghost use Rattle.live_board.specs.Counts.{last_of, NeverFalls};
-ghost use Rattle.live_board.specs.State.{knowing, moment_of};
+ghost use Rattle.live_board.specs.State.{knowing, moment_of, IsLast};
 
 use crate::history::History;
 use crate::rule::{BoardReader, BoardReading, Entered};
@@ -50,6 +50,29 @@ impl Model for View {
     ghost view = { λ v. v.history };
 }
 
+/// The look of a viewer that has entered a copy. It comes back as it was only where it was told of more than the copy has.
+fn entered(reading: BoardReading, history: History) -> Result<View, Viewer>
+    requires mine { known_by reading.place ≡ knowing (moment_of reading.part.value).history }
+    requires last { IsLast (moment_of reading.part.value) }
+    requires board { (moment_of reading.part.value).history.board ≡ history.board }
+    ensures ok { IfOk result (λ v. v ≡ (moment_of reading.part.value).history) }
+    ensures grows { IfOk result (λ v. IsBeginning history.list v.list) }
+    ensures rises { IfOk result (λ v. NeverFalls v.list) }
+    ensures err { IfErr result (λ v. v ≡ history) }
+    ensures behind { OnErr result (length (moment_of reading.part.value).history.list < length history.list) }
+{
+    match reading.get().moment.history.after(&history) {
+        Some(now) => Ok(View {
+            reading,
+            history: now,
+        }),
+        None => Err(Viewer {
+            reader: reading.leave(),
+            history,
+        }),
+    }
+}
+
 impl Viewer {
     /// A viewer that knows of these snapshots.
     pub(crate) fn new(reader: BoardReader, history: History) -> Viewer
@@ -69,16 +92,7 @@ impl Viewer {
     {
         let Viewer { reader, history } = self;
         match reader.enter_as::<Entered>() {
-            Ok(reading) => match reading.get().moment.history.after(&history) {
-                Some(now) => Ok(View {
-                    reading,
-                    history: now,
-                }),
-                None => Err(Viewer {
-                    reader: reading.leave(),
-                    history,
-                }),
-            },
+            Ok(reading) => entered(reading, history),
             Err(reader) => Err(Viewer { reader, history }),
         }
     }

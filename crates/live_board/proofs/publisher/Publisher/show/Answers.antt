@@ -5,10 +5,10 @@ use Rattle.live_board.specs.State.{moment_of}
 use Rattle.live_board.proofs.Lists.{may_follow}
 use Rattle.live_board.proofs.publisher.Publisher.show.Goals as goal
 
-pub next_moment-requires-clause-rises : goal.next_moment-requires-clause-rises
-next_moment-requires-clause-rises g c =
+pub next_moment-requires : goal.next_moment-requires
+next_moment-requires g c rises =
     let shown = moment_of c.self.inside.writer.desk.shown.value in
-    let list : c.again-before.result.list ≡ shown.history.list = ap (λ (k : Known). k.list) (c.again-before.ensures.same ∙ sym c.self.inside.shows) in
-    let last : last_of c.again-before.result.list ≡ Some shown.snapshot = ap last_of list ∙ c.self.inside.last in
-    let up : NoneFalls (counts_shown c.again-before.result.list) c.args.snapshot.counts = search rules in
-    may_follow _ shown.snapshot _ last c.again-before.ensures.rises up
+    let list : c.self.inside.head.list ≡ shown.history.list = ap (λ (k : Known). k.list) (sym c.self.inside.shows) in
+    let last : last_of c.self.inside.head.list ≡ Some shown.snapshot = ap last_of list ∙ c.self.inside.last in
+    let up : NoneFalls (counts_shown c.self.inside.head.list) c.args.snapshot.counts = search rules in
+    may_follow _ shown.snapshot _ last rises up

@@ -1,9 +1,9 @@
 use Rattle.std.proofs.Common.{sym, ◌∙◌, ap}
 use Rattle.live_board.proofs.Adding.{adds_moves}
-use Rattle.live_board.proofs.history.History.add.Goals as goal
+use Rattle.live_board.proofs.history.History.and.Goals as goal
 
 pub compare_exchange-found-requires : goal.compare_exchange-found-requires
-compare_exchange-found-requires c =
+compare_exchange-found-requires g c =
     let h = c.requires.head in
     let offer = c.plain-offer.ensures in
     let pen = c.no_pen-pen.ensures in
