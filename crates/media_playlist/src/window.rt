@@ -209,9 +209,10 @@ impl Window {
         Ok(())
     }
 
-    /// The text of the media playlist, ended or not (RFC 8216, 4.3). With no row it is empty.
+    /// The text of the media playlist, ended or not (RFC 8216, 4.3). With no row it is empty and wants no memory.
     pub fn media_text(&self, ended: bool) -> Result<String, AllocError>
-        ensures { IfOk result (λ text. string_bytes text ≡ text_of (media_lines self.now ended)) }
+        ensures text { IfOk result (λ text. string_bytes text ≡ text_of (media_lines self.now ended)) }
+        ensures scarce { OnErr result (0 < length self.now.rows) }
     {
         let mut out = String::new(*self.rows.allocator());
         if self.row_count() == 0 {
@@ -226,22 +227,23 @@ impl Window {
         Ok(out)
     }
 
-    /// The text of the playlist of I-frames, ended or not (RFC 8216, 4.3.3.6). With no row it is empty.
+    /// The text of the playlist of I-frames, ended or not (RFC 8216, 4.3.3.6). With no row it is empty and wants no memory.
     pub fn iframe_text(&self, ended: bool) -> Result<String, AllocError>
-        ensures { IfOk result (λ text. string_bytes text ≡ text_of (iframe_lines self.now ended)) }
+        ensures text { IfOk result (λ text. string_bytes text ≡ text_of (iframe_lines self.now ended)) }
+        ensures scarce { OnErr result (0 < length self.now.rows) }
     {
-        let mut out = String::new(*self.rows.allocator());
+        let mut lines = String::new(*self.rows.allocator());
         if self.row_count() == 0 {
-            return Ok(out);
+            return Ok(lines);
         }
         let start = self.start;
         let frames = self.gone.frames + start.frames;
         let discontinuities = u128::from(self.gone.discontinuities)
             + u128::from(start.discontinuities);
-        push_head(&mut out, self.target, frames, discontinuities, self.event)?;
-        push_frames_only(&mut out)?;
-        push_frames(&mut out, &self.name, self.salt, &self.rows)?;
-        push_end(&mut out, ended)?;
-        Ok(out)
+        push_head(&mut lines, self.target, frames, discontinuities, self.event)?;
+        push_frames_only(&mut lines)?;
+        push_frames(&mut lines, &self.name, self.salt, &self.rows)?;
+        push_end(&mut lines, ended)?;
+        Ok(lines)
     }
 }
