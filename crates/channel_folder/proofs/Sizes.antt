@@ -1,8 +1,11 @@
 -- One more number, and one more listed segment with its size.
-use Rattle.std.proofs.Common.{arith, ◌<◌, refl, sym, subst, ℕ, zero, suc, List, [], ◌∷◌, ◌++◌, All}
+use Rattle.std.proofs.Common.{arith, ◌≡◌, ◌∙◌, ◌<◌, refl, sym, ap, subst, ℕ, zero, suc, List, [], ◌∷◌, ◌++◌, All, length, take, drop, get_or, drop-cons}
+use Rattle.std.proofs.lemmas.List.{take-append-drop}
 use Rattle.std.proofs.lemmas.List.Elements.{All-append}
 use Rattle.playlist_text.specs.MediaLines.{Entry}
+use Rattle.item_io.specs.FileNames.{segment_file_name}
 use Rattle.channel_folder.specs.Reopened.{AreSizes, HasSize}
+use Rattle.channel_folder.specs.Stopped.{IsLostOf}
 
 one-below : (next x : ℕ) → x < next → All (λ n. n < next) (x ∷ [])
 one-below next x lower zero d within = lower
@@ -16,3 +19,18 @@ pub sizes-more : (Gives : List ℕ → List ℕ → Type 0) (name : List ℕ) (e
 sizes-more Gives name [] sizes entry size none has = subst (λ (l : List ℕ). AreSizes Gives name (entry ∷ []) (l ++ size ∷ [])) (sym none) (has, refl)
 sizes-more Gives name (e ∷ entries) [] entry size are has = absurd are
 sizes-more Gives name (e ∷ entries) (s ∷ sizes) entry size are has = (are.0, sizes-more Gives name entries sizes entry size are.1 has)
+
+-- the first listed segment whose file isn't there
+pub lost-at : (Gives : List ℕ → List ℕ → Type 0) (Lacks : List ℕ → Type 0) (name : List ℕ) (entries : List Entry) (sizes : List ℕ) (i : ℕ) (entry : Entry) (n : ℕ) →
+    i < length entries → entry ≡ get_or entries i entry → AreSizes Gives name (take i entries) sizes → n ≡ entry.number → Lacks (segment_file_name name n) →
+    IsLostOf Gives Lacks name entries n
+lost-at Gives Lacks name entries sizes i entry n within is before number lacks = record {
+  front = take i entries;
+  entry = entry;
+  rest = drop (suc i) entries;
+  listed = sym (take-append-drop i entries) ∙ ap (λ (l : List Entry). take i entries ++ l) (drop-cons entries i entry within ∙ ap (λ (e : Entry). e ∷ drop (suc i) entries) (sym is));
+  number = number;
+  sizes = sizes;
+  before = before;
+  lacks = lacks;
+}

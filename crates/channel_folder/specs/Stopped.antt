@@ -1,5 +1,5 @@
 -- Why a channel doesn't go on.
-use Rattle.std.specs.Prelude.{◌≡◌, ◌≢◌, ◌⊎◌, ⊤, ℕ, ◌<◌, ◌≤◌, Option, Some, List, ◌∷◌, ◌++◌, All, Contains, length, map, slice_get}
+use Rattle.std.specs.Prelude.{◌≡◌, ◌≢◌, ◌⊎◌, ⊤, ℕ, ◌<◌, ◌≤◌, Option, Some, List, ◌∷◌, ◌++◌, All, Contains, length, slice_get}
 use Rattle.std.specs.Str.{IsUtf8}
 use Rattle.item_io.specs.FileNames.{segment_file_name}
 use Rattle.playlist_text.specs.MediaLines.{Entry, Listing}
@@ -22,28 +22,41 @@ use Rattle.channel_folder.specs.Files.{media_file, frames_file}
 use Rattle.channel_folder.specs.Scans.{ScanValue, numbers_at}
 use Rattle.channel_folder.specs.Reopened.{AreSizes, IsListed, IsOf, next_of, StandTo, AllStand}
 
--- the run doesn't go on from the media playlist
+-- the I-frame playlist is there, and it is UTF-8
+abbrev pub HasFrames : (List ℕ → List ℕ → Type 0) → List ℕ → Type 0
+HasFrames Gives name = (frames : List ℕ) × Gives (frames_file name) frames × IsUtf8 frames
+
+-- both playlists are there, and the run doesn't go on from the media playlist
 pub record IsRefusedAt (Gives : List ℕ → List ℕ → Type 0) (name : List ℕ) (wanted : Wanted) (fault : ResumeFault) : Type 0 where
   pub listing : Listing
   pub listed : IsListed Gives name listing
+  pub frames : HasFrames Gives name
   pub refused : IsRefused wanted listing fault
 
--- the file of a listed segment of this number isn't there
-pub record IsLostOf (Lacks : List ℕ → Type 0) (name : List ℕ) (entries : List Entry) (n : ℕ) : Type 0 where
-  pub listed : Contains (map (λ (e : Entry). e.number) entries) n
+-- the file of a listed segment of this number isn't there, and those of all that are listed before it are
+pub record IsLostOf (Gives : List ℕ → List ℕ → Type 0) (Lacks : List ℕ → Type 0) (name : List ℕ) (entries : List Entry) (n : ℕ) : Type 0 where
+  pub front : List Entry
+  pub entry : Entry
+  pub rest : List Entry
+  pub listed : entries ≡ front ++ entry ∷ rest
+  pub number : n ≡ entry.number
+  pub sizes : List ℕ
+  pub before : AreSizes Gives name front sizes
   pub lacks : Lacks (segment_file_name name n)
 
--- it is one that the media playlist lists
+-- both playlists are there, and it is the first that the media playlist lists
 pub record IsLost (Gives : List ℕ → List ℕ → Type 0) (Lacks : List ℕ → Type 0) (name : List ℕ) (wanted : Wanted) (n : ℕ) : Type 0 where
   pub listing : Listing
   pub listed : IsListed Gives name listing
+  pub frames : HasFrames Gives name
   pub goes_on : IsAsWanted wanted listing
-  pub lost : IsLostOf Lacks name listing.entries n
+  pub lost : IsLostOf Gives Lacks name listing.entries n
 
--- both playlists and all files are there, and they aren't those of one rendition of this name
+-- both playlists and all files are there, the run goes on from the media playlist, and they aren't those of one rendition of this name
 pub record AreApart (Gives : List ℕ → List ℕ → Type 0) (name : List ℕ) (wanted : Wanted) : Type 0 where
   pub listing : Listing
   pub listed : IsListed Gives name listing
+  pub goes_on : IsAsWanted wanted listing
   pub frames : List ℕ
   pub frames_are : Gives (frames_file name) frames
   pub sizes : List ℕ
@@ -134,7 +147,7 @@ IsListStop text (Stopping.Why why) = (why ≡ Foreign) × ((l : Listing) → IsL
 abbrev pub IsSizeStop : Type 0 → (List ℕ → List ℕ → Type 0) → (List ℕ → Type 0) → List ℕ → List Entry → Stop → Type 0
 IsSizeStop Refuses Gives Lacks name entries Stopping.Unread = Refuses
 IsSizeStop Refuses Gives Lacks name entries Stopping.NoMemory = ⊤
-IsSizeStop Refuses Gives Lacks name entries (Stopping.Why (Lost n)) = IsLostOf Lacks name entries n
+IsSizeStop Refuses Gives Lacks name entries (Stopping.Why (Lost n)) = IsLostOf Gives Lacks name entries n
 IsSizeStop Refuses Gives Lacks name entries (Stopping.Why why) = ⊥
 
 -- rendition r is the first that doesn't go on by itself, and this is why: those before it stand

@@ -1,5 +1,5 @@
 //! The block that a kill cut off.
-ghost use Rattle.std.specs.Prelude.{◌≡◌, IfOk, IsErrOf, IsOk, None, Option, List, ℕ, codes, ◌++◌, ◌&&◌, not};
+ghost use Rattle.std.specs.Prelude.{◌≡◌, IfOk, IsErrOf, IsOk, None, Option, false, List, ℕ, codes, ◌++◌, ◌&&◌, not};
 ghost use Rattle.std.specs.Option.{option_map};
 ghost use Rattle.std.specs.String.{string_bytes};
 ghost use Rattle.playlist_text.specs.Uris.{escaped};
@@ -89,7 +89,8 @@ fn due_files(
     there: bool,
     apart: bool,
 ) -> Result<Option<Vec<StagedFile>>, AllocError>
-    ensures { IfOk result (λ found. option_map (λ b. staged_names b.items) found ≡ CutOff.due_files name.now there apart) }
+    ensures due { IfOk result (λ found. option_map (λ b. staged_names b.items) found ≡ CutOff.due_files name.now there apart) }
+    ensures none { there ≡ false → apart ≡ false → IsOk result }
 {
     if !there && !apart {
         return Ok(None);

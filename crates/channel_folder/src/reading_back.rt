@@ -1,5 +1,6 @@
 //! One rendition's playlists are read back, by its name and the files of its segments.
-ghost use Rattle.std.specs.Prelude.{◌≡◌, ◌≢◌, ℕ, List, IfOk, IfErr, Contains};
+ghost use Rattle.std.specs.Prelude.{◌≡◌, ◌≢◌, ℕ, List, IfOk, IfErr, IsErrOf, Contains};
+ghost use Rattle.std.specs.Str.{IsUtf8};
 ghost use Rattle.media_reading.specs.MediaTexts.{IsListing, listing_text};
 ghost use Rattle.playlist_text.specs.MediaLines;
 ghost use Rattle.resume.specs.Wanting.{IsAsWanted};
@@ -29,6 +30,7 @@ pub(crate) fn restored_from<F: FolderReader>(
         IfOk result (IsReopened (F.gives folder.now) asked.now.name.now asked.now.wanted) }
     ensures err { F.gives folder.now (media_file asked.now.name.now) media.now → F.gives folder.now (frames_file asked.now.name.now) frames.now →
         IfErr result (IsStopFrom (F.refuses folder.now) (F.gives folder.now) (F.lacks folder.now) asked.now) }
+    ensures no_text { ¬ (IsUtf8 media.now × IsUtf8 frames.now) → IsErrOf result (Stop.Why WhyNot.Foreign) }
 {
     let Ok(media) = str::from_utf8(media) else {
         return Err(Stop::Why(WhyNot::Foreign));
@@ -60,11 +62,15 @@ fn go_on_from<F: FolderReader>(
     listing: &Listing,
     frames: &str,
 ) -> Result<Restored, Stop>
-    requires { IsListing listing.now }
+    requires listing { IsListing listing.now }
+    requires text { IsUtf8 frames.now }
     ensures ok { IsListed (F.gives folder.now) asked.now.name.now listing.now → F.gives folder.now (frames_file asked.now.name.now) frames.now →
         IfOk result (IsReopened (F.gives folder.now) asked.now.name.now asked.now.wanted) }
     ensures err { IsListed (F.gives folder.now) asked.now.name.now listing.now → F.gives folder.now (frames_file asked.now.name.now) frames.now →
         IfErr result (IsStopFrom (F.refuses folder.now) (F.gives folder.now) (F.lacks folder.now) asked.now) }
+
+    // Memory is wanted only once the run goes on from what is listed.
+    ensures scarce { IsErrOf result Stop.NoMemory → IsAsWanted asked.now.wanted listing.now }
 {
     if let Err(fault) = look(asked.wanted, listing) {
         return Err(stop_of(fault));

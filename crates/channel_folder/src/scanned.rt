@@ -1,4 +1,4 @@
-ghost use Rattle.std.specs.Prelude.{◌≡◌, IfOk, filter, nat_lt, map, slice_index_or, []};
+ghost use Rattle.std.specs.Prelude.{◌≡◌, ◌<◌, Any, MatchResult, filter, nat_lt, map, slice_index_or, []};
 ghost use Rattle.channel_folder.specs.Scans.{numbers_at};
 ghost use Rattle.std.specs.String.{string_bytes};
 
@@ -26,7 +26,8 @@ impl Model for Scan {
 impl Scan {
     /// The numbers of a rendition's segments below one.
     pub fn older(&self, alloc: Global, r: usize, base: u64) -> Result<Vec<u64>, AllocError>
-        ensures { IfOk result (λ older. older.items ≡ filter (λ n. nat_lt n base) (numbers_at self.now r)) }
+        ensures { MatchResult result (λ older. older.items ≡ filter (λ n. nat_lt n base) (numbers_at self.now r))
+            (λ _. Any (λ n. n < base) (numbers_at self.now r)) }
     {
         below(alloc, self.numbers_of(r), base)
     }
@@ -58,7 +59,8 @@ fn numbers_in(numbers: &[Vec<u64>], r: usize) -> &[u64]
 
 /// Those below one.
 fn below(alloc: Global, numbers: &[u64], base: u64) -> Result<Vec<u64>, AllocError>
-    ensures { IfOk result (λ older. older.items ≡ filter (λ n. nat_lt n base) numbers.now) }
+    ensures { MatchResult result (λ older. older.items ≡ filter (λ n. nat_lt n base) numbers.now)
+        (λ _. Any (λ n. n < base) numbers.now) }
 {
     let mut older = Vec::new(alloc);
     for n in numbers {
