@@ -1,12 +1,13 @@
 //! A ladder whose old segments go.
 
-ghost use Rattle.std.specs.Prelude.{◌≡◌, [], IfOk, IfErr, OnOk};
+ghost use Rattle.std.specs.Prelude.{◌≡◌, [], IfOk, IfErr, OnOk, length};
 ghost use Rattle.ladder_items.specs.World.{HaveRoom};
-ghost use Rattle.rounds.specs.Shown.{IsPackedShown};
+ghost use Rattle.live_board.specs.Counts.{counts_shown};
+ghost use Rattle.rounds.specs.Shown.{Fits, IsPackedShown};
 ghost use Rattle.item_io.specs.FolderMoves.{new_outlet};
 ghost use Rattle.keeping.specs.Keepings.{AreTold};
 ghost use Rattle.keeping.specs.InPlace.{NoneIsListed};
-ghost use Rattle.commands.specs.LadderPacking.{LadderSays, WritesSummary};
+ghost use Rattle.commands.specs.LadderPacking.{LadderSays, TurnsAway, WritesSummary};
 ghost use Rattle.removal.specs.Removing.{LeavesKept, kept_run, new_keeping};
 
 use crate::tally::{Tallied, Tally};
@@ -60,6 +61,10 @@ pub fn pack_and_remove<
         (kept_run S.input F.made READS sources.items result.sources.items (new_keeping into renditions.items) result.outlet)
         settings.now pool.workers publisher.list result.publisher.list (W.contents output.old) (W.contents output.new)) }
     ensures board { result.publisher.board ≡ publisher.board }
+    ensures fits { OnOk result.answer (Fits settings.now (length sources.items) pool.workers (counts_shown publisher.list)) }
+    ensures breach { IfErr result.answer (TurnsAway
+        (kept_run S.input F.made READS sources.items result.sources.items (new_keeping into renditions.items) result.outlet)
+        settings.now pool.workers publisher.list result.publisher.list) }
 {
     let outlet = Tallied {
         outlet: KeepingOutlet::new(outlet_of(into, alloc), alloc, renditions),

@@ -1,6 +1,6 @@
 //! The retention of a ladder's renditions.
 
-ghost use Rattle.std.specs.Prelude.{◌≡◌, ◌<◌, [], IfOk, length, map, slice_index_or};
+ghost use Rattle.std.specs.Prelude.{◌≡◌, ◌<◌, [], IfOk, IsErr, IsOk, length, map, slice_index_or};
 ghost use Rattle.ladder_items.specs.Ladder.{rendition_at};
 ghost use Rattle.ladder_items.specs.declared.settings.Kind.TheVariants.{Live, Event};
 ghost use Rattle.keeping.specs.Keepings.{AreTold};
@@ -22,6 +22,7 @@ pub fn keepings(
     ensures untold { IfOk result (λ made. AreTold made.items []) }
     ensures kept { settings.now.kind ≡ Live → IfOk result (λ made. AreKeptFor settings.now (map (λ n. n.items) older.now) made.items) }
     ensures event { settings.now.kind ≡ Event → IfOk result (λ made. made.items ≡ []) }
+    ensures none { settings.now.kind ≡ Event → IsOk result }
 {
     let mut made = Vec::new(alloc);
     if settings.kind == Kind::Event {
@@ -86,7 +87,8 @@ fn least_of(settings: &Settings, listed: u64) -> u64
 
 /// How long each row lasts, in microseconds.
 fn micros_of(alloc: Global, rows: &[Row]) -> Result<Vec<u64>, AllocError>
-    ensures { IfOk result (λ micros. micros.items ≡ map (λ row. row.micros) rows.now) }
+    ensures micros { IfOk result (λ micros. micros.items ≡ map (λ row. row.micros) rows.now) }
+    ensures scarce { IsErr result → 0 < length rows.now }
 {
     let mut micros = Vec::new(alloc);
     for row in rows {
