@@ -1,5 +1,5 @@
 -- The ranges of the options that are numbers: docs/COMMANDS.md.
-use Rattle.std.specs.Prelude.{ℕ, ◌≤◌}
+use Rattle.std.specs.Prelude.{⊤, ℕ, ◌≤◌}
 use Rattle.std.specs.Option.{unwrap_or}
 use Rattle.commands.specs.declared.numbers.Numbers.{Numbers}
 use Rattle.commands.specs.declared.outside.Ranged.{Ranged}
@@ -41,3 +41,51 @@ pub record AreWithin (numbers : Numbers) (pool : Pool) : Type 0 where
   pub batch : IsWithin Batch numbers pool
   pub stall : IsWithin Stall numbers pool
   pub ahead : IsWithin Ahead numbers pool
+
+-- the numbers of all options that help lists before one are within their ranges
+abbrev pub BeforeSegment : Numbers → Pool → Type 0
+BeforeSegment numbers pool = IsWithin Target numbers pool
+
+abbrev pub BeforeWindow : Numbers → Pool → Type 0
+BeforeWindow numbers pool = BeforeSegment numbers pool × IsWithin Segment numbers pool
+
+abbrev pub BeforeFrame : Numbers → Pool → Type 0
+BeforeFrame numbers pool = BeforeWindow numbers pool × IsWithin Window numbers pool
+
+abbrev pub BeforeGap : Numbers → Pool → Type 0
+BeforeGap numbers pool = BeforeFrame numbers pool × IsWithin Frame numbers pool
+
+abbrev pub BeforeMost : Numbers → Pool → Type 0
+BeforeMost numbers pool = BeforeGap numbers pool × IsWithin Gap numbers pool
+
+abbrev pub BeforeProgram : Numbers → Pool → Type 0
+BeforeProgram numbers pool = BeforeMost numbers pool × IsWithin Most numbers pool
+
+abbrev pub BeforeWorkers : Numbers → Pool → Type 0
+BeforeWorkers numbers pool = BeforeProgram numbers pool × IsWithin Program numbers pool
+
+abbrev pub BeforeQueue : Numbers → Pool → Type 0
+BeforeQueue numbers pool = BeforeWorkers numbers pool × IsWithin Workers numbers pool
+
+abbrev pub BeforeBatch : Numbers → Pool → Type 0
+BeforeBatch numbers pool = BeforeQueue numbers pool × IsWithin Queue numbers pool
+
+abbrev pub BeforeStall : Numbers → Pool → Type 0
+BeforeStall numbers pool = BeforeBatch numbers pool × IsWithin Batch numbers pool
+
+abbrev pub BeforeAhead : Numbers → Pool → Type 0
+BeforeAhead numbers pool = BeforeStall numbers pool × IsWithin Stall numbers pool
+
+abbrev pub AreWithinBefore : Ranged → Numbers → Pool → Type 0
+AreWithinBefore Target numbers pool = ⊤
+AreWithinBefore Segment numbers pool = BeforeSegment numbers pool
+AreWithinBefore Window numbers pool = BeforeWindow numbers pool
+AreWithinBefore Frame numbers pool = BeforeFrame numbers pool
+AreWithinBefore Gap numbers pool = BeforeGap numbers pool
+AreWithinBefore Most numbers pool = BeforeMost numbers pool
+AreWithinBefore Program numbers pool = BeforeProgram numbers pool
+AreWithinBefore Workers numbers pool = BeforeWorkers numbers pool
+AreWithinBefore Queue numbers pool = BeforeQueue numbers pool
+AreWithinBefore Batch numbers pool = BeforeBatch numbers pool
+AreWithinBefore Stall numbers pool = BeforeStall numbers pool
+AreWithinBefore Ahead numbers pool = BeforeAhead numbers pool

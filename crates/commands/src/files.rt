@@ -1,5 +1,8 @@
 //! Files that are read by their paths.
-ghost use Rattle.std.specs.Prelude.{◌≡◌, ⊤, List, ℕ, IfOk, IsErrOf};
+ghost use Rattle.std.specs.Prelude.{◌≡◌, ◌≢◌, ⊤, List, ℕ, IfOk, IsErrOf};
+ghost use Rattle.std.specs.IoError.{error_kind};
+ghost use Rattle.std.specs.declared.io.ErrorKind.TheVariants.{OutOfMemory};
+ghost use Rattle.commands.specs.declared.files.FileFault.TheVariants.{NoMemory, Unread};
 ghost use Rattle.commands.specs.KeyFiles.{GivesFront};
 
 use std::alloc::{AllocError, AllocFailed, Global};
@@ -62,7 +65,10 @@ pub trait FileReader {
 }
 
 /// Why a file wasn't read.
-fn fault_of(error: io::Error) -> FileFault {
+fn fault_of(error: io::Error) -> FileFault
+    ensures no_memory { error_kind error ≡ OutOfMemory → result ≡ NoMemory }
+    ensures unread { error_kind error ≢ OutOfMemory → result ≡ Unread }
+{
     match error.kind() {
         io::ErrorKind::OutOfMemory => FileFault::NoMemory,
         _ => FileFault::Unread,

@@ -1,8 +1,9 @@
-ghost use Rattle.std.specs.Prelude.{◌≡◌, [], IfOk, IfErr};
+ghost use Rattle.std.specs.Prelude.{◌≡◌, [], IfOk, IfErr, OnOk, length};
 ghost use Rattle.ladder_items.specs.World.{HaveRoom};
-ghost use Rattle.rounds.specs.Shown.{IsPackedShown};
+ghost use Rattle.live_board.specs.Counts.{counts_shown};
+ghost use Rattle.rounds.specs.Shown.{Fits, IsPackedShown};
 ghost use Rattle.commands.specs.FolderPacking.{FolderSays, IsPackedInto, LeavesPlayable, LeavesPrefix, folder_run};
-ghost use Rattle.commands.specs.LadderPacking.{LadderSays, WritesSummary};
+ghost use Rattle.commands.specs.LadderPacking.{LadderSays, TurnsAway, WritesSummary};
 
 use crate::destination::{Destination, outlet_of};
 use crate::ladder_packing::{PackedLadder, pack};
@@ -60,6 +61,10 @@ pub fn pack_into_folder<
         (folder_run S.input F.made READS sources.items result.sources.items into result.outlet)
         settings.now pool.workers publisher.list result.publisher.list (W.contents output.old) (W.contents output.new)) }
     ensures board { result.publisher.board ≡ publisher.board }
+    ensures fits { OnOk result.answer (Fits settings.now (length sources.items) pool.workers (counts_shown publisher.list)) }
+    ensures breach { IfErr result.answer (TurnsAway
+        (folder_run S.input F.made READS sources.items result.sources.items into result.outlet)
+        settings.now pool.workers publisher.list result.publisher.list) }
 {
     names_are_bytes(settings);
     let outlet = outlet_of(into, alloc);

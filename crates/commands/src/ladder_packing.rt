@@ -1,5 +1,6 @@
 ghost use Rattle.std.specs.Prelude.{◌≡◌, ◌⊎◌, ◌<◌, ◌^◌, IfOk, IfErr, OnOk, length};
 ghost use Rattle.std.specs.Io.KnownBytes.{Keeps};
+ghost use Rattle.std.specs.Option.{unwrap_or};
 ghost use Rattle.ladder_items.specs.Runs.{run_of};
 ghost use Rattle.ladder_items.specs.World.{HaveRoom};
 ghost use Rattle.live_board.specs.Counts.{counts_shown};
@@ -88,7 +89,7 @@ pub fn pack<S: Source + Drop, O: Outlet + Drop, W: Write, R: Threads + Wait + Sy
         publisher,
         outlet,
         READS,
-        Some(pool.batch.unwrap_or(pool.queue) as usize),
+        Some(most_closed(pool)),
         herald,
     );
     match answer {
@@ -105,6 +106,13 @@ pub fn pack<S: Source + Drop, O: Outlet + Drop, W: Write, R: Threads + Wait + Sy
             answer: write_summary(alloc, settings, report, output),
         },
     }
+}
+
+/// How many segments are closed where a round of sealing begins at the latest.
+fn most_closed(pool: Pool) -> usize
+    ensures { result ≡ unwrap_or pool.batch pool.queue }
+{
+    pool.batch.unwrap_or(pool.queue) as usize
 }
 
 /// Writes the summary of a run, and gives the report back.

@@ -2,7 +2,8 @@
 ghost use Rattle.std.specs.Prelude.{◌≡◌, None, IfSome, Decides};
 ghost use Rattle.std.specs.Option.{unwrap_or};
 ghost use Rattle.commands.specs.declared.numbers.Numbers.{Numbers as NumbersValue};
-ghost use Rattle.commands.specs.Ranges.{IsUpTo, IsWithin, AreWithin};
+ghost use Rattle.commands.specs.Ranges.{IsUpTo, IsWithin, AreWithin, AreWithinBefore};
+ghost use Rattle.commands.specs.declared.outside.Ranged.TheVariants.{Workers};
 ghost use Rattle.commands.specs.declared.pool.TheConstants.{MOST_AHEAD, MOST_STALL};
 ghost use Rattle.limits.specs.declared.TheConstants.{LEAST, MOST_QUEUE, MOST_WORKERS};
 
@@ -40,6 +41,7 @@ fn is_up_to(number: u64, most: u64) -> bool
 /// within their ranges; the period has none.
 pub fn first_outside(numbers: &Numbers, pool: Pool) -> Option<Ranged>
     ensures some { IfSome result (λ option. ¬ IsWithin option numbers.now pool) }
+    ensures first { IfSome result (λ option. AreWithinBefore option numbers.now pool) }
     ensures none { result ≡ None → AreWithin numbers.now pool }
 {
     if !is_up_to(numbers.target, MOST_TARGET) {
@@ -69,6 +71,7 @@ pub fn first_outside(numbers: &Numbers, pool: Pool) -> Option<Ranged>
 /// The same of the threads that seal, and of reading ahead.
 fn first_outside_of_pool(pool: Pool) -> Option<Ranged>
     ensures some { IfSome result (λ option. (numbers : NumbersValue) → ¬ IsWithin option numbers pool) }
+    ensures first { IfSome result (λ option. (numbers : NumbersValue) → AreWithinBefore Workers numbers pool → AreWithinBefore option numbers pool) }
     ensures workers { result ≡ None → IsUpTo pool.workers MOST_WORKERS }
     ensures queue { result ≡ None → IsUpTo pool.queue MOST_QUEUE }
     ensures batch { result ≡ None → IsUpTo (unwrap_or pool.batch LEAST) MOST_QUEUE }

@@ -8,6 +8,9 @@ returns-clause-ok g c = rw c.outlet_of-outlet.ensures at c.pack.ensures.ok
 pub returns-clause-fault : goal.returns-clause-fault
 returns-clause-fault g c = rw c.outlet_of-outlet.ensures at c.pack.ensures.fault
 
+pub returns-clause-breach : goal.returns-clause-breach
+returns-clause-breach g c = rw c.outlet_of-outlet.ensures at c.pack.ensures.breach
+
 pub returns-clause-there : goal.returns-clause-there
 returns-clause-there g c =
     there-of g.S.Source.input g.F.Folder.made c.args.settings.now (2 ^ 40) c.args.sources.items c.pack.result.sources.items c.args.into c.pack.result.outlet c.requires.fresh
