@@ -1,3 +1,4 @@
 pub mod Dues
 pub mod AtOnce
+pub mod Answering
 pub mod Stepping

@@ -1,4 +1,5 @@
-ghost use Rattle.std.specs.Prelude.{◌≡◌, ◌<◌, ◌^◌, [], ◌++◌, ℕ, List, length, IfErr, OnOk, OnErr};
+ghost use Rattle.std.specs.Prelude.{◌≡◌, ◌<◌, ◌^◌, [], ◌++◌, ℕ, List, false, length, IsOk, IfErr, OnOk, OnErr};
+ghost use Rattle.ingest.specs.Lanes.{is_good};
 ghost use Rattle.ladder_items.specs.Ladder.{IsAllowed};
 ghost use Rattle.ladder_items.specs.Items.{Part, shown_all};
 ghost use Rattle.ladder_items.specs.Weave.{after_all, blocks};
@@ -37,6 +38,9 @@ pub fn give_due<O: Outlet>(
     ensures intake { OnOk result (lane.new.intake ≡ record lane.old.intake { turned = lane.old.intake.turned ++ lane.old.intake.filled; filled = [] }) }
     ensures failures { OnOk result (O.output.failures outlet.new ≡ O.output.failures outlet.old) }
     ensures fault { IfErr result (λ fault. SaysFailures fault (O.output.failures outlet.old) (O.output.failures outlet.new)) }
+
+    // Where nothing is due, nothing fails.
+    ensures none { lane.old.intake.filled ≡ [] → is_good lane.old.stop ≡ false → IsOk result }
 {
     give_closed(
         alloc,
@@ -75,6 +79,7 @@ fn give_closed<O: Outlet>(
     ensures intake { OnOk result (intake.new ≡ record intake.old { turned = intake.old.turned ++ intake.old.filled; filled = [] }) }
     ensures failures { OnOk result (O.output.failures outlet.new ≡ O.output.failures outlet.old) }
     ensures fault { IfErr result (λ fault. SaysFailures fault (O.output.failures outlet.old) (O.output.failures outlet.new)) }
+    ensures none { intake.old.filled ≡ [] → IsOk result }
 {
     if intake.plans() == 0 {
         return Ok(());

@@ -1,11 +1,12 @@
-ghost use Rattle.std.specs.Prelude.{◌≡◌, ◌≢◌, ◌<◌, ◌≤◌, ◌^◌, ◌⊎◌, ℕ, [], Some, None, length, slice_get, IfOk, IfErr, OnOk, OnErr};
+ghost use Rattle.std.specs.Prelude.{◌≡◌, ◌≢◌, ◌<◌, ◌≤◌, ◌^◌, ◌⊎◌, ℕ, [], Some, None, All, false, length, slice_get, IfOk, IfErr, OnOk, OnErr};
 ghost use Rattle.ladder_items.specs.declared.fault.PackFault.TheVariants.{Settings as SettingsFault, Outlet as OutletFault, NoMemory, Held};
 ghost use Rattle.ingest.specs.declared.lane.Lane.{Lane};
-ghost use Rattle.ladder_items.specs.Ladder.{IsAllowed};
+ghost use Rattle.ladder_items.specs.Ladder.{Ladder, IsAllowed};
 ghost use Rattle.ladder_items.specs.Runs.{run_of};
 ghost use Rattle.ladder_items.specs.Putting.{PutAll, SaysFailures};
 ghost use Rattle.ladder_items.specs.World.{HaveRoom, NothingDue, turns_of};
 ghost use Rattle.ladder_items.specs.Packed.{IsPacked, IsAlone, FaultSays};
+ghost use Rattle.serial_run.specs.Answers.{IsAnswer, IsAnswered};
 ghost use Rattle.serial_run.specs.OneThread.{IsCutAtOnce};
 
 use crate::due::give_due;
@@ -90,10 +91,21 @@ pub fn pack_serial_reads<S: Source, O: Outlet>(
         &mut lanes,
         &mut playlists,
     )?;
-    if let Some(fault) = standing(&lanes) {
+    answer_of(alloc, &lanes, &playlists)
+}
+
+/// The report of a run that has given everything, or the first standing fault if not each rendition came to its good end.
+fn answer_of(alloc: Global, lanes: &[Lane], playlists: &[Playlists]) -> Result<Report, PackFault>
+    requires each { length lanes.now ≡ length playlists.now }
+    requires going { All (λ shown. shown.ended ≡ false) playlists.now }
+    requires few { (ladder : Ladder) × IsAllowed ladder × (length playlists.now ≡ length ladder.renditions) }
+    ensures ok { IfOk result (IsAnswer lanes.now playlists.now) }
+    ensures fault { IfErr result (IsAnswered lanes.now) }
+{
+    if let Some(fault) = standing(lanes) {
         return Err(fault);
     }
-    Ok(report_of(alloc, &lanes, &playlists)?)
+    Ok(report_of(alloc, lanes, playlists)?)
 }
 
 /// Gives each rendition its turns, until none goes on or one has had all its reads.
