@@ -1,5 +1,5 @@
 -- What comes of the bytes that a rendition's input gave: its packets, the plans of its segments, and its fault.
-use Rattle.std.specs.Prelude.{◌≡◌, ℕ, ◌+◌, Bool, false, List, [], ◌∷◌, ◌++◌, length, Option, Some}
+use Rattle.std.specs.Prelude.{◌≡◌, ℕ, ◌+◌, Bool, false, List, [], ◌∷◌, ◌++◌, length, Option, Some, None}
 use Rattle.ts_packet.specs.Packets.{packets, decided}
 use Rattle.cutter.specs.declared.settings.CutSettings.{CutSettings}
 use Rattle.cutter.specs.declared.fault.CutFault.{CutFault}
@@ -8,7 +8,7 @@ use Rattle.ingest.specs.declared.fault.StreamFault.{StreamFault}
 use Rattle.ingest.specs.declared.fault.StreamFault.TheVariants.{NoProgram, NoStart, LongSegment, BigSegment, Limit}
 use Rattle.cutter.specs.Plans.{SegmentPlan}
 use Rattle.cutter.specs.Ordered.{IsPlan}
-use Rattle.cutter.specs.Cuts.{closed, plans, fault}
+use Rattle.cutter.specs.Cuts.{cuts, closed, plans, fault}
 use Rattle.cutter.specs.Spooled.{Spooling}
 
 -- a fault of a stream, as a cutter tells it
@@ -61,6 +61,14 @@ pub record GrowsAlike (r : ℕ) (s : CutSettings) (before after old new : List S
 pub record Stops (pushed : Spooling) (whole : List (List ℕ)) (told : CutFault) (filled : List SegmentPlan) : Type 0 where
   pub fault : fault pushed.rendition pushed.settings whole ≡ Some told
   pub plans : GrowsAlike pushed.rendition pushed.settings (closed pushed.rendition pushed.settings pushed.list) (plans pushed.rendition pushed.settings whole) pushed.filled filled
+
+-- memory was wanting at one of these packets, and neither it nor those before it bring a fault
+pub record StopsAtPacket (pushed : Spooling) (packets : List (List ℕ)) : Type 0 where
+  pub before : List (List ℕ)
+  pub packet : List ℕ
+  pub behind : List (List ℕ)
+  pub split : packets ≡ before ++ packet ∷ behind
+  pub sound : (cuts pushed.rendition pushed.settings (pushed.list ++ (before ++ packet ∷ []))).fault ≡ None
 
 -- a stream of these bytes has this fault, and the plans that come before it were closed in the spool
 pub record Faults (taken : Taken) (whole : List ℕ) (told : CutFault) (filled : List SegmentPlan) : Type 0 where

@@ -5,7 +5,7 @@ ghost use Rattle.cutter.specs.declared.settings.CutSettings.{CutSettings};
 ghost use Rattle.cutter.specs.declared.fault.CutFault.TheVariants.{NoMemory};
 ghost use Rattle.cutter.specs.Cuts.{closed};
 ghost use Rattle.cutter.specs.Settings.{IsAllowed};
-ghost use Rattle.ingest.specs.Streams.{untaken, plans_of, fault_of, closed_of, GrowsAlike, Stops, Faults, Stays};
+ghost use Rattle.ingest.specs.Streams.{untaken, plans_of, fault_of, closed_of, GrowsAlike, Stops, StopsAtPacket, Faults, Stays};
 
 use cutter::{CutFault, CutSettings, Spool, SpoolCutter};
 use std::alloc::Global;
@@ -150,6 +150,7 @@ fn push_both(
         cutter.old.filled cutter.new.filled) }
     ensures fault { IfErr result (λ e. (e ≡ NoMemory) ⊎ ((more : List (List ℕ)) →
         Stops cutter.old ((cutter.old.list ++ (front.now ++ back.now)) ++ more) e cutter.new.filled)) }
+    ensures scarce { IfErr result (λ e. e ≡ NoMemory → StopsAtPacket cutter.old (front.now ++ back.now)) }
     ensures kept { (cutter.new.rendition ≡ cutter.old.rendition) × (cutter.new.settings ≡ cutter.old.settings) × (cutter.new.turned ≡ cutter.old.turned) }
 {
     push_all(cutter, front)?;
@@ -168,6 +169,7 @@ fn push_all(cutter: &mut SpoolCutter, packets: &[[u8; 188]]) -> Result<(), CutFa
         cutter.old.filled cutter.new.filled) }
     ensures fault { IfErr result (λ e. (e ≡ NoMemory) ⊎ ((more : List (List ℕ)) →
         Stops cutter.old ((cutter.old.list ++ packets.now) ++ more) e cutter.new.filled)) }
+    ensures scarce { IfErr result (λ e. e ≡ NoMemory → StopsAtPacket cutter.old packets.now) }
     ensures kept { (cutter.new.rendition ≡ cutter.old.rendition) × (cutter.new.settings ≡ cutter.old.settings) × (cutter.new.turned ≡ cutter.old.turned) }
 {
     for packet in packets {

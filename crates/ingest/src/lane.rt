@@ -1,7 +1,8 @@
-ghost use Rattle.std.specs.Prelude.{◌≡◌, ◌≢◌, ◌+◌, ◌<◌, ◌≤◌, ◌^◌, ◌++◌, ℕ, List, None, false, length, IfOk, OnOk, OnErr};
+ghost use Rattle.std.specs.Prelude.{◌≡◌, ◌≢◌, ◌+◌, ◌<◌, ◌≤◌, ◌^◌, ◌++◌, ℕ, List, None, Some, false, length, IfOk, OnOk, OnErr};
 ghost use Rattle.ghost_list.specs.Bytes.{AreBytes};
 ghost use Rattle.cutter.specs.Settings.{IsAllowed};
 ghost use Rattle.ingest.specs.Inputs.{IsRead};
+ghost use Rattle.ingest.specs.declared.lane.Stop.TheVariants.{Read};
 ghost use Rattle.ingest.specs.Lanes.{is_good, IsFirst, IsOfPiece, IsOfEnd, Takes, IsTurned};
 ghost use Rattle.item_io.specs.declared.limits.TheConstants.{PIECE};
 
@@ -62,6 +63,7 @@ impl Lane {
         requires going { self.old.intake.ended ≡ false }
         requires few { length self.old.intake.stream + PIECE < 2 ^ 63 }
         ensures ok { OnOk result (IsTurned S.input source.old source.new self.old self.new) }
+        ensures unread { OnOk result (self.new.stop ≡ Some Read → self.new.intake ≡ self.old.intake) }
         ensures err { OnErr result ((piece : List ℕ) × IsRead S.input source.old source.new piece) }
         ensures no_read_failed { OnErr result (S.input.failures source.new ≡ S.input.failures source.old) }
     {
@@ -82,6 +84,7 @@ impl Lane {
         requires going { self.old.intake.ended ≡ false }
         requires few { length self.old.intake.stream + PIECE < 2 ^ 63 }
         ensures ok { OnOk result (IsTurned S.input source.old source.new self.old self.new) }
+        ensures unread { OnOk result (self.new.stop ≡ Some Read → self.new.intake ≡ self.old.intake) }
         ensures err { OnErr result ((piece : List ℕ) × IsRead S.input source.old source.new piece) }
         ensures no_read_failed { OnErr result (S.input.failures source.new ≡ S.input.failures source.old) }
     {

@@ -1,7 +1,7 @@
 use Rattle.std.proofs.lemmas.Result.{err_from_is_err_and}
 use Rattle.std.proofs.Common.{◌++◌, take, ap}
 use Rattle.cutter.specs.Spooled.{Spooling}
-use Rattle.ingest.proofs.Growing.{stops-at, more-of, pushed-more, grows-by}
+use Rattle.ingest.proofs.Growing.{stops-at, wants-at, more-of, pushed-more, grows-by}
 use Rattle.ingest.proofs.intake.push_all.Goals as goal
 
 pub returns-in_err-push-clause-fault : goal.returns-in_err-push-clause-fault
@@ -9,6 +9,12 @@ returns-in_err-push-clause-fault c =
     let told = err_from_is_err_and c.from_residual.result c.from_residual.ensures.1 in
     rw (told.1, told.2, ap (λ (v : Spooling). v.filled) c.in_err-push.ensures.err) (stops-at c.loop-packet.cutter c.args.cutter.now c.args.packets.now c.loop-packet.packet-index _ c.in_err-push.field-0.0
     c.loop-packet.invariant.cutter c.requires.going c.loop-packet-test.true c.loop-packet.invariant.plans c.in_err-push.ensures.fault)
+
+pub returns-in_err-push-clause-scarce : goal.returns-in_err-push-clause-scarce
+returns-in_err-push-clause-scarce c =
+    let told = err_from_is_err_and c.from_residual.result c.from_residual.ensures.1 in
+    rw (told.1, told.2) (λ none. wants-at c.loop-packet.cutter c.args.cutter.now c.args.packets.now c.loop-packet.packet-index _
+    c.loop-packet.invariant.cutter c.loop-packet-test.true (c.in_err-push.ensures.scarce none))
 
 pub loop-packet-preserved : goal.loop-packet-preserved
 loop-packet-preserved c =
