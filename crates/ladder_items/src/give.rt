@@ -1,4 +1,4 @@
-ghost use Rattle.std.specs.Prelude.{◌≡◌, ◌+◌, ◌<◌, ◌^◌, [], ℕ, List, false, None, All, map, length, IfOk, IfErr, OnOk, OnErr};
+ghost use Rattle.std.specs.Prelude.{◌≡◌, ◌+◌, ◌<◌, ◌^◌, [], ℕ, List, false, None, All, map, length, IsOk, IfOk, IfErr, OnOk, OnErr};
 ghost use Rattle.cutter.specs.Lent.{lent};
 ghost use Rattle.segment_job.specs.Rotation.{number_of};
 ghost use Rattle.segment_job.specs.Segments.{sealed_segment};
@@ -39,6 +39,7 @@ pub fn give_segments<O: Outlet>(
         PutSome O.output outlet.old outlet.new (blocks settings.now parts (rows r spool.now))) }
     ensures failures { OnOk result (O.output.failures outlet.new ≡ O.output.failures outlet.old) }
     ensures fault { IfErr result (λ fault. SaysFailures fault (O.output.failures outlet.old) (O.output.failures outlet.new)) }
+    ensures none { spool.now ≡ [] → IsOk result }
 {
     for i in 0..spool.plans() {
         let Some(plan) = spool.plan(i) else {
