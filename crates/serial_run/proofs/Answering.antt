@@ -1,9 +1,9 @@
 -- The answer of a run on one thread, where no rendition goes on or one has had all its reads.
-use Rattle.std.proofs.Common.{◌≡◌, ◌∙◌, inl, inr, ℕ, ◌≤◌, List, Some, None, slice_get, refl, ap, sym, subst, arith}
+use Rattle.std.proofs.Common.{◌≡◌, ◌∙◌, ◌⊎◌, inl, inr, ℕ, ◌≤◌, List, Some, None, slice_get, sym, subst, arith}
 use Rattle.ingest.specs.declared.lane.Lane.{Lane}
 use Rattle.item_io.specs.Views.{OutletView, SourceView}
 use Rattle.ladder_items.specs.declared.fault.PackFault.{PackFault}
-use Rattle.ladder_items.specs.declared.fault.PackFault.TheVariants.{Held as HeldBack, NoMemory}
+use Rattle.ladder_items.specs.declared.fault.PackFault.TheVariants.{Held as HeldBack, NoMemory, Outlet as OutletFault}
 use Rattle.ladder_items.specs.declared.report.Report.{Report}
 use Rattle.ladder_items.specs.Ladder.{Ladder, IsAllowed}
 use Rattle.ladder_items.specs.Shown.{Shown}
@@ -13,7 +13,8 @@ use Rattle.ladder_items.specs.Packed.{FaultSays, IsPacked}
 use Rattle.ladder_items.proofs.Stages.{turns-none}
 use Rattle.ladder_items.proofs.Endings.{world-halted, world-packed, halted-says}
 use Rattle.serial_run.specs.Answers.{IsAnswer, IsAnswered}
-use Rattle.serial_run.proofs.AtOnce.{told-unheld, stop-at-once}
+use Rattle.serial_run.specs.OneThread.{IsCutAtOnce}
+use Rattle.serial_run.proofs.AtOnce.{told-unheld, told-unsudden, stop-at-once}
 
 scarce-unheld : (e : PackFault) (r n : ℕ) → e ≡ NoMemory → e ≡ HeldBack r n → ⊥
 scarce-unheld e r n scarce is = cc
@@ -44,4 +45,13 @@ module _ (X Y : Type 0) (input : SourceView X) (out : OutletView Y) (most_reads 
       (λ k lane at none. turns-none rounds k ∙ limit k lane at none) (λ k. omega (arith, turns-none rounds k, few)) allowed d).0
   answered rounds before now lanes shown x y e few allowed d limit unfailed (inr scarce) =
       subst (λ (f : PackFault). FaultSays (run_of input out most_reads before now x y) ladder f) (sym scarce.0)
-      ((stop-at-once X Y input out most_reads ladder rounds before now lanes shown x y few allowed d).cut, unfailed)
+      ((stop-at-once X Y input out most_reads ladder rounds before now lanes shown x y few allowed scarce.1 d).cut, unfailed)
+
+  -- memory is wanting: nothing was read behind what was given
+  pub answered-at-once : (rounds : ℕ) (before now : List X) (lanes : List Lane) (shown : List Shown) (x y : Y) (e : PackFault) → rounds ≤ most_reads
+      → IsAllowed ladder → NothingDue (run_of input out most_reads before now x y) ladder (turns_of rounds 0) lanes shown
+      → IsAnswered lanes e → (e ≡ OutletFault) ⊎ (e ≡ NoMemory)
+      → IsCutAtOnce (run_of input out most_reads before now x y) ladder
+  answered-at-once rounds before now lanes shown x y e few allowed d (inl first) sudden = absurd (told-unsudden first.0 first.1.stop e first.3 sudden)
+  answered-at-once rounds before now lanes shown x y e few allowed d (inr scarce) sudden =
+      stop-at-once X Y input out most_reads ladder rounds before now lanes shown x y few allowed scarce.1 d

@@ -1,15 +1,18 @@
 -- A run that is stopped at once.
-use Rattle.std.proofs.Common.{◌≡◌, ◌∙◌, ℕ, ◌<◌, ◌≤◌, List, [], ◌++◌, length, replicate, Option, Some, None, refl, ap, sym, subst, arith}
+use Rattle.std.proofs.Common.{◌≡◌, ◌∙◌, ◌⊎◌, inl, inr, ℕ, ◌<◌, ◌≤◌, List, [], ◌++◌, length, replicate, Option, Some, None, slice_get, refl, ap, sym, subst, arith}
 use Rattle.std.proofs.Math.ListN.{set}
 use Rattle.std.proofs.lemmas.List.{append-nil, get_or-set_same, get_or-set_other}
+use Rattle.std.proofs.lemmas.Option.{same_Some, slice_get_within}
+use Rattle.cutter.specs.declared.settings.CutSettings.{CutSettings}
 use Rattle.ingest.specs.declared.lane.Lane.{Lane}
 use Rattle.ingest.specs.declared.lane.Stop.{Stop}
 use Rattle.ingest.specs.declared.lane.Stop.TheVariants.{Good, Cut, Read as ReadFailed}
 use Rattle.ingest.specs.declared.fault.StreamFault.TheVariants.{NoProgram as HasNoProgram, NoStart as HasNoStart, LongSegment as IsLong, BigSegment as IsBig, Limit as PassesLimit}
 use Rattle.item_io.specs.Views.{OutletView, SourceView}
+use Rattle.ingest.specs.Inputs.{SourceSays}
 use Rattle.ingest.specs.Streams.{closed_of}
 use Rattle.ladder_items.specs.declared.fault.PackFault.{PackFault}
-use Rattle.ladder_items.specs.declared.fault.PackFault.TheVariants.{Held as HeldBack}
+use Rattle.ladder_items.specs.declared.fault.PackFault.TheVariants.{Held as HeldBack, NoMemory, Outlet as OutletFault}
 use Rattle.ladder_items.specs.Ladder.{Ladder, IsAllowed}
 use Rattle.ladder_items.specs.Shown.{Shown}
 use Rattle.ladder_items.specs.Items.{Part, no_part, part_at}
@@ -22,6 +25,7 @@ use Rattle.ladder_items.specs.Packed.{told_of}
 use Rattle.ladder_items.proofs.Elsewhere.{some-at}
 use Rattle.ladder_items.proofs.Stages.{stage-given, turns-none}
 use Rattle.ladder_items.proofs.Worlds.{CutBehind, parts-of, at-default, world-stop, nothing-given}
+use Rattle.serial_run.specs.Answers.{NoneStands}
 use Rattle.serial_run.specs.OneThread.{IsCutAtOnce}
 
 -- a fault that stops a run at once is told of no segment
@@ -39,6 +43,42 @@ told-unheld k (Some (Cut (IsLong m))) e r n told is = cc
 told-unheld k (Some (Cut (IsBig m))) e r n told is = cc
 told-unheld k (Some (Cut PassesLimit)) e r n told is = cc
 
+-- no end of a rendition is told by a fault that stops a run at once
+told-lasting : (k : ℕ) (stop : Option Stop) (e d : PackFault) → told_of k stop ≡ Some e → e ≡ d → told_of k stop ≡ Some d
+told-lasting k stop e d told is = told ∙ ap (λ (f : PackFault). Some f) is
+
+told-no_memory : (k : ℕ) (stop : Option Stop) → told_of k stop ≡ Some NoMemory → ⊥
+told-no_memory k None told = cc
+told-no_memory k (Some (Good gone)) told = cc
+told-no_memory k (Some ReadFailed) told = cc
+told-no_memory k (Some (Cut HasNoProgram)) told = cc
+told-no_memory k (Some (Cut HasNoStart)) told = cc
+told-no_memory k (Some (Cut (IsLong m))) told = cc
+told-no_memory k (Some (Cut (IsBig m))) told = cc
+told-no_memory k (Some (Cut PassesLimit)) told = cc
+
+told-no_outlet : (k : ℕ) (stop : Option Stop) → told_of k stop ≡ Some OutletFault → ⊥
+told-no_outlet k None told = cc
+told-no_outlet k (Some (Good gone)) told = cc
+told-no_outlet k (Some ReadFailed) told = cc
+told-no_outlet k (Some (Cut HasNoProgram)) told = cc
+told-no_outlet k (Some (Cut HasNoStart)) told = cc
+told-no_outlet k (Some (Cut (IsLong m))) told = cc
+told-no_outlet k (Some (Cut (IsBig m))) told = cc
+told-no_outlet k (Some (Cut PassesLimit)) told = cc
+
+pub told-unsudden : (k : ℕ) (stop : Option Stop) (e : PackFault) → told_of k stop ≡ Some e → (e ≡ OutletFault) ⊎ (e ≡ NoMemory) → ⊥
+told-unsudden k stop e told (inl outlet) = told-no_outlet k stop (told-lasting k stop e OutletFault told outlet)
+told-unsudden k stop e told (inr scarce) = told-no_memory k stop (told-lasting k stop e NoMemory told scarce)
+
+-- no read of a rendition failed that came to its good end
+good-unfailed : {X : Type 0} (input : SourceView X) (k r : ℕ) (s : CutSettings) (stream : List ℕ) (stop : Option Stop) (a b : X)
+    → told_of k stop ≡ None → SourceSays input r s stream stop a b → input.failures b ≡ input.failures a
+good-unfailed input k r s stream None a b good says = cc
+good-unfailed input k r s stream (Some (Good gone)) a b good says = says.0
+good-unfailed input k r s stream (Some (Cut told)) a b good says = says.0
+good-unfailed input k r s stream (Some ReadFailed) a b good says = cc
+
 module _ (X Y : Type 0) (input : SourceView X) (out : OutletView Y) (most_reads : ℕ) (ladder : Ladder) where
   -- what a rendition had given
   given-at : (rounds next : ℕ) (before now : List X) (lanes : List Lane) (shown : List Shown) (x y : Y)
@@ -54,9 +94,10 @@ module _ (X Y : Type 0) (input : SourceView X) (out : OutletView Y) (most_reads 
   -- a turn of rendition r was cut off, in which it had read this piece
   pub cut-at-once : (rounds next r : ℕ) (before now after : List X) (lanes : List Lane) (shown : List Shown) (x y z : Y) (piece : List ℕ)
       (d : NothingDue (run_of input out most_reads before now x y) ladder (turns_of rounds next) lanes shown) → r < length ladder.renditions → length piece ≤ 18800
+      → ((a b : X) → slice_get before r ≡ Some a → slice_get after r ≡ Some b → input.failures b ≡ input.failures a)
       → CutBehind (run_of input out most_reads before after x z) ladder (set d.world.streams r (stream_at d.world.streams r ++ piece)) (blocks ladder (none_of ladder) d.world.events)
       → IsCutAtOnce (run_of input out most_reads before after x z) ladder
-  cut-at-once rounds next r before now after lanes shown x y z piece d within short c =
+  cut-at-once rounds next r before now after lanes shown x y z piece d within short unfailed c =
       let w = d.world in
       let stream = stream_at w.streams r ++ piece in
       let here : r < length w.streams = omega (arith, within, w.same_streams) in
@@ -72,12 +113,13 @@ module _ (X Y : Type 0) (input : SourceView X) (out : OutletView Y) (most_reads 
           piece = (piece, short, ap (λ (l : List (List ℕ)). stream_at l r) c.streams_are ∙ get_or-set_same w.streams r stream [] here);
           others = λ k q. ap (λ (l : List (List ℕ)). stream_at l k) c.streams_are ∙ get_or-set_other w.streams r k stream [] q;
         };
+        unfailed = unfailed;
       }
 
-  -- the run was stopped between two turns
+  -- the run was stopped behind the good ends of all renditions
   pub stop-at-once : (rounds : ℕ) (before now : List X) (lanes : List Lane) (shown : List Shown) (x y : Y) → rounds ≤ most_reads
-      → IsAllowed ladder → NothingDue (run_of input out most_reads before now x y) ladder (turns_of rounds 0) lanes shown → IsCutAtOnce (run_of input out most_reads before now x y) ladder
-  stop-at-once rounds before now lanes shown x y few allowed d =
+      → IsAllowed ladder → NoneStands lanes → NothingDue (run_of input out most_reads before now x y) ladder (turns_of rounds 0) lanes shown → IsCutAtOnce (run_of input out most_reads before now x y) ladder
+  stop-at-once rounds before now lanes shown x y few allowed good d =
       let w = d.world in
       let c = (world-stop X Y input out most_reads ladder (turns_of rounds 0) before now lanes shown _ x y (λ k. omega (arith, turns-none rounds k, few)) allowed w).0 in
       record {
@@ -92,6 +134,9 @@ module _ (X Y : Type 0) (input : SourceView X) (out : OutletView Y) (most_reads 
           piece = ([], omega arith, ap (λ (l : List (List ℕ)). stream_at l 0) c.streams_are ∙ sym (append-nil _));
           others = λ k q. ap (λ (l : List (List ℕ)). stream_at l k) c.streams_are;
         };
+        unfailed = λ a b at_a at_b.
+            let m = some-at lanes 0 (omega (arith, slice_get_within before 0 a at_a, w.same_before, w.same_lanes)) in
+            good-unfailed input 0 0 ladder.cut _ m.0.stop a b (good 0 m.0 m.1) (w.each 0 a b m.0 at_a at_b m.1).says;
       }
 
   -- nothing was read or given
@@ -116,4 +161,5 @@ module _ (X Y : Type 0) (input : SourceView X) (out : OutletView Y) (most_reads 
           piece = ([], omega arith, ap (λ (l : List (List ℕ)). stream_at l 0) c.streams_are ∙ sym (append-nil _));
           others = λ k q. ap (λ (l : List (List ℕ)). stream_at l k) c.streams_are;
         };
+        unfailed = λ a b at_a at_b. ap input.failures (same_Some b a (sym at_b ∙ at_a));
       }

@@ -1,5 +1,5 @@
 -- A turn of one rendition: one read, and all that is due is given.
-use Rattle.std.proofs.Common.{◌≡◌, ◌∙◌, inl, inr, ℕ, zero, suc, ◌+◌, ◌<◌, ◌≤◌, false, List, [], ◌∷◌, ◌++◌, length, Some, None, refl, ap, sym, subst, arith}
+use Rattle.std.proofs.Common.{◌≡◌, ◌∙◌, inl, inr, ℕ, zero, suc, ◌+◌, ◌<◌, ◌≤◌, false, List, [], Option, ◌∷◌, ◌++◌, length, Some, None, refl, ap, sym, subst, arith}
 use Rattle.std.specs.List.{slice_get}
 use Rattle.std.proofs.Math.ListN.{set}
 use Rattle.std.proofs.lemmas.List.{append-nil}
@@ -8,10 +8,13 @@ use Rattle.std.proofs.lemmas.Bool.{cases_eq}
 use Rattle.ghost_list.specs.Lists.{IsBeginning}
 use Rattle.cutter.specs.Plans.{SegmentPlan}
 use Rattle.cutter.specs.Ordered.{IsPlan}
+use Rattle.cutter.specs.declared.settings.CutSettings.{CutSettings}
 use Rattle.ingest.specs.declared.lane.Lane.{Lane}
+use Rattle.ingest.specs.declared.lane.Stop.{Stop}
+use Rattle.ingest.specs.declared.lane.Stop.TheVariants.{Good, Cut, Read}
 use Rattle.ingest.specs.Streams.{Taken, AreNext, closed_of}
 use Rattle.item_io.specs.Views.{OutletView, SourceView}
-use Rattle.ingest.specs.Inputs.{IsRead}
+use Rattle.ingest.specs.Inputs.{IsRead, SourceSays}
 use Rattle.ingest.specs.Lanes.{made_of, is_good, IsFirst, IsTurned}
 use Rattle.ladder_items.specs.Ladder.{Ladder, IsAllowed}
 use Rattle.ladder_items.specs.Shown.{Shown}
@@ -23,7 +26,7 @@ use Rattle.ladder_items.specs.Putting.{PutAll, PutSome}
 use Rattle.ladder_items.specs.World.{NothingDue, World, stream_at, turns_of}
 use Rattle.ladder_items.proofs.Elsewhere.{set-here, set-elsewhere, set-there, all-other}
 use Rattle.ladder_items.proofs.Rows.{after_all-append}
-use Rattle.ladder_items.proofs.Stages.{turns-now, turns-then, turns-other, turns-all, turns-none, turns-more, turns-most}
+use Rattle.ladder_items.proofs.Stages.{same-fails, turns-now, turns-then, turns-other, turns-all, turns-none, turns-more, turns-most}
 use Rattle.ladder_items.proofs.Worlds.{InOrder, parts-of, parts-length, stage-at, world-read, world-gave, world-unread, world-ungiven, world-skip, world-round, world-first, at-default}
 use Rattle.serial_run.specs.Dues.{due}
 use Rattle.serial_run.specs.OneThread.{IsCutAtOnce}
@@ -122,14 +125,38 @@ module _ (X Y : Type 0) (input : SourceView X) (out : OutletView Y) (most_reads 
             ];
       })
 
+  -- no read of rendition r failed before its turn, nor in it
+  unfailed-yet : (rounds r : ℕ) (before now : List X) (lanes : List Lane) (shown : List Shown) (x y : Y) (b c : X) (lane : Lane)
+      → slice_get now r ≡ Some b → slice_get lanes r ≡ Some lane → lane.stop ≡ None → input.failures c ≡ input.failures b
+      → NothingDue (run_of input out most_reads before now x y) ladder (turns_of rounds r) lanes shown
+      → (a e : X) → slice_get before r ≡ Some a → slice_get (set now r c) r ≡ Some e → input.failures e ≡ input.failures a
+  unfailed-yet rounds r before now lanes shown x y b c lane f g goes_on unfailed d a e at_a at_e =
+      sym (ap input.failures (set-here now r c e at_e))
+      ∙ (unfailed ∙ same-fails X input ladder r _ a b lane _ _ _ goes_on (d.world.each r a b lane at_a f g))
+
+  -- where a read failed nothing is due
+  unfailed-by : (r : ℕ) (s : CutSettings) (stream : List ℕ) (stop : Option Stop) (b c : X) (filled : List SegmentPlan)
+      → SourceSays input r s stream stop b c → (stop ≡ Some Read → filled ≡ []) → (filled ≡ [] → is_good stop ≡ false → ⊥) → input.failures c ≡ input.failures b
+  unfailed-by r s stream None b c filled says unread owing = says
+  unfailed-by r s stream (Some (Good gone)) b c filled says unread owing = says.0
+  unfailed-by r s stream (Some (Cut told)) b c filled says unread owing = says.0
+  unfailed-by r s stream (Some Read) b c filled says unread owing = absurd (owing (unread refl) refl)
+
+  unfailed-turn : (b c : X) (lane moved : Lane) → IsTurned input b c lane moved → lane.intake.filled ≡ []
+      → (moved.stop ≡ Some Read → moved.intake ≡ lane.intake) → (moved.intake.filled ≡ [] → is_good moved.stop ≡ false → ⊥) → input.failures c ≡ input.failures b
+  unfailed-turn b c lane moved turn filled unread owing =
+      unfailed-by lane.intake.rendition lane.intake.settings _ moved.stop b c moved.intake.filled turn.says (λ failed. ap (λ (t : Taken). t.filled) (unread failed) ∙ filled) owing
+
   -- what was due was given in part
-  pub due-cut : (rounds r : ℕ) (before now : List X) (lanes : List Lane) (shown : List Shown) (x y z : Y) (c : X) (lane moved : Lane)
+  pub due-cut : (rounds r : ℕ) (before now : List X) (lanes : List Lane) (shown : List Shown) (x y z : Y) (b c : X) (lane moved : Lane)
+      → slice_get now r ≡ Some b → slice_get lanes r ≡ Some lane → lane.stop ≡ None → IsTurned input b c lane moved
+      → (moved.stop ≡ Some Read → moved.intake ≡ lane.intake) → (moved.intake.filled ≡ [] → is_good moved.stop ≡ false → ⊥)
       → (d : NothingDue (run_of input out most_reads before now x y) ladder (turns_of rounds r) lanes shown) (piece : List ℕ) → length piece ≤ 18800
       → HasRead rounds r before now lanes shown x y c moved d piece
       → ((parts : List Part) → AreNextPlans ladder r parts shown moved.intake.filled → PutSome out y z (blocks ladder parts (due r moved)))
       → rounds < most_reads → IsAllowed ladder
       → IsCutAtOnce (run_of input out most_reads before (set now r c) x z) ladder
-  due-cut rounds r before now lanes shown x y z c lane moved d piece short h given below allowed =
+  due-cut rounds r before now lanes shown x y z b c lane moved f g goes_on turn unread owing d piece short h given below allowed =
       let w = h.world in
       let parts = parts-of ladder w.events in
       let part = due-part ladder r parts shown moved h.next.goes_on in
@@ -138,6 +165,7 @@ module _ (X Y : Type 0) (input : SourceView X) (out : OutletView Y) (most_reads 
       (set-there lanes r moved h.within) (λ k. omega (arith, turns-most rounds (r + 1) k, below)) allowed w (due-are-of ladder r parts shown moved h.next.goes_on) (given parts h.next)
       (record { plans = ([], sym (append-nil _ ∙ whole)); ended = λ e. (sym (ap (λ (p : Part). p.ended) part) ∙ e, whole) })).0 in
       cut-at-once X Y input out most_reads ladder rounds r r before now (set now r c) lanes shown x y z piece d (omega (arith, h.within, d.world.same_lanes)) short
+      (unfailed-yet rounds r before now lanes shown x y b c lane f g goes_on (unfailed-turn b c lane moved turn (d.filled r lane g) unread owing) d)
       (record {
         cut = cut.cut;
         streams_are = cut.streams_are ∙ h.streams_are;
@@ -153,6 +181,7 @@ module _ (X Y : Type 0) (input : SourceView X) (out : OutletView Y) (most_reads 
       → IsCutAtOnce (run_of input out most_reads before (set now r c) x y) ladder
   read-cut rounds r before now lanes shown x y b c lane piece f g goes_on read unfailed grow below allowed d =
       cut-at-once X Y input out most_reads ladder rounds r r before now (set now r c) lanes shown x y y piece d (omega (arith, slice_get_within lanes r lane g, d.world.same_lanes)) read.short
+      (unfailed-yet rounds r before now lanes shown x y b c lane f g goes_on unfailed d)
       (world-unread X Y input out most_reads ladder (turns_of rounds r) r before now lanes shown _ x y b c lane piece f g goes_on read unfailed grow
       (omega (arith, turns-now rounds r, below)) (λ k. omega (arith, turns-most rounds r k, below)) allowed d.world).0
 

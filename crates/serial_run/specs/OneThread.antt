@@ -1,5 +1,5 @@
 -- What is true of a run on one thread alone.
-use Rattle.std.specs.Prelude.{◌≡◌, ℕ, ◌<◌, ◌≤◌, List, ◌++◌, length, Option}
+use Rattle.std.specs.Prelude.{◌≡◌, ℕ, ◌<◌, ◌≤◌, List, ◌++◌, length, Option, Some, slice_get}
 use Rattle.item_io.specs.Items.{ItemValue}
 use Rattle.ingest.specs.declared.lane.Stop.{Stop}
 use Rattle.ladder_items.specs.Ladder.{Ladder}
@@ -22,8 +22,10 @@ pub record StopsAtOnce (ladder : Ladder) (r : ℕ) (streams : List (List ℕ)) (
   pub piece : (more : List ℕ) × (length more ≤ PIECE) × (stream_at streams r ≡ stream_at earlier r ++ more)
   pub others : (k : ℕ) → (k ≡ r → ⊥) → stream_at streams k ≡ stream_at earlier k
 
--- The run was stopped at once: the items put are a prefix of a weave of prefixes, and nothing was read behind them.
+-- The run was stopped at once: the items put are a prefix of a weave of prefixes, and nothing was read behind them. No read of
+-- the rendition in whose turn it was stopped had failed: that is told itself.
 pub record IsCutAtOnce {X Y : Type 0} (run : Run X Y) (ladder : Ladder) : Type 0 where
   pub cut : IsCutShort run ladder
   pub in_turn : ℕ
   pub at_once : StopsAtOnce ladder in_turn cut.streams cut.some.given
+  pub unfailed : (a b : X) → slice_get run.before in_turn ≡ Some a → slice_get run.now in_turn ≡ Some b → run.input.failures b ≡ run.input.failures a

@@ -1,15 +1,13 @@
-use Rattle.std.proofs.Common.{◌≡◌, ◌∙◌, inl, inr, length, slice_get, refl, ap, sym, arith, rules}
+use Rattle.std.proofs.Common.{◌≡◌, ◌∙◌, length, refl, ap, sym, rules}
 use Rattle.std.proofs.lemmas.Result.{IfOk-weaker, IfErr-weaker, err_from_is_err_and}
 use Rattle.ingest.proofs.Ordered.{closed_of-none}
 use Rattle.ladder_items.specs.Ladder.{IsAllowed}
-use Rattle.ladder_items.specs.World.{turns_of}
-use Rattle.ladder_items.proofs.Stages.{turns-none}
 use Rattle.ladder_items.proofs.Blocks.{shown-going, shown-each}
 use Rattle.ladder_items.proofs.Worlds.{nothing-given, parts-of, parts-length}
 use Rattle.serial_run.proofs.Stepping.{due-first}
 use Rattle.ladder_items.proofs.Endings.{at-once}
-use Rattle.serial_run.proofs.Answering.{answered, answered-unheld, packed}
-use Rattle.serial_run.proofs.AtOnce.{sudden-unheld, none-at-once, stop-at-once}
+use Rattle.serial_run.proofs.Answering.{answered, answered-unheld, answered-at-once, packed}
+use Rattle.serial_run.proofs.AtOnce.{sudden-unheld, none-at-once}
 use Rattle.serial_run.proofs.serial.pack_serial_reads.Goals as goal
 
 pub returns-in_err-lanes-clause-fault : goal.returns-in_err-lanes-clause-fault
@@ -74,7 +72,7 @@ pub returns-clause-at_once : goal.returns-clause-at_once
 returns-clause-at_once g c =
     let allowed : IsAllowed c.args.settings.now × (c.len.result ≡ length c.args.settings.now.renditions) = search rules in
     let ok = c.in_ok-turns.ensures.ok in
-    IfErr-weaker c.answer_of.result _ _ (λ fault is sudden. stop-at-once _ _ _ _ _ _ ok.0 _ _ _ _ _ _ ok.1 allowed.0 ok.2) c.answer_of.ensures.fault
+    IfErr-weaker c.answer_of.result _ _ (λ fault is. answered-at-once _ _ _ _ _ _ ok.0 _ _ _ _ _ _ fault ok.1 allowed.0 ok.2 (rw c.deref.ensures.value at is)) c.answer_of.ensures.fault
 
 pub returns-in_err-turns-clause-fault : goal.returns-in_err-turns-clause-fault
 returns-in_err-turns-clause-fault g c =

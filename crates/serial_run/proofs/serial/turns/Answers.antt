@@ -1,4 +1,5 @@
 use Rattle.std.proofs.Common.{◌∙◌, ◌<◌, length, slice_get, refl, ap, sym, arith}
+use Rattle.std.proofs.lemmas.Bool.{false≢true}
 use Rattle.std.proofs.lemmas.Option.{slice_get_read}
 use Rattle.std.proofs.lemmas.Result.{err_from_is_err_and}
 use Rattle.ingest.proofs.Ordered.{closed_of-grow, made_of-at}
@@ -78,7 +79,11 @@ returns-in_err-give_due-clause-err g c =
     (slice_get_read c.loop-r.sources.items _ c.loop-r.r c.index_mut.result.now (sym w.same_now) below c.index_mut.ensures.value)
     (slice_get_read c.loop-r.lanes.items _ c.loop-r.r c.index_mut-lane.result.now (sym w.same_lanes) below c.index_mut-lane.ensures.value)
     (none-there _ (sym c.if-is_some.ensures)) c.in_ok-turn.ensures.ok (λ stop r. made_of-at stop r c.args.settings.now.cut) c.loop-r.invariant.due in
-    rw told.1 (due-cut _ _ _ _ _ _ c.loop.counter c.loop-r.r _ _ _ _ _ _ _ c.turn.new.source c.index_mut-lane.result.now c.turn.new.self c.loop-r.invariant.due _ c.in_ok-turn.ensures.ok.read.short h
+    rw told.1 (due-cut _ _ _ _ _ _ c.loop.counter c.loop-r.r _ _ _ _ _ _ _ c.index_mut.result.now c.turn.new.source c.index_mut-lane.result.now c.turn.new.self
+    (slice_get_read c.loop-r.sources.items _ c.loop-r.r c.index_mut.result.now (sym w.same_now) below c.index_mut.ensures.value)
+    (slice_get_read c.loop-r.lanes.items _ c.loop-r.r c.index_mut-lane.result.now (sym w.same_lanes) below c.index_mut-lane.ensures.value)
+    (none-there _ (sym c.if-is_some.ensures)) c.in_ok-turn.ensures.ok c.in_ok-turn.ensures.unread (λ filled good. false≢true (c.in_err-give_due.ensures.none filled good))
+    c.loop-r.invariant.due _ c.in_ok-turn.ensures.ok.read.short h
     c.in_err-give_due.ensures.err c.loop-test.true c.requires.allowed)
 
 pub loop-r-preserved-then-is_some : goal.loop-r-preserved-then-is_some
