@@ -14,7 +14,8 @@ use Rattle.ladder_items.proofs.Stages.{turns-none}
 use Rattle.ladder_items.proofs.Endings.{world-halted, world-packed, halted-says}
 use Rattle.serial_run.specs.Answers.{IsAnswer, IsAnswered}
 use Rattle.serial_run.specs.OneThread.{IsCutAtOnce}
-use Rattle.serial_run.proofs.AtOnce.{told-unheld, told-unsudden, stop-at-once}
+use Rattle.ladder_items.proofs.Unheld.{told-unheld}
+use Rattle.serial_run.proofs.AtOnce.{told-unsudden, stop-at-once}
 
 scarce-unheld : (e : PackFault) (r n : ℕ) → e ≡ NoMemory → e ≡ HeldBack r n → ⊥
 scarce-unheld e r n scarce is = cc

@@ -28,21 +28,6 @@ use Rattle.ladder_items.proofs.Worlds.{CutBehind, parts-of, at-default, world-st
 use Rattle.serial_run.specs.Answers.{NoneStands}
 use Rattle.serial_run.specs.OneThread.{IsCutAtOnce}
 
--- a fault that stops a run at once is told of no segment
-pub sudden-unheld : (e : PackFault) (f g r n : ℕ) → SaysFailures e f g → e ≡ HeldBack r n → ⊥
-sudden-unheld e f g r n says is = subst (λ (d : PackFault). SaysFailures d f g) is says
-
--- nor is a fault that a rendition's end is told by
-pub told-unheld : (k : ℕ) (stop : Option Stop) (e : PackFault) (r n : ℕ) → told_of k stop ≡ Some e → e ≡ HeldBack r n → ⊥
-told-unheld k None e r n told is = cc
-told-unheld k (Some (Good gone)) e r n told is = cc
-told-unheld k (Some ReadFailed) e r n told is = cc
-told-unheld k (Some (Cut HasNoProgram)) e r n told is = cc
-told-unheld k (Some (Cut HasNoStart)) e r n told is = cc
-told-unheld k (Some (Cut (IsLong m))) e r n told is = cc
-told-unheld k (Some (Cut (IsBig m))) e r n told is = cc
-told-unheld k (Some (Cut PassesLimit)) e r n told is = cc
-
 -- no end of a rendition is told by a fault that stops a run at once
 told-lasting : (k : ℕ) (stop : Option Stop) (e d : PackFault) → told_of k stop ≡ Some e → e ≡ d → told_of k stop ≡ Some d
 told-lasting k stop e d told is = told ∙ ap (λ (f : PackFault). Some f) is

@@ -6,8 +6,9 @@ use Rattle.ladder_items.proofs.Blocks.{shown-going, shown-each}
 use Rattle.ladder_items.proofs.Worlds.{nothing-given, parts-of, parts-length}
 use Rattle.serial_run.proofs.Stepping.{due-first}
 use Rattle.ladder_items.proofs.Endings.{at-once}
+use Rattle.ladder_items.proofs.Unheld.{sudden-unheld}
 use Rattle.serial_run.proofs.Answering.{answered, answered-unheld, answered-at-once, packed}
-use Rattle.serial_run.proofs.AtOnce.{sudden-unheld, none-at-once}
+use Rattle.serial_run.proofs.AtOnce.{none-at-once}
 use Rattle.serial_run.proofs.serial.pack_serial_reads.Goals as goal
 
 pub returns-in_err-lanes-clause-fault : goal.returns-in_err-lanes-clause-fault
