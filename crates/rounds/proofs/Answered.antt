@@ -71,3 +71,7 @@ ok-weaker (Err e) P Q f p = tt
 pub err-all : {T E : Type 0} (r : Result T E) (P : E → Type 0) → ((e : E) → P e) → IfErr r P
 err-all (Ok x) P all = tt
 err-all (Err e) P all = all e
+
+-- What is told of a fault is told of the same fault.
+pub fault-told : {X : Type 0} (P : PackFault → Type 0) (answer told : Result X PackFault) → told ≡ answer → IfErr answer P → IfErr told P
+fault-told {X} P answer told same all = subst (λ (r : Result X PackFault). IfErr r P) (sym same) all

@@ -11,3 +11,4 @@ pub mod Driven
 pub mod Answered
 pub mod Between
 pub mod Ending
+pub mod Pacing

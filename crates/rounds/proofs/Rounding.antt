@@ -28,7 +28,7 @@ use Rattle.ladder_items.proofs.Elsewhere.{after-other}
 use Rattle.ladder_items.proofs.Worlds.{InOrder, parts-of, parts-length}
 use Rattle.rounds.specs.declared.run.course.Course.{Course}
 use Rattle.rounds.specs.Showing.{counts_of}
-use Rattle.rounds.specs.Courses.{Gave, GaveSome, IsHeld, ReadsNone, Start, IsStopped, SaysSudden}
+use Rattle.rounds.specs.Courses.{Gave, GaveSome, ReadsNone, Start, IsStopped, SaysSudden}
 use Rattle.rounds.specs.Rounds.{Keeps, InRound, NoneReady, expected, unfed_of, segments_in, gathered}
 use Rattle.rounds.proofs.Collecting.{gathered-set}
 use Rattle.rounds.proofs.Steps.{counts-are}
@@ -77,10 +77,6 @@ dry-by false g n k is few dry =
 
 pub none-ready : (g : Gathering) (n : ℕ) → length g.sequences ≤ n → ((k : ℕ) → k < n → leading (sequence_at g k).slots ≡ 0) → NoneReady g
 none-ready g n few dry k = dry-by (nat_lt k n) g n k refl few dry
-
--- a held segment leaves the outlet's count of failures
-pub held-sudden : (fault : PackFault) (n : ℕ) → IsHeld fault → SaysSudden fault n n
-held-sudden fault n held = subst (λ (f : PackFault). SaysSudden f n n) (sym held.2) refl
 
 module _ (X Y : Type 0) (input : SourceView X) (out : OutletView Y) (ladder : Ladder) where
   -- segments came

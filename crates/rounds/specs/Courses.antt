@@ -8,7 +8,7 @@ use Rattle.item_io.specs.Views.{OutletView, SourceView}
 use Rattle.ingest.specs.declared.lane.Lane.{Lane}
 use Rattle.ingest.specs.Lanes.{is_good}
 use Rattle.ladder_items.specs.declared.fault.PackFault.{PackFault}
-use Rattle.ladder_items.specs.declared.fault.PackFault.TheVariants.{Held, NoMemory}
+use Rattle.ladder_items.specs.declared.fault.PackFault.TheVariants.{NoMemory}
 use Rattle.ladder_items.specs.Ladder.{Ladder, IsAllowed}
 use Rattle.ladder_items.specs.Items.{Part, shown_all}
 use Rattle.ladder_items.specs.Giving.{IsGoing, IsNext}
@@ -129,10 +129,6 @@ of_sudden old new = record (of_failures old new) { held = λ r n. new ≡ old }
 
 abbrev pub SaysSudden : PackFault → ℕ → ℕ → Type 0
 SaysSudden fault old new = Says (of_sudden old new) fault
-
--- a worker wasn't let through
-abbrev pub IsHeld : PackFault → Type 0
-IsHeld fault = (r n : ℕ) × (fault ≡ Held r n)
 
 -- a run that was stopped at once by a fault
 pub record IsStopped {X Y : Type 0} (input : SourceView X) (out : OutletView Y) (ladder : Ladder) (start : Start X Y) (course : Course X Y) (shows : Known) (fault : PackFault) : Type 0 where

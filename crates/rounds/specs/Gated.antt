@@ -1,4 +1,4 @@
--- What the calling thread seals itself: nothing without the gate.
+-- What the calling thread asks the gate: nothing is sealed without it, and what it tells of it is the gate's own word.
 use Rattle.std.specs.Prelude.{◌≡◌, ◌⊎◌, ℕ, ◌<◌, length, Result, Ok, Err, IsOk, IsErrOf, MatchResult}
 use Rattle.cutter.specs.Plans.{SegmentPlan}
 use Rattle.flow_core.specs.declared.fault.FeedFault.{FeedFault}
@@ -7,6 +7,18 @@ use Rattle.flow_core.specs.Gatherings.{Gathering, sequence_at, missing_in}
 use Rattle.flow_core.specs.Sequences.{Lacks}
 use Rattle.ladder_items.specs.declared.fault.PackFault.{PackFault}
 use Rattle.ladder_items.specs.declared.fault.PackFault.TheVariants.{Held, NoMemory}
+
+-- a fault that names a segment as held back is the gate's own word: it stops that segment
+abbrev pub IsGatesWord : (stops : ℕ → ℕ → Type 0) → PackFault → Type 0
+IsGatesWord stops fault = (r n : ℕ) → fault ≡ Held r n → stops r n
+
+-- a fault that names no segment as held back
+abbrev pub IsUnheld : PackFault → Type 0
+IsUnheld fault = (r n : ℕ) → fault ≡ Held r n → ⊥
+
+-- this segment is told as held back, and the gate stops it
+abbrev pub IsHeldBack : (stops : ℕ → ℕ → Type 0) → PackFault → Type 0
+IsHeldBack stops fault = (r n : ℕ) × (fault ≡ Held r n) × stops r n
 
 -- the calling thread sealed a plan that was let through: a collector that lacked its segment lacks fewer now
 pub record SealsOwn (lets : ℕ → ℕ → Type 0) (plan : SegmentPlan) (old new : Gathering) : Type 0 where

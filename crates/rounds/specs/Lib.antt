@@ -1,5 +1,6 @@
 pub mod Showing
 pub mod Courses
+pub mod Paces
 pub mod Rounds
 pub mod Gated
 pub mod Collected

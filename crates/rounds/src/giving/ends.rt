@@ -4,6 +4,7 @@ ghost use Rattle.std.specs.Prelude.{◌≡◌, ◌≢◌, ◌<◌, [], ℕ, IfEr
 ghost use Rattle.ingest.specs.Lanes.{is_good};
 ghost use Rattle.ingest.specs.declared.lane.Lane.{Lane};
 ghost use Rattle.rounds.specs.Courses.{HasGoodEnds, IsSomeBetween, ReadsNone, StaysBetween, StopsBetween};
+ghost use Rattle.rounds.specs.Gated.{IsUnheld};
 
 use crate::giving::broadcast::Broadcast;
 use item_io::{Outlet, Source};
@@ -18,6 +19,7 @@ impl<'r, S: Source, O: Outlet, R: Wait> Broadcast<'r, S, O, R> {
         requires on { IsSomeBetween S.input O.output settings.now self.old }
         ensures ok { OnOk result (StaysBetween S.input O.output settings.now self.old self.new) }
         ensures err { IfErr result (StopsBetween S.input O.output settings.now self.old self.new) }
+        ensures unheld { IfErr result IsUnheld }
         ensures none_read { ReadsNone self.old.course self.new.course }
         ensures playlists { self.new.course.playlists ≡ self.old.course.playlists }
         ensures ended { OnOk result ((lane : Lane) → slice_get self.old.course.lanes.items r ≡ Some lane → lane.intake.filled ≡ []
@@ -41,6 +43,7 @@ impl<'r, S: Source, O: Outlet, R: Wait> Broadcast<'r, S, O, R> {
         requires on { IsSomeBetween S.input O.output settings.now self.old }
         ensures ok { OnOk result (StaysBetween S.input O.output settings.now self.old self.new) }
         ensures err { IfErr result (StopsBetween S.input O.output settings.now self.old self.new) }
+        ensures unheld { IfErr result IsUnheld }
         ensures none_read { ReadsNone self.old.course self.new.course }
         ensures playlists { self.new.course.playlists ≡ self.old.course.playlists }
         ensures ended { OnOk result (HasGoodEnds settings.now self.new.course) }

@@ -1,15 +1,18 @@
 //! Driving: the calling thread feeds the full spools, reads the next round, and gives what is expected.
 
 ghost use Rattle.std.specs.Prelude.{◌≡◌, ◌<◌, ◌≤◌, IfErr, IfOk, OnOk, length, map};
-ghost use Rattle.flow_core.specs.Gatherings.{sequences_from};
+ghost use Rattle.flow_core.specs.Gatherings.{awaited, sequences_from};
 ghost use Rattle.ladder_items.specs.Ladder.{RenditionValue};
 ghost use Rattle.rounds.specs.Courses.{ReadsMore};
+ghost use Rattle.rounds.specs.Gated.{IsGatesWord};
+ghost use Rattle.rounds.specs.Paces.{HasEnough, wanted};
 ghost use Rattle.rounds.specs.Rounds.{Breaks, IsBehind, IsBroken, IsDriven, IsFair, IsSomeFull, IsSomewhere, Moves};
 ghost use Rattle.rounds.specs.Showing.{counts_of};
 ghost use Rattle.item_io.specs.declared.limits.TheConstants.{PIECE};
 
 use crate::giving::snapshots::counts;
 use crate::round::machine::Round;
+use crate::round::sealer::Sealer;
 use crate::run::first::copy_keys;
 use crate::run::pace::Pace;
 use cutter::Spool;
@@ -37,21 +40,21 @@ pub fn collector_behind<'s>(
     Collector::starting(alloc, keys, starts, settings.queue as usize)
 }
 
-impl<'d, 's, 'r, S: Source, O: Outlet, G: Gate, L: Ledger, M: Ledger, R: Wait> Round<
+impl<'d, 's, 'r, S: Source, O: Outlet, L: Ledger, M: Ledger, R: Wait> Round<
     'd,
     's,
     'r,
     S,
     O,
-    G,
     L,
     M,
     R,
 > {
     /// Drives the round: feeds the plans of the full spools, reads for the next round what is ready, and gives every segment in
     /// sequence.
-    pub fn drive(
+    pub fn drive<G: Gate>(
         &mut self,
+        sealer: &Sealer<'_, G>,
         settings: &Settings,
         pace: Pace,
         spools: &'s [Spool],
@@ -62,17 +65,20 @@ impl<'d, 's, 'r, S: Source, O: Outlet, G: Gate, L: Ledger, M: Ledger, R: Wait> R
         ensures ok { OnOk result (IsDriven S.input O.output settings.now spools.now
             self.old.broadcast self.old.taker.right self.new.broadcast self.new.taker.right) }
         ensures err { IfErr result (IsBroken S.input O.output settings.now spools.now self.old.broadcast self.new.broadcast) }
+        ensures held { IfErr result (IsGatesWord (G.stops sealer.now.gate.now)) }
     {
         let mut buffer = [0; PIECE];
-        self.feed_all(settings, spools)?;
-        self.read_on(settings, pace, &mut buffer)?;
-        self.give_expected(settings)?;
+        self.feed_all(sealer, settings, spools)?;
+        self.read_on(sealer, settings, pace, &mut buffer)?;
+        self.give_expected(sealer, settings)?;
         Ok(())
     }
 
-    /// Reads what is ready, until enough is closed for the next round, and between turns gives what has come sealed.
-    fn read_on(
+    /// Reads what is ready, until enough is closed for the next round, and between turns gives what has come sealed. Where enough is
+    /// closed already, nothing is read.
+    fn read_on<G: Gate>(
         &mut self,
+        sealer: &Sealer<'_, G>,
         settings: &Settings,
         pace: Pace,
         buffer: &mut [u8],
@@ -82,19 +88,24 @@ impl<'d, 's, 'r, S: Source, O: Outlet, G: Gate, L: Ledger, M: Ledger, R: Wait> R
         requires somewhere { IsSomewhere S.input O.output settings.now self.old }
         ensures ok { OnOk result (Moves S.input O.output settings.now self.old self.new) }
         ensures err { IfErr result (Breaks S.input O.output settings.now self.old self.new) }
+        ensures held { IfErr result (IsGatesWord (G.stops sealer.now.gate.now)) }
         ensures further { OnOk result (ReadsMore self.old.broadcast.course self.new.broadcast.course) }
         ensures fair { OnOk result (IsFair self.old self.new) }
+        ensures idle { OnOk result (HasEnough (wanted pace (awaited self.old.collector.sequences) 0) self.old.broadcast.course
+            → self.new ≡ self.old) }
     {
         let rt = self.broadcast.held.rt;
+        let before = self.broadcast.course.turns_had();
         for _ in rt.forever() {
             let awaited = self.collector.awaited();
-            if self.broadcast.course.is_enough(pace, awaited) {
+            let turns = self.broadcast.course.turns_had() - before;
+            if self.broadcast.course.is_enough(pace, awaited, turns) {
                 return Ok(());
             }
             if !self.broadcast.course.read_ready(buffer)? {
                 return Ok(());
             }
-            self.take_and_give(settings)?;
+            self.take_and_give(sealer, settings)?;
         }
         unreachable!()
     }

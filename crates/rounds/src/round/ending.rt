@@ -1,6 +1,7 @@
 //! The calling thread's part of a round from its start to its end, and how the round's numbers get into the books.
 
 ghost use Rattle.std.specs.Prelude.{◌≡◌, ◌+◌, ◌<◌, ◌^◌, IfErr, OnOk, length, sum};
+ghost use Rattle.rounds.specs.Gated.{IsGatesWord};
 ghost use Rattle.rounds.specs.Rounds.{IsBroken, IsDriven, IsSomeFull};
 
 use crate::round::driving::collector_behind;
@@ -38,6 +39,7 @@ pub fn driven<'s, 'r, S: Source, O: Outlet, G: Gate, L: Ledger, M: Ledger, R: Wa
     ensures ok { OnOk result.answer (IsDriven S.input O.output setup.now.settings.now spools.now
         between.entry.broadcast 0 result.between.broadcast result.taker.right) }
     ensures err { IfErr result.answer (IsBroken S.input O.output setup.now.settings.now spools.now between.entry.broadcast result.between.broadcast) }
+    ensures held { IfErr result.answer (IsGatesWord (G.stops setup.now.gate.now)) }
     ensures books { result.between.books ≡ between.entry.books }
 {
     let BetweenRounds { broadcast, books } = between;
@@ -59,15 +61,13 @@ pub fn driven<'s, 'r, S: Source, O: Outlet, G: Gate, L: Ledger, M: Ledger, R: Wa
         gate: setup.gate,
     };
     let mut round = Round {
-        sealer,
         desk,
         broadcast,
         collector,
         taker,
     };
-    let answer = round.drive(setup.settings, setup.pace, spools);
+    let answer = round.drive(&sealer, setup.settings, setup.pace, spools);
     let Round {
-        sealer: _,
         desk: _,
         broadcast,
         collector: _,

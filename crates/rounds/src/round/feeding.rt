@@ -6,7 +6,7 @@ ghost use Rattle.flow_core.specs.Gatherings.{awaited, sequence_at, with_sequence
 ghost use Rattle.flow_core.specs.Sequences.{following, with_plan};
 ghost use Rattle.ladder_items.specs.declared.fault.PackFault.TheVariants.{NoMemory};
 ghost use Rattle.rounds.specs.Rounds.{Breaks, BreaksAll, BreaksSpool, FeedsAll, FeedsPlan, FeedsSpool, HasAllUnfed, IsFirstUnfed, IsUnfed};
-ghost use Rattle.rounds.specs.Gated.{IsUnsealed};
+ghost use Rattle.rounds.specs.Gated.{IsGatesWord, IsUnsealed};
 ghost use Rattle.rounds.specs.Rounds.{HasKeys, IsFair, Keeps, ReadsNoneIn, gathered};
 ghost use Rattle.limits.specs.declared.TheConstants.{LAST_SEGMENT};
 
@@ -20,34 +20,40 @@ use std::sync::Wait;
 use std::sync::ledger::Ledger;
 use work_desk::{Desk, Gate};
 
-impl<'d, 's, 'r, S: Source, O: Outlet, G: Gate, L: Ledger, M: Ledger, R: Wait> Round<
+impl<'d, 's, 'r, S: Source, O: Outlet, L: Ledger, M: Ledger, R: Wait> Round<
     'd,
     's,
     'r,
     S,
     O,
-    G,
     L,
     M,
     R,
 > {
     /// Feeds every plan of the full spools, rendition by rendition.
-    pub fn feed_all(&mut self, settings: &Settings, spools: &'s [Spool]) -> Result<(), PackFault>
+    pub fn feed_all<G: Gate>(
+        &mut self,
+        sealer: &Sealer<'_, G>,
+        settings: &Settings,
+        spools: &'s [Spool],
+    ) -> Result<(), PackFault>
         requires somewhere { HasAllUnfed S.input O.output settings.now spools.now self.old }
         ensures ok { OnOk result (FeedsAll S.input O.output settings.now spools.now self.old self.new) }
         ensures err { IfErr result (BreaksAll S.input O.output settings.now spools.now self.old self.new) }
+        ensures held { IfErr result (IsGatesWord (G.stops sealer.now.gate.now)) }
         ensures none_read { ReadsNoneIn self.old self.new }
         ensures fair { OnOk result (IsFair self.old self.new) }
     {
         for r in 0..spools.len() {
-            self.feed_spool(settings, r, &spools[r])?;
+            self.feed_spool(sealer, settings, r, &spools[r])?;
         }
         Ok(())
     }
 
     /// Feeds every plan of rendition `r`.
-    fn feed_spool(
+    fn feed_spool<G: Gate>(
         &mut self,
+        sealer: &Sealer<'_, G>,
         settings: &Settings,
         r: usize,
         spool: &'s Spool,
@@ -56,6 +62,7 @@ impl<'d, 's, 'r, S: Source, O: Outlet, G: Gate, L: Ledger, M: Ledger, R: Wait> R
         requires somewhere { IsUnfed S.input O.output settings.now r spool.now self.old }
         ensures ok { OnOk result (FeedsSpool S.input O.output settings.now r spool.now self.old self.new) }
         ensures err { IfErr result (BreaksSpool S.input O.output settings.now r spool.now self.old self.new) }
+        ensures held { IfErr result (IsGatesWord (G.stops sealer.now.gate.now)) }
         ensures none_read { ReadsNoneIn self.old self.new }
         ensures fair { OnOk result (IsFair self.old self.new) }
     {
@@ -63,14 +70,15 @@ impl<'d, 's, 'r, S: Source, O: Outlet, G: Gate, L: Ledger, M: Ledger, R: Wait> R
             let Some(plan) = spool.plan(i) else {
                 continue;
             };
-            self.feed_plan(settings, r, plan)?;
+            self.feed_plan(sealer, settings, r, plan)?;
         }
         Ok(())
     }
 
     /// Feeds the first plan of rendition `r` that hasn't been fed, once there is room for it.
-    fn feed_plan(
+    fn feed_plan<G: Gate>(
         &mut self,
+        sealer: &Sealer<'_, G>,
         settings: &Settings,
         r: usize,
         plan: PlanRef<'s>,
@@ -79,14 +87,15 @@ impl<'d, 's, 'r, S: Source, O: Outlet, G: Gate, L: Ledger, M: Ledger, R: Wait> R
         requires somewhere { IsFirstUnfed S.input O.output settings.now r (lent plan) self.old }
         ensures ok { OnOk result (FeedsPlan S.input O.output settings.now r (lent plan.entry) self.old self.new) }
         ensures err { IfErr result (Breaks S.input O.output settings.now self.old self.new) }
+        ensures held { IfErr result (IsGatesWord (G.stops sealer.now.gate.now)) }
         ensures none_read { ReadsNoneIn self.old self.new }
         ensures fair { OnOk result (IsFair self.old self.new) }
     {
-        self.make_room(settings)?;
+        self.make_room(sealer, settings)?;
         expect(&mut self.collector, plan)?;
         offer(
             self.broadcast.held.rt,
-            &self.sealer,
+            sealer,
             settings,
             self.desk,
             plan,

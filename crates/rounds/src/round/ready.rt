@@ -2,60 +2,63 @@
 
 ghost use Rattle.std.specs.Prelude.{◌<◌, ◌≡◌, IfErr, IfOk, OnOk, false, true};
 ghost use Rattle.flow_core.specs.Gatherings.{awaited};
+ghost use Rattle.rounds.specs.Gated.{IsUnheld};
 ghost use Rattle.rounds.specs.Rounds.{Breaks, IsDry, IsSomewhere, KeepsCounts, KeepsOthers, Moves, NoneReady, ReadsNoneIn};
 
 use crate::round::machine::Round;
 use item_io::{Outlet, Source};
 use ladder_items::{PackFault, Settings};
+use std::alloc::Global;
 use std::sync::Wait;
 use std::sync::ledger::Ledger;
-use work_desk::Gate;
 
-impl<'d, 's, 'r, S: Source, O: Outlet, G: Gate, L: Ledger, M: Ledger, R: Wait> Round<
+impl<'d, 's, 'r, S: Source, O: Outlet, L: Ledger, M: Ledger, R: Wait> Round<
     'd,
     's,
     'r,
     S,
     O,
-    G,
     L,
     M,
     R,
 > {
     /// Gives the sealed segments of every rendition, up to its first gap.
-    pub fn give_all_ready(&mut self, settings: &Settings) -> Result<(), PackFault>
+    pub fn give_all_ready(&mut self, alloc: Global, settings: &Settings) -> Result<(), PackFault>
         requires somewhere { IsSomewhere S.input O.output settings.now self.old }
         ensures ok { OnOk result (Moves S.input O.output settings.now self.old self.new) }
         ensures err { IfErr result (Breaks S.input O.output settings.now self.old self.new) }
+        ensures unheld { IfErr result IsUnheld }
         ensures none_read { ReadsNoneIn self.old self.new }
         ensures counts { OnOk result (KeepsCounts self.old self.new) }
         ensures dry { OnOk result (NoneReady self.new.collector) }
     {
         for r in 0..settings.renditions.len() {
-            self.give_ready(settings, r)?;
+            self.give_ready(alloc, settings, r)?;
         }
         Ok(())
     }
 
     /// Gives the sealed segments of rendition `r`, up to the first gap.
-    fn give_ready(&mut self, settings: &Settings, r: usize) -> Result<(), PackFault>
+    fn give_ready(&mut self, alloc: Global, settings: &Settings, r: usize) -> Result<(), PackFault>
         requires somewhere { IsSomewhere S.input O.output settings.now self.old }
         ensures ok { OnOk result (Moves S.input O.output settings.now self.old self.new) }
         ensures err { IfErr result (Breaks S.input O.output settings.now self.old self.new) }
+        ensures unheld { IfErr result IsUnheld }
         ensures none_read { ReadsNoneIn self.old self.new }
         ensures counts { OnOk result (KeepsCounts self.old self.new) }
         ensures dry { OnOk result (IsDry r self.new) }
         ensures others { OnOk result (KeepsOthers r self.old self.new) }
     {
-        while self.give_next(settings, r)? {}
+        while self.give_next(alloc, settings, r)? {}
         Ok(())
     }
 
     /// Gives the next segment of rendition `r` if it has come sealed, and returns whether it had.
-    fn give_next(&mut self, settings: &Settings, r: usize) -> Result<bool, PackFault>
+    fn give_next(&mut self, alloc: Global, settings: &Settings, r: usize) -> Result<bool, PackFault>
         requires somewhere { IsSomewhere S.input O.output settings.now self.old }
         ensures ok { OnOk result (Moves S.input O.output settings.now self.old self.new) }
         ensures err { IfErr result (Breaks S.input O.output settings.now self.old self.new) }
+        ensures unheld { IfErr result IsUnheld }
         ensures none_read { ReadsNoneIn self.old self.new }
         ensures counts { OnOk result (KeepsCounts self.old self.new) }
         ensures fewer { IfOk result (λ any. any ≡ true → awaited self.new.collector.sequences < awaited self.old.collector.sequences) }
@@ -65,8 +68,7 @@ impl<'d, 's, 'r, S: Source, O: Outlet, G: Gate, L: Ledger, M: Ledger, R: Wait> R
         let Some(sealed) = self.collector.next(r) else {
             return Ok(false);
         };
-        self.broadcast
-            .give_segment(self.sealer.alloc, settings, r, sealed)?;
+        self.broadcast.give_segment(alloc, settings, r, sealed)?;
         Ok(true)
     }
 }

@@ -1,6 +1,7 @@
 //! A round in a scope of threads: the workers seal at the desk, and the calling thread drives.
 
 ghost use Rattle.std.specs.Prelude.{◌≡◌, ◌+◌, ◌<◌, ◌^◌, IfErr, OnOk, length, sum, vec_len};
+ghost use Rattle.rounds.specs.Gated.{IsGatesWord};
 ghost use Rattle.rounds.specs.Rounds.{IsBroken, IsRound, IsSomeFull};
 
 use crate::round::crew::Crew;
@@ -45,6 +46,7 @@ pub fn in_scope<
     requires rounds { between.books.rounds < 2 ^ 46 }
     ensures ok { OnOk result.1 (IsRound S.input O.output setup.now.settings.now spools.now between.entry result.0) }
     ensures err { IfErr result.1 (IsBroken S.input O.output setup.now.settings.now spools.now between.entry.broadcast result.0.broadcast) }
+    ensures held { IfErr result.1 (IsGatesWord (G.stops setup.now.gate.now)) }
 {
     let rt = setup.rt;
     let alloc = setup.alloc;
@@ -60,6 +62,7 @@ pub fn in_scope<
                 × (length crew.claims.items ≡ length between.books.workers.items) × (between.books.rounds < 2 ^ 46) }
             ensures ok { OnOk result.1 (IsRound S.input O.output setup.entry.now.settings.now spools.entry.now between.entry result.0) }
             ensures err { IfErr result.1 (IsBroken S.input O.output setup.entry.now.settings.now spools.entry.now between.entry.broadcast result.0.broadcast) }
+            ensures held { IfErr result.1 (IsGatesWord (G.stops setup.entry.now.gate.now)) }
         {
             let Crew {
                 workers: passes,

@@ -1,6 +1,6 @@
 //! Collects what is done at the desk, and seals on this thread what is missing.
 
-ghost use Rattle.std.specs.Prelude.{◌≡◌, ◌≢◌, ◌<◌, ◌≤◌, ◌^◌, ◌+◌, [], true, false, IfErr, OnErr, OnOk, length};
+ghost use Rattle.std.specs.Prelude.{◌≡◌, ◌<◌, ◌≤◌, ◌^◌, ◌+◌, [], true, false, IfErr, OnErr, OnOk, length};
 ghost use Rattle.cutter.specs.Lent.{lent};
 ghost use Rattle.flow_core.specs.Gatherings.{sequence_at, missing_in};
 ghost use Rattle.flow_core.specs.Sequences.{IsRight, Lacks};
@@ -33,9 +33,11 @@ fn collect<'s>(collector: &mut Collector<'s>, sealed: Sealed<'s>) -> bool
     true
 }
 
-/// Takes in what is done. A sealed segment that isn't right is thrown away, as is a refusal. A held segment stops the run.
+/// Takes in what is done. A sealed segment that isn't right is thrown away, as is a refusal. Of a segment that a worker held back
+/// the gate is asked again: where it stops that one, the run stops, and else this thread will seal it.
 #[tactic(auto, using(crate::proofs::Collecting::keeps_same))]
-pub fn take_in<'s>(
+pub fn take_in<'s, G: Gate>(
+    gate: &G,
     collector: &mut Collector<'s>,
     done: Delivery<'s>,
     right: &mut u64,
@@ -47,8 +49,8 @@ pub fn take_in<'s>(
     ensures fair { right.new + gathered collector.old.sequences ≡ right.old + gathered collector.new.sequences }
     ensures taken { TakesIn done.entry.outcome collector.old collector.new }
     ensures held { OnErr result (done.entry.outcome ≡ HeldBack) }
-    ensures unheld { OnOk result (done.entry.outcome ≢ HeldBack) }
-    ensures fault { IfErr result (λ fault. fault ≡ Held done.entry.rendition done.entry.number) }
+    ensures unheld { OnOk result (done.entry.outcome ≡ HeldBack → G.lets gate.now done.entry.rendition done.entry.number) }
+    ensures fault { IfErr result (λ fault. (fault ≡ Held done.entry.rendition done.entry.number) × G.stops gate.now done.entry.rendition done.entry.number) }
 {
     let Delivery {
         rendition,
@@ -70,6 +72,9 @@ pub fn take_in<'s>(
         }
         Outcome::Held => {
             *thrown += 1;
+            if gate.pass(rendition, number) {
+                return Ok(());
+            }
             Err(PackFault::Held(rendition, number))
         }
     }

@@ -1,6 +1,7 @@
 //! Starts a round: opens its desk, and a scope of threads to work at it.
 
 ghost use Rattle.std.specs.Prelude.{◌≡◌, ◌<◌, ◌^◌, IfErr, OnOk, length};
+ghost use Rattle.rounds.specs.Gated.{IsGatesWord};
 ghost use Rattle.rounds.specs.Rounds.{HasDueEnds, IsBroken, IsRound, IsSomeFull};
 
 use crate::round::crew::Crew;
@@ -33,6 +34,7 @@ pub fn run_round<'r, S: Source + Drop, O: Outlet + Drop, G: Gate + Sync, R: Thre
     requires rounds { between.books.rounds < 2 ^ 46 }
     ensures ok { OnOk result.1 (IsRound S.input O.output setup.now.settings.now spools.now between.entry result.0) }
     ensures err { IfErr result.1 (IsBroken S.input O.output setup.now.settings.now spools.now between.entry.broadcast result.0.broadcast) }
+    ensures held { IfErr result.1 (IsGatesWord (G.stops setup.now.gate.now)) }
 {
     let claims = Blank::new(setup.workers as u64);
     let takes = Blank::new(1);
@@ -64,6 +66,7 @@ fn round_with<
     requires takes { (takes.name ≡ M.name) × (takes.parts ≡ M.parts) × (M.parts ≡ 1) }
     ensures ok { OnOk result.1 (IsRound S.input O.output setup.now.settings.now spools.now between.entry result.0) }
     ensures err { IfErr result.1 (IsBroken S.input O.output setup.now.settings.now spools.now between.entry.broadcast result.0.broadcast) }
+    ensures held { IfErr result.1 (IsGatesWord (G.stops setup.now.gate.now)) }
 {
     let Ok(counts) = no_counts(setup.alloc, setup.workers) else {
         return (between, Err(PackFault::NoMemory));

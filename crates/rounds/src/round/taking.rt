@@ -2,8 +2,7 @@
 
 ghost use Rattle.std.specs.Prelude.{◌≡◌, ◌⊎◌, ◌+◌, ◌<◌, ◌≤◌, IfErr, IfNone, IfSome, OnOk};
 ghost use Rattle.flow_core.specs.Gatherings.{awaited};
-ghost use Rattle.rounds.specs.Courses.{IsHeld};
-ghost use Rattle.rounds.specs.Gated.{IsLeft};
+ghost use Rattle.rounds.specs.Gated.{IsGatesWord, IsHeldBack, IsLeft};
 ghost use Rattle.rounds.specs.Rounds.{Breaks, HasKeys, IsFair, IsSomewhere, Keeps, Moves, NoneReady, ReadsNoneIn, gathered};
 
 use crate::round::machine::Round;
@@ -17,22 +16,26 @@ use std::sync::Wait;
 use std::sync::ledger::Ledger;
 use work_desk::{Desk, Gate, Pass};
 
-impl<'d, 's, 'r, S: Source, O: Outlet, G: Gate, L: Ledger, M: Ledger, R: Wait> Round<
+impl<'d, 's, 'r, S: Source, O: Outlet, L: Ledger, M: Ledger, R: Wait> Round<
     'd,
     's,
     'r,
     S,
     O,
-    G,
     L,
     M,
     R,
 > {
     /// Waits and gives what is ready until one more plan may be expected.
-    pub fn make_room(&mut self, settings: &Settings) -> Result<(), PackFault>
+    pub fn make_room<G: Gate>(
+        &mut self,
+        sealer: &Sealer<'_, G>,
+        settings: &Settings,
+    ) -> Result<(), PackFault>
         requires somewhere { IsSomewhere S.input O.output settings.now self.old }
         ensures ok { OnOk result (Moves S.input O.output settings.now self.old self.new) }
         ensures err { IfErr result (Breaks S.input O.output settings.now self.old self.new) }
+        ensures held { IfErr result (IsGatesWord (G.stops sealer.now.gate.now)) }
         ensures none_read { ReadsNoneIn self.old self.new }
         ensures fair { OnOk result (IsFair self.old self.new) }
         ensures room { OnOk result (awaited self.new.collector.sequences < self.new.collector.most) }
@@ -41,16 +44,21 @@ impl<'d, 's, 'r, S: Source, O: Outlet, G: Gate, L: Ledger, M: Ledger, R: Wait> R
             if self.collector.room() {
                 break;
             }
-            self.wait_and_give(settings)?;
+            self.wait_and_give(sealer, settings)?;
         }
         Ok(())
     }
 
     /// Gives everything that is expected, in sequence.
-    pub fn give_expected(&mut self, settings: &Settings) -> Result<(), PackFault>
+    pub fn give_expected<G: Gate>(
+        &mut self,
+        sealer: &Sealer<'_, G>,
+        settings: &Settings,
+    ) -> Result<(), PackFault>
         requires somewhere { IsSomewhere S.input O.output settings.now self.old }
         ensures ok { OnOk result (Moves S.input O.output settings.now self.old self.new) }
         ensures err { IfErr result (Breaks S.input O.output settings.now self.old self.new) }
+        ensures held { IfErr result (IsGatesWord (G.stops sealer.now.gate.now)) }
         ensures none_read { ReadsNoneIn self.old self.new }
         ensures fair { OnOk result (IsFair self.old self.new) }
         ensures all { OnOk result (awaited self.new.collector.sequences ≡ 0) }
@@ -59,47 +67,58 @@ impl<'d, 's, 'r, S: Source, O: Outlet, G: Gate, L: Ledger, M: Ledger, R: Wait> R
             if self.collector.awaited() == 0 {
                 break;
             }
-            self.wait_and_give(settings)?;
+            self.wait_and_give(sealer, settings)?;
         }
         Ok(())
     }
 
     /// Waits until something is done, takes in everything that is done, and gives what is then ready.
-    fn wait_and_give(&mut self, settings: &Settings) -> Result<(), PackFault>
+    fn wait_and_give<G: Gate>(
+        &mut self,
+        sealer: &Sealer<'_, G>,
+        settings: &Settings,
+    ) -> Result<(), PackFault>
         requires somewhere { IsSomewhere S.input O.output settings.now self.old }
         ensures ok { OnOk result (Moves S.input O.output settings.now self.old self.new) }
         ensures err { IfErr result (Breaks S.input O.output settings.now self.old self.new) }
+        ensures held { IfErr result (IsGatesWord (G.stops sealer.now.gate.now)) }
         ensures none_read { ReadsNoneIn self.old self.new }
         ensures fair { OnOk result (IsFair self.old self.new) }
     {
         wait_or_seal(
             self.broadcast.held.rt,
-            &self.sealer,
+            sealer,
             settings,
             self.desk,
             &mut self.taker,
             &mut self.collector,
         )?;
-        self.take_and_give(settings)?;
+        self.take_and_give(sealer, settings)?;
         Ok(())
     }
 
     /// Takes in everything that is done, and gives what is then ready.
-    pub fn take_and_give(&mut self, settings: &Settings) -> Result<(), PackFault>
+    pub fn take_and_give<G: Gate>(
+        &mut self,
+        sealer: &Sealer<'_, G>,
+        settings: &Settings,
+    ) -> Result<(), PackFault>
         requires somewhere { IsSomewhere S.input O.output settings.now self.old }
         ensures ok { OnOk result (Moves S.input O.output settings.now self.old self.new) }
         ensures err { IfErr result (Breaks S.input O.output settings.now self.old self.new) }
+        ensures held { IfErr result (IsGatesWord (G.stops sealer.now.gate.now)) }
         ensures none_read { ReadsNoneIn self.old self.new }
         ensures fair { OnOk result (IsFair self.old self.new) }
         ensures dry { OnOk result (NoneReady self.new.collector) }
     {
         take_all(
             self.broadcast.held.rt,
+            sealer.gate,
             self.desk,
             &mut self.taker,
             &mut self.collector,
         )?;
-        self.give_all_ready(settings)?;
+        self.give_all_ready(sealer.alloc, settings)?;
         Ok(())
     }
 }
@@ -121,8 +140,9 @@ fn hand_out<'s, L: Ledger, M: Ledger, R: Wait>(
 }
 
 /// Takes in what the desk hands out; false if that is nothing.
-fn take_one<'s, L: Ledger, M: Ledger, R: Wait>(
+fn take_one<'s, G: Gate, L: Ledger, M: Ledger, R: Wait>(
     rt: &R,
+    gate: &G,
     desk: &Desk<'s, L, M>,
     wait: bool,
     taker: &mut Taker<M>,
@@ -130,7 +150,7 @@ fn take_one<'s, L: Ledger, M: Ledger, R: Wait>(
 ) -> Result<bool, PackFault>
     ensures keeps { Keeps collector.old collector.new }
     ensures fair { taker.new.right + gathered collector.old.sequences ≡ taker.old.right + gathered collector.new.sequences }
-    ensures fault { IfErr result IsHeld }
+    ensures fault { IfErr result (IsHeldBack (G.stops gate.now)) }
 {
     let Taker {
         pass,
@@ -141,23 +161,24 @@ fn take_one<'s, L: Ledger, M: Ledger, R: Wait>(
         return Ok(false);
     };
     prove!(pass.count > 0);
-    take_in(collector, done, right, thrown)?;
+    take_in(gate, collector, done, right, thrown)?;
     Ok(true)
 }
 
 /// Takes in everything that is done.
-fn take_all<'s, L: Ledger, M: Ledger, R: Wait>(
+fn take_all<'s, G: Gate, L: Ledger, M: Ledger, R: Wait>(
     rt: &R,
+    gate: &G,
     desk: &Desk<'s, L, M>,
     taker: &mut Taker<M>,
     collector: &mut Collector<'s>,
 ) -> Result<(), PackFault>
     ensures keeps { Keeps collector.old collector.new }
     ensures fair { taker.new.right + gathered collector.old.sequences ≡ taker.old.right + gathered collector.new.sequences }
-    ensures fault { IfErr result IsHeld }
+    ensures fault { IfErr result (IsHeldBack (G.stops gate.now)) }
 {
     for _ in rt.forever() {
-        if !take_one(rt, desk, false, taker, collector)? {
+        if !take_one(rt, gate, desk, false, taker, collector)? {
             break;
         }
     }
@@ -176,9 +197,9 @@ fn wait_or_seal<'s, G: Gate, L: Ledger, M: Ledger, R: Wait>(
     requires keys { HasKeys settings.now collector.old }
     ensures keeps { Keeps collector.old collector.new }
     ensures fair { taker.new.right + gathered collector.old.sequences ≤ taker.old.right + gathered collector.new.sequences }
-    ensures fault { IfErr result (λ fault. IsHeld fault ⊎ IsLeft (G.lets sealer.now.gate.now) (G.stops sealer.now.gate.now) collector.new fault) }
+    ensures fault { IfErr result (λ fault. IsHeldBack (G.stops sealer.now.gate.now) fault ⊎ IsLeft (G.lets sealer.now.gate.now) (G.stops sealer.now.gate.now) collector.new fault) }
 {
-    if !take_one(rt, desk, true, taker, collector)? {
+    if !take_one(rt, sealer.gate, desk, true, taker, collector)? {
         sealer.seal_missing(settings, collector)?;
     }
     Ok(())

@@ -5,6 +5,7 @@ ghost use Rattle.ladder_items.specs.Ladder.{Ladder};
 ghost use Rattle.ladder_items.specs.World.{HaveRoom};
 ghost use Rattle.rounds.specs.Begun.{IsBegun};
 ghost use Rattle.rounds.specs.Courses.{IsBetween};
+ghost use Rattle.rounds.specs.Gated.{IsGatesWord};
 ghost use Rattle.rounds.specs.Shown.{EndsFaulted, EndsPacked, FitsStart, start_at};
 ghost use Rattle.item_io.specs.declared.limits.TheConstants.{READS};
 
@@ -85,6 +86,7 @@ pub fn pack_fitted<
     ensures ok { IfOk result.answer (EndsPacked S.input O.output setup.now.settings.now setup.now.workers (start_at endpoints) result) }
     ensures fault { IfErr result.answer (EndsFaulted S.input O.output setup.now.settings.now setup.now.workers (start_at endpoints) result) }
     ensures board { result.publisher.board ≡ endpoints.publisher.board }
+    ensures held { IfErr result.answer (IsGatesWord (G.stops setup.now.gate.now)) }
 {
     let (between, spare, keys) = set_out(setup.rt, first, endpoints);
     let (between, answer) = run_rounds(setup, &keys, spare, between, herald);

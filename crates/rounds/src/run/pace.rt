@@ -2,14 +2,22 @@
 
 ghost use Rattle.std.specs.Prelude.{◌≡◌, min};
 ghost use Rattle.std.specs.Option.{unwrap_or};
+ghost use Rattle.rounds.specs.Paces.{wanted};
+
+/// How many turns are had during a round before the next one is begun with fewer segments: what is read in them, at most 18,800 bytes
+/// in each, is 94 MB. So what is held is bounded by bytes too, and not by the number of segments alone.
+const TURNS: u128 = 5000;
 
 /// How many closed segments, over all renditions, begin the next round.
 #[derive(Clone, Copy)]
 pub struct Pace {
-    /// How many are enough once all of the round before has been given. One is, where no source is ready.
+    /// How many are enough once all of the round before has been given, or once `turns` turns were had since it began. One is,
+    /// where no source is ready.
     pub least: usize,
     /// How many are enough at any time.
     pub most: usize,
+    /// After how many turns in a round the lesser number is enough.
+    pub turns: u128,
 }
 
 impl Pace {
@@ -17,11 +25,27 @@ impl Pace {
     pub fn new(workers: usize, queue: usize, batch: Option<usize>) -> Pace
         ensures most { result.most ≡ unwrap_or batch (min workers queue) }
         ensures least { result.least ≡ min result.most workers }
+        ensures turns { result.turns ≡ TURNS }
     {
         let most = batch.unwrap_or(workers.min(queue));
         Pace {
             least: most.min(workers),
             most,
+            turns: TURNS,
         }
+    }
+
+    /// How many closed segments begin the next round, while so many of the round before are still to be given, and so many turns were
+    /// had since it began.
+    pub fn wanted(&self, awaited: usize, turns: u128) -> usize
+        ensures { result ≡ wanted self.now awaited turns }
+    {
+        if awaited == 0 {
+            return self.least;
+        }
+        if turns < self.turns {
+            return self.most;
+        }
+        self.least
     }
 }

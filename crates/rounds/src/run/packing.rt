@@ -4,6 +4,7 @@ ghost use Rattle.std.specs.Prelude.{◌≡◌, ◌<◌, ◌≤◌, ◌^◌, Err,
 ghost use Rattle.ladder_items.specs.World.{HaveRoom};
 ghost use Rattle.live_board.specs.Counts.{counts_shown};
 ghost use Rattle.rounds.specs.Begun.{IsBegun};
+ghost use Rattle.rounds.specs.Gated.{IsGatesWord, IsUnheld};
 ghost use Rattle.rounds.specs.Shown.{EndsAway, EndsFaulted, EndsPacked, Fits, FitsStart, IsUnbegun, start_at, start_of};
 
 use crate::run::first::{First, beginning};
@@ -29,9 +30,10 @@ use work_desk::Gate;
 /// every answer.
 ///
 /// The publisher must have as many renditions as the settings, none of them with a segment, and there must be 1 to 64 workers;
-/// otherwise the answer is Settings. The gate is asked before a segment is sealed: the answer is Held if it isn't let
-/// through. Want of memory (a thread that can't be started counts as that), a failed put and a held segment stop the run at
-/// once. Every thread that was started has ended by the time it answers.
+/// otherwise the answer is Settings. The gate is asked before a segment is sealed. It is asked again, by the calling thread, about one
+/// that a worker wasn't let through with: if it stops that one, the answer is Held with its rendition and its number. Want of memory
+/// (a thread that can't be started counts as that), a failed put and a held segment stop the run at once. Every thread that was started
+/// has ended by the time it answers.
 pub fn pack_parallel<S: Source + Drop, O: Outlet + Drop, G: Gate + Sync, R: Threads + Wait + Sync>(
     rt: &R,
     alloc: Global,
@@ -49,6 +51,7 @@ pub fn pack_parallel<S: Source + Drop, O: Outlet + Drop, G: Gate + Sync, R: Thre
     ensures board { result.publisher.board ≡ publisher.board }
     ensures fits { OnOk result.answer (Fits settings.now (length sources.items) workers (counts_shown publisher.list)) }
     ensures breach { IfErr result.answer (EndsAway S.input O.output settings.now workers (start_of sources.items outlet publisher READS) result) }
+    ensures held { IfErr result.answer (IsGatesWord (G.stops gate.now)) }
 {
     pack_parallel_reads(
         rt, alloc, sources, settings, workers, gate, publisher, outlet, READS,
@@ -83,6 +86,7 @@ pub fn pack_parallel_reads<
     ensures board { result.publisher.board ≡ publisher.board }
     ensures fits { OnOk result.answer (Fits settings.now (length sources.items) workers (counts_shown publisher.list)) }
     ensures breach { IfErr result.answer (EndsAway S.input O.output settings.now workers (start_of sources.items outlet publisher reads) result) }
+    ensures held { IfErr result.answer (IsGatesWord (G.stops gate.now)) }
 {
     pack_in_batches(
         rt, alloc, sources, settings, workers, gate, publisher, outlet, reads, None,
@@ -122,6 +126,7 @@ pub fn pack_in_batches<
     ensures board { result.publisher.board ≡ publisher.board }
     ensures fits { OnOk result.answer (Fits settings.now (length sources.items) workers (counts_shown publisher.list)) }
     ensures breach { IfErr result.answer (EndsAway S.input O.output settings.now workers (start_of sources.items outlet publisher reads) result) }
+    ensures held { IfErr result.answer (IsGatesWord (G.stops gate.now)) }
 {
     pack_heralded(
         rt, alloc, sources, settings, workers, gate, publisher, outlet, reads, batch, &Nobody,
@@ -159,6 +164,7 @@ pub fn pack_heralded<
     ensures board { result.publisher.board ≡ publisher.board }
     ensures fits { OnOk result.answer (Fits settings.now (length sources.items) workers (counts_shown publisher.list)) }
     ensures breach { IfErr result.answer (EndsAway S.input O.output settings.now workers (start_of sources.items outlet publisher reads) result) }
+    ensures held { IfErr result.answer (IsGatesWord (G.stops gate.now)) }
 {
     let endpoints = Endpoints {
         sources,
@@ -217,6 +223,7 @@ fn turn_away<S: Source, O: Outlet>(
     ensures answer { result.answer ≡ Err fault }
     ensures fault { EndsFaulted S.input O.output settings.now workers (start_at endpoints) result fault }
     ensures breach { EndsAway S.input O.output settings.now workers (start_at endpoints) result fault }
+    ensures unheld { IsUnheld fault }
     ensures board { result.publisher.board ≡ endpoints.publisher.board }
 {
     let Endpoints {

@@ -1,8 +1,9 @@
 //! Reading: a turn is one read of a rendition's source. Each rendition has its turns when its source is ready.
 
-ghost use Rattle.std.specs.Prelude.{◌≡◌, ◌+◌, ◌<◌, ◌≤◌, [], ℕ, IfOk, OnErr, OnOk, None, Some, true, false, length, slice_get, slice_set};
+ghost use Rattle.std.specs.Prelude.{◌≡◌, ◌+◌, ◌<◌, ◌≤◌, ◌^◌, [], ℕ, Decides, IfOk, OnErr, OnOk, None, Some, true, false, length, slice_get, slice_set};
 ghost use Rattle.ingest.specs.declared.lane.Lane.{Lane};
 ghost use Rattle.rounds.specs.Courses.{HasClosed, IsRun, ReadsMore, ReadsOn, ReadsShort, Rests, turns_at, turns_in};
+ghost use Rattle.rounds.specs.Paces.{HasEnough, closed_in, wanted};
 ghost use Rattle.item_io.specs.declared.limits.TheConstants.{PIECE, READS};
 
 use crate::run::course::Course;
@@ -113,8 +114,8 @@ impl<S: Source, O: Outlet> Course<S, O> {
         Ok(any)
     }
 
-    /// Reads until `least` plans are closed, or one and no source is ready, or nothing is left to read. Waits for sources
-    /// meanwhile, and tells the faults that stand by then.
+    /// Reads until `least` plans are closed, or one and no source is ready, or nothing is left to read: nothing where that is so
+    /// already. Waits for sources meanwhile, and tells the faults that stand by then.
     pub fn read_more<R: Wait, H: Herald>(
         &mut self,
         rt: &R,
@@ -129,6 +130,7 @@ impl<S: Source, O: Outlet> Course<S, O> {
         ensures err { OnErr result (ReadsShort S.input O.output self.old self.new) }
         ensures playlists { OnOk result (self.new.playlists ≡ self.old.playlists) }
         ensures further { OnOk result (ReadsMore self.old self.new) }
+        ensures idle { OnOk result (HasEnough least self.old → self.new ≡ self.old) }
     {
         for _ in rt.forever() {
             if self.has_closed(least) {
@@ -157,17 +159,22 @@ impl<S: Source, O: Outlet> Course<S, O> {
     /// Whether `least` plans are closed, and at least one, or nothing is left to read.
     fn has_closed(&self, least: usize) -> bool
         requires each { length self.now.turns.items ≡ length self.now.lanes.items }
+        ensures { Decides result (HasEnough least self.now) }
     {
         if self.rests() {
             return true;
         }
-        any_closed(&self.lanes) && count_closed(&self.lanes) >= least
+        let closed = count_closed(&self.lanes);
+        if closed == 0 {
+            return false;
+        }
+        closed >= least as u128
     }
 
     /// Whether nothing is left to read.
     pub fn rests(&self) -> bool
         requires each { length self.now.turns.items ≡ length self.now.lanes.items }
-        ensures { result ≡ true → Rests self.now }
+        ensures { Decides result (Rests self.now) }
     {
         for r in 0..self.lanes.len() {
             if self.goes_on(r) {
@@ -177,14 +184,25 @@ impl<S: Source, O: Outlet> Course<S, O> {
         true
     }
 
-    /// Whether enough is read for the next round, while `awaited` segments of the round before are still to be given.
-    pub fn is_enough(&self, pace: Pace, awaited: usize) -> bool
+    /// Whether enough is read for the next round, while `awaited` segments of the round before are still to be given, and so many turns
+    /// were had since it began.
+    pub fn is_enough(&self, pace: Pace, awaited: usize, turns: u128) -> bool
         requires each { length self.now.turns.items ≡ length self.now.lanes.items }
+        ensures { Decides result (HasEnough (wanted pace awaited turns) self.now) }
     {
-        if awaited == 0 {
-            return self.has_closed(pace.least);
+        self.has_closed(pace.wanted(awaited, turns))
+    }
+
+    /// How many turns all renditions had together.
+    pub fn turns_had(&self) -> u128
+        ensures is { result ≡ turns_in self.now }
+        ensures small { result < 2 ^ 127 }
+    {
+        let mut all = 0;
+        for had in &self.turns {
+            all += u128::from(*had);
         }
-        self.has_closed(pace.most)
+        all
     }
 }
 
@@ -202,10 +220,13 @@ pub fn any_closed(lanes: &[Lane]) -> bool
 }
 
 /// How many plans are closed and not yet swapped out.
-fn count_closed(lanes: &[Lane]) -> usize {
-    let mut count: usize = 0;
+fn count_closed(lanes: &[Lane]) -> u128
+    ensures is { result ≡ closed_in lanes.now }
+    ensures small { result < 2 ^ 127 }
+{
+    let mut all = 0;
     for lane in lanes {
-        count = count.saturating_add(lane.intake.plans());
+        all += lane.intake.plans() as u128;
     }
-    count
+    all
 }

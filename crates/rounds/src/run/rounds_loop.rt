@@ -3,6 +3,7 @@
 ghost use Rattle.std.specs.Prelude.{◌≡◌, ◌+◌, ◌≤◌, IfErr, IfOk, OnErr, OnOk, length, sum};
 ghost use Rattle.rounds.specs.Courses.{HasGoodEnds, IsAllGiven, IsSomeBetween, NoneClosed, ReadsNone, StaysBetween, StopsBetween};
 ghost use Rattle.rounds.specs.Courses.{IsRun, ReadsMore, ReadsOn, ReadsShort};
+ghost use Rattle.rounds.specs.Gated.{IsGatesWord, IsUnheld};
 ghost use Rattle.rounds.specs.Rounds.{SwapsOut, SwapsShort, TakesClosed};
 ghost use Rattle.rounds.specs.Showing.{counts_of};
 
@@ -31,6 +32,7 @@ fn give_due_ends<'r, S: Source, O: Outlet, R: Wait>(
     requires on { IsSomeBetween S.input O.output settings.now between.broadcast }
     ensures ok { OnOk result.1 (StaysBetween S.input O.output settings.now between.entry.broadcast result.0.broadcast) }
     ensures err { IfErr result.1 (StopsBetween S.input O.output settings.now between.entry.broadcast result.0.broadcast) }
+    ensures unheld { IfErr result.1 IsUnheld }
     ensures none_read { ReadsNone between.entry.broadcast.course result.0.broadcast.course }
     ensures playlists { result.0.broadcast.course.playlists ≡ between.entry.broadcast.course.playlists }
     ensures ended { OnOk result.1 (HasGoodEnds settings.now result.0.broadcast.course) }
@@ -128,6 +130,7 @@ pub fn run_rounds<
     requires first { between.books.rounds ≡ 0 }
     ensures ok { OnOk result.1 (StaysBetween S.input O.output setup.now.settings.now between.entry.broadcast result.0.broadcast) }
     ensures err { IfErr result.1 (StopsBetween S.input O.output setup.now.settings.now between.entry.broadcast result.0.broadcast) }
+    ensures held { IfErr result.1 (IsGatesWord (G.stops setup.now.gate.now)) }
     ensures all { OnOk result.1 (IsAllGiven result.0.broadcast.course) }
     ensures right { OnOk result.1 (result.0.books.right + sum (counts_of between.entry.broadcast.course.playlists.items)
         ≤ between.entry.books.right + sum (counts_of result.0.broadcast.course.playlists.items)) }

@@ -4,6 +4,7 @@ use Rattle.flow_core.specs.Gatherings.{Gathering, sequences_from}
 use Rattle.rounds.specs.Showing.{counts_of}
 use Rattle.rounds.proofs.Running.{stopped-here}
 use Rattle.rounds.proofs.Driven.{keys-of}
+use Rattle.rounds.proofs.Gates.{none-word}
 use Rattle.rounds.proofs.round.ending.driven.Goals as goal
 
 pub returns-in_default-clause-err : goal.returns-in_default-clause-err
@@ -13,3 +14,6 @@ pub drive-answer-requires-clause-behind : goal.drive-answer-requires-clause-behi
 drive-answer-requires-clause-behind g c =
     ap (λ (x : Gathering). x.sequences) (IfOk-at_ok _ c.in-Ok.is c.collector_behind-collector.ensures)
     ∙ ap (λ l. sequences_from 0 (keys-of c.args.setup.now.settings.now) (counts_of l)) c.deref.ensures.value
+
+pub returns-in_default-clause-held : goal.returns-in_default-clause-held
+returns-in_default-clause-held g c = none-word _ _ refl

@@ -7,6 +7,7 @@ use Rattle.rounds.specs.Courses.{Start}
 use Rattle.rounds.specs.Shown.{start_at}
 use Rattle.rounds.proofs.Answered.{ok-weaker}
 use Rattle.rounds.proofs.Ending.{stopped-shown, told-shown, packed-shown}
+use Rattle.rounds.proofs.Gates.{answered-unheld, unheld-word}
 use Rattle.rounds.proofs.run.fitted.pack_fitted.Goals as goal
 
 pub run_rounds-between-requires-clause-on : goal.run_rounds-between-requires-clause-on
@@ -81,3 +82,11 @@ returns-clause-board g c =
     let start : Start _ _ = start_at c.args.endpoints in
     let on = c.set_out-between.ensures.on c.args.setup.now.settings.now c.args.setup.now.workers c.requires.fits c.requires.begun in
     ap (λ (k : Known). k.board) c.give_back-2.ensures.publisher ∙ (IfOk-at_ok _ c.in_default.is c.run_rounds-between.ensures.ok start on).board
+
+pub returns-in-Err-clause-held : goal.returns-in-Err-clause-held
+returns-in-Err-clause-held g c = rw c.give_back.ensures.answer (IfErr-at_err _ c.in-Err.is c.run_rounds-between.ensures.held)
+
+pub returns-clause-held : goal.returns-clause-held
+returns-clause-held g c =
+    rw c.give_back-2.ensures.answer
+    (IfErr-weaker c.answer_of-answer.result _ _ (λ fault told. unheld-word _ _ (answered-unheld _ _ told)) c.answer_of-answer.ensures.fault)

@@ -12,6 +12,7 @@ use Rattle.rounds.specs.Showing.{counts_of}
 use Rattle.rounds.specs.Rounds.{unfed_of}
 use Rattle.rounds.specs.Courses.{HasClosed, IsOn, IsStopped, NoneClosed, turns_in}
 use Rattle.rounds.proofs.Between.{counted-more, counted-read, few-rounds, counted-round, on-turns, on-as, never, all-given}
+use Rattle.rounds.proofs.Gates.{none-word, unheld-word}
 use Rattle.rounds.proofs.run.rounds_loop.run_rounds.Goals as goal
 use Rattle.rounds.proofs.run.rounds_loop.run_rounds.Goals.{in-None, in-Some+in_default+then-not-any_closed+then-rests}
 
@@ -161,7 +162,19 @@ returns-clause-all g c =
           let e = w.give_due_ends-now.ensures in
           let some = c.requires.on in
           let on = c.loop.invariant.on some.0 some.1 in
-          rw w.between-is (all-given (length c.args.setup.now.settings.now.renditions) w.give_due_ends-now.result.0.broadcast.course (w.if-rests.ensures refl)
+          rw w.between-is (all-given (length c.args.setup.now.settings.now.renditions) w.give_due_ends-now.result.0.broadcast.course (w.if-rests.ensures.0 refl)
           (subst NoneClosed w.deref.ensures.value (w.if-not-any_closed.ensures.none refl)) (ap (λ l. length l.items) e.none_read.lanes ∙ on.world.same_lanes)
           (IfOk-at_ok _ w.in_default.is e.ended))
     ]
+
+pub returns-in-Err-clause-held : goal.returns-in-Err-clause-held
+returns-in-Err-clause-held g c = unheld-word _ _ (IfErr-at_err _ c.in-Err.is c.give_due_ends-now.ensures.unheld)
+
+pub returns-in_default-swapped-clause-held : goal.returns-in_default-swapped-clause-held
+returns-in_default-swapped-clause-held g c = none-word _ _ refl
+
+pub returns-in-Err-answer-clause-held : goal.returns-in-Err-answer-clause-held
+returns-in-Err-answer-clause-held g c = IfErr-at_err _ c.in-Err-answer.is c.run_round-now.ensures.held
+
+pub returns-in-Err-read-clause-held : goal.returns-in-Err-read-clause-held
+returns-in-Err-read-clause-held g c = none-word _ _ refl

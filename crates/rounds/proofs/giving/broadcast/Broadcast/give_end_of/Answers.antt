@@ -12,6 +12,7 @@ use Rattle.ladder_items.proofs.Worlds.{parts-of, parts-length}
 use Rattle.rounds.proofs.Steps.{ends-end}
 use Rattle.rounds.proofs.Running.{stage-of, is-going, on-gave, on-ungiven}
 use Rattle.rounds.proofs.Closing.{beq-same, beq-apart, end-due, end-moved, end-begins}
+use Rattle.ladder_items.proofs.Unheld.{sudden-unheld}
 use Rattle.rounds.proofs.giving.broadcast.Broadcast.give_end_of.Goals as goal
 
 pub index-requires : goal.index-requires
@@ -110,3 +111,8 @@ returns-clause-others g c k other =
     let gave = c.in_ok-give_its_end.ensures.ok parts (is-going _ _ _ _ _ some.0 _ _ (λ k. []) on r c.requires.within due.0) on.ends in
     let now = gave.ends ∙ ends-end parts r in
     ap (λ (l : List Bool). slice_index_or l k false) now ∙ (get_or-set_other (ends_of parts) r k true false other ∙ ap (λ (l : List Bool). slice_index_or l k false) (sym on.ends))
+
+pub returns-in_err-give_its_end-clause-unheld : goal.returns-in_err-give_its_end-clause-unheld
+returns-in_err-give_its_end-clause-unheld g c =
+    let told = err_from_is_err_and c.from_residual.result c.from_residual.ensures.1 in
+    rw (told.1, told.2) (λ q n is. sudden-unheld _ _ _ q n c.in_err-give_its_end.ensures.fault is)

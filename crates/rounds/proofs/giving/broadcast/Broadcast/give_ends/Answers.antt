@@ -28,3 +28,8 @@ loop-r-preserved g c = record {
         | inr q ↦ c.in_ok-give_end_of.ensures.others k q ∙ c.loop-r.invariant.ended k lane (omega (arith, below, q)) at filled
       ];
 }
+
+pub returns-in_err-give_end_of-clause-unheld : goal.returns-in_err-give_end_of-clause-unheld
+returns-in_err-give_end_of-clause-unheld g c =
+    let told = err_from_is_err_and c.from_residual.result c.from_residual.ensures.1 in
+    rw (told.1, told.2) c.in_err-give_end_of.ensures.unheld

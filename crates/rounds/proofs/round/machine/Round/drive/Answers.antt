@@ -55,3 +55,18 @@ returns-clause-ok g c =
           (more-then _ _ _ c.in_ok-read_on.ensures.further (more-unread _ _ c.in_ok-give_expected.ensures.none_read));
       fair = omega (arith, begun, given, c.in_ok-feed_all.ensures.fair, c.in_ok-read_on.ensures.fair, c.in_ok-give_expected.ensures.fair);
     }
+
+pub returns-in_err-feed_all-clause-held : goal.returns-in_err-feed_all-clause-held
+returns-in_err-feed_all-clause-held g c =
+    let told = err_from_is_err_and c.from_residual.result c.from_residual.ensures.1 in
+    rw (told.1, told.2) c.in_err-feed_all.ensures.held
+
+pub returns-in_err-read_on-clause-held : goal.returns-in_err-read_on-clause-held
+returns-in_err-read_on-clause-held g c =
+    let told = err_from_is_err_and c.from_residual-in_err-read_on.result c.from_residual-in_err-read_on.ensures.1 in
+    rw (told.1, told.2) c.in_err-read_on.ensures.held
+
+pub returns-in_err-give_expected-clause-held : goal.returns-in_err-give_expected-clause-held
+returns-in_err-give_expected-clause-held g c =
+    let told = err_from_is_err_and c.from_residual-in_err-give_expected.result c.from_residual-in_err-give_expected.ensures.1 in
+    rw (told.1, told.2) c.in_err-give_expected.ensures.held

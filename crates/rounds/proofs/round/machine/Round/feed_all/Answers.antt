@@ -42,3 +42,8 @@ returns-clause-ok g c start old =
     let now = c.loop-r.invariant.ok start old in
     let done : length c.args.spools.now ≤ c.loop-r.r = search rules in
     (now.0, now.1, all-fed now.0 c.loop-r.r (omega (arith, now.1.all, old.all, done)) now.2)
+
+pub returns-in_err-feed_spool-clause-held : goal.returns-in_err-feed_spool-clause-held
+returns-in_err-feed_spool-clause-held g c =
+    let told = err_from_is_err_and c.from_residual.result c.from_residual.ensures.1 in
+    rw (told.1, told.2) c.in_err-feed_spool.ensures.held

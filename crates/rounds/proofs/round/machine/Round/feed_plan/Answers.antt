@@ -5,7 +5,7 @@ use Rattle.ingest.proofs.Ordered.{made_of-at}
 use Rattle.flow_core.specs.Sequences.{following, with_plan}
 use Rattle.flow_core.specs.Gatherings.{sequence_at, with_sequence}
 use Rattle.ladder_items.proofs.Worlds.{InOrder}
-use Rattle.rounds.proofs.Gates.{offered-sudden}
+use Rattle.rounds.proofs.Gates.{none-word, offered-sudden, offered-word}
 use Rattle.rounds.proofs.Rounding.{in-keeps, in-stopped}
 use Rattle.rounds.proofs.Expecting.{plan-follows, in-expect, expects-gathered}
 use Rattle.rounds.proofs.round.machine.Round.feed_plan.Goals as goal
@@ -61,7 +61,7 @@ pub returns-in_err-offer-clause-err : goal.returns-in_err-offer-clause-err
 returns-in_err-offer-clause-err g c =
     let told = err_from_is_err_and c.from_residual-in_err-offer.result c.from_residual-in_err-offer.ensures.1 in
     rw (told.1, told.2) (λ start unfed now. in-stopped _ _ _ _ _ start unfed _ _ _ _
-    (offered-sudden (g.G.Gate.lets c.make_room.new.self.sealer.gate.now) (g.G.Gate.stops c.make_room.new.self.sealer.gate.now) (lent c.args.plan) _ (g.O.Outlet.output.failures c.make_room.new.self.broadcast.course.outlet) c.in_err-offer.ensures.fault) (c.in_ok-make_room.ensures.ok start unfed now))
+    (offered-sudden (g.G.Gate.lets c.args.sealer.now.gate.now) (g.G.Gate.stops c.args.sealer.now.gate.now) (lent c.args.plan) _ (g.O.Outlet.output.failures c.make_room.new.self.broadcast.course.outlet) c.in_err-offer.ensures.fault) (c.in_ok-make_room.ensures.ok start unfed now))
 
 pub returns-clause-ok : goal.returns-clause-ok
 returns-clause-ok g c start unfed left is old =
@@ -79,3 +79,18 @@ returns-clause-fair g c =
     let p = plan-follows _ _ _ _ _ some.0 some.1 _ _ _ now c.args.r c.requires.within (lent c.args.plan) some.2 some.4 order in
     let same = expects-gathered _ _ _ _ (omega (arith, p.rendition, c.requires.within, now.each)) c.in_ok-expect.ensures.ok in
     omega (arith, c.in_ok-make_room.ensures.fair, same, c.in_ok-offer.ensures.more)
+
+pub returns-in_err-make_room-clause-held : goal.returns-in_err-make_room-clause-held
+returns-in_err-make_room-clause-held g c =
+    let told = err_from_is_err_and c.from_residual.result c.from_residual.ensures.1 in
+    rw (told.1, told.2) c.in_err-make_room.ensures.held
+
+pub returns-in_err-expect-clause-held : goal.returns-in_err-expect-clause-held
+returns-in_err-expect-clause-held g c =
+    let told = err_from_is_err_and c.from_residual-in_err-expect.result c.from_residual-in_err-expect.ensures.1 in
+    rw (told.1, told.2) (none-word _ _ c.in_err-expect.ensures.fault)
+
+pub returns-in_err-offer-clause-held : goal.returns-in_err-offer-clause-held
+returns-in_err-offer-clause-held g c =
+    let told = err_from_is_err_and c.from_residual-in_err-offer.result c.from_residual-in_err-offer.ensures.1 in
+    rw (told.1, told.2) (offered-word (g.G.Gate.lets c.args.sealer.now.gate.now) _ (lent c.args.plan) _ c.in_err-offer.ensures.fault)

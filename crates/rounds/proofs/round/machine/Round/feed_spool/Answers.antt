@@ -39,3 +39,8 @@ loop-i-preserved g c =
       none_read = reads-then _ _ _ c.loop-i.invariant.none_read c.in_ok-feed_plan.ensures.none_read;
       fair = omega (arith, c.loop-i.invariant.fair, c.in_ok-feed_plan.ensures.fair);
     }
+
+pub returns-in_err-feed_plan-clause-held : goal.returns-in_err-feed_plan-clause-held
+returns-in_err-feed_plan-clause-held g c =
+    let told = err_from_is_err_and c.from_residual.result c.from_residual.ensures.1 in
+    rw (told.1, told.2) c.in_err-feed_plan.ensures.held

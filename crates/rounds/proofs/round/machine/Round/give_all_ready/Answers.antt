@@ -17,3 +17,8 @@ returns-clause-dry g c =
     let now = c.loop-r.invariant.ok some.0 some.1 some.2 in
     let done : length c.args.settings.now.renditions ≤ c.loop-r.r = search rules in
     none-ready c.loop-r.self.collector c.loop-r.r (omega (arith, now.each, done)) c.loop-r.invariant.dry
+
+pub returns-in_err-give_ready-clause-unheld : goal.returns-in_err-give_ready-clause-unheld
+returns-in_err-give_ready-clause-unheld g c =
+    let told = err_from_is_err_and c.from_residual.result c.from_residual.ensures.1 in
+    rw (told.1, told.2) c.in_err-give_ready.ensures.unheld

@@ -5,6 +5,7 @@ use Rattle.flow_core.specs.Gatherings.{Gathering, awaited}
 use Rattle.ladder_items.proofs.Worlds.{InOrder, parts-of}
 use Rattle.rounds.specs.Rounds.{gathered}
 use Rattle.rounds.proofs.Rounding.{in-next, in-sealed, in-gave, in-ungiven, passed-gathered, passed-fewer}
+use Rattle.ladder_items.proofs.Unheld.{sudden-unheld}
 use Rattle.rounds.proofs.round.machine.Round.give_next.Goals as goal
 
 pub give_segment-requires-clause-next : goal.give_segment-requires-clause-next
@@ -48,3 +49,8 @@ returns-clause-fewer g c any =
     let now = ap (λ (x : Gathering). awaited x.sequences) c.in-Some.ensures.some in
     let less = passed-fewer c.args.self.now.collector c.args.r c.in-Some.sealed.plan c.in-Some.sealed c.in-Some.ensures.first in
     omega (arith, now, less)
+
+pub returns-in_err-give_segment-clause-unheld : goal.returns-in_err-give_segment-clause-unheld
+returns-in_err-give_segment-clause-unheld g c =
+    let told = err_from_is_err_and c.from_residual.result c.from_residual.ensures.1 in
+    rw (told.1, told.2) (λ q n is. sudden-unheld _ _ _ q n c.in_err-give_segment.ensures.fault is)

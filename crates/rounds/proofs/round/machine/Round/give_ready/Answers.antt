@@ -8,3 +8,8 @@ pub returns-in_err-give_next-clause-err : goal.returns-in_err-give_next-clause-e
 returns-in_err-give_next-clause-err g c =
     let told = err_from_is_err_and c.from_residual.result c.from_residual.ensures.1 in
     rw (told.1, told.2) (λ start unfed now. c.in_err-give_next.ensures.err start unfed (c.loop.invariant.ok start unfed now))
+
+pub returns-in_err-give_next-clause-unheld : goal.returns-in_err-give_next-clause-unheld
+returns-in_err-give_next-clause-unheld g c =
+    let told = err_from_is_err_and c.from_residual.result c.from_residual.ensures.1 in
+    rw (told.1, told.2) c.in_err-give_next.ensures.unheld

@@ -8,3 +8,8 @@ pub returns-in_err-wait_and_give-clause-err : goal.returns-in_err-wait_and_give-
 returns-in_err-wait_and_give-clause-err g c =
     let told = err_from_is_err_and c.from_residual.result c.from_residual.ensures.1 in
     rw (told.1, told.2) (λ start unfed now. c.in_err-wait_and_give.ensures.err start unfed (c.loop.invariant.ok start unfed now))
+
+pub returns-in_err-wait_and_give-clause-held : goal.returns-in_err-wait_and_give-clause-held
+returns-in_err-wait_and_give-clause-held g c =
+    let told = err_from_is_err_and c.from_residual.result c.from_residual.ensures.1 in
+    rw (told.1, told.2) c.in_err-wait_and_give.ensures.held

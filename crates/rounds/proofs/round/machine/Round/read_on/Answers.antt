@@ -1,8 +1,14 @@
-use Rattle.std.proofs.Common.{◌∙◌, sym, ap, arith, rules}
+use Rattle.std.proofs.Common.{◌≡◌, ◌∙◌, ◌-◌, refl, sym, ap, arith, rules}
+use Rattle.std.proofs.lemmas.Bool.{false≢true}
 use Rattle.std.proofs.lemmas.Result.{err_from_is_err_and}
 use Rattle.rounds.specs.declared.run.course.Course.{Course}
+use Rattle.flow_core.specs.Gatherings.{awaited}
+use Rattle.rounds.specs.declared.round.machine.Round.{Round}
+use Rattle.rounds.specs.Courses.{turns_in}
 use Rattle.rounds.proofs.Driven.{in-read}
+use Rattle.rounds.proofs.Pacing.{still-enough}
 use Rattle.rounds.proofs.Turning.{more-then, more-unread}
+use Rattle.rounds.proofs.Gates.{none-word}
 use Rattle.rounds.proofs.round.machine.Round.read_on.Goals as goal
 
 pub is_enough-requires : goal.is_enough-requires
@@ -60,5 +66,28 @@ loop-preserved g c =
           (in-read _ _ _ _ _ start unfed _ _ _ _ (λ waiting on. c.in_ok-read_ready.ensures.ok c.args.settings.now start c.loop.self.broadcast.held.publisher waiting on) same (c.loop.invariant.ok start unfed old));
       further = more-then _ _ _ c.loop.invariant.further (more-then _ _ _ c.in_ok-read_ready.ensures.further (more-unread _ _ c.in_ok-take_and_give.ensures.none_read));
       fair = omega (arith, c.loop.invariant.fair, c.in_ok-take_and_give.ensures.fair);
+      idle = λ enough. let at = c.loop.invariant.idle enough in
+          let course = ap (λ (s : Round _ _ _ _ _). s.broadcast.course) at in
+          let left = c.awaited-awaited.ensures ∙ ap (λ (s : Round _ _ _ _ _). awaited s.collector.sequences) at in
+          let none : c.turns_had.result - c.turns_had-before.result ≡ 0 = omega (arith, c.turns_had.ensures.is, c.turns_had-before.ensures.is, ap turns_in course) in
+          absurd (false≢true (c.if-is_enough.ensures.1 (still-enough c.args.pace _ _ _ _ _ course left none enough)));
       buffer = search rules;
     }
+
+pub returns-in_err-read_ready-clause-held : goal.returns-in_err-read_ready-clause-held
+returns-in_err-read_ready-clause-held g c =
+    let told = err_from_is_err_and c.from_residual.result c.from_residual.ensures.1 in
+    rw (told.1, told.2) (none-word _ _ refl)
+
+pub returns-in_err-take_and_give-clause-held : goal.returns-in_err-take_and_give-clause-held
+returns-in_err-take_and_give-clause-held g c =
+    let told = err_from_is_err_and c.from_residual-in_err-take_and_give.result c.from_residual-in_err-take_and_give.ensures.1 in
+    rw (told.1, told.2) c.in_err-take_and_give.ensures.held
+
+pub returns-then-not-branch-clause-idle : goal.returns-then-not-branch-clause-idle
+returns-then-not-branch-clause-idle g c enough =
+    let at = c.loop.invariant.idle enough in
+    let course = ap (λ (s : Round _ _ _ _ _). s.broadcast.course) at in
+    let left = c.awaited-awaited.ensures ∙ ap (λ (s : Round _ _ _ _ _). awaited s.collector.sequences) at in
+    let none : c.turns_had.result - c.turns_had-before.result ≡ 0 = omega (arith, c.turns_had.ensures.is, c.turns_had-before.ensures.is, ap turns_in course) in
+    absurd (false≢true (c.if-is_enough.ensures.1 (still-enough c.args.pace _ _ _ _ _ course left none enough)))

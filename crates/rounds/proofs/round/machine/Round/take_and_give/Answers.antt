@@ -1,11 +1,12 @@
 use Rattle.std.proofs.lemmas.Result.{err_from_is_err_and}
-use Rattle.rounds.proofs.Rounding.{held-sudden, in-keeps, in-stopped}
+use Rattle.rounds.proofs.Gates.{held-sudden, held-word, unheld-word}
+use Rattle.rounds.proofs.Rounding.{in-keeps, in-stopped}
 use Rattle.rounds.proofs.round.machine.Round.take_and_give.Goals as goal
 
 pub returns-in_err-take_all-clause-err : goal.returns-in_err-take_all-clause-err
 returns-in_err-take_all-clause-err g c =
     let told = err_from_is_err_and c.from_residual.result c.from_residual.ensures.1 in
-    rw (told.1, told.2) (λ start unfed now. in-stopped _ _ _ _ _ start unfed _ _ _ _ (held-sudden _ (g.O.Outlet.output.failures c.args.self.now.broadcast.course.outlet) c.in_err-take_all.ensures.fault) now)
+    rw (told.1, told.2) (λ start unfed now. in-stopped _ _ _ _ _ start unfed _ _ _ _ (held-sudden (g.G.Gate.stops c.args.sealer.now.gate.now) _ (g.O.Outlet.output.failures c.args.self.now.broadcast.course.outlet) c.in_err-take_all.ensures.fault) now)
 
 pub give_all_ready-requires : goal.give_all_ready-requires
 give_all_ready-requires g c = let some = c.requires.somewhere in record { somewhere = (some.0, some.1, in-keeps _ _ _ _ _ some.0 some.1 _ _ _ _ c.in_ok-take_all.ensures.keeps some.2) }
@@ -17,3 +18,13 @@ returns-in_err-give_all_ready-clause-err g c =
 
 pub returns-clause-ok : goal.returns-clause-ok
 returns-clause-ok g c start unfed now = c.in_ok-give_all_ready.ensures.ok start unfed (in-keeps _ _ _ _ _ start unfed _ _ _ _ c.in_ok-take_all.ensures.keeps now)
+
+pub returns-in_err-take_all-clause-held : goal.returns-in_err-take_all-clause-held
+returns-in_err-take_all-clause-held g c =
+    let told = err_from_is_err_and c.from_residual.result c.from_residual.ensures.1 in
+    rw (told.1, told.2) (held-word _ _ c.in_err-take_all.ensures.fault)
+
+pub returns-in_err-give_all_ready-clause-held : goal.returns-in_err-give_all_ready-clause-held
+returns-in_err-give_all_ready-clause-held g c =
+    let told = err_from_is_err_and c.from_residual-in_err-give_all_ready.result c.from_residual-in_err-give_all_ready.ensures.1 in
+    rw (told.1, told.2) (unheld-word _ _ c.in_err-give_all_ready.ensures.unheld)

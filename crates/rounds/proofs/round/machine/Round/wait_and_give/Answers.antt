@@ -1,5 +1,5 @@
 use Rattle.std.proofs.lemmas.Result.{err_from_is_err_and}
-use Rattle.rounds.proofs.Gates.{awaited-sudden}
+use Rattle.rounds.proofs.Gates.{awaited-sudden, awaited-word}
 use Rattle.rounds.proofs.Rounding.{in-keeps, in-stopped}
 use Rattle.rounds.proofs.round.machine.Round.wait_and_give.Goals as goal
 
@@ -10,7 +10,7 @@ pub returns-in_err-wait_or_seal-clause-err : goal.returns-in_err-wait_or_seal-cl
 returns-in_err-wait_or_seal-clause-err g c =
     let told = err_from_is_err_and c.from_residual.result c.from_residual.ensures.1 in
     rw (told.1, told.2) (λ start unfed now. in-stopped _ _ _ _ _ start unfed _ _ _ _
-    (awaited-sudden (g.G.Gate.lets c.args.self.now.sealer.gate.now) (g.G.Gate.stops c.args.self.now.sealer.gate.now) c.wait_or_seal.new.collector _ (g.O.Outlet.output.failures c.args.self.now.broadcast.course.outlet) c.in_err-wait_or_seal.ensures.fault) now)
+    (awaited-sudden (g.G.Gate.lets c.args.sealer.now.gate.now) (g.G.Gate.stops c.args.sealer.now.gate.now) c.wait_or_seal.new.collector _ (g.O.Outlet.output.failures c.args.self.now.broadcast.course.outlet) c.in_err-wait_or_seal.ensures.fault) now)
 
 pub take_and_give-requires : goal.take_and_give-requires
 take_and_give-requires g c = let some = c.requires.somewhere in record { somewhere = (some.0, some.1, in-keeps _ _ _ _ _ some.0 some.1 _ _ _ _ c.in_ok-wait_or_seal.ensures.keeps some.2) }
@@ -22,3 +22,13 @@ returns-in_err-take_and_give-clause-err g c =
 
 pub returns-clause-ok : goal.returns-clause-ok
 returns-clause-ok g c start unfed now = c.in_ok-take_and_give.ensures.ok start unfed (in-keeps _ _ _ _ _ start unfed _ _ _ _ c.in_ok-wait_or_seal.ensures.keeps now)
+
+pub returns-in_err-wait_or_seal-clause-held : goal.returns-in_err-wait_or_seal-clause-held
+returns-in_err-wait_or_seal-clause-held g c =
+    let told = err_from_is_err_and c.from_residual.result c.from_residual.ensures.1 in
+    rw (told.1, told.2) (awaited-word (g.G.Gate.lets c.args.sealer.now.gate.now) _ c.wait_or_seal.new.collector _ c.in_err-wait_or_seal.ensures.fault)
+
+pub returns-in_err-take_and_give-clause-held : goal.returns-in_err-take_and_give-clause-held
+returns-in_err-take_and_give-clause-held g c =
+    let told = err_from_is_err_and c.from_residual-in_err-take_and_give.result c.from_residual-in_err-take_and_give.ensures.1 in
+    rw (told.1, told.2) c.in_err-take_and_give.ensures.held

@@ -1,6 +1,8 @@
-use Rattle.std.proofs.Common.{◌∙◌, ap, sym, rules}
+use Rattle.std.proofs.Common.{◌∙◌, ap, sym, subst, rules}
+use Rattle.std.proofs.lemmas.Bool.{false≢true}
 use Rattle.std.proofs.lemmas.Result.{err_from_is_err_and}
 use Rattle.rounds.specs.declared.run.course.Course.{Course}
+use Rattle.rounds.specs.Paces.{HasEnough}
 use Rattle.rounds.proofs.Turning.{more-then, more-looked, on-looked}
 use Rattle.rounds.proofs.run.course.Course.read_more.Goals as goal
 
@@ -23,6 +25,7 @@ loop-preserved-then-branch g c = record {
   ok = λ ladder start shows waiting on. c.in_ok-read_ready.ensures.ok ladder start shows waiting (c.loop.invariant.ok ladder start shows waiting on);
   playlists = ap (λ (d : Course _ _). d.playlists) c.in_ok-read_ready.ensures.same ∙ c.loop.invariant.playlists;
   further = more-then _ _ _ c.loop.invariant.further c.in_ok-read_ready.ensures.further;
+  idle = λ enough. absurd (false≢true (c.if-has_closed.ensures.1 (subst (HasEnough c.args.least) (sym (c.loop.invariant.idle enough)) enough)));
   buffer = search rules;
 }
 
@@ -47,5 +50,10 @@ loop-preserved g c = record {
       on-looked _ _ _ _ _ start _ _ shows waiting c.wait.ensures.sources c.wait.ensures.same (c.in_ok-read_ready.ensures.ok ladder start shows waiting (c.loop.invariant.ok ladder start shows waiting on));
   playlists = ap (λ (d : Course _ _). d.playlists) c.wait.ensures.same ∙ (ap (λ (d : Course _ _). d.playlists) c.in_ok-read_ready.ensures.same ∙ c.loop.invariant.playlists);
   further = more-then _ _ _ (more-then _ _ _ c.loop.invariant.further c.in_ok-read_ready.ensures.further) (more-looked _ _ c.wait.ensures.same);
+  idle = λ enough. absurd (false≢true (c.if-has_closed.ensures.1 (subst (HasEnough c.args.least) (sym (c.loop.invariant.idle enough)) enough)));
   buffer = search rules;
 }
+
+pub returns-then-has_closed-2-clause-idle : goal.returns-then-has_closed-2-clause-idle
+returns-then-has_closed-2-clause-idle g c enough =
+    absurd (false≢true (c.if-has_closed.ensures.1 (subst (HasEnough c.args.least) (sym (c.loop.invariant.idle enough)) enough)))

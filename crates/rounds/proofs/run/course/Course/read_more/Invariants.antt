@@ -1,5 +1,6 @@
 use Rattle.std.proofs.Common.{◌≡◌, length}
 use Rattle.rounds.specs.Courses.{ReadsMore, ReadsOn}
+use Rattle.rounds.specs.Paces.{HasEnough}
 use Rattle.rounds.proofs.run.course.Course.read_more.Given as goal
 
 abbrev pub invariant-loop : goal.invariant-loop
@@ -7,5 +8,6 @@ invariant-loop g l = record {
   ok : ReadsOn g.S.Source.input g.O.Outlet.output l.fn.self l.self;
   playlists : l.self.playlists ≡ l.fn.self.playlists;
   further : ReadsMore l.fn.self l.self;
+  idle : HasEnough l.least l.fn.self → l.self ≡ l.fn.self;
   buffer : length l.buffer ≡ length l.fn.buffer;
 }

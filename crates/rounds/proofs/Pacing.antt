@@ -1,0 +1,11 @@
+-- A round that has enough when it begins still has, where nothing was read.
+use Rattle.std.proofs.Common.{◌≡◌, ℕ, sym, subst}
+use Rattle.rounds.specs.declared.run.course.Course.{Course}
+use Rattle.rounds.specs.declared.run.pace.Pace.{Pace}
+use Rattle.rounds.specs.Paces.{HasEnough, wanted}
+
+pub still-enough : {X Y : Type 0} (pace : Pace) (old new : Course X Y) (awaited left turns : ℕ) → new ≡ old → left ≡ awaited → turns ≡ 0
+    → HasEnough (wanted pace awaited 0) old → HasEnough (wanted pace left turns) new
+still-enough {X} {Y} pace old new awaited left turns same is none enough =
+    subst (λ (course : Course X Y). HasEnough (wanted pace left turns) course) (sym same)
+    (subst (λ (n : ℕ). HasEnough (wanted pace left n) old) (sym none) (subst (λ (n : ℕ). HasEnough (wanted pace n 0) old) (sym is) enough))

@@ -1,0 +1,19 @@
+-- When there is enough for the next round.
+use Rattle.std.specs.Prelude.{◌⊎◌, ℕ, ◌<◌, ◌≤◌, ◌==◌, if◌then◌else◌, nat_lt, List, length, sum_by}
+use Rattle.ingest.specs.declared.lane.Lane.{Lane}
+use Rattle.rounds.specs.declared.run.course.Course.{Course}
+use Rattle.rounds.specs.declared.run.pace.Pace.{Pace}
+use Rattle.rounds.specs.Courses.{Rests}
+
+-- how many plans are closed and not swapped out, over all renditions
+abbrev pub closed_in : List Lane → ℕ
+closed_in lanes = sum_by (λ (lane : Lane). length lane.intake.filled) lanes
+
+-- nothing is left to read, or a plan is closed, and so many are
+abbrev pub HasEnough : {X Y : Type 0} → ℕ → Course X Y → Type 0
+HasEnough least course = Rests course ⊎ ((0 < closed_in course.lanes.items) × (least ≤ closed_in course.lanes.items))
+
+-- How many closed plans begin the next round: the lesser number once all of the round before is given, or once so many turns were
+-- had since it began that what was read meanwhile shouldn't grow.
+abbrev pub wanted : Pace → ℕ → ℕ → ℕ
+wanted pace awaited turns = if awaited == 0 then pace.least else (if nat_lt turns pace.turns then pace.most else pace.least)
