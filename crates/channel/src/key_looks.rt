@@ -1,6 +1,7 @@
 //! Whether the keys of a ladder are those that its listed segments were sealed under.
 
-ghost use Rattle.std.specs.Prelude.{◌≡◌, ◌≢◌, ◌⊎◌, ◌↔◌, ◌<◌, ℕ, Some, true, false, IsTrue, ◌∷◌, [], All, length, map, slice_get, IfOk, IfErr, OnErr, OnOk, Decides};
+ghost use Rattle.std.specs.Prelude.{◌≡◌, ◌≢◌, ◌⊎◌, ◌↔◌, ◌<◌, ℕ, Some, true, false, IsTrue, ◌∷◌, [], All, length, map, slice_get};
+ghost use Rattle.std.specs.Prelude.{Decides, IfErr, IfOk, OnErr, OnOk};
 ghost use Rattle.std.specs.String.{string_bytes};
 ghost use Rattle.item_io.specs.FileNames.{segment_file_name};
 ghost use Rattle.limits.specs.declared.TheConstants.{MOST_KEYS};

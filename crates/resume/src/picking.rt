@@ -1,6 +1,7 @@
 //! The I-frames of an I-frame playlist. What is read here is trusted only once the whole text was written again.
 
-ghost use Rattle.std.specs.Prelude.{◌≡◌, ◌==◌, ◌++◌, ◌-◌, ◌<◌, ◌≤◌, ◌⊎◌, ◌^◌, List, ℕ, All, IfOk, IsNone, OnErr, OnOk, true, IsSomeAnd, length, take, drop, slice_index_or};
+ghost use Rattle.std.specs.Prelude.{◌≡◌, ◌==◌, ◌++◌, ◌-◌, ◌<◌, ◌≤◌, ◌⊎◌, ◌^◌, List, ℕ, All, true, length, take, drop, slice_index_or};
+ghost use Rattle.std.specs.Prelude.{IfOk, IsNone, IsSomeAnd, OnErr, OnOk};
 ghost use Rattle.std.specs.List.{before_first};
 ghost use Rattle.playlist_text.specs.Lines.{text_of};
 ghost use Rattle.media_reading.specs.MediaTexts.{IsLine};
