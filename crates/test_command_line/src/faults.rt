@@ -94,6 +94,11 @@ fn of_a_ladder(rt: HostRuntime) -> Result<(), Fail> {
             "at {text}"
         );
     }
+    Ok(())
+}
+
+#[test]
+fn of_packing_a_ladder(rt: HostRuntime) -> Result<(), Fail> {
     let table = [
         (
             LadderPackingFault::Packing(PackFault::LongSegment(1, 2)),
@@ -108,6 +113,11 @@ fn of_a_ladder(rt: HostRuntime) -> Result<(), Fail> {
             "at {text}"
         );
     }
+    Ok(())
+}
+
+#[test]
+fn of_inputs(rt: HostRuntime) -> Result<(), Fail> {
     for (fault, text) in [
         (InputFault::Unread, "tshls: Unread\n"),
         (InputFault::NoMemory, "tshls: NoMemory\n"),

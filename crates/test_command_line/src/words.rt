@@ -95,7 +95,7 @@ const TWO_KEYS: &str = "000102030405060708090a0b0c0d0e0f+100102030405060708090A0
 
 #[test]
 fn options(rt: HostRuntime) -> Result<(), Fail> {
-    let table: [(&[&str], Keys, &str, u8); 8] = [
+    let table: [(&[&str], Keys, &str, u8); 4] = [
         (
             &["--keys", KEY, "a/v.m3u8"],
             (1, [ONE, [0; 16]]),
@@ -120,6 +120,17 @@ fn options(rt: HostRuntime) -> Result<(), Fail> {
             "v.m3u8",
             0,
         ),
+    ];
+    for (more, keys, text, status) in table {
+        let is = is_asked(rt.alloc(), more, keys, text, status)?;
+        assert!(rt; is, "at {more:?}");
+    }
+    Ok(())
+}
+
+#[test]
+fn keys_that_are_refused(rt: HostRuntime) -> Result<(), Fail> {
+    let table: [(&[&str], Keys, &str, u8); 4] = [
         (
             &["--keys", "@raw+@bad+@none", "v.m3u8"],
             NO_KEYS,
