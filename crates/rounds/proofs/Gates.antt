@@ -7,7 +7,7 @@ use Rattle.ladder_items.specs.declared.fault.PackFault.{PackFault}
 use Rattle.ladder_items.specs.declared.fault.PackFault.TheVariants.{Held, NoMemory, Settings}
 use Rattle.ladder_items.specs.Ladder.{Ladder}
 use Rattle.ladder_items.proofs.Unheld.{told-unheld}
-use Rattle.rounds.specs.Begun.{IsFirstStanding}
+use Rattle.ladder_items.specs.Standing.{IsFirstStanding}
 use Rattle.rounds.specs.Courses.{SaysSudden}
 use Rattle.rounds.specs.Shown.{IsUnbegun}
 use Rattle.rounds.specs.Gated.{IsGatesWord, IsHeldBack, IsLeft, IsUnheld, IsUnsealed}

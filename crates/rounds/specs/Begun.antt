@@ -1,5 +1,5 @@
 -- What a run begins with, and what it tells at its end.
-use Rattle.std.specs.Prelude.{◌≡◌, ℕ, ◌+◌, ◌<◌, false, List, length, map, replicate, sum, Some, None, slice_get}
+use Rattle.std.specs.Prelude.{◌≡◌, ℕ, ◌+◌, false, List, length, map, replicate, sum, Some, None, slice_get}
 use Rattle.ingest.specs.declared.lane.Lane.{Lane}
 use Rattle.ingest.specs.Lanes.{IsFirst}
 use Rattle.ladder_items.specs.declared.fault.PackFault.{PackFault}
@@ -9,6 +9,7 @@ use Rattle.ladder_items.specs.Shown.{Shown}
 use Rattle.ladder_items.specs.Items.{shown_all}
 use Rattle.ladder_items.specs.Weave.{none_of}
 use Rattle.ladder_items.specs.Packed.{IsReport, gone_of, told_of}
+use Rattle.ladder_items.specs.Standing.{NoneStands}
 use Rattle.rounds.specs.declared.run.books.Books.{Books}
 use Rattle.rounds.specs.declared.run.first.First.{First}
 
@@ -29,20 +30,10 @@ pub record IsBegun (ladder : Ladder) (workers : ℕ) (first : First) : Type 0 wh
 abbrev pub IsStanding : List Lane → PackFault → Type 0
 IsStanding lanes fault = (r : ℕ) × (lane : Lane) × (slice_get lanes r ≡ Some lane) × (told_of r lane.stop ≡ Some fault)
 
--- none before it stopped in a way that a fault tells
-abbrev pub IsFirstStanding : List Lane → PackFault → Type 0
-IsFirstStanding lanes fault =
-    (r : ℕ) × (lane : Lane) × (slice_get lanes r ≡ Some lane) × (told_of r lane.stop ≡ Some fault)
-    × ((k : ℕ) (earlier : Lane) → k < r → slice_get lanes k ≡ Some earlier → told_of k earlier.stop ≡ None)
-
--- no fault stands: each rendition came to its good end
-abbrev pub NoneStands : List Lane → Type 0
-NoneStands lanes = (k : ℕ) (lane : Lane) → slice_get lanes k ≡ Some lane → told_of k lane.stop ≡ None
-
 -- Each rendition came to its good end, and the report tells the numbers of what they show. All that the workers claimed and the
 -- calling thread sealed was given, or thrown away.
 pub record IsTold (shown : List Shown) (lanes : List Lane) (books : Books) (report : Report) : Type 0 where
-  pub good : (k : ℕ) (lane : Lane) → slice_get lanes k ≡ Some lane → told_of k lane.stop ≡ None
+  pub good : NoneStands lanes
   pub numbers : IsReport shown (map (λ (lane : Lane). gone_of lane.stop) lanes) report
   pub workers : report.workers.items ≡ books.workers.items
   pub total : sum report.workers.items + report.own ≡ sum report.counts.items + report.thrown

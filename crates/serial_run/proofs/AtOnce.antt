@@ -25,7 +25,7 @@ use Rattle.ladder_items.specs.Packed.{told_of}
 use Rattle.ladder_items.proofs.Elsewhere.{some-at}
 use Rattle.ladder_items.proofs.Stages.{stage-given, turns-none}
 use Rattle.ladder_items.proofs.Worlds.{CutBehind, parts-of, at-default, world-stop, nothing-given}
-use Rattle.serial_run.specs.Answers.{NoneStands}
+use Rattle.ladder_items.specs.Standing.{NoneStands}
 use Rattle.serial_run.specs.OneThread.{IsCutAtOnce}
 
 -- no end of a rendition is told by a fault that stops a run at once

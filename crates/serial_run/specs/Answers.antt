@@ -1,21 +1,12 @@
 -- What a run on one thread answers, when no rendition goes on or one has had all its reads.
-use Rattle.std.specs.Prelude.{◌≡◌, ℕ, ◌<◌, ◌⊎◌, List, map, Some, None, slice_get}
+use Rattle.std.specs.Prelude.{◌≡◌, ◌⊎◌, List, map}
 use Rattle.ingest.specs.declared.lane.Lane.{Lane}
 use Rattle.ladder_items.specs.declared.fault.PackFault.{PackFault}
 use Rattle.ladder_items.specs.declared.fault.PackFault.TheVariants.{NoMemory}
 use Rattle.ladder_items.specs.declared.report.Report.{Report}
 use Rattle.ladder_items.specs.Shown.{Shown}
-use Rattle.ladder_items.specs.Packed.{IsReport, IsAlone, gone_of, told_of}
-
--- no fault stands: each rendition came to its good end
-abbrev pub NoneStands : List Lane → Type 0
-NoneStands lanes = (k : ℕ) (lane : Lane) → slice_get lanes k ≡ Some lane → told_of k lane.stop ≡ None
-
--- the first fault that stands
-abbrev pub StandsFirst : List Lane → PackFault → Type 0
-StandsFirst lanes fault =
-    (r : ℕ) × (lane : Lane) × (slice_get lanes r ≡ Some lane) × (told_of r lane.stop ≡ Some fault)
-    × ((k : ℕ) (earlier : Lane) → k < r → slice_get lanes k ≡ Some earlier → told_of k earlier.stop ≡ None)
+use Rattle.ladder_items.specs.Packed.{IsReport, IsAlone, gone_of}
+use Rattle.ladder_items.specs.Standing.{IsFirstStanding, NoneStands}
 
 -- none stands, and the report tells the numbers of what the renditions show
 pub record IsAnswer (lanes : List Lane) (shown : List Shown) (report : Report) : Type 0 where
@@ -25,4 +16,4 @@ pub record IsAnswer (lanes : List Lane) (shown : List Shown) (report : Report) :
 
 -- the first fault that stands, and want of memory alone where none does
 abbrev pub IsAnswered : List Lane → PackFault → Type 0
-IsAnswered lanes fault = StandsFirst lanes fault ⊎ ((fault ≡ NoMemory) × NoneStands lanes)
+IsAnswered lanes fault = IsFirstStanding lanes fault ⊎ ((fault ≡ NoMemory) × NoneStands lanes)

@@ -4,7 +4,8 @@ ghost use Rattle.std.specs.Prelude.{◌≡◌, ◌⊎◌, ◌+◌, ◌≤◌, Al
 ghost use Rattle.ingest.specs.declared.lane.Lane.{Lane};
 ghost use Rattle.ladder_items.specs.Packed.{IsReport, gone_of};
 ghost use Rattle.ladder_items.specs.declared.fault.PackFault.TheVariants.{NoMemory};
-ghost use Rattle.rounds.specs.Begun.{IsFirstStanding, IsStanding, IsTold, NoneStands};
+ghost use Rattle.ladder_items.specs.Standing.{IsFirstStanding, NoneStands};
+ghost use Rattle.rounds.specs.Begun.{IsStanding, IsTold};
 ghost use Rattle.rounds.specs.Showing.{counts_of};
 ghost use Rattle.limits.specs.declared.TheConstants.{MOST_RENDITIONS};
 
