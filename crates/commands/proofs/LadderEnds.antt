@@ -9,7 +9,7 @@ use Rattle.ladder_items.specs.Ladder.{Ladder}
 use Rattle.ladder_items.specs.Runs.{Run}
 use Rattle.live_board.specs.Counts.{counts_shown}
 use Rattle.rounds.specs.Shown.{Fits, IsPackedShown}
-use Rattle.commands.specs.LadderPacking.{BeginsSummary, LadderSays, TurnsAway}
+use Rattle.commands.specs.LadderPacking.{BeginsSummary, IsNeverHeld, LadderSays, TurnsAway}
 use Rattle.commands.specs.declared.ladder_packing.LadderPackingFault.{LadderPackingFault}
 use Rattle.commands.specs.declared.ladder_packing.LadderPackingFault.TheVariants.{NoMemory, Unwritten}
 
@@ -36,3 +36,14 @@ module _ {X Y : Type 0} (run : Run X Y) (ladder : Ladder) (workers : ℕ) (old n
   pub summary-fits : (r : Result Report LadderPackingFault) → IfErr r (λ fault. ((fault ≡ Unwritten) × BeginsSummary ladder report held held_then) ⊎ ((fault ≡ NoMemory) × Keeps held held_then))
       → IfErr r (TurnsAway run ladder workers old new)
   summary-fits r all = IfErr-weaker r (λ fault. ((fault ≡ Unwritten) × BeginsSummary ladder report held held_then) ⊎ ((fault ≡ NoMemory) × Keeps held held_then)) (TurnsAway run ladder workers old new) fitting all
+
+-- a summary says nothing of the gate
+module _ (ladder : Ladder) (held held_then : Option (List ℕ)) (report : Report) where
+  unheld : (fault : LadderPackingFault) → ((fault ≡ Unwritten) × BeginsSummary ladder report held held_then) ⊎ ((fault ≡ NoMemory) × Keeps held held_then)
+      → IsNeverHeld fault
+  unheld fault (inl x) = subst IsNeverHeld (sym x.0) tt
+  unheld fault (inr x) = subst IsNeverHeld (sym x.0) tt
+
+  pub summary-unheld : (r : Result Report LadderPackingFault) → IfErr r (λ fault. ((fault ≡ Unwritten) × BeginsSummary ladder report held held_then) ⊎ ((fault ≡ NoMemory) × Keeps held held_then))
+      → IfErr r IsNeverHeld
+  summary-unheld r all = IfErr-weaker r (λ fault. ((fault ≡ Unwritten) × BeginsSummary ladder report held held_then) ⊎ ((fault ≡ NoMemory) × Keeps held held_then)) IsNeverHeld unheld all

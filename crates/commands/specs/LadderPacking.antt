@@ -7,6 +7,7 @@ use Rattle.live_board.specs.Counts.{counts_shown}
 use Rattle.ladder_items.specs.declared.report.Report.{Report}
 use Rattle.ladder_items.specs.Ladder.{Ladder}
 use Rattle.ladder_items.specs.Runs.{Run}
+use Rattle.rounds.specs.Gated.{IsUnheld}
 use Rattle.rounds.specs.Shown.{FaultSaysShown, Fits, IsPackedShown, IsTurnedAway}
 use Rattle.commands.specs.Summaries.{IsSummaryOf}
 use Rattle.commands.specs.declared.ladder_packing.LadderPackingFault.{LadderPackingFault}
@@ -47,3 +48,9 @@ abbrev pub TurnsAway : {X Y : Type 0} → Run X Y → Ladder → ℕ → List Sn
 TurnsAway run ladder workers old new (Packing fault) = IsTurnedAway run ladder workers old new fault
 TurnsAway run ladder workers old new Unwritten = Fits ladder (length run.before) workers (counts_shown old)
 TurnsAway run ladder workers old new NoMemory = Fits ladder (length run.before) workers (counts_shown old)
+
+-- No segment is told as held back: the gate of `pack` lets everything through.
+abbrev pub IsNeverHeld : LadderPackingFault → Type 0
+IsNeverHeld (Packing fault) = IsUnheld fault
+IsNeverHeld Unwritten = Unit {0}
+IsNeverHeld NoMemory = Unit {0}

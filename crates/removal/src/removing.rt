@@ -7,7 +7,7 @@ ghost use Rattle.rounds.specs.Shown.{Fits, IsPackedShown};
 ghost use Rattle.item_io.specs.FolderMoves.{new_outlet};
 ghost use Rattle.keeping.specs.Keepings.{AreTold};
 ghost use Rattle.keeping.specs.InPlace.{NoneIsListed};
-ghost use Rattle.commands.specs.LadderPacking.{LadderSays, TurnsAway, WritesSummary};
+ghost use Rattle.commands.specs.LadderPacking.{IsNeverHeld, LadderSays, TurnsAway, WritesSummary};
 ghost use Rattle.removal.specs.Removing.{LeavesKept, kept_run, new_keeping};
 
 use crate::tally::{Tallied, Tally};
@@ -65,6 +65,7 @@ pub fn pack_and_remove<
     ensures breach { IfErr result.answer (TurnsAway
         (kept_run S.input F.made READS sources.items result.sources.items (new_keeping into renditions.items) result.outlet)
         settings.now pool.workers publisher.list result.publisher.list) }
+    ensures never_held { IfErr result.answer IsNeverHeld }
 {
     let outlet = Tallied {
         outlet: KeepingOutlet::new(outlet_of(into, alloc), alloc, renditions),
