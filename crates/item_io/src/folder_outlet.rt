@@ -1,5 +1,6 @@
 ghost use Rattle.std.specs.Prelude.{◌≡◌, ◌+◌, ◌<◌, ◌^◌, ◌∷◌, ◌++◌, [], true, false, IsErr, OnOk, OnErr};
-ghost use Rattle.folder.specs.FileFolders.{file_moves};
+ghost use Rattle.std.specs.String.{string_bytes};
+ghost use Rattle.folder.specs.FileFolders.{file_moves, folder_path, may_sync};
 ghost use Rattle.folder.specs.Moves.{Remove};
 ghost use Rattle.folder.specs.Pruning.{other_moves};
 ghost use Rattle.item_io.specs.Items.{item_value};
@@ -26,8 +27,8 @@ use std::marker::Model;
 /// time, and an older one is replaced in one step. Wherever the process is killed, the folder holds a prefix of the items,
 /// and where some of a block are in place, the others stand whole under their part names: `given_items_are_left`.
 ///
-/// A put fails where the name of an item's rendition is none, where memory is refused, and where the folder fails. From
-/// there on every put fails, and nothing more is done to the folder.
+/// A put fails where the name of an item's rendition is none, before anything is done to the folder, where memory is refused,
+/// and where the folder fails. From there on every put fails, and nothing more is done to the folder.
 ///
 /// Where the folder isn't synced, what is said here is of what processes see, and not of a machine that loses its power. One
 /// that is synced is so before a block is placed, and behind each file of it: then a loss of power leaves no more than a kill.
@@ -53,6 +54,8 @@ impl<R: Files> FolderOutlet<FileFolder<R>> {
     /// The outlet of the folder at a path, which has to be there.
     pub fn new(files: R, alloc: Global, path: String) -> FolderOutlet<FileFolder<R>>
         ensures made { file_moves result.folder ≡ [] }
+        ensures path { folder_path result.folder ≡ string_bytes path }
+        ensures unsynced { may_sync result.folder ≡ false }
         ensures syncs { result.syncs ≡ false }
         ensures staged { result.staged ≡ [] }
         ensures failures { result.failures ≡ 0 }
@@ -144,6 +147,7 @@ impl<F: Folder> Outlet for FolderOutlet<F> {
             (item_value item.now)) }
         ensures failed { OnErr result (self.new.failures ≡ self.old.failures + 1) }
         ensures named { OnOk result (is_named (item_value item.now) ≡ true) }
+        ensures unnamed { is_named (item_value item.now) ≡ false → self.new.folder ≡ self.old.folder }
         ensures stays { 0 < self.old.failures → IsErr result }
         ensures syncs { self.new.syncs ≡ self.old.syncs }
         ensures untouched { 0 < self.old.failures → self.new.folder ≡ self.old.folder }
