@@ -12,13 +12,12 @@ use Rattle.item_io.specs.Views.{OutletView, SourceView}
 use Rattle.ingest.specs.Inputs.{SourceSays}
 use Rattle.ingest.specs.Streams.{closed_of}
 use Rattle.ladder_items.specs.declared.fault.PackFault.{PackFault}
-use Rattle.ladder_items.specs.declared.fault.PackFault.TheVariants.{Held as HeldBack, NoMemory, Outlet as OutletFault}
+use Rattle.ladder_items.specs.declared.fault.PackFault.TheVariants.{NoMemory, Outlet as OutletFault}
 use Rattle.ladder_items.specs.Ladder.{Ladder, IsAllowed}
 use Rattle.ladder_items.specs.Shown.{Shown}
 use Rattle.ladder_items.specs.Items.{Part, no_part, part_at}
 use Rattle.ladder_items.specs.Weave.{AreLegal, after_all, blocks, none_of}
 use Rattle.ladder_items.specs.Runs.{run_of}
-use Rattle.ladder_items.specs.Putting.{SaysFailures}
 use Rattle.ladder_items.specs.Lanes.{IsClosed, HasGiven}
 use Rattle.ladder_items.specs.World.{NothingDue, stream_at, turns_of}
 use Rattle.ladder_items.specs.Packed.{told_of}
