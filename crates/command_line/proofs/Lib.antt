@@ -1,3 +1,3 @@
 pub mod Adding
 mod Matched
-mod Refused
+mod Refusals

@@ -1,5 +1,5 @@
 -- What faults of the program stand for.
-use Rattle.std.specs.Prelude.{◌≡◌, ◌≢◌, ℕ}
+use Rattle.std.specs.Prelude.{◌≡◌, ◌≢◌, ℕ, List, ◌++◌, codes}
 use Rattle.clap.specs.declared.error.Error.{Error}
 use Rattle.clap.specs.declared.error.kind.ErrorKind.TheVariants.{OutOfMemory}
 use Rattle.clap.specs.Values.{kind_of}
@@ -25,15 +25,14 @@ status_of (Packing fault) = 1
 status_of (LadderPacking fault) = 1
 status_of (Checking fault) = 1
 
--- a refused command line, a file of a key that gives none, or want of memory: nothing else was read, and nothing written. That the line
--- isn't one is told only where that may be
+-- what is told of words that aren't a line of the program: so, only where that may be; or want of memory
 abbrev pub IsRefused : Type 0 → Fault → Type 0
 IsRefused usage (Usage error) = usage
-IsRefused usage NotUtf8 = Unit {0}
-IsRefused usage (Cipher fault) = Unit {0}
-IsRefused usage (Settings fault) = Unit {0}
-IsRefused usage (KeyList fault) = Unit {0}
-IsRefused usage (Ladder fault) = Unit {0}
+IsRefused usage NotUtf8 = ⊥
+IsRefused usage (Cipher fault) = ⊥
+IsRefused usage (Settings fault) = ⊥
+IsRefused usage (KeyList fault) = ⊥
+IsRefused usage (Ladder fault) = ⊥
 IsRefused usage NoMemory = Unit {0}
 IsRefused usage Busy = ⊥
 IsRefused usage (Sealing fault) = ⊥
@@ -49,3 +48,8 @@ pub record IsRefusal (why : Error) (fault : Fault) : Type 0 where
   pub memory : kind_of why ≡ OutOfMemory → fault ≡ NoMemory
   pub usage : kind_of why ≢ OutOfMemory → fault ≡ Usage why
   pub early : IsRefused (kind_of why ≢ OutOfMemory) fault
+
+-- a line that is indented by two spaces
+pub record IsIndentedLine (text : List ℕ) : Type 0 where
+  pub words : List ℕ
+  pub is : text ≡ codes "  " ++ words ++ codes "\n"

@@ -2,3 +2,4 @@ pub mod Faults
 pub mod Words
 pub mod Options
 pub mod Jobs
+pub mod Refusals

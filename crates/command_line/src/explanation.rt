@@ -1,4 +1,12 @@
 //! What a fault means, in words, for whoever reads it at a terminal: which option, entry or path is meant, and why.
+ghost use Rattle.std.specs.Prelude.{◌≡◌, ◌≢◌, IfOk, IfSome, IsSome, None, Ok, map, true};
+ghost use Rattle.std.specs.String.{string_bytes};
+ghost use Rattle.clap.specs.Words.{subcommand_of, takes};
+ghost use Rattle.clap.specs.declared.error.Error.{Error};
+ghost use Rattle.command_line.specs.Faults.{IsIndentedLine};
+ghost use Rattle.command_line.specs.Jobs.{IsCommand};
+ghost use Rattle.command_line.specs.Options.{tshls};
+
 use crate::fault::Fault;
 use crate::job::program;
 use crate::options::{number_words, packing_words};
@@ -10,6 +18,7 @@ use crate::reasons::{
 use crate::settings_reason::{write_outside, write_unlistable, write_unlistable_entries};
 use channel::ResumingFault;
 use clap::ArgMatches;
+use clap::error::ErrorKind;
 use commands::{
     DEFAULT_NAME, EntryWords, LadderFault, LadderPackingFault, SettingsFault, cut_entry,
 };
@@ -31,13 +40,20 @@ pub fn explain<S: AsStr>(
     alloc: Global,
     words: &[S],
     fault: &Fault,
-) -> Result<Option<String>, AllocError> {
+) -> Result<Option<String>, AllocError>
+    ensures line { IfOk result (λ found. IfSome found (λ text. IsIndentedLine (string_bytes text))) }
+    ensures usage { (error : Error) → fault.now ≡ Fault.Usage error → result ≡ Ok None }
+    ensures told { ((error : Error) → fault.now ≢ Fault.Usage error) → takes tshls (map S.text words.now) ≡ true →
+        IsCommand (subcommand_of tshls (map S.text words.now)) → IfOk result (λ found. IsSome found) }
+{
     if matches!(fault, Fault::Usage(_)) {
         return Ok(None);
     }
     let mut command = program(alloc, "")?;
-    let Ok(matches) = command.try_get_matches_from_mut(words) else {
-        return Ok(None);
+    let matches = match command.try_get_matches_from_mut(words) {
+        Ok(matches) => matches,
+        Err(error) if error.kind() == ErrorKind::OutOfMemory => return Err(AllocError),
+        Err(_) => return Ok(None),
     };
     match matches.subcommand() {
         Some((_, options)) => Ok(Some(explained(alloc, options, fault)?)),
@@ -46,8 +62,11 @@ pub fn explain<S: AsStr>(
 }
 
 /// The same, by the options of a command.
-fn explained(alloc: Global, options: &ArgMatches<'_>, fault: &Fault) -> Result<String, AllocError> {
-    format!(in alloc; "  {}\n", Explanation { fault, options })
+fn explained(alloc: Global, options: &ArgMatches<'_>, fault: &Fault) -> Result<String, AllocError>
+    ensures { IfOk result (λ text. IsIndentedLine (string_bytes text)) }
+{
+    let words = format!(in alloc; "{}", Explanation { fault, options })?;
+    format!(in alloc; "  {words}\n")
 }
 
 impl fmt::Display for Explanation<'_, '_, '_> {

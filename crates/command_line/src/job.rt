@@ -4,6 +4,7 @@ ghost use Rattle.clap.specs.Words.{app_of, found_of, subcommand_of, subcommand_r
 ghost use Rattle.clap.specs.declared.builder.command.Command.TheViews.{out-Command};
 ghost use Rattle.command_line.specs.Faults.{IsRefused};
 ghost use Rattle.command_line.specs.Jobs.{AreCheckOptions, AreCipherOptions, AreSettings, IsCommand, IsJobOf, IsLadderJob, IsNoCall};
+ghost use Rattle.command_line.specs.Refusals.{AreNoKeys, AreNoSettings, IsNoCipher, IsNoJob, IsNoLadder, files_view};
 ghost use Rattle.command_line.specs.Options.{GetsCommand, check_options, cipher_options, command_of, ladder_options, stream_options, tshls};
 
 use crate::fault::Fault;
@@ -71,7 +72,8 @@ pub fn line<'a, S: AsStr, F: FileReader>(
     version: &'a str,
 ) -> Result<Job<'a>, Fault>
     ensures job { IfOk result (IsJobOf (F.gives files.now) (subcommand_of tshls (map S.text words.entry.now))) }
-    ensures fault { IfErr result (IsRefused (IsNoCall (map S.text words.entry.now))) }
+    ensures fault { IfErr result (IsNoJob (files_view (F.gives files.now) (F.refuses files.now) (F.wants files.now))
+        (IsNoCall (map S.text words.entry.now)) (subcommand_of tshls (map S.text words.entry.now))) }
 {
     let mut command = program(alloc, version)?;
     let matches = command.try_get_matches_from_mut(words)?;
@@ -86,7 +88,8 @@ fn job_of<'a, F: FileReader>(
     matches: &ArgMatches<'a>,
 ) -> Result<Job<'a>, Fault>
     ensures job { IfOk result (IsJobOf (F.gives files.now) (subcommand_rows_of matches.now)) }
-    ensures fault { IfErr result (IsRefused (IsCommand (subcommand_rows_of matches.now) → ⊥)) }
+    ensures fault { IfErr result (IsNoJob (files_view (F.gives files.now) (F.refuses files.now) (F.wants files.now))
+        (IsCommand (subcommand_rows_of matches.now) → ⊥) (subcommand_rows_of matches.now)) }
 {
     let Some((name, options)) = matches.subcommand() else {
         return Err(no_command(command));
@@ -133,7 +136,7 @@ fn cipher_options<F: FileReader>(
     options: &ArgMatches<'_>,
 ) -> Result<CipherOptions, Fault>
     ensures job { IfOk result (AreCipherOptions (F.gives files.now) (found_of options.now)) }
-    ensures fault { IfErr result (IsRefused ⊥) }
+    ensures fault { IfErr result (IsNoCipher (files_view (F.gives files.now) (F.refuses files.now) (F.wants files.now)) (found_of options.now)) }
 {
     Ok(read_cipher_options(alloc, files, cipher_words(options))?)
 }
@@ -145,7 +148,7 @@ fn settings<F: FileReader>(
     options: &ArgMatches<'_>,
 ) -> Result<Settings, Fault>
     ensures job { IfOk result (AreSettings (F.gives files.now) (found_of options.now)) }
-    ensures fault { IfErr result (IsRefused ⊥) }
+    ensures fault { IfErr result (AreNoSettings (files_view (F.gives files.now) (F.refuses files.now) (F.wants files.now)) (found_of options.now)) }
 {
     let words = packing_words(options);
     Ok(read_settings(alloc, files, words, number_words(options))?)
@@ -158,7 +161,7 @@ fn check_options<F: FileReader>(
     options: &ArgMatches<'_>,
 ) -> Result<CheckOptions, Fault>
     ensures job { IfOk result (AreCheckOptions (F.gives files.now) (found_of options.now)) }
-    ensures fault { IfErr result (IsRefused ⊥) }
+    ensures fault { IfErr result (AreNoKeys (files_view (F.gives files.now) (F.refuses files.now) (F.wants files.now)) (found_of options.now)) }
 {
     Ok(read_check_options(alloc, files, check_words(options))?)
 }
@@ -170,7 +173,7 @@ fn ladder_job<'a, F: FileReader>(
     options: &ArgMatches<'a>,
 ) -> Result<LadderJob<'a>, Fault>
     ensures job { IfOk result (IsLadderJob (F.gives files.now) (found_of options.now)) }
-    ensures fault { IfErr result (IsRefused ⊥) }
+    ensures fault { IfErr result (IsNoLadder (files_view (F.gives files.now) (F.refuses files.now) (F.wants files.now)) (found_of options.now)) }
 {
     let entries = entry_words(alloc, options)?;
     let words = ladder_words(options, &entries);

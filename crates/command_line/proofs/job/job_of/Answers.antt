@@ -1,7 +1,10 @@
-use Rattle.std.proofs.Common.{rules, ◌≡◌, codes, refl}
+use Rattle.std.proofs.Common.{rules, ◌≡◌, codes, inl, inr, refl, subst, sym}
+use Rattle.std.proofs.lemmas.Result.{err_from_is_err_and}
 use Rattle.clap.specs.Words.{found_of, rows_of, subcommand_rows_of}
 use Rattle.command_line.proofs.Matched.{is_matched, not_command}
-use Rattle.command_line.proofs.Refused.{refused_for}
+use Rattle.command_line.specs.declared.fault.Fault.{Fault}
+use Rattle.command_line.specs.Refusals.{AreNoKeys, AreNoSettings, IsNoCipher, IsNoLadder, files_view}
+use Rattle.command_line.proofs.Refusals.{no-cipher, no-keys, no-ladder, no-line, no-settings}
 use Rattle.command_line.proofs.job.job_of.Goals as goal
 
 pub returns-in_ok-options-in-seal-clause-job : goal.returns-in_ok-options-in-seal-clause-job
@@ -44,4 +47,55 @@ returns-in_default-name-clause-fault g c =
     let no_pack : name ≡ codes "pack" → ⊥ = search rules in
     let no_check : name ≡ codes "check" → ⊥ = search rules in
     let matched = is_matched c.args.matches.now name name rows refl c.in-Some.ensures.name c.in-Some.ensures.rows in
-    refused_for c.no_command-in_default-name.result (λ _. not_command (subcommand_rows_of c.args.matches.now) name rows matched no_seal no_open no_one no_pack no_check) c.no_command-in_default-name.ensures
+    let files = files_view (g.F.FileReader.gives c.args.files.now) (g.F.FileReader.refuses c.args.files.now) (g.F.FileReader.wants c.args.files.now) in
+    no-line files (subcommand_rows_of c.args.matches.now) c.no_command-in_default-name.result (λ _. not_command (subcommand_rows_of c.args.matches.now) name rows matched no_seal no_open no_one no_pack no_check) c.no_command-in_default-name.ensures
+
+pub returns-in_err-options-in-seal-clause-fault : goal.returns-in_err-options-in-seal-clause-fault
+returns-in_err-options-in-seal-clause-fault g c =
+    let named : c.in-Some.name.now ≡ codes "seal" = search rules in
+    let rows = rows_of (found_of c.in-Some.options.now) in
+    let found = found_of c.in-Some.options.now in
+    let files = files_view (g.F.FileReader.gives c.args.files.now) (g.F.FileReader.refuses c.args.files.now) (g.F.FileReader.wants c.args.files.now) in
+    let told = err_from_is_err_and c.from_residual.result c.from_residual.ensures.1 in
+    rw told.1 (no-cipher files _ (subcommand_rows_of c.args.matches.now) found told.0 (inl (is_matched c.args.matches.now c.in-Some.name.now (codes "seal") rows named c.in-Some.ensures.name c.in-Some.ensures.rows))
+    (subst (λ (f : Fault). IsNoCipher files found f) (sym told.2) c.in_err-options-in-seal.ensures.fault))
+
+pub returns-in_err-options-in-open-clause-fault : goal.returns-in_err-options-in-open-clause-fault
+returns-in_err-options-in-open-clause-fault g c =
+    let named : c.in-Some.name.now ≡ codes "open" = search rules in
+    let rows = rows_of (found_of c.in-Some.options.now) in
+    let found = found_of c.in-Some.options.now in
+    let files = files_view (g.F.FileReader.gives c.args.files.now) (g.F.FileReader.refuses c.args.files.now) (g.F.FileReader.wants c.args.files.now) in
+    let told = err_from_is_err_and c.from_residual-in_err-options-in-open.result c.from_residual-in_err-options-in-open.ensures.1 in
+    rw told.1 (no-cipher files _ (subcommand_rows_of c.args.matches.now) found told.0 (inr (is_matched c.args.matches.now c.in-Some.name.now (codes "open") rows named c.in-Some.ensures.name c.in-Some.ensures.rows))
+    (subst (λ (f : Fault). IsNoCipher files found f) (sym told.2) c.in_err-options-in-open.ensures.fault))
+
+pub returns-in_err-settings-in-one-clause-fault : goal.returns-in_err-settings-in-one-clause-fault
+returns-in_err-settings-in-one-clause-fault g c =
+    let named : c.in-Some.name.now ≡ codes "one" = search rules in
+    let rows = rows_of (found_of c.in-Some.options.now) in
+    let found = found_of c.in-Some.options.now in
+    let files = files_view (g.F.FileReader.gives c.args.files.now) (g.F.FileReader.refuses c.args.files.now) (g.F.FileReader.wants c.args.files.now) in
+    let told = err_from_is_err_and c.from_residual-in_err-settings-in-one.result c.from_residual-in_err-settings-in-one.ensures.1 in
+    rw told.1 (no-settings files _ (subcommand_rows_of c.args.matches.now) found told.0 (is_matched c.args.matches.now c.in-Some.name.now (codes "one") rows named c.in-Some.ensures.name c.in-Some.ensures.rows)
+    (subst (λ (f : Fault). AreNoSettings files found f) (sym told.2) c.in_err-settings-in-one.ensures.fault))
+
+pub returns-in_err-job-in-pack-clause-fault : goal.returns-in_err-job-in-pack-clause-fault
+returns-in_err-job-in-pack-clause-fault g c =
+    let named : c.in-Some.name.now ≡ codes "pack" = search rules in
+    let rows = rows_of (found_of c.in-Some.options.now) in
+    let found = found_of c.in-Some.options.now in
+    let files = files_view (g.F.FileReader.gives c.args.files.now) (g.F.FileReader.refuses c.args.files.now) (g.F.FileReader.wants c.args.files.now) in
+    let told = err_from_is_err_and c.from_residual-in_err-job-in-pack.result c.from_residual-in_err-job-in-pack.ensures.1 in
+    rw told.1 (no-ladder files _ (subcommand_rows_of c.args.matches.now) found told.0 (is_matched c.args.matches.now c.in-Some.name.now (codes "pack") rows named c.in-Some.ensures.name c.in-Some.ensures.rows)
+    (subst (λ (f : Fault). IsNoLadder files found f) (sym told.2) c.in_err-job-in-pack.ensures.fault))
+
+pub returns-in_err-options-in-check-clause-fault : goal.returns-in_err-options-in-check-clause-fault
+returns-in_err-options-in-check-clause-fault g c =
+    let named : c.in-Some.name.now ≡ codes "check" = search rules in
+    let rows = rows_of (found_of c.in-Some.options.now) in
+    let found = found_of c.in-Some.options.now in
+    let files = files_view (g.F.FileReader.gives c.args.files.now) (g.F.FileReader.refuses c.args.files.now) (g.F.FileReader.wants c.args.files.now) in
+    let told = err_from_is_err_and c.from_residual-in_err-options-in-check.result c.from_residual-in_err-options-in-check.ensures.1 in
+    rw told.1 (no-keys files _ (subcommand_rows_of c.args.matches.now) found told.0 (is_matched c.args.matches.now c.in-Some.name.now (codes "check") rows named c.in-Some.ensures.name c.in-Some.ensures.rows)
+    (subst (λ (f : Fault). AreNoKeys files found f) (sym told.2) c.in_err-options-in-check.ensures.fault))

@@ -4,14 +4,16 @@ use Rattle.clap.specs.Words.{is_simple, subcommand_of, subcommand_rows_of, takes
 use Rattle.command_line.specs.Jobs.{IsCommand, IsJobOf}
 use Rattle.command_line.specs.Options.{tshls}
 use Rattle.command_line.proofs.Matched.{tshls_is_simple}
-use Rattle.command_line.proofs.Refused.{refused_for}
+use Rattle.command_line.specs.Refusals.{files_view}
+use Rattle.command_line.proofs.Refusals.{no-line, same-job}
 use Rattle.command_line.proofs.job.line.Goals as goal
 
 pub returns-in_err-matches-clause-fault : goal.returns-in_err-matches-clause-fault
 returns-in_err-matches-clause-fault g c =
     let words = map g.S.AsStr.text c.args.words.now in
     let told = err_from_is_err_and c.from_residual-in_err-matches.result c.from_residual-in_err-matches.ensures.1 in
-    rw told.1 (refused_for told.0 (λ other taken _. other (c.in_err-matches.ensures.passes (ap (λ a. takes a words) c.in_ok-command.ensures.app ∙ taken))) told.2.early)
+    let files = files_view (g.F.FileReader.gives c.args.files.now) (g.F.FileReader.refuses c.args.files.now) (g.F.FileReader.wants c.args.files.now) in
+    rw told.1 (no-line files (subcommand_of tshls words) told.0 (λ other taken _. other (c.in_err-matches.ensures.passes (ap (λ a. takes a words) c.in_ok-command.ensures.app ∙ taken))) told.2.early)
 
 pub returns-clause-job : goal.returns-clause-job
 returns-clause-job g c =
@@ -27,4 +29,5 @@ returns-clause-fault g c =
     let words = map g.S.AsStr.text c.args.words.now in
     let matched : subcommand_rows_of c.in_ok-matches.matches ≡ subcommand_of tshls words =
     (c.in_ok-matches.ensures.ok.2 (ap is_simple app ∙ tshls_is_simple)).1 ∙ ap (λ a. subcommand_of a words) app in
-    IfErr-weaker c.job_of.result _ _ (λ fault is. refused_for fault (λ none _ command. none (subst IsCommand (sym matched) command)) is) c.job_of.ensures.fault
+    let files = files_view (g.F.FileReader.gives c.args.files.now) (g.F.FileReader.refuses c.args.files.now) (g.F.FileReader.wants c.args.files.now) in
+    IfErr-weaker c.job_of.result _ _ (λ fault is. same-job files _ _ fault matched (λ none _ command. none (subst IsCommand (sym matched) command)) is) c.job_of.ensures.fault
