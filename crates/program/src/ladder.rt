@@ -1,6 +1,7 @@
-ghost use Rattle.std.specs.Prelude.{◌≡◌, ◌*◌, [], IfOk, option_map};
+ghost use Rattle.std.specs.Prelude.{◌≡◌, ◌*◌, [], All, IfOk, IsOk, false, map, option_map};
 ghost use Rattle.std.specs.Duration.{as_nanos};
-ghost use Rattle.folder.specs.FileFolders.{file_moves};
+ghost use Rattle.folder.specs.FileFolders.{file_moves, folder_path, may_sync};
+ghost use Rattle.program.specs.Channels.{IsJobBehind};
 
 use crate::told::Tellings;
 use crate::watching::{Watched, Watching};
@@ -9,7 +10,7 @@ use command_line::{Fault, LadderJob};
 use commands::{Destination, LadderOptions, PackedLadder, Pool, pack_into_folder};
 use folder::FileFolder;
 use pipeline::{Herald, opening_board};
-use read_ahead::{InputFiles, Limits, open_paths};
+use read_ahead::{Ahead, InputAt, InputFiles, InputsView, Limits, open_paths};
 use removal::{Tally, keepings, pack_and_remove};
 use std::alloc::{AllocError, AllocGlobal, Global};
 use std::fs::Files;
@@ -30,7 +31,11 @@ pub fn begin_channel<'a, R: Files + AllocGlobal + Clone + Copy + Drop>(
     rt: R,
     alloc: Global,
     job: LadderJob<'a>,
-) -> Result<Channel<'a>, Fault> {
+) -> Result<Channel<'a>, Fault>
+    ensures behind { IfOk result (λ channel. IsJobBehind job.entry channel.job) }
+    ensures first { job.entry.resumes ≡ false → IfOk result (λ channel. (channel.job ≡ job.entry) × (channel.older.items ≡ [])) }
+    ensures none { job.entry.resumes ≡ false → IsOk result }
+{
     if !job.resumes {
         let older = Vec::new(alloc);
         return Ok(Channel { job, older });
@@ -89,17 +94,13 @@ where
 {
     let settings = &job.options.settings;
     let pool = job.options.pool;
-    let sources = open_paths(rt, alloc, rt, job.options.paths.as_slice(), limits_of(pool))?;
-    let inputs = match sources.first() {
-        Some(source) => Some(source.view()?),
-        None => None,
-    };
+    let Inputs { sources, view } = open_inputs(rt, alloc, &job.options)?;
     let into = destination(rt, alloc, job)?;
     let kept = keepings(alloc, settings, &older)?;
     let (publisher, viewers) = opening_board(&rt, alloc, settings.renditions.len(), 1)?;
     let watched = Watched {
         viewers,
-        inputs,
+        inputs: view,
         told,
     };
     let watching = Watching::begin(rt, alloc, &settings.renditions, job.metrics, watched);
@@ -132,6 +133,32 @@ where
     Ok(())
 }
 
+/// The inputs of a ladder, which are read ahead, and a view of them, if there are any.
+struct Inputs<S> {
+    sources: Vec<S>,
+    view: Option<InputsView>,
+}
+
+/// Opens the inputs of a ladder.
+fn open_inputs<R: InputFiles + Clock + Threads + Wait + Copy + Send + Drop + 'static>(
+    rt: R,
+    alloc: Global,
+    options: &LadderOptions<'_>,
+) -> Result<Inputs<Ahead<R, InputAt<R>>>, Fault>
+where
+    R::Reader: Send + 'static,
+    ensures left { IfOk result (λ inputs. map (λ source. source.left) inputs.sources.items ≡ map (λ path. R.holds rt path.now) options.now.paths.items) }
+    ensures unread { IfOk result (λ inputs. All (λ source. (source.reads ≡ 0) × (source.failures ≡ 0)) inputs.sources.items) }
+{
+    let limits = limits_of(options.pool);
+    let sources = open_paths(rt, alloc, rt, options.paths.as_slice(), limits)?;
+    let view = match sources.first() {
+        Some(source) => Some(source.view()?),
+        None => None,
+    };
+    Ok(Inputs { sources, view })
+}
+
 /// How the inputs are read ahead.
 fn limits_of(pool: Pool) -> Limits
     ensures stall { option_map as_nanos result.stall ≡ option_map (λ seconds. seconds * 1_000_000_000) pool.stall }
@@ -155,6 +182,7 @@ fn destination<R: Copy>(
 ) -> Result<Destination<FileFolder<R>>, AllocError>
     ensures fresh { IfOk result (λ into. file_moves into.folder ≡ []) }
     ensures syncs { IfOk result (λ into. into.syncs ≡ job.now.syncs) }
+    ensures folder { IfOk result (λ into. (folder_path into.folder ≡ job.now.folder.now) × (may_sync into.folder ≡ job.now.syncs)) }
 {
     Ok(Destination {
         folder: folder_of(rt, alloc, job)?,
@@ -168,7 +196,9 @@ fn folder_of<R: Copy>(
     alloc: Global,
     job: &LadderJob<'_>,
 ) -> Result<FileFolder<R>, AllocError>
-    ensures { IfOk result (λ folder. file_moves folder ≡ []) }
+    ensures fresh { IfOk result (λ folder. file_moves folder ≡ []) }
+    ensures path { IfOk result (λ folder. folder_path folder ≡ job.now.folder.now) }
+    ensures syncs { IfOk result (λ folder. may_sync folder ≡ job.now.syncs) }
 {
     let path = String::from_str(alloc, job.folder)?;
     if job.syncs {

@@ -1,6 +1,13 @@
 //! What the program does, whatever processor it's built for.
 #![tactic(auto)]
 
+ghost use Rattle.std.specs.Prelude.{◌≡◌, ◌≢◌, IfErr, OnOk};
+ghost use Rattle.std.specs.IoError.{error_kind};
+ghost use Rattle.std.specs.Process.{exit_status};
+ghost use Rattle.std.specs.declared.io.ErrorKind.TheVariants.{OutOfMemory};
+ghost use Rattle.command_line.specs.Faults.{status_of};
+ghost use Rattle.command_line.specs.declared.fault.Fault.TheVariants.{NoMemory, NotUtf8};
+
 mod ladder;
 mod metrics_file;
 mod telling;
@@ -24,7 +31,10 @@ use std::time::Clock;
 use std::{env, io};
 
 /// Why the words of the command line can't be had.
-fn unread_words(error: io::Error) -> Fault {
+fn unread_words(error: io::Error) -> Fault
+    ensures no_memory { error_kind error ≡ OutOfMemory → result ≡ NoMemory }
+    ensures not_utf8 { error_kind error ≢ OutOfMemory → result ≡ NotUtf8 }
+{
     match error.kind() {
         io::ErrorKind::OutOfMemory => Fault::NoMemory,
         _ => Fault::NotUtf8,
@@ -118,7 +128,10 @@ fn tellings(alloc: Global) -> Result<(Arc<Tellings>, Arc<Tellings>), AllocError>
 }
 
 /// Tells how the program ends.
-fn ended(rt: &HostRuntime, words: &[String], answer: Result<(), Fault>) -> ExitCode {
+fn ended(rt: &HostRuntime, words: &[String], answer: Result<(), Fault>) -> ExitCode
+    ensures well { OnOk answer (exit_status result ≡ 0) }
+    ensures fault { IfErr answer (λ fault. exit_status result ≡ status_of fault) }
+{
     match answer {
         Ok(()) => ExitCode::SUCCESS,
         Err(fault) => {

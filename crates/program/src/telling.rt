@@ -1,4 +1,8 @@
 //! Faults on standard error: each as soon as it stands, and none twice.
+ghost use Rattle.std.specs.Prelude.{◌≡◌, ◌≢◌, Contains, Decides, Some};
+ghost use Rattle.commands.specs.declared.ladder_packing.LadderPackingFault.TheVariants.{Packing};
+ghost use Rattle.command_line.specs.declared.fault.Fault.TheVariants.{LadderPacking};
+ghost use Rattle.channel.specs.Seen.{as_seen};
 
 use crate::told::Tellings;
 use channel::seen_fault;
@@ -53,16 +57,14 @@ impl<'w, R: Wait> Teller<'w, R> {
             return false;
         };
         let told = self.told.so_far(&self.rt);
-        for known in told.faults {
-            if known == Some(*fault) {
-                return true;
-            }
-        }
-        false
+        is_among(&told.faults, *fault)
     }
 
     /// The fault, with the number that players see of the segment which it names.
-    pub fn seen(&self, fault: Fault) -> Fault {
+    pub fn seen(&self, fault: Fault) -> Fault
+        ensures packing { (why : _) → fault ≡ LadderPacking (Packing why) → result ≡ LadderPacking (Packing (as_seen self.now.settings.now why)) }
+        ensures other { ((why : _) → fault ≢ LadderPacking (Packing why)) → result ≡ fault }
+    {
         match fault {
             Fault::LadderPacking(LadderPackingFault::Packing(fault)) => Fault::LadderPacking(
                 LadderPackingFault::Packing(seen_fault(fault, self.settings)),
@@ -70,6 +72,13 @@ impl<'w, R: Wait> Teller<'w, R> {
             other => other,
         }
     }
+}
+
+/// Whether a fault is among those that were told.
+fn is_among(faults: &[Option<PackFault>], fault: PackFault) -> bool
+    ensures { Decides result (Contains faults.now (Some fault)) }
+{
+    faults.contains(&Some(fault))
 }
 
 impl<R: Wait> Herald for Teller<'_, R> {
