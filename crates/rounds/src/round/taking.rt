@@ -197,7 +197,8 @@ fn wait_or_seal<'s, G: Gate, L: Ledger, M: Ledger, R: Wait>(
     requires keys { HasKeys settings.now collector.old }
     ensures keeps { Keeps collector.old collector.new }
     ensures fair { taker.new.right + gathered collector.old.sequences ≤ taker.old.right + gathered collector.new.sequences }
-    ensures fault { IfErr result (λ fault. IsHeldBack (G.stops sealer.now.gate.now) fault ⊎ IsLeft (G.lets sealer.now.gate.now) (G.stops sealer.now.gate.now) collector.new fault) }
+    ensures fault { IfErr result (λ fault. IsHeldBack (G.stops sealer.now.gate.now) fault
+        ⊎ IsLeft (G.lets sealer.now.gate.now) (G.stops sealer.now.gate.now) collector.new fault) }
 {
     if !take_one(rt, sealer.gate, desk, true, taker, collector)? {
         sealer.seal_missing(settings, collector)?;
