@@ -58,6 +58,7 @@ impl<I: Contents> Incoming<I> {
         requires { IsSound I.holds self.old }
         ensures sound { IsSound I.holds self.new }
         ensures same { rest_of I.holds self.new ≡ rest_of I.holds self.old }
+        ensures phase { self.new.phase ≡ self.old.phase }
         ensures ready { (self.old.at < length self.old.front.items) ⊎ (self.old.phase ≡ Ended) ⊎ (self.old.phase ≡ Failed) → result ≡ true }
     {
         self.at < self.front.len()
@@ -147,6 +148,9 @@ impl<I: Contents> Incoming<I> {
         ensures same { rest_of I.holds self.new ≡ rest_of I.holds self.old }
         ensures some { (self.new.at < length self.new.front.items) ⊎ (self.new.phase ≢ Going) }
         ensures phase { self.new.phase ≢ Opening }
+        ensures ended { self.old.phase ≡ Ended → self.new.phase ≡ Ended }
+        ensures stands { self.old.phase ≡ Going → ((received self.new.consumer ≡ received self.old.consumer) × (self.new.phase ≡ Going))
+            ⊎ StandsBy going_by (received self.old.consumer) (received self.new.consumer) self.new.phase }
     {
         if matches!(self.phase, Phase::Opening) {
             self.wait_open(rt);
@@ -164,6 +168,7 @@ impl<I: Contents> Incoming<I> {
         ensures phase { self.new.phase ≢ Opening }
         ensures within { result ≤ length buffer.old }
         ensures some { self.old.at < length self.old.front.items → 0 < length buffer.old → 0 < result }
+        ensures many { result ≡ min (length buffer.old) (length self.old.front.items - self.old.at) }
         ensures gave { Consumes (rest_of I.holds self.old) (rest_of I.holds self.new) (take result buffer.new) }
     {
         let count = copy_some(&self.front, self.at, buffer);
@@ -217,6 +222,7 @@ impl<I: Contents> Incoming<I> {
         ensures sound { IsSound I.holds self.new }
         ensures within { result ≤ length buffer.new }
         ensures some { 0 < length buffer.new → 0 < result }
+        ensures full { (result ≡ length buffer.new) ⊎ (length self.new.front.items ≤ self.new.at) }
         ensures gave { Consumes (rest_of I.holds self.old) (rest_of I.holds self.new) (take result buffer.new) }
     {
         let mut given = 0;

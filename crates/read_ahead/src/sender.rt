@@ -26,7 +26,8 @@ impl<I: Contents> Sender<I> {
         backlogs: Arc<Backlogs, Global>,
         number: usize,
     ) -> Sender<I>
-        ensures { sent result.producer ≡ sent producer }
+        ensures sent { sent result.producer ≡ sent producer }
+        ensures number { result.number ≡ number }
     {
         Sender {
             producer,
