@@ -10,18 +10,18 @@ use Rattle.folder.specs.Pruning.{pruned_names, unless_hidden}
 use Rattle.folder.proofs.OtherMoves.{pruned_names-append}
 use Rattle.item_io.specs.Items.{ItemValue, FramesItem, MasterItem, MediaItem, SegmentItem}
 use Rattle.item_io.specs.FileNames.{segment_file_name}
-use Rattle.keeping.specs.Keepings.{AreAsOf, AreGone, AreNotedBy, GoBehind, IsGone, IsPassed, KeepingValue, LetsGo, SweptBehind, WentOf, keeping_at, removals, removals_of}
-use Rattle.keeping.proofs.Telling.{AreSame, IsSame, gone-all-same}
+use Rattle.keeping.specs.Keepings.{AreAsOf, AreGone, AreNotedBy, GoBehind, IsGone, IsPassed, KeepingValue, LetsGo, Stay, Stays, SweptBehind, WentOf, keeping_at, removals, removals_of}
+use Rattle.keeping.proofs.Telling.{gone-all-same, passed-on}
 
 -- what was gone is gone still
-pub went-still : (old new : KeepingValue) (number : ℕ) → IsSame old new → WentOf old number → WentOf new number
-went-still old new number same (inl (n, lower, is)) = inl (n, omega (arith, lower, same.more), is ∙ ap (λ (b : ℕ). b + n) (sym same.base))
+pub went-still : (old new : KeepingValue) (number : ℕ) → Stays old new → WentOf old number → WentOf new number
+went-still old new number same (inl (n, lower, is)) = inl (n, omega (arith, lower, same.gone), is ∙ ap (λ (b : ℕ). b + n) (sym same.base))
 went-still old new number same (inr gone) = inr (
-  omega (arith, gone.0, same.more),
+  omega (arith, gone.0, same.gone),
   Contains-take-more old.swept new.swept new.older number same.swept (subst (λ (l : List ℕ). Contains (take old.swept l) number) (sym same.older) gone.1),
 )
 
-unfoldable pub gone-still : (old new : List KeepingValue) (name : List ℕ) → AreSame old new → IsGone old name → IsGone new name
+unfoldable pub gone-still : (old new : List KeepingValue) (name : List ℕ) → Stay old new → IsGone old name → IsGone new name
 gone-still old new name same gone =
     let one = same.each gone.r in
     record {
@@ -29,11 +29,11 @@ gone-still old new name same gone =
       number = gone.number;
       one = omega (arith, gone.one, same.len);
       gone = went-still (keeping_at old gone.r) (keeping_at new gone.r) gone.number one gone.gone;
-      passed = one.passed gone.number gone.passed;
+      passed = passed-on (keeping_at old gone.r) (keeping_at new gone.r) gone.number one gone.passed;
       named = gone.named ∙ ap (λ (text : List ℕ). segment_file_name text gone.number) (sym one.name);
     }
 
-pub all-gone-still : (names names_then : List (List ℕ)) (old new : List KeepingValue) → names_then ≡ names → AreSame old new → AreGone names old → AreGone names_then new
+pub all-gone-still : (names names_then : List (List ℕ)) (old new : List KeepingValue) → names_then ≡ names → Stay old new → AreGone names old → AreGone names_then new
 all-gone-still names names_then old new is same gone name has = gone-still old new name same (gone name (subst (λ (l : List (List ℕ)). Contains l name) is has))
 
 -- what has one name
@@ -117,7 +117,7 @@ gone-older r old new made made_then name within len went now =
       named = one.2 ∙ ap (λ (x : KeepingValue). segment_file_name x.name one.0) (sym went.now);
     }
 
-gone-of : (r : ℕ) (old new : List KeepingValue) (made made_then : List Move) → r < length old → AreAsOf r old new (λ before now. LetsGo before now made made_then) → AreSame old new →
+gone-of : (r : ℕ) (old new : List KeepingValue) (made made_then : List Move) → r < length old → AreAsOf r old new (λ before now. LetsGo before now made made_then) → Stay old new →
     AreGone (pruned_names made) old → AreGone (pruned_names made_then) new
 gone-of r old new made made_then within did same gone name has =
     let k = keeping_at old r in

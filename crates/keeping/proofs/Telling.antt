@@ -5,86 +5,106 @@ use Rattle.std.proofs.lemmas.Bool.Decides.{eqb_tells}
 use Rattle.folder.specs.Moves.{Move}
 use Rattle.item_io.specs.Items.{ItemValue, PlaylistValue, FramesItem, MasterItem, MediaItem, SegmentItem}
 use Rattle.retention.specs.declared.step.Step.{Step}
-use Rattle.retention.specs.Steps.{Kept, first_of}
+use Rattle.retention.specs.Steps.{first_of}
 use Rattle.retention.proofs.Stepping.{first_of-append}
-use Rattle.keeping.specs.Keepings.{AreAsOf, AreNotedBy, AreStepsOf, AreTold, GoBehind, IfAny, IsNoted, IsPassed, IsStepOf, IsTold, KeepingValue, LetsGo, NotedUnless, keeping_at, steps_before, texts_of, with_text}
+use Rattle.keeping.specs.Keepings.{AreAsOf, AreNotedBy, AreStepsOf, AreTold, GoBehind, IfAny, IsNoted, IsPassed, IsStepOf, IsTold, KeepingValue, LetsGo, NotedUnless, Stay, Stays, keeping_at, steps_before, texts_of, with_text}
 
--- the same rendition, of which perhaps more are gone
-pub record IsSame (old new : KeepingValue) : Type 0 where
-  pub name : new.name ≡ old.name
-  pub base : new.base ≡ old.base
-  pub before : new.before ≡ old.before
-  pub older : new.older ≡ old.older
-  pub more : old.gone ≤ new.gone
-  pub swept : old.swept ≤ new.swept
-  pub passed : (n : ℕ) → IsPassed old n → IsPassed new n
-
-pub record AreSame (old new : List KeepingValue) : Type 0 where
-  pub len : length new ≡ length old
-  pub each : (r : ℕ) → IsSame (keeping_at old r) (keeping_at new r)
-
-same-by : (k l : KeepingValue) (gone swept : ℕ) (kept : Kept) → k.gone ≤ gone → k.swept ≤ swept → ((n : ℕ) → IsPassed k n → IsPassed (record k { kept = kept }) n) →
-    l ≡ record k { gone = gone; swept = swept; kept = kept } → IsSame k l
-same-by k l gone swept kept more further passes is = record {
+stays-by : (k l : KeepingValue) (told : List Step) (gone swept : ℕ) → k.gone ≤ gone → k.swept ≤ swept →
+    l ≡ record k { gone = gone; swept = swept; kept = record k.kept { steps = k.kept.steps ++ told } } → Stays k l
+stays-by k l told gone swept more further is = record {
   name = ap (λ (x : KeepingValue). x.name) is;
   base = ap (λ (x : KeepingValue). x.base) is;
+  least = ap (λ (x : KeepingValue). x.kept.least) is;
+  told = told;
+  steps = ap (λ (x : KeepingValue). x.kept.steps) is;
   before = ap (λ (x : KeepingValue). x.before) is;
   older = ap (λ (x : KeepingValue). x.older) is;
-  more = omega (arith, more, ap (λ (x : KeepingValue). x.gone) is);
+  gone = omega (arith, more, ap (λ (x : KeepingValue). x.gone) is);
   swept = omega (arith, further, ap (λ (x : KeepingValue). x.swept) is);
-  passed = λ n passed. subst (λ (x : KeepingValue). IsPassed x n) (sym is) (passes n passed);
 }
 
-same-one : (k l : KeepingValue) → l ≡ k → IsSame k l
-same-one k l is = subst (λ (x : KeepingValue). IsSame k x) (sym is)
-    (record { name = refl; base = refl; before = refl; older = refl; more = omega arith; swept = omega arith; passed = λ n passed. passed })
+same-one : (k l : KeepingValue) → l ≡ k → Stays k l
+same-one k l is = subst (λ (x : KeepingValue). Stays k x) (sym is) (record {
+  name = refl;
+  base = refl;
+  least = refl;
+  told = [];
+  steps = sym (append-nil k.kept.steps);
+  before = refl;
+  older = refl;
+  gone = omega arith;
+  swept = omega arith;
+})
 
-pub same-all : (old new : List KeepingValue) → new ≡ old → AreSame old new
+pub same-all : (old new : List KeepingValue) → new ≡ old → Stay old new
 same-all old new is = record { len = ap length is; each = λ r. same-one (keeping_at old r) (keeping_at new r) (ap (λ (l : List KeepingValue). keeping_at l r) is) }
 
-same-of : (r : ℕ) (old new : List KeepingValue) (Is : KeepingValue → KeepingValue → Type 0) → ((k l : KeepingValue) → Is k l → IsSame k l) → AreAsOf r old new Is → AreSame old new
+same-of : (r : ℕ) (old new : List KeepingValue) (Is : KeepingValue → KeepingValue → Type 0) → ((k l : KeepingValue) → Is k l → Stays k l) → AreAsOf r old new Is → Stay old new
 same-of r old new Is same did = record {
   len = did.len;
   each = λ o. elim (eqb_tells o r) [
-    | inl (tells, is) ↦ subst (λ (n : ℕ). IsSame (keeping_at old n) (keeping_at new n)) (sym is) (same (keeping_at old r) (keeping_at new r) did.is)
+    | inl (tells, is) ↦ subst (λ (n : ℕ). Stays (keeping_at old n) (keeping_at new n)) (sym is) (same (keeping_at old r) (keeping_at new r) did.is)
     | inr (tells, apart) ↦ same-one (keeping_at old o) (keeping_at new o) (did.others o apart)
   ];
 }
 
-same-any : (r : ℕ) (old new : List KeepingValue) (Is : KeepingValue → KeepingValue → Type 0) (Same : Type 0) → ((k l : KeepingValue) → Is k l → IsSame k l) → IfAny r old new Is Same → AreSame old new
+same-any : (r : ℕ) (old new : List KeepingValue) (Is : KeepingValue → KeepingValue → Type 0) (Same : Type 0) → ((k l : KeepingValue) → Is k l → Stays k l) → IfAny r old new Is Same → Stay old new
 same-any r old new Is Same same (inl (within, did)) = same-of r old new Is same did
 same-any r old new Is Same same (inr (beyond, is, rest)) = same-all old new is
 
--- what was passed is so behind one step more
-passed-more : (k : KeepingValue) (step : Step) (n : ℕ) → IsPassed k n → IsPassed (record k { kept = record k.kept { steps = k.kept.steps ++ step ∷ [] } }) n
-passed-more k step n (i, within, some, below) =
-    let same : first_of (k.kept.steps ++ step ∷ []) i ≡ first_of k.kept.steps i = first_of-append k.kept.steps (step ∷ []) i within in
-    (i, omega (arith, within, length-append k.kept.steps (step ∷ [])), omega (arith, some, same), omega (arith, below, same))
+-- what was passed is so of the rendition that stays
+pub passed-on : (k l : KeepingValue) (n : ℕ) → Stays k l → IsPassed k n → IsPassed l n
+passed-on k l n stays (i, within, some, below) =
+    let same : first_of l.kept.steps i ≡ first_of k.kept.steps i = ap (λ (steps : List Step). first_of steps i) stays.steps ∙ first_of-append k.kept.steps stays.told i within in
+    (i, omega (arith, within, ap length stays.steps, length-append k.kept.steps stays.told), omega (arith, some, same), omega (arith, below, same, stays.base))
 
-noted-same : (text : List ℕ) (k l : KeepingValue) → IsNoted k l text → IsSame k l
-noted-same text k l noted = same-by k l k.gone k.swept (record k.kept { steps = k.kept.steps ++ noted.step ∷ [] }) (omega arith) (omega arith)
-    (λ n passed. passed-more k noted.step n passed) noted.now
+noted-same : (text : List ℕ) (k l : KeepingValue) → IsNoted k l text → Stays k l
+noted-same text k l noted = stays-by k l (noted.step ∷ []) k.gone k.swept (omega arith) (omega arith) noted.now
 
-gone-same : (made made_then : List Move) (k l : KeepingValue) → LetsGo k l made made_then → IsSame k l
-gone-same made made_then k l went = same-by k l (k.gone + went.count) (k.swept + went.more) k.kept (omega arith) (omega arith) (λ n passed. passed) went.now
+gone-same : (made made_then : List Move) (k l : KeepingValue) → LetsGo k l made made_then → Stays k l
+gone-same made made_then k l went = stays-by k l [] (k.gone + went.count) (k.swept + went.more) (omega arith) (omega arith)
+    (went.now ∙ ap (λ (steps : List Step). record k { gone = k.gone + went.count; swept = k.swept + went.more; kept = record k.kept { steps = steps } }) (sym (append-nil k.kept.steps)))
 
-unless-same : (ended : Bool) (p : PlaylistValue) (old new : List KeepingValue) → NotedUnless ended p old new → AreSame old new
+unless-same : (ended : Bool) (p : PlaylistValue) (old new : List KeepingValue) → NotedUnless ended p old new → Stay old new
 unless-same true p old new is = same-all old new is
 unless-same false p old new noted = same-any p.rendition old new (λ before now. IsNoted before now p.text) (Unit {0}) (noted-same p.text) noted
 
 -- an item is noted
-pub noted-all-same : (item : ItemValue) (old new : List KeepingValue) → AreNotedBy item old new → AreSame old new
+pub noted-all-same : (item : ItemValue) (old new : List KeepingValue) → AreNotedBy item old new → Stay old new
 noted-all-same (SegmentItem s) old new is = same-all old new is
 noted-all-same (MediaItem p) old new noted = unless-same p.ended p old new noted
 noted-all-same (FramesItem p) old new is = same-all old new is
 noted-all-same (MasterItem text) old new is = same-all old new is
 
 -- segments go behind an item
-pub gone-all-same : (item : ItemValue) (old new : List KeepingValue) (made made_then : List Move) → GoBehind item old new made made_then → AreSame old new
+pub gone-all-same : (item : ItemValue) (old new : List KeepingValue) (made made_then : List Move) → GoBehind item old new made made_then → Stay old new
 gone-all-same (SegmentItem s) old new made made_then is = same-all old new is.0
 gone-all-same (MediaItem p) old new made made_then is = same-all old new is.0
 gone-all-same (FramesItem p) old new made made_then went = same-any p.rendition old new (λ before now. LetsGo before now made made_then) (made_then ≡ made) (gone-same made made_then) went
 gone-all-same (MasterItem text) old new made made_then is = same-all old new is.0
+
+stays-on : (k l m : KeepingValue) → Stays k l → Stays l m → Stays k m
+stays-on k l m first further = record {
+  name = further.name ∙ first.name;
+  base = further.base ∙ first.base;
+  least = further.least ∙ first.least;
+  told = first.told ++ further.told;
+  steps = further.steps ∙ ap (λ (steps : List Step). steps ++ further.told) first.steps ∙ append_assoc k.kept.steps first.told further.told;
+  before = further.before ∙ first.before;
+  older = further.older ∙ first.older;
+  gone = omega (arith, first.gone, further.gone);
+  swept = omega (arith, first.swept, further.swept);
+}
+
+stay-on : (old mid new : List KeepingValue) → Stay old mid → Stay mid new → Stay old new
+stay-on old mid new first further = record {
+  len = further.len ∙ first.len;
+  each = λ r. stays-on (keeping_at old r) (keeping_at mid r) (keeping_at new r) (first.each r) (further.each r);
+}
+
+-- an item is noted, and segments go behind it
+pub stay-behind : (item : ItemValue) (old noted new : List KeepingValue) (made made_then : List Move) → AreNotedBy item old noted → GoBehind item noted new made made_then → Stay old new
+stay-behind item old noted new made made_then first went = stay-on old noted new (noted-all-same item old noted first) (gone-all-same item noted new made made_then went)
 
 -- one text and its step more
 AreStepsOf-more : (base : ℕ) (texts : List (List ℕ)) (steps : List Step) (text : List ℕ) (step : Step) → AreStepsOf base texts steps → IsStepOf base text step → AreStepsOf base (texts ++ text ∷ []) (steps ++ step ∷ [])

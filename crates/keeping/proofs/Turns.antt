@@ -14,11 +14,11 @@ use Rattle.item_io.specs.Items.{ItemValue, PlaylistValue, FramesItem, MasterItem
 use Rattle.item_io.specs.FileNames.{is_named}
 use Rattle.item_io.specs.FolderMoves.{puts_of}
 use Rattle.item_io.proofs.Fitting.{puts-append}
-use Rattle.keeping.specs.Keepings.{AllBeginBehind, AreGone, AreNotedBy, AreUnlisted, ComesInTurn, GoBehind, IsPassed, IsUnlisted, KeepingValue, keeping_at}
+use Rattle.keeping.specs.Keepings.{AllBeginBehind, AreGone, AreNotedBy, AreUnlisted, ComesInTurn, GoBehind, IsPassed, IsUnlisted, KeepingValue, Stay, keeping_at}
 use Rattle.keeping.specs.InPlace.{WentInTurn}
 use Rattle.keeping.specs.Turns.{AreInTurn}
 use Rattle.keeping.proofs.Stopping.{moves-append}
-use Rattle.keeping.proofs.Telling.{AreSame, gone-all-same, noted-all-same}
+use Rattle.keeping.proofs.Telling.{gone-all-same, noted-all-same}
 use Rattle.keeping.proofs.Unlisting.{all-begin-append, begins, unlisted-behind, unlisted-put}
 use Rattle.keeping.proofs.Keeps.{gone-behind, gone-still}
 
@@ -126,7 +126,7 @@ one-begins (MediaItem p) new turn r within number passed = (
 one-begins (FramesItem p) new turn r within number passed = tt
 one-begins (MasterItem text) new turn r within number passed = tt
 
-turns-more : (syncs : Bool) (pruned : List Pruned) (items : List ItemValue) (item : ItemValue) (old new : List KeepingValue) → AreSame old new → ComesInTurn item new → AreInTurn syncs pruned old items →
+turns-more : (syncs : Bool) (pruned : List Pruned) (items : List ItemValue) (item : ItemValue) (old new : List KeepingValue) → Stay old new → ComesInTurn item new → AreInTurn syncs pruned old items →
     AreInTurn syncs pruned new (items ++ item ∷ [])
 unfolding gone-still
 turns-more syncs pruned items item old new same turn turns count name has =
@@ -146,7 +146,7 @@ turns-more syncs pruned items item old new same turn turns count name has =
     }
 
 -- segments that went in turn did so still
-pub turns-still : (syncs : Bool) (pruned : List Pruned) (items : List ItemValue) (old new : List KeepingValue) → AreSame old new → AreInTurn syncs pruned old items → AreInTurn syncs pruned new items
+pub turns-still : (syncs : Bool) (pruned : List Pruned) (items : List ItemValue) (old new : List KeepingValue) → Stay old new → AreInTurn syncs pruned old items → AreInTurn syncs pruned new items
 unfolding gone-still
 turns-still syncs pruned items old new same turns count name has =
     let w = turns count name has in
@@ -168,7 +168,7 @@ ends-block p items = ap (staged_after []) (puts-append items (FramesItem p ∷ [
 
 -- segments that go behind a block
 turns-of : (syncs : Bool) (p : PlaylistValue) (items : List ItemValue) (old new : List KeepingValue) (made made_then more : List Move) → made_then ≡ made ++ more → other_moves made_then ≡ other_moves made →
-    other_moves made ≡ moves_when syncs (puts_of (items ++ FramesItem p ∷ [])) → AreSame old new → AreGone (pruned_names made_then) new → AreUnlisted new (items ++ FramesItem p ∷ []) →
+    other_moves made ≡ moves_when syncs (puts_of (items ++ FramesItem p ∷ [])) → Stay old new → AreGone (pruned_names made_then) new → AreUnlisted new (items ++ FramesItem p ∷ []) →
     AreInTurn syncs (prunings made) old (items ++ FramesItem p ∷ []) → AreInTurn syncs (prunings made_then) new (items ++ FramesItem p ∷ [])
 turns-of syncs p items old new made made_then more is others moves same gone unlisted turns count name has =
     let all = items ++ FramesItem p ∷ [] in

@@ -106,11 +106,28 @@ SweepsOn old new = 0 < new.gone → (new.swept ≡ length new.older) ⊎ (new.sw
 abbrev pub IsLeft : KeepingValue → Type 0
 IsLeft k = MayGo k.kept.least k.kept.steps k.gone ⊎ ((0 < k.gone) × (k.swept < length k.older))
 
+-- It is the rendition that it was: of its retention and of what was taken away there may only be more.
+pub record Stays (old new : KeepingValue) : Type 0 where
+  pub name : new.name ≡ old.name
+  pub base : new.base ≡ old.base
+  pub least : new.kept.least ≡ old.kept.least
+  pub told : List Step
+  pub steps : new.kept.steps ≡ old.kept.steps ++ told
+  pub before : new.before ≡ old.before
+  pub older : new.older ≡ old.older
+  pub gone : old.gone ≤ new.gone
+  pub swept : old.swept ≤ new.swept
+
 abbrev pub no_keeping : KeepingValue
 no_keeping = new_keeping [] 0 0
 
 abbrev pub keeping_at : List KeepingValue → ℕ → KeepingValue
 keeping_at renditions r = slice_index_or renditions r no_keeping
+
+-- there are as many renditions, and each is the one that it was
+pub record Stay (old new : List KeepingValue) : Type 0 where
+  pub len : length new ≡ length old
+  pub each : (r : ℕ) → Stays (keeping_at old r) (keeping_at new r)
 
 -- it became of rendition r as `Is` says, and each other one is as it was
 pub record AreAsOf (r : ℕ) (old new : List KeepingValue) (Is : KeepingValue → KeepingValue → Type 0) : Type 0 where

@@ -1,5 +1,5 @@
 //! Which segments of a rendition are taken away.
-ghost use Rattle.std.specs.Prelude.{◌≡◌, ◌+◌, ◌<◌, ◌≤◌, ◌^◌, ◌++◌, ◌∷◌, [], Decides, IfOk, OnErr, OnOk};
+ghost use Rattle.std.specs.Prelude.{◌≡◌, ◌+◌, ◌<◌, ◌≤◌, ◌^◌, ◌⊎◌, ◌++◌, ◌∷◌, [], length, Any, Decides, IfOk, MatchResult, OnErr, OnOk};
 ghost use Rattle.std.specs.String.{string_bytes};
 ghost use Rattle.folder.specs.Pruning.{other_moves};
 ghost use Rattle.retention.specs.Steps.{IsKeptFrom};
@@ -72,8 +72,11 @@ impl Keeping {
     /// A rendition that goes on behind an earlier run. Once the first segment that was listed when it began may go, so may the
     /// older ones: those whose numbers are below `base`; others are passed over.
     pub fn behind(alloc: Global, name: String, behind: Behind<'_>) -> Result<Keeping, AllocError>
-        ensures { IfOk result (λ new. new ≡
+        ensures told { IfOk result (λ new. new ≡
             resumed_keeping (string_bytes name) behind.entry.base behind.entry.least behind.entry.earlier.now behind.entry.older.items) }
+
+        // Memory can only be wanted for a row, or for an older segment's number.
+        ensures scarce { OnErr result ((0 < length behind.entry.earlier.now) ⊎ Any (λ n. n < behind.entry.base) behind.entry.older.items) }
     {
         let older = numbers_below(alloc, behind.base, &behind.older)?;
         let mut before = GhostList::new();
@@ -161,7 +164,7 @@ impl Keeping {
 
 /// Those of some numbers that are below another one.
 fn numbers_below(alloc: Global, base: u64, numbers: &[u64]) -> Result<Vec<u64>, AllocError>
-    ensures { IfOk result (λ some. some.items ≡ below base numbers.now) }
+    ensures { MatchResult result (λ some. some.items ≡ below base numbers.now) (λ _. Any (λ n. n < base) numbers.now) }
 {
     let mut some = Vec::new(alloc);
     for number in numbers {
@@ -174,7 +177,10 @@ fn numbers_below(alloc: Global, base: u64, numbers: &[u64]) -> Result<Vec<u64>, 
 
 /// The retention of segments that are all listed, of so many microseconds each. More than 2^52 are refused, as want of memory.
 fn listed_so_far(alloc: Global, least: u64, micros: &[u64]) -> Result<Retention, AllocError>
-    ensures { IfOk result (λ kept. kept ≡ record { least = least; steps = steps_before micros.now }) }
+    ensures told { IfOk result (λ kept. kept ≡ record { least = least; steps = steps_before micros.now }) }
+
+    // Memory can only be wanted where there is a row.
+    ensures scarce { OnErr result (0 < length micros.now) }
 {
     let mut kept = Retention::new(alloc, least);
     if micros.len() as u64 > 1 << 52 {

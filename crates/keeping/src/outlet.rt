@@ -4,7 +4,7 @@ ghost use Rattle.item_io.specs.Items.{item_value};
 ghost use Rattle.item_io.specs.Outlets.{BreaksOff, Grows};
 ghost use Rattle.item_io.specs.Views.{outlet_view};
 ghost use Rattle.keeping.specs.Keepings.{AllWent, AreNotedBy, ComesInTurn, GoBehind, HasOwnName, IsLeftBehind, MayBeRefused};
-ghost use Rattle.keeping.specs.Keepings.{SweptBehind, keeping_at, removed_of};
+ghost use Rattle.keeping.specs.Keepings.{Stay, SweptBehind, keeping_at, removed_of};
 ghost use Rattle.keeping.specs.Holding.{KeptBy, KeptUpTo};
 
 use crate::keeping::Keeping;
@@ -86,6 +86,12 @@ impl<F: Folder> Outlet for KeepingOutlet<F> {
         ensures refused { OnErr result (self.old.files.failures ≡ 0 →
             BreaksOff (KeptBy F.made self.old) (KeptUpTo F.made self.new) [] (item_value item.now)) }
         ensures failed { OnErr result (self.new.files.failures ≡ self.old.files.failures + 1) }
+
+        // An item that wasn't put says nothing of what could be removed.
+        ensures still { OnErr result (self.new.lags ≡ self.old.lags) }
+
+        // No rendition is lost, nor takes the place of another one.
+        ensures stay { Stay self.old.renditions self.new.renditions }
 
         // All that might go went behind the last item of a block, unless one couldn't be removed.
         ensures went { OnOk result (self.new.lags ≡ false → AllWent (item_value item.now) self.new.renditions) }

@@ -3,6 +3,7 @@ use Rattle.item_io.specs.FolderMoves.{FolderState}
 use Rattle.item_io.specs.Outlets.{Grows}
 use Rattle.item_io.specs.Items.{item_value}
 use Rattle.keeping.specs.Holding.{KeepingState, KeptBy}
+use Rattle.keeping.proofs.Telling.{noted-all-same, same-all, stay-behind}
 use Rattle.keeping.proofs.Putting.{put-broke, put-failed, put-well, refused, refused-by}
 use Rattle.keeping.proofs.outlet.KeepingOutletOutlet.put.Goals as goal
 
@@ -31,3 +32,15 @@ returns-clause-grown g c = rw (sym c.self.view_is)
     (put-well g.F.Folder.made (record { files = c.self.inside.files; renditions = c.self.inside.renditions.items; lags = c.self.inside.lags }) (record { files = c.put.new.self; renditions = c.note.new.renditions.items; lags = c.self.inside.lags })
     (record { files = c.let_go.new.files; renditions = c.let_go.new.renditions.items; lags = c.is_err-self-inside.result })
     (item_value c.args.item.now) (search rules) (search rules) c.in_default.ensures.named c.in_default.ensures.grown c.in_default.ensures.ok c.put.ensures.syncs c.put.ensures.pruned c.let_go.ensures.gone c.let_go.ensures.others c.let_go.ensures.same)
+
+pub returns-then-is_err-clause-stay : goal.returns-then-is_err-clause-stay
+returns-then-is_err-clause-stay g c = rw (sym c.self.view_is) (same-all c.self.inside.renditions.items c.note.new.renditions.items (search rules))
+
+pub returns-in-Err-clause-stay : goal.returns-in-Err-clause-stay
+returns-in-Err-clause-stay g c = rw (sym c.self.view_is)
+    (noted-all-same (item_value c.args.item.now) c.self.inside.renditions.items c.note.new.renditions.items (search rules))
+
+pub returns-clause-stay : goal.returns-clause-stay
+returns-clause-stay g c = rw (sym c.self.view_is)
+    (stay-behind (item_value c.args.item.now) c.self.inside.renditions.items c.note.new.renditions.items c.let_go.new.renditions.items
+    (g.F.Folder.made c.put.new.self.folder) (g.F.Folder.made c.let_go.new.files.folder) (search rules) c.let_go.ensures.gone)
