@@ -8,22 +8,45 @@ ghost use Rattle.work_desk.specs.Works.{IsBegun, IsTurnedAway};
 
 use crate::gate::Gate;
 use flow_core::{Claim, Outcome};
-use segment_job::{Keys, Unsealed, seal_four, seal_two};
+use segment_job::{Keys, Sealed, Unsealed, seal_four, seal_two};
 use std::alloc::Global;
 
 /// A claimed plan whose segment is to be sealed.
-#[derive(Drop)]
 pub(crate) struct Begun<'s> {
     pub claim: Claim<'s>,
     pub segment: Unsealed<'s>,
     pub ghost own: { segment.plan ≡ claim.plan },
 }
 
+impl<'s> Begun<'s> {
+    /// The claim and the segment.
+    fn into_parts(self) -> (Claim<'s>, Unsealed<'s>)
+        ensures claim { result.0 ≡ self.entry.claim }
+        ensures segment { result.1 ≡ self.entry.segment }
+        ensures own { result.1.plan ≡ result.0.plan }
+    {
+        let Begun { claim, segment } = self;
+        (claim, segment)
+    }
+}
+
 /// A claimed plan, and what became of it.
-#[derive(Drop)]
 pub(crate) struct Worked<'s> {
     pub claim: Claim<'s>,
     pub outcome: Outcome<'s>,
+}
+
+impl<'s> Worked<'s> {
+    /// A claimed plan whose segment was sealed.
+    fn sealed(claim: Claim<'s>, segment: Sealed<'s>) -> Worked<'s>
+        ensures claim { result.claim ≡ claim.entry }
+        ensures sealed { result.outcome ≡ IsSealed segment.entry }
+    {
+        Worked {
+            claim,
+            outcome: Outcome::Sealed(segment),
+        }
+    }
 }
 
 /// What a worker has to seal with: the keys of each rendition, by its number, and the gate that it asks.
@@ -73,11 +96,8 @@ pub(crate) fn finish_one<'s>(begun: Begun<'s>) -> Worked<'s>
     ensures sealed { result.outcome ≡ IsSealed (sealed_from begun.entry.segment) }
     ensures own { IsOwnOutcome begun.entry.claim.plan result.outcome }
 {
-    let Begun { claim, segment } = begun;
-    Worked {
-        claim,
-        outcome: Outcome::Sealed(segment.seal()),
-    }
+    let (claim, segment) = begun.into_parts();
+    Worked::sealed(claim, segment.seal())
 }
 
 /// Seals the segments of two claimed plans side by side.
@@ -89,16 +109,12 @@ pub(crate) fn finish_two<'s>(first: Begun<'s>, second: Begun<'s>) -> (Worked<'s>
     ensures second { result.1.outcome ≡ IsSealed (sealed_from second.entry.segment) }
     ensures second_own { IsOwnOutcome second.entry.claim.plan result.1.outcome }
 {
-    let (one, two) = seal_two(first.segment, second.segment);
+    let (first_claim, first) = first.into_parts();
+    let (second_claim, second) = second.into_parts();
+    let (one, two) = seal_two(first, second);
     (
-        Worked {
-            claim: first.claim,
-            outcome: Outcome::Sealed(one),
-        },
-        Worked {
-            claim: second.claim,
-            outcome: Outcome::Sealed(two),
-        },
+        Worked::sealed(first_claim, one),
+        Worked::sealed(second_claim, two),
     )
 }
 
@@ -122,28 +138,15 @@ pub(crate) fn finish_four<'s>(
     ensures fourth { result.3.outcome ≡ IsSealed (sealed_from fourth.entry.segment) }
     ensures fourth_own { IsOwnOutcome fourth.entry.claim.plan result.3.outcome }
 {
-    let (one, two, three, four) = seal_four(
-        first.segment,
-        second.segment,
-        third.segment,
-        fourth.segment,
-    );
+    let (first_claim, first) = first.into_parts();
+    let (second_claim, second) = second.into_parts();
+    let (third_claim, third) = third.into_parts();
+    let (fourth_claim, fourth) = fourth.into_parts();
+    let (one, two, three, four) = seal_four(first, second, third, fourth);
     (
-        Worked {
-            claim: first.claim,
-            outcome: Outcome::Sealed(one),
-        },
-        Worked {
-            claim: second.claim,
-            outcome: Outcome::Sealed(two),
-        },
-        Worked {
-            claim: third.claim,
-            outcome: Outcome::Sealed(three),
-        },
-        Worked {
-            claim: fourth.claim,
-            outcome: Outcome::Sealed(four),
-        },
+        Worked::sealed(first_claim, one),
+        Worked::sealed(second_claim, two),
+        Worked::sealed(third_claim, three),
+        Worked::sealed(fourth_claim, four),
     )
 }

@@ -43,14 +43,13 @@ pub fn work<'s, L: Ledger, M: Ledger, G: Gate, R: Wait>(
     pass.tally()
 }
 
-/// Claimed plans whose segments are sealed side by side.
-#[derive(Drop)]
-struct Batch<'s> {
-    first: Option<Begun<'s>>,
-    second: Option<Begun<'s>>,
-    third: Option<Begun<'s>>,
-    fourth: Option<Begun<'s>>,
-}
+/// Up to four claimed plans whose segments are sealed side by side.
+struct Batch<'s>(
+    Option<Begun<'s>>,
+    Option<Begun<'s>>,
+    Option<Begun<'s>>,
+    Option<Begun<'s>>,
+);
 
 /// Claims a plan, and up to three more where more wait than workers are idle, and makes their segments ready. None where no
 /// more plans are fed and none waits.
@@ -63,25 +62,20 @@ fn begin_some<'s, L: Ledger, M: Ledger, G: Gate, R: Wait>(
     ensures number { pass.new.number ≡ pass.old.number }
 {
     let claim = desk.claim(rt, pass)?;
-    let mut batch = Batch {
-        first: begin(rt, desk, means, claim),
-        second: None,
-        third: None,
-        fourth: None,
-    };
+    let first = begin(rt, desk, means, claim);
     let Some(claim) = desk.claim_more(rt, pass) else {
-        return Some(batch);
+        return Some(Batch(first, None, None, None));
     };
-    batch.second = begin(rt, desk, means, claim);
+    let second = begin(rt, desk, means, claim);
     let Some(claim) = desk.claim_more(rt, pass) else {
-        return Some(batch);
+        return Some(Batch(first, second, None, None));
     };
-    batch.third = begin(rt, desk, means, claim);
+    let third = begin(rt, desk, means, claim);
     let Some(claim) = desk.claim_more(rt, pass) else {
-        return Some(batch);
+        return Some(Batch(first, second, third, None));
     };
-    batch.fourth = begin(rt, desk, means, claim);
-    Some(batch)
+    let fourth = begin(rt, desk, means, claim);
+    Some(Batch(first, second, third, fourth))
 }
 
 /// Makes the segment of a claimed plan ready. What can't be sealed is delivered at once.
@@ -105,12 +99,7 @@ fn begin<'s, L: Ledger, M: Ledger, G: Gate, R: Wait>(
 
 /// Seals what was begun, side by side, and delivers it.
 fn finish_all<'s, L: Ledger, M: Ledger, R: Wait>(rt: &R, desk: &Desk<'s, L, M>, batch: Batch<'s>) {
-    let Batch {
-        first,
-        second,
-        third,
-        fourth,
-    } = batch;
+    let Batch(first, second, third, fourth) = batch;
     match (first, second, third, fourth) {
         (Some(first), Some(second), Some(third), Some(fourth)) => {
             let (one, two, three, four) = finish_four(first, second, third, fourth);
