@@ -54,7 +54,6 @@ fn plan(things: &Things, name: Name) -> Result<PlanRef<'_>, Fail> {
 }
 
 /// A flow with the one share of each of its books, and the claims that stand.
-#[derive(Drop)]
 struct Bench<'s, L: Ledger, M: Ledger> {
     flow: Flow<'s, L, M>,
     claimer: Share<L>,
@@ -96,18 +95,24 @@ impl<'s, L: Ledger, M: Ledger> Bench<'s, L, M> {
             claims,
             ..
         } = self;
-        claimed(flow.claim(worker, claimer), claims)
+        claims.reserve(1)?;
+        Ok(claimed(flow.claim(worker, claimer), claims))
     }
 
-    /// Delivers a claim, sealed under these keys.
+    /// Delivers a claim, sealed under these keys. It is refused where there is no memory to seal it.
     fn deliver(
         &mut self,
         alloc: Global,
         claim: Claim<'s>,
         keys: &Keys,
     ) -> Result<bool, AllocError> {
-        let segment = seal_plan(alloc, claim.plan(), keys)?;
-        Ok(self.flow.deliver(claim, segment))
+        match seal_plan(alloc, claim.plan(), keys) {
+            Ok(segment) => Ok(self.flow.deliver(claim, segment)),
+            Err(error) => {
+                self.flow.refuse(claim);
+                Err(error)
+            }
+        }
     }
 
     /// Ends the claim that stands the longest.
@@ -211,6 +216,20 @@ impl<'s, L: Ledger, M: Ledger> Bench<'s, L, M> {
     fn misses(&self, model: &Model, alloc: Global) -> Result<bool, AllocError> {
         let names = model.all_missing(alloc)?;
         misses(self.flow.collector(), &names)
+    }
+
+    /// Refuses what is claimed still, which can't be dropped.
+    fn end(self) {
+        let Bench {
+            mut flow,
+            claimer: _,
+            taker: _,
+            mut claims,
+        } = self;
+        while let Some(claim) = claims.pop() {
+            flow.refuse(claim);
+        }
+        claims.destroy_empty();
     }
 }
 
@@ -326,12 +345,14 @@ fn play_with<L: Ledger, M: Ledger>(
     requires takes { (takes.name ≡ M.name) × (takes.parts ≡ M.parts) × (M.parts ≡ 1) }
 {
     let mut bench = new_bench::<L, M>(things.alloc, claims, takes, most)?;
-    follow(
+    let followed = follow(
         things,
         &mut bench,
         &mut Model::new(things.alloc, most),
         path,
-    )
+    );
+    bench.end();
+    followed
 }
 
 /// The same, with books of its own.

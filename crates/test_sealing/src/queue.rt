@@ -34,7 +34,6 @@ enum Event {
 }
 
 /// A queue with the one share of each of its books, and the claims that were made.
-#[derive(Drop)]
 struct Hands<'s, L: Ledger, M: Ledger> {
     queue: Queue<'s, L, M>,
     claimer: Share<L>,
@@ -63,13 +62,19 @@ impl<'s, L: Ledger, M: Ledger> Hands<'s, L, M> {
             claims,
             ..
         } = self;
-        claimed(queue.claim(worker, claimer), claims)
+        claims.reserve(1)?;
+        Ok(claimed(queue.claim(worker, claimer), claims))
     }
 
-    /// Delivers a claim, sealed.
+    /// Delivers a claim, sealed. It is refused where there is no memory to seal it.
     fn deliver(&mut self, things: &Things, claim: Claim<'s>) -> Result<bool, AllocError> {
-        let segment = seal_plan(things.alloc, claim.plan(), &things.right)?;
-        Ok(self.queue.deliver(claim, segment))
+        match seal_plan(things.alloc, claim.plan(), &things.right) {
+            Ok(segment) => Ok(self.queue.deliver(claim, segment)),
+            Err(error) => {
+                self.queue.refuse(claim);
+                Err(error)
+            }
+        }
     }
 
     /// Ends the claim that was made last.
@@ -156,6 +161,20 @@ impl<'s, L: Ledger, M: Ledger> Hands<'s, L, M> {
         let wrong = self.first_wrong(things, steps)?;
         Ok((wrong, self.left()))
     }
+
+    /// Refuses what is claimed still, which can't be dropped.
+    fn end(self) {
+        let Hands {
+            mut queue,
+            claimer: _,
+            taker: _,
+            mut claims,
+        } = self;
+        while let Some(claim) = claims.pop() {
+            queue.refuse(claim);
+        }
+        claims.destroy_empty();
+    }
 }
 
 /// Plays steps on a new queue of so many plans.
@@ -177,7 +196,9 @@ fn played_with<L: Ledger, M: Ledger>(
         taker,
         claims: Vec::new(things.alloc),
     };
-    hands.play(things, steps)
+    let played = hands.play(things, steps);
+    hands.end();
+    played
 }
 
 /// The same, with books and plans of its own.

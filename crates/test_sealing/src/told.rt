@@ -1,8 +1,9 @@
 //! What is answered to a test.
 
+ghost use Rattle.std.specs.Prelude.{◌<◌, vec_len, vec_capacity};
+
 use cutter::PlanRef;
 use flow_core::{Claim, CollectFault, Collected, Delivery, FeedFault, Outcome};
-use std::alloc::AllocError;
 
 /// A plan, by its rendition and its number.
 pub(crate) type Name = (usize, u64);
@@ -54,17 +55,16 @@ pub(crate) fn fed(answer: Result<(), FeedFault<'_>>) -> Told {
     }
 }
 
-/// What is told of a claim, which joins those that were made.
-pub(crate) fn claimed<'s>(
-    claim: Option<Claim<'s>>,
-    claims: &mut Vec<Claim<'s>>,
-) -> Result<Told, AllocError> {
+/// What is told of a claim, which joins those that were made. There is room for it.
+pub(crate) fn claimed<'s>(claim: Option<Claim<'s>>, claims: &mut Vec<Claim<'s>>) -> Told
+    requires { vec_len claims.old < vec_capacity claims.old }
+{
     let Some(claim) = claim else {
-        return Ok(Told::Nothing);
+        return Told::Nothing;
     };
     let told = Told::Claimed(claim.worker(), name(claim.plan()));
-    claims.push(claim)?;
-    Ok(told)
+    claims.push_reserved(claim);
+    told
 }
 
 /// What is told of a claim that is ended: whether somebody has it.
