@@ -8,7 +8,7 @@ use std::marker::Brand;
 use std::sync::Wait;
 use std::sync::ledger::{Blank, Ledger};
 use std::test::Fail;
-use work_desk::{Desk, FeedFault, FreeGate, Gate, Opened};
+use work_desk::{Desk, FeedFault, FreeGate, Gate, Opened, Outcome, Pass};
 
 /// How often each run is made, so that threads meet in many orders.
 const TIMES: u64 = 200;
@@ -192,6 +192,19 @@ fn feed<'s, L: Ledger, M: Ledger, R: Wait>(
     }
 }
 
+/// Whether a claim comes, which is refused.
+fn refuses_one<L: Ledger, M: Ledger, R: Wait>(
+    rt: &R,
+    desk: &Desk<'_, L, M>,
+    pass: &mut Pass<L>,
+) -> bool {
+    let Some(claim) = desk.claim(rt, pass) else {
+        return false;
+    };
+    desk.deliver(rt, claim, Outcome::Refused);
+    true
+}
+
 /// Feeds plan 0 twice and then plan 1, and plan 1 again where the desk was stopped. Tells each answer, and whether a claim
 /// and a delivery come then.
 fn fed_with<'s, L: Ledger, M: Ledger, R: Wait>(
@@ -221,7 +234,7 @@ fn fed_with<'s, L: Ledger, M: Ledger, R: Wait>(
     told.push(feed(rt, &desk, second))?;
     desk.stop(rt);
     told.push(feed(rt, &desk, second))?;
-    let claimed = desk.claim(rt, &mut pass).is_some();
+    let claimed = refuses_one(rt, &desk, &mut pass);
     let done = desk.take_done(rt, &mut taker).is_some() || desk.wait_done(rt, &mut taker).is_some();
     Ok((told, claimed, done))
 }
