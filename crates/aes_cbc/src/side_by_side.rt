@@ -1,6 +1,6 @@
 //! Texts of any lengths sealed side by side, each under its own key from its own vector on: faster than one by one.
 
-ghost use Rattle.std.specs.Prelude.{◌≡◌, ◌%◌, ◌*◌, ◌/◌, ◌+◌, ◌≤◌, [], length, slice_index_or, vec_len, vec_capacity, IfOk, IsOk, OnErr};
+ghost use Rattle.std.specs.Prelude.{◌≡◌, ◌⊎◌, ◌%◌, ◌*◌, ◌/◌, ◌+◌, ◌≤◌, [], length, slice_index_or, vec_len, vec_capacity, IfOk, IsOk, OnErr};
 ghost use Rattle.std.specs.List.{concat};
 ghost use Rattle.aes_cbc.specs.Block.{IsBlock};
 ghost use Rattle.aes_cbc.specs.Chain.{cbc, blocks, sealed_text};
@@ -100,6 +100,7 @@ fn lesser(a: usize, b: usize) -> usize
     requires { (a % 16 ≡ 0) × (b % 16 ≡ 0) }
     ensures least { (result ≤ a) × (result ≤ b) }
     ensures whole { result % 16 ≡ 0 }
+    ensures either { (result ≡ a) ⊎ (result ≡ b) }
 {
     if a < b { a } else { b }
 }
