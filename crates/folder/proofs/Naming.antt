@@ -8,7 +8,7 @@ use Rattle.std.proofs.lemmas.Option.{same_Some, none-some}
 use Rattle.std.proofs.lemmas.Slice.Eq.{bytes_eq-Decides}
 use Rattle.folder.specs.Moves.{Files, moved, no_files, standing, with_file}
 use Rattle.folder.specs.MemoryMoves.{memory_move, memory_moves}
-use Rattle.folder.specs.MemoryNames.{has_name, AreApart, with_new, with_name, AreNames}
+use Rattle.folder.specs.MemoryNames.{has_name, AreApart, with_new, with_name, AreNames, HasFiles, IsNew}
 use Rattle.folder.specs.MemoryNamed.{named}
 use Rattle.folder.specs.declared.memory_move.MemoryMove.{MemoryMove}
 use Rattle.folder.specs.declared.memory_move.MemoryMove.TheVariants.{Written, Renamed, Removed, Seen, Synced}
@@ -225,3 +225,8 @@ has-at [] i d name lt is = absurd (omega (arith, lt))
 has-at (n ∷ names) zero d name lt is = or-left (bytes_eq (string_bytes n) name) (has_name (map string_bytes names) name) ((bytes_eq-Decides (string_bytes n) name).1 is)
 has-at (n ∷ names) (suc i) d name lt is =
     ap (λ (x : Bool). bytes_eq (string_bytes n) name || x) (has-at names i d name (omega (arith, lt)) is) ∙ or-right (bytes_eq (string_bytes n) name)
+
+-- a name that is new is one of a file
+pub new-file : (files : Files) (names : List (List ℕ)) (name : Option (List ℕ)) → IsNew files names name → HasFiles files
+new-file files names None new = absurd new
+new-file files names (Some name) new = (name, new.0)

@@ -13,6 +13,15 @@ abbrev pub AreApart : List (List ℕ) → Type 0
 AreApart [] = Unit {0}
 AreApart (name ∷ names) = (has_name names name ≡ false) × AreApart names
 
+-- there is a file
+abbrev pub HasFiles : Files → Type 0
+HasFiles files = (name : List ℕ) × (is_some (files name) ≡ true)
+
+-- there is a file of this name, and it isn't among these
+abbrev pub IsNew : Files → List (List ℕ) → Option (List ℕ) → Type 0
+IsNew files names None = ⊥
+IsNew files names (Some name) = (is_some (files name) ≡ true) × (has_name names name ≡ false)
+
 -- behind one more, if there is a file of that name and it isn't among these
 abbrev pub with_new : Bool → Bool → List (List ℕ) → List ℕ → List (List ℕ)
 with_new true false names name = names ++ name ∷ []

@@ -70,6 +70,7 @@ impl Folder for MemoryFolder {
         ensures made { OnOk result (moves_in_memory self.new ≡ moves_in_memory self.old ++ Write name.now bytes.now ∷ []) }
         ensures cut_off { OnErr result ((more : List Move) × (moves_in_memory self.new ≡ moves_in_memory self.old ++ more) ×
             IsFailedWrite name.now bytes.now more) }
+        ensures kept { OnErr result (moves_in_memory self.new ≡ moves_in_memory self.old) }
         ensures fails { fails_at self.old ≡ 1 → IsErr result }
         ensures counts { fails_at self.new ≡ fails_at self.old - 1 }
     {

@@ -1,9 +1,9 @@
 //! The files of a folder in memory are read.
-ghost use Rattle.std.specs.Prelude.{◌≡◌, ⊤, [], length, Ok, Some, None, map, IfOk, IsErrOf, IsOk, OnOk};
+ghost use Rattle.std.specs.Prelude.{◌≡◌, ⊤, [], length, Ok, Some, None, map, IfOk, IsErrOf, IsOk, OnErr, OnOk};
 ghost use Rattle.std.specs.Option.{option_map};
 ghost use Rattle.std.specs.String.{string_bytes};
 ghost use Rattle.folder.specs.MemoryFolders.{moves_in_memory};
-ghost use Rattle.folder.specs.MemoryNames.{AreNames, has_name, with_name};
+ghost use Rattle.folder.specs.MemoryNames.{AreNames, HasFiles, IsNew, has_name, with_name};
 ghost use Rattle.folder.specs.MemoryNamed.{named};
 ghost use Rattle.folder.specs.Moves.{no_files, standing};
 
@@ -28,6 +28,7 @@ impl FolderReader for MemoryFolder {
         ensures ok { IfOk result (λ names. AreNames (standing no_files (moves_in_memory self.now)) (map string_bytes names.items)) }
         ensures unread { IsErrOf result FolderReadFault.Unread → ⊥ }
         ensures empty { moves_in_memory self.now ≡ [] → IsOk result }
+        ensures scarce { IsErrOf result FolderReadFault.NoMemory → HasFiles (standing no_files (moves_in_memory self.now)) }
     {
         Ok(names_in(alloc, self)?)
     }
@@ -57,6 +58,7 @@ impl FolderReader for MemoryFolder {
 fn names_in(alloc: Global, folder: &MemoryFolder) -> Result<Vec<String>, AllocError>
     ensures names { IfOk result (λ names. AreNames (standing no_files (moves_in_memory folder.now)) (map string_bytes names.items)) }
     ensures empty { moves_in_memory folder.now ≡ [] → IsOk result }
+    ensures scarce { OnErr result (HasFiles (standing no_files (moves_in_memory folder.now))) }
 {
     let moves = folder.moves();
     let mut names = Vec::new(alloc);
@@ -73,8 +75,10 @@ fn add_name(
     names: &mut Vec<String>,
     name: Option<&str>,
 ) -> Result<(), AllocError>
-    ensures { OnOk result (map string_bytes names.new.items ≡
+    ensures names { OnOk result (map string_bytes names.new.items ≡
         with_name (standing no_files (moves_in_memory folder.now)) (map string_bytes names.old.items) (option_map (λ n. n.now) name.entry)) }
+    ensures scarce { OnErr result (IsNew (standing no_files (moves_in_memory folder.now)) (map string_bytes names.old.items)
+        (option_map (λ n. n.now) name.entry)) }
 {
     let Some(name) = name else {
         return Ok(());
