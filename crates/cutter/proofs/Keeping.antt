@@ -37,7 +37,7 @@ new-keeps c watch clock fed top going reel turned = record {
 }
 
 -- what the code reads of what it keeps is what the packet is
-abbrev tables_in : Inside → Option InForce
+abbrev pub tables_in : Inside → Option InForce
 tables_in c = tables_behind c.watch.program c.watch.packets
 
 tables-are : (c : Inside) → Keeps c → tables_in c ≡ in_force c.settings c.fed.items

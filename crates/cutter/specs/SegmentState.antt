@@ -14,7 +14,7 @@ use Rattle.cutter.specs.Points.{Mark}
 use Rattle.cutter.specs.Cuts.{made}
 use Rattle.cutter.specs.Framing.{Framing, framed, no_frames, frames_by}
 use Rattle.cutter.specs.Reels.{Filled}
-use Rattle.cutter.specs.Segments.{Point, Segment, bytes_of, body_of, later, greatest, ticks_to, breaks, is_cut, is_discontinuity, is_long}
+use Rattle.cutter.specs.Segments.{Point, Segment, AddsNothing, bytes_of, body_of, later, greatest, ticks_to, breaks, is_cut, is_discontinuity, is_long}
 use Rattle.ts_packet.specs.declared.lengths.TheConstants.{PACKET}
 use Rattle.limits.specs.declared.TheConstants.{LAST_SEGMENT}
 
@@ -143,6 +143,17 @@ gives going plan = record { going = going; plan = plan; fault = None }
 
 abbrev pub faults : CutFault → Out
 faults fault = record { going = None; plan = None; fault = Some fault }
+
+-- no segment goes on that takes anything of a packet
+abbrev pub LeavesBody : Option Opened → Mark → Type 0
+LeavesBody None m = Unit {0}
+LeavesBody (Some g) m = AddsNothing m
+
+-- nor does one begin with it
+abbrev pub LeavesAll : Option Opened → Option InForce → Option Stamp → Mark → Type 0
+LeavesAll going None c m = LeavesBody going m
+LeavesAll going (Some t) None m = LeavesBody going m
+LeavesAll going (Some t) (Some c) m = ⊥
 
 -- a packet is placed: the segment that goes on, the plan that was closed, and whether one was
 pub record Places (out : Out) (before after : Filled) (opened : Option Opened) (closed : Bool) : Type 0 where

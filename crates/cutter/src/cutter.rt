@@ -1,9 +1,10 @@
-ghost use Rattle.std.specs.Prelude.{◌≡◌, ◌<◌, ◌^◌, ◌⊎◌, [], ◌∷◌, ◌++◌, ℕ, List, Err, true, false, None, length, IfSome, IfOk, IfErr, OnOk, OnErr};
+ghost use Rattle.std.specs.Prelude.{◌≡◌, ◌<◌, ◌^◌, ◌⊎◌, [], ◌∷◌, ◌++◌, ℕ, List, Ok, Err, true, false, None, length, IfSome, IfOk, IfErr, OnOk, OnErr};
 ghost use Rattle.cutter.specs.declared.fault.CutFault.TheVariants.{NoMemory, Ended};
 ghost use Rattle.cutter.specs.Cuts.{cuts, closed, fault, plans, made, Ends};
 ghost use Rattle.cutter.specs.Ordered.{IsPlan};
 ghost use Rattle.cutter.specs.Settings.{IsAllowed};
 ghost use Rattle.cutter.specs.Spooled.{IsOne};
+ghost use Rattle.cutter.specs.Stream.{is_packet};
 
 use crate::fault::CutFault;
 use crate::plan::Plan;
@@ -79,6 +80,7 @@ impl Cutter {
         ensures scarce { IfErr result (λ e. e ≡ NoMemory →
             (cuts self.old.rendition self.old.settings (self.old.list ++ packet.now ∷ [])).fault ≡ None) }
         ensures err { OnErr result (self.new ≡ record self.old { ended = true }) }
+        ensures dropped { is_packet packet.now ≡ false → self.old.ended ≡ false → result ≡ Ok None }
     {
         if self.ended {
             return Err(CutFault::Ended);
@@ -130,6 +132,7 @@ fn take_plan(
     ensures ok { IfOk result (λ plan. inner.old.filled ≡ made plan) }
     ensures same { OnOk result (inner.new ≡ record inner.old { turned = inner.new.turned; filled = [] }) }
     ensures err { OnErr result (inner.new ≡ inner.old) }
+    ensures none { closed ≡ false → result ≡ Ok None }
 {
     if !closed {
         return Ok(None);

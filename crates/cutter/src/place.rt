@@ -1,11 +1,13 @@
 //! Where a packet goes: into the segment that goes on, or into a new one behind a cut.
 
-ghost use Rattle.std.specs.Prelude.{◌≡◌, ◌+◌, ◌<◌, ◌≤◌, ◌*◌, ◌^◌, nat_lt, true, false, Some, None, IfOk, IfErr, OnErr, OnOk, option_copied};
+ghost use Rattle.std.specs.Prelude.{◌≡◌, ◌≢◌, ◌+◌, ◌<◌, ◌≤◌, ◌*◌, ◌^◌, nat_lt, true, false, Some, None, IfOk, IfErr, OnErr, OnOk, option_copied};
 ghost use Rattle.cutter.specs.Settings.{IsAllowed};
 ghost use Rattle.cutter.specs.Segments;
 ghost use Rattle.cutter.specs.SegmentState;
 ghost use Rattle.cutter.specs.SegmentState.{added, begun, carried, sized, taken, finished, gives, faults, renewed, over, held_in, Places};
-ghost use Rattle.cutter.specs.SegmentState.{Refuses, IsIdle, IsInRange, HasRange};
+ghost use Rattle.cutter.specs.SegmentState.{Refuses, IsIdle, IsInRange, HasRange, LeavesAll, LeavesBody};
+ghost use Rattle.cutter.specs.Segments.{AddsNothing};
+ghost use Rattle.cutter.specs.declared.fault.CutFault.TheVariants.{NoMemory};
 ghost use Rattle.limits.specs.declared.TheConstants.{MOST_FRAME};
 
 use crate::fault::CutFault;
@@ -32,6 +34,7 @@ pub(crate) fn place(
         (option_copied tables.entry) mark.now.counted mark.now) reel.old reel.new going.new) }
     ensures err { IfErr result (Refuses (taken rendition settings (held_in going.old reel.old) (option_copied tables.entry) mark.now.counted mark.now)) }
     ensures kept { OnErr result (reel.new.plans ≡ reel.old.plans) }
+    ensures none { LeavesAll going.old (option_copied tables.entry) mark.now.counted mark.now → IfErr result (λ e. e ≢ NoMemory) }
 {
     let Some(tables) = tables else {
         return carry(settings, reel, going, mark);
@@ -64,6 +67,7 @@ fn carry(
     ensures ok { IfOk result (Places (carried settings (held_in going.old reel.old) mark.now) reel.old reel.new going.new) }
     ensures err { IfErr result (Refuses (carried settings (held_in going.old reel.old) mark.now)) }
     ensures kept { OnErr result (reel.new.plans ≡ reel.old.plans) }
+    ensures none { LeavesBody going.old mark.now → IfErr result (λ e. e ≢ NoMemory) }
 {
     if let Some(segment) = going {
         grow(settings, reel, segment, mark)?;
@@ -82,6 +86,7 @@ fn grow(
     ensures ok { OnOk result (Places (sized settings (added (over going.old reel.old) mark.now) None) reel.old reel.new (Some going.new) false) }
     ensures err { IfErr result (Refuses (sized settings (added (over going.old reel.old) mark.now) None)) }
     ensures kept { OnErr result (reel.new.plans ≡ reel.old.plans) }
+    ensures none { AddsNothing mark.now → IfErr result (λ e. e ≢ NoMemory) }
 {
     if is_big(settings, reel.size_with(mark)) {
         return Err(CutFault::BigSegment(going.number()));

@@ -1,9 +1,9 @@
 //! Plans that are closed, and the body that goes on behind them.
 
-ghost use Rattle.std.specs.Prelude.{◌≡◌, ◌≤◌, ◌++◌, ◌∷◌, [], List, Some, None, IfSome, IfNone, OnOk, OnErr, slice_get, slice_range, length};
+ghost use Rattle.std.specs.Prelude.{◌≡◌, ◌≤◌, ◌++◌, ◌∷◌, [], List, Some, None, IfSome, IfNone, IsOk, OnOk, OnErr, slice_get, slice_range, length};
 ghost use Rattle.cutter.specs.Plans.{SegmentPlan};
 ghost use Rattle.cutter.specs.Lent.{lent};
-ghost use Rattle.cutter.specs.Segments.{bytes_of};
+ghost use Rattle.cutter.specs.Segments.{bytes_of, AddsNothing};
 ghost use Rattle.cutter.specs.Framing.{framed, frames_by, no_frames, IsWithin};
 ghost use Rattle.cutter.specs.Reels.{labelled, plan_in, unfilled};
 
@@ -137,6 +137,7 @@ impl Reel {
     pub(crate) fn add(&mut self, head: Stamp, mark: &Mark<'_>) -> Result<(), AllocError>
         ensures ok { OnOk result (self.new ≡ record self.old { body = self.old.body ++ bytes_of mark.now; framing = framed head self.old.framing mark.now }) }
         ensures err { OnErr result (self.new.plans ≡ self.old.plans) }
+        ensures none { AddsNothing mark.now → IsOk result }
     {
         let offset = (self.bytes.len() - self.body_at) as u64;
         self.bytes.extend_from_slice(mark.bytes())?;
@@ -207,7 +208,8 @@ impl Reel {
 
     /// Holds a copy of the body that goes on in another, and no plans.
     pub(crate) fn copy_open(&mut self, other: &Reel) -> Result<(), AllocError>
-        ensures { OnOk result (self.new ≡ record other.now { plans = [] }) }
+        ensures ok { OnOk result (self.new ≡ record other.now { plans = [] }) }
+        ensures none { other.now.body ≡ [] → other.now.framing.ended ≡ [] → IsOk result }
     {
         self.clear();
         self.bytes

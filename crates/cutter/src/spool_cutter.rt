@@ -1,9 +1,9 @@
-ghost use Rattle.std.specs.Prelude.{◌≡◌, ◌<◌, ◌^◌, ◌⊎◌, [], ◌∷◌, ◌++◌, ℕ, List, Option, is_some, Err, true, false, None, length, IfSome};
-ghost use Rattle.std.specs.Prelude.{IfOk, IfErr, OnOk, OnErr};
+ghost use Rattle.std.specs.Prelude.{◌≡◌, ◌<◌, ◌^◌, ◌⊎◌, [], ◌∷◌, ◌++◌, ℕ, List, Option, is_some, Ok, Err, true, false, None, length, IfSome};
+ghost use Rattle.std.specs.Prelude.{IfOk, IfErr, IsOk, OnOk, OnErr};
 ghost use Rattle.cutter.specs.declared.fault.CutFault.TheVariants.{NoMemory, Ended};
 ghost use Rattle.cutter.specs.Plans.{SegmentPlan};
 ghost use Rattle.cutter.specs.Cuts.{cuts, closed, fault, plans, made, Ends};
-ghost use Rattle.cutter.specs.Stream.{packet_list};
+ghost use Rattle.cutter.specs.Stream.{is_packet, packet_list};
 ghost use Rattle.cutter.specs.Settings.{IsAllowed};
 ghost use Rattle.cutter.specs.Spooled.{Closes, all_plans};
 
@@ -103,6 +103,9 @@ impl SpoolCutter {
         ensures scarce { IfErr result (λ e. e ≡ NoMemory →
             (cuts self.old.rendition self.old.settings (self.old.list ++ packet.now ∷ [])).fault ≡ None) }
         ensures err { OnErr result (self.new ≡ record self.old { ended = true }) }
+
+        // Bytes that are no packet take no part: they bring no fault, close no plan, and want no memory.
+        ensures dropped { is_packet packet.now ≡ false → self.old.ended ≡ false → result ≡ Ok false }
     {
         if self.ended {
             return Err(CutFault::Ended);
@@ -173,6 +176,9 @@ impl SpoolCutter {
         ensures turned { OnOk result (self.new ≡ record self.old { turned = self.old.turned ++ self.old.filled ∷ []; filled = [] }) }
         ensures spare { IfErr result (λ spare. spare ≡ []) }
         ensures err { OnErr result (self.new ≡ self.old) }
+
+        // Where no segment goes on there is nothing to copy.
+        ensures none { self.old.ended ≡ false → (cuts self.old.rendition self.old.settings self.old.list).going ≡ None → IsOk result }
     {
         let Spool { mut reel } = spool;
         if reel.copy_open(&self.reel).is_err() {
@@ -198,6 +204,7 @@ fn watch_or_reopen(
     ensures same { OnOk result (reel.new ≡ reel.old) }
     ensures err { OnErr result ((plans : List SegmentPlan) (plan : Option SegmentPlan) →
         reel.old.plans ≡ plans ++ made plan → closed ≡ is_some plan → reel.new.plans ≡ plans) }
+    ensures none { is_packet arrival.now ≡ false → IsOk result }
 {
     let Err(error) = watch_packet(watch, arrival) else {
         return Ok(());

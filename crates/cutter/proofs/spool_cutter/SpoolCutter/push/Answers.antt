@@ -1,13 +1,16 @@
-use Rattle.std.proofs.Common.{◌∙◌, ◌++◌, refl, subst, sym, ap, All, rules}
-use Rattle.std.specs.Prelude.{option_copied}
+use Rattle.std.proofs.Common.{◌∙◌, ◌++◌, Ok, refl, subst, sym, ap, All, rules}
+use Rattle.std.specs.Prelude.{option_copied, is_some}
+use Rattle.std.proofs.lemmas.Bool.{false≢true}
 use Rattle.std.proofs.lemmas.List.Elements.{All-push}
 use Rattle.std.proofs.lemmas.Result.{err_from_is_err_and}
 use Rattle.cutter.specs.Ordered.{IsPacketLong}
 use Rattle.cutter.specs.Points.{mark}
+use Rattle.cutter.specs.Stream.{is_packet}
 use Rattle.cutter.specs.Reels.{Filled}
 use Rattle.cutter.specs.Spooled.{Spooling, joined}
 use Rattle.cutter.specs.SegmentState.{held_in, taken, Places}
 use Rattle.cutter.proofs.Keeping.{few, push-lost, push-fault, push-scarce, push-closes, push-all, push-sound, push-keeps, read-of}
+use Rattle.cutter.proofs.Sparing.{read-dropped, leaves-all, closes-none, dropped-sound, never-lost}
 use Rattle.cutter.proofs.spool_cutter.SpoolCutter.push.Goals as goal
 
 pub look_behind-requires : goal.look_behind-requires
@@ -77,3 +80,26 @@ returns-clause-sound c =
     let read = read-of c.self.inside c.args.packet.now c.new-arrival.result c.in_ok-look.look (held_in c.self.inside.going c.self.inside.reel) (option_copied c.tables.result) c.counted-counted.result
     c.new-arrival.ensures c.in_ok-look.ensures.look c.in_ok-look.ensures.kept refl c.tables.ensures c.counted-counted.ensures.is in
     push-sound c.self.inside c.args.self.now c.args.packet.now c.in_ok-look.look _ _ _ c.counted-counted.result _ c.self.view_is (c.self.invariant.keeps c.if-self.false) read c.in_ok-closed.ensures.ok.going
+
+pub returns-in_err-look-clause-dropped : goal.returns-in_err-look-clause-dropped
+returns-in_err-look-clause-dropped c = λ is going. absurd (never-lost _ _ _ _ _ c.new-arrival.ensures is c.in_err-look.ensures.lost.1)
+
+pub returns-in_err-closed-clause-dropped : goal.returns-in_err-closed-clause-dropped
+returns-in_err-closed-clause-dropped c = λ is going.
+    let read = read-of c.self.inside c.args.packet.now c.new-arrival.result c.in_ok-look.look (held_in c.self.inside.going c.self.inside.reel) (option_copied c.tables.result) c.counted-counted.result
+    c.new-arrival.ensures c.in_ok-look.ensures.look c.in_ok-look.ensures.kept refl c.tables.ensures c.counted-counted.ensures.is in
+    let unseen = read-dropped _ _ _ _ _ _ read is in
+    let none = c.in_err-closed.ensures.none (leaves-all _ _ _ _ unseen.point unseen.seen) in
+    absurd (none (dropped-sound c.self.inside c.args.packet.now c.in_ok-look.look _ _ c.counted-counted.result c.in_err-closed.field-0.0 (c.self.invariant.keeps c.if-self.false) read is c.in_err-closed.ensures.err))
+
+pub returns-in_err-watch_or_reopen-clause-dropped : goal.returns-in_err-watch_or_reopen-clause-dropped
+returns-in_err-watch_or_reopen-clause-dropped c = λ is going.
+    absurd (false≢true (c.in_err-watch_or_reopen.ensures.none (ap is_packet c.new-arrival.ensures ∙ is)))
+
+pub returns-clause-dropped : goal.returns-clause-dropped
+returns-clause-dropped c = λ is going.
+    let read = read-of c.self.inside c.args.packet.now c.new-arrival.result c.in_ok-look.look (held_in c.self.inside.going c.self.inside.reel) (option_copied c.tables.result) c.counted-counted.result
+    c.new-arrival.ensures c.in_ok-look.ensures.look c.in_ok-look.ensures.kept refl c.tables.ensures c.counted-counted.ensures.is in
+    let unseen = read-dropped _ _ _ _ _ _ read is in
+    let none = closes-none c.self.inside.rendition c.self.inside.settings (held_in c.self.inside.going c.self.inside.reel) (option_copied c.tables.result) c.counted-counted.result (mark c.args.packet.now c.in_ok-look.look c.counted-counted.result) unseen.point in
+    ap (λ closed. Ok closed) (c.in_ok-closed.ensures.ok.told ∙ ap is_some none)
