@@ -2,7 +2,7 @@ ghost use Rattle.std.specs.Prelude.{◌≡◌};
 ghost use Rattle.item_io.specs.Views.{source_view};
 ghost use Rattle.read_ahead.specs.Sources.{IsSound, rest_of};
 
-use crate::incoming::{Incoming, Phase};
+use crate::incoming::Incoming;
 use crate::input::Contents;
 use crate::view::InputsView;
 use crate::waiting::wait_ready;
@@ -52,13 +52,7 @@ impl<R: Wait + Clock, I: Contents> Ahead<R, I> {
     pub fn is_open(&mut self, was_awaited: bool) -> Option<bool>
         ensures { self.new ≡ self.old }
     {
-        if matches!(self.incoming.phase, Phase::Opening) {
-            if self.incoming.consumer.is_empty() {
-                return (was_awaited && self.incoming.may_wait).then_some(true);
-            }
-            self.incoming.wait_open(&self.rt);
-        }
-        Some(!matches!(self.incoming.phase, Phase::Failed))
+        self.incoming.is_open(&self.rt, was_awaited)
     }
 
     /// A view of this input and all those that were opened with it.

@@ -1,7 +1,8 @@
 //! What comes of an input: the bytes that its thread told, in the order in which it told them.
-ghost use Rattle.std.specs.Prelude.{◌≡◌, ◌≢◌, ◌+◌, ◌-◌, ◌≤◌, ◌<◌, [], ◌∷◌, ◌++◌, ◌⊎◌, true, false, length, take, drop, min, None, IfOk, IfSome, OnErr};
+ghost use Rattle.std.specs.Prelude.{◌≡◌, ◌≢◌, ◌+◌, ◌-◌, ◌≤◌, ◌<◌, [], ◌∷◌, ◌++◌, ◌⊎◌, true, false};
+ghost use Rattle.std.specs.Prelude.{length, take, drop, min, Some, None, IfOk, IfSome, IsSome, OnErr};
 ghost use Rattle.std.specs.Io.KnownBytes.{Consumes, IsAtEnd, Keeps};
-ghost use Rattle.rtrb.specs.Ring.{received};
+ghost use Rattle.rtrb.specs.Ring.{known_items, received};
 ghost use Rattle.read_ahead.specs.Messages.{MayFollow};
 ghost use Rattle.read_ahead.specs.Sources.{IsSound, StandsBy, going_by, opened_by, rest_of};
 ghost use Rattle.read_ahead.specs.declared.incoming.Phase.TheVariants.{Opening, Going, Ended, Failed};
@@ -57,6 +58,7 @@ impl<I: Contents> Incoming<I> {
     pub fn is_ready(&mut self) -> bool
         requires { IsSound I.holds self.old }
         ensures sound { IsSound I.holds self.new }
+        ensures number { self.new.number ≡ self.old.number }
         ensures same { rest_of I.holds self.new ≡ rest_of I.holds self.old }
         ensures phase { self.new.phase ≡ self.old.phase }
         ensures ready { (self.old.at < length self.old.front.items) ⊎ (self.old.phase ≡ Ended) ⊎ (self.old.phase ≡ Failed) → result ≡ true }
@@ -66,10 +68,33 @@ impl<I: Contents> Incoming<I> {
             || !self.consumer.is_empty()
     }
 
+    /// Whether it can be begun with the input: false where that can't be opened, none while that isn't known. An input that may
+    /// wait for a writer `was_awaited` long enough.
+    pub fn is_open<R: Wait + Clock>(&mut self, rt: &R, was_awaited: bool) -> Option<bool>
+        requires { IsSound I.holds self.old }
+        ensures sound { IsSound I.holds self.new }
+        ensures number { self.new.number ≡ self.old.number }
+        ensures same { rest_of I.holds self.new ≡ rest_of I.holds self.old }
+        ensures kept { self.old.phase ≢ Opening → self.new.phase ≡ self.old.phase }
+        ensures stands { self.old.phase ≡ Opening → ((received self.new.consumer ≡ received self.old.consumer) × (self.new.phase ≡ Opening))
+            ⊎ StandsBy opened_by (received self.old.consumer) (received self.new.consumer) self.new.phase }
+        ensures failed { self.new.phase ≡ Failed → result ≡ Some false }
+        ensures open { self.new.phase ≢ Opening → self.new.phase ≢ Failed → result ≡ Some true }
+    {
+        if matches!(self.phase, Phase::Opening) {
+            if self.consumer.is_empty() {
+                return (was_awaited && self.may_wait).then_some(true);
+            }
+            self.wait_open(rt);
+        }
+        Some(!matches!(self.phase, Phase::Failed))
+    }
+
     /// No more is given behind the front block.
     pub fn stop(&mut self)
         requires { IsSound I.holds self.old }
         ensures sound { IsSound I.holds self.new }
+        ensures number { self.new.number ≡ self.old.number }
         ensures same { rest_of I.holds self.new ≡ rest_of I.holds self.old }
         ensures phase { self.new.phase ≢ Opening }
         ensures ended { self.old.phase ≡ Ended → self.new.phase ≡ Ended }
@@ -84,6 +109,7 @@ impl<I: Contents> Incoming<I> {
     fn fail(&mut self)
         requires { IsSound I.holds self.old }
         ensures sound { IsSound I.holds self.new }
+        ensures number { self.new.number ≡ self.old.number }
         ensures same { rest_of I.holds self.new ≡ rest_of I.holds self.old }
         ensures phase { self.new.phase ≡ Failed }
         ensures told { received self.new.consumer ≡ received self.old.consumer }
@@ -96,6 +122,7 @@ impl<I: Contents> Incoming<I> {
         requires sound { IsSound I.holds self.old }
         requires opening { self.old.phase ≡ Opening }
         ensures sound { IsSound I.holds self.new }
+        ensures number { self.new.number ≡ self.old.number }
         ensures same { rest_of I.holds self.new ≡ rest_of I.holds self.old }
         ensures phase { self.new.phase ≢ Opening }
         ensures stands { StandsBy opened_by (received self.old.consumer) (received self.new.consumer) self.new.phase }
@@ -119,6 +146,7 @@ impl<I: Contents> Incoming<I> {
         requires used { self.old.at ≡ length self.old.front.items }
         requires going { self.old.phase ≡ Going }
         ensures sound { IsSound I.holds self.new }
+        ensures number { self.new.number ≡ self.old.number }
         ensures same { rest_of I.holds self.new ≡ rest_of I.holds self.old }
         ensures some { (self.new.at < length self.new.front.items) ⊎ (self.new.phase ≢ Going) }
         ensures phase { self.new.phase ≢ Opening }
@@ -145,6 +173,7 @@ impl<I: Contents> Incoming<I> {
     pub fn go_on<R: Wait + Clock>(&mut self, rt: &R)
         requires { IsSound I.holds self.old }
         ensures sound { IsSound I.holds self.new }
+        ensures number { self.new.number ≡ self.old.number }
         ensures same { rest_of I.holds self.new ≡ rest_of I.holds self.old }
         ensures some { (self.new.at < length self.new.front.items) ⊎ (self.new.phase ≢ Going) }
         ensures phase { self.new.phase ≢ Opening }
@@ -165,6 +194,7 @@ impl<I: Contents> Incoming<I> {
         requires sound { IsSound I.holds self.old }
         requires phase { self.old.phase ≢ Opening }
         ensures sound { IsSound I.holds self.new }
+        ensures number { self.new.number ≡ self.old.number }
         ensures phase { self.new.phase ≢ Opening }
         ensures within { result ≤ length buffer.old }
         ensures some { self.old.at < length self.old.front.items → 0 < length buffer.old → 0 < result }
@@ -181,6 +211,7 @@ impl<I: Contents> Incoming<I> {
         requires sound { IsSound I.holds self.old }
         requires phase { self.old.phase ≢ Opening }
         ensures sound { IsSound I.holds self.new }
+        ensures number { self.new.number ≡ self.old.number }
         ensures phase { self.new.phase ≢ Opening }
         ensures within { result ≤ length buffer.old }
         ensures some { self.old.at < length self.old.front.items → 0 < length buffer.old → 0 < result }
@@ -199,6 +230,7 @@ impl<I: Contents> Incoming<I> {
         requires phase { self.old.phase ≢ Opening }
         requires some { (self.old.at < length self.old.front.items) ⊎ (self.old.phase ≢ Going) }
         ensures sound { IsSound I.holds self.new }
+        ensures number { self.new.number ≡ self.old.number }
         ensures within { IfOk result (λ count. count ≤ length buffer.new) }
         ensures gave { IfOk result (λ count. Consumes (rest_of I.holds self.old) (rest_of I.holds self.new) (take count buffer.new)) }
         ensures end { IfOk result (λ count. count ≡ 0 → 0 < length buffer.new → IsAtEnd (rest_of I.holds self.new)) }
@@ -220,6 +252,7 @@ impl<I: Contents> Incoming<I> {
         requires phase { self.old.phase ≢ Opening }
         requires some { self.old.at < length self.old.front.items }
         ensures sound { IsSound I.holds self.new }
+        ensures number { self.new.number ≡ self.old.number }
         ensures within { result ≤ length buffer.new }
         ensures some { 0 < length buffer.new → 0 < result }
         ensures full { (result ≡ length buffer.new) ⊎ (length self.new.front.items ≤ self.new.at) }
@@ -255,6 +288,7 @@ fn wait_message<R: Wait + Clock, I: Contents>(
     ensures order { IfSome result (λ message. received consumer.new ≡ received consumer.old ++ message ∷ []) }
     ensures allowed { IfSome result (MayFollow I.holds (received consumer.old)) }
     ensures none { result ≡ None → received consumer.new ≡ received consumer.old }
+    ensures ready { 0 < length (known_items consumer.old) → IsSome result }
 {
     for _ in rt.forever() {
         let seen = backlogs.news(rt);

@@ -1,4 +1,4 @@
-use Rattle.std.proofs.Common.{rules, arith, take, length, ◌-◌, drop}
+use Rattle.std.proofs.Common.{rules, arith, take, length, ◌-◌, ◌∙◌, drop}
 use Rattle.std.proofs.lemmas.List.{length-take, length-drop}
 use Rattle.read_ahead.specs.Sources.{rest_of}
 use Rattle.read_ahead.proofs.Filling.{take_grows}
@@ -17,6 +17,7 @@ loop-given-preserved g c =
       sound = c.take_some-given.ensures.sound;
       phase = c.take_some-given.ensures.phase;
       within = omega (arith, c.take_some-given.ensures.within, c.loop-given.auto.buffer, length-take (length buffer - given) (drop given buffer), length-drop given buffer, c.loop-given.invariant.within);
+      number = c.take_some-given.ensures.number ∙ c.loop-given.invariant.number;
       first = λ none. absurd (search (rules, none, c.take_some-given.ensures.some));
       gave = rw grown (consumes_on (rest_of g.I.Contents.holds c.args.self.now) (rest_of g.I.Contents.holds c.loop-given.self) (rest_of g.I.Contents.holds new.self) (take given buffer) (take some new.buffer) c.loop-given.invariant.gave c.take_some-given.ensures.gave);
     }

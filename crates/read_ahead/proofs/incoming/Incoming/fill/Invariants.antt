@@ -8,6 +8,7 @@ abbrev pub invariant-loop-given : goal.invariant-loop-given
 invariant-loop-given g l = record {
   sound : IsSound g.I.Contents.holds l.self;
   phase : l.self.phase ≢ Opening;
+  number : l.self.number ≡ l.initial.self.number;
   within : l.given ≤ length l.initial.buffer;
   first : l.given ≡ 0 → l.self.at < length l.self.front.items;
   gave : Consumes (rest_of g.I.Contents.holds l.initial.self) (rest_of g.I.Contents.holds l.self) (take l.given l.buffer);
