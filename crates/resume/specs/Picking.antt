@@ -1,9 +1,11 @@
 -- The I-frames that the lines of an I-frame playlist list (RFC 8216, 4.3.2.2 and 4.3.3.6).
-use Rattle.std.specs.Prelude.{ℕ, ◌==◌, ◌&&◌, ◌||◌, ◌^◌, not, Bool, true, false, nat_eq, Option, if◌then◌else◌, List, [], ◌∷◌, ◌++◌, length, drop, unwrap_or, codes}
+use Rattle.std.specs.Prelude.{◌≡◌, ℕ, ◌==◌, ◌&&◌, ◌||◌, ◌^◌, not, Bool, true, false, nat_eq, Option, if◌then◌else◌, List, [], ◌∷◌, ◌++◌, length, drop, unwrap_or, codes, All}
 use Rattle.std.specs.Fmt.{decimal}
 use Rattle.std.specs.List.{before_first, starts_with}
+use Rattle.playlist_text.specs.Lines.{text_of}
 use Rattle.playlist_text.specs.MediaLines.{duration_line}
 use Rattle.media_playlist.specs.declared.row.FrameRow.{FrameRow}
+use Rattle.media_reading.specs.MediaTexts.{IsLine}
 use Rattle.media_reading.specs.State.{number_in, sequence_line}
 
 -- the number of the first I-frame, the I-frames so far, where those of each segment begin among them, the duration of the next
@@ -55,3 +57,13 @@ pick_line p line =
 unfoldable pub pick_lines : Picks → List (List ℕ) → Picks
 pick_lines p [] = p
 pick_lines p (line ∷ lines) = pick_lines (pick_line p line) lines
+
+-- memory was wanted at a line of a text: it adds to what was picked of those before it
+pub record MayWantMemory (text : List ℕ) : Type 0 where
+  pub before : List (List ℕ)
+  pub each : All IsLine before
+  pub line : List ℕ
+  pub whole_line : IsLine line
+  pub behind : List ℕ
+  pub whole : text ≡ text_of before ++ (line ++ 10 ∷ behind)
+  pub wants : may_want (pick_lines no_picks before) line ≡ true

@@ -5,7 +5,7 @@ ghost use Rattle.std.specs.Prelude.{IfOk, IsNone, IsSomeAnd, OnErr, OnOk};
 ghost use Rattle.std.specs.List.{before_first};
 ghost use Rattle.playlist_text.specs.Lines.{text_of};
 ghost use Rattle.media_reading.specs.MediaTexts.{IsLine};
-ghost use Rattle.resume.specs.Picking.{may_want, no_picks, pick_line, pick_lines, len_in, offset_in};
+ghost use Rattle.resume.specs.Picking.{MayWantMemory, may_want, no_picks, pick_line, pick_lines, len_in, offset_in};
 ghost use Rattle.media_playlist.specs.Rows.{SegmentRow};
 ghost use Rattle.resume.specs.Picked.{picks_of};
 ghost use Rattle.resume.specs.Reading.{ArePicked};
@@ -96,8 +96,9 @@ fn part(frames: &[FrameRow], start: usize, end: usize) -> Option<&[FrameRow]>
 
 /// Picks the I-frames out of a text.
 pub fn pick(alloc: Global, text: &str) -> Result<Picked, AllocError>
-    ensures { IfOk result (λ picked. (lines : List (List ℕ)) → All IsLine lines → text.now ≡ text_of lines →
+    ensures picked { IfOk result (λ picked. (lines : List (List ℕ)) → All IsLine lines → text.now ≡ text_of lines →
         picks_of picked ≡ pick_lines no_picks lines) }
+    ensures scarce { OnErr result (MayWantMemory text.now) }
 {
     let mut picked = Picked::new(alloc);
     let mut rest = text.as_bytes();

@@ -6,18 +6,18 @@ use Rattle.resume.proofs.reading_back.read_back.Goals as goal
 
 pub returns-then-picked-clause-whole : goal.returns-then-picked-clause-whole
 returns-then-picked-clause-whole c = λ name wanted r is.
-    let are = are-picked name wanted c.args.listing.now c.args.frames.now c.args.sizes.now r (picks_of c.in_ok-picked.picked) c.requires.listing is c.in_ok-picked.ensures in
+    let are = are-picked name wanted c.args.listing.now c.args.frames.now c.args.sizes.now r (picks_of c.in_ok-picked.picked) c.requires.listing is c.in_ok-picked.ensures.picked in
     omega (arith, are.first_is, is.may_go_on.frames, c.if-picked.true)
 
 pub returns-in_default-clause-whole : goal.returns-in_default-clause-whole
 returns-in_default-clause-whole c = λ name wanted r is.
-    let are = are-picked name wanted c.args.listing.now c.args.frames.now c.args.sizes.now r (picks_of c.in_ok-picked.picked) c.requires.listing is c.in_ok-picked.ensures in
+    let are = are-picked name wanted c.args.listing.now c.args.frames.now c.args.sizes.now r (picks_of c.in_ok-picked.picked) c.requires.listing is c.in_ok-picked.ensures.picked in
     let rows = rows-of name wanted c.args.listing.now c.args.frames.now c.args.sizes.now r is in
     rw c.in_default.is at (c.in_ok-earlier.ensures.whole r.gone.frames r.earlier rows are)
 
 pub returns-clause-whole : goal.returns-clause-whole
 returns-clause-whole c = λ name wanted r is.
-    let are = are-picked name wanted c.args.listing.now c.args.frames.now c.args.sizes.now r (picks_of c.in_ok-picked.picked) c.requires.listing is c.in_ok-picked.ensures in
+    let are = are-picked name wanted c.args.listing.now c.args.frames.now c.args.sizes.now r (picks_of c.in_ok-picked.picked) c.requires.listing is c.in_ok-picked.ensures.picked in
     let rows = rows-of name wanted c.args.listing.now c.args.frames.now c.args.sizes.now r is in
     let earlier : c.in-Some.earlier.items ≡ r.earlier = rw c.in-Some.is at (c.in_ok-earlier.ensures.whole r.gone.frames r.earlier rows are) in
     let sequence : c.listing.inside.sequence ≡ c.args.listing.now.sequence = ap (λ (m : Listing). m.sequence) c.listing.view_is in
