@@ -1,6 +1,6 @@
 //! A metric of all renditions.
 
-ghost use Rattle.std.specs.Prelude.{◌≡◌, ◌++◌, map, option_map, IsOk, None, OnOk};
+ghost use Rattle.std.specs.Prelude.{◌≡◌, ◌≢◌, ◌++◌, map, option_map, Any, IsOk, None, OnErr, OnOk};
 ghost use Rattle.metrics.specs.Format.{head_text, sample_line, fault_line};
 ghost use Rattle.metrics.specs.Samples.{facts_of, value_of, column_text, fault_of, faults_text};
 
@@ -89,7 +89,8 @@ pub(crate) fn push_faults(
     name: &str,
     samples: &[Sample<'_>],
 ) -> Result<(), AllocError>
-    ensures { OnOk result (out.new.items ≡ out.old.items ++ faults_text name.now (map facts_of samples.now)) }
+    ensures text { OnOk result (out.new.items ≡ out.old.items ++ faults_text name.now (map facts_of samples.now)) }
+    ensures scarce { OnErr result (Any (λ s. (facts_of s).fault ≢ None) samples.now) }
 {
     for sample in samples {
         push_fault_of(out, name, sample)?;
