@@ -4,3 +4,4 @@ pub mod Removing
 pub mod Sizes
 pub mod OneMore
 pub mod Stopping
+pub mod Wanting

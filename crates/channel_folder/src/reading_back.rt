@@ -1,7 +1,7 @@
 //! One rendition's playlists are read back, by its name and the files of its segments.
 ghost use Rattle.std.specs.Prelude.{◌≡◌, ◌≢◌, ℕ, List, IfOk, IfErr, IsErrOf, Contains};
 ghost use Rattle.std.specs.Str.{IsUtf8};
-ghost use Rattle.media_reading.specs.MediaTexts.{IsListing, listing_text};
+ghost use Rattle.media_reading.specs.MediaTexts.{IsListing, MayWantMemory, listing_text};
 ghost use Rattle.playlist_text.specs.MediaLines;
 ghost use Rattle.resume.specs.Wanting.{IsAsWanted};
 ghost use Rattle.resume.specs.Restoring.{IsRestored, RestoredValue};
@@ -31,6 +31,7 @@ pub(crate) fn restored_from<F: FolderReader>(
     ensures err { F.gives folder.now (media_file asked.now.name.now) media.now → F.gives folder.now (frames_file asked.now.name.now) frames.now →
         IfErr result (IsStopFrom (F.refuses folder.now) (F.gives folder.now) (F.lacks folder.now) asked.now) }
     ensures no_text { ¬ (IsUtf8 media.now × IsUtf8 frames.now) → IsErrOf result (Stop.Why WhyNot.Foreign) }
+    ensures scarce { IsErrOf result Stop.NoMemory → MayWantMemory media.now }
 {
     let Ok(media) = str::from_utf8(media) else {
         return Err(Stop::Why(WhyNot::Foreign));

@@ -1,0 +1,10 @@
+use Rattle.std.proofs.Common.{rules, ◌≡◌, ◌∙◌, sym, subst}
+use Rattle.media_reading.specs.MediaTexts.{MayWantMemory}
+use Rattle.channel_folder.proofs.Wanting.{listing-wants}
+use Rattle.channel_folder.proofs.reading_back.restored_from.Goals as goal
+
+pub returns-clause-scarce : goal.returns-clause-scarce
+returns-clause-scarce g c = λ _.
+    let text : c.in-Ok.media.now ≡ c.args.media.now = search rules in
+    let read = c.in_ok-listing.ensures.ok in
+    subst MayWantMemory (sym read.1 ∙ text) (listing-wants _ read.0)
