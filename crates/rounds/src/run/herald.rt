@@ -1,6 +1,6 @@
 //! Faults are told when they stand, while the other renditions are packed on.
 
-ghost use Rattle.std.specs.Prelude.{◌≡◌, ◌<◌, None, Some, false, true, IfSome, slice_index_or, slice_set};
+ghost use Rattle.std.specs.Prelude.{◌≡◌, ◌<◌, None, Some, false, true, IfSome, replicate, slice_index_or, slice_set};
 ghost use Rattle.rounds.specs.Heralds.{fault_of, Untold};
 ghost use Rattle.ladder_items.specs.Packed.{told_of_cut};
 
@@ -38,7 +38,9 @@ pub struct Telling<'h, H> {
 
 impl<'h, H: Herald> Telling<'h, H> {
     /// Nothing was told yet.
-    pub fn new(herald: &'h H) -> Telling<'h, H> {
+    pub fn new(herald: &'h H) -> Telling<'h, H>
+        ensures none { result.told ≡ replicate RENDITIONS false }
+    {
         Telling {
             herald,
             told: [false; RENDITIONS],
@@ -60,6 +62,7 @@ impl<'h, H: Herald> Telling<'h, H> {
         ensures some { IfSome result (λ fault. Untold self.old.told r stop fault) }
         ensures told { IfSome result (λ fault. self.new.told ≡ slice_set self.old.told r true) }
         ensures none { result ≡ None → slice_index_or self.old.told r true ≡ false → fault_of r stop ≡ None }
+        ensures kept { result ≡ None → self.new.told ≡ self.old.told }
     {
         if self.told[r] {
             return None;
