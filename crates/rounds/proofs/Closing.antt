@@ -44,6 +44,11 @@ beq-apart true false e same = cc
 beq-apart false true e same = cc
 beq-apart false false e same = cc
 
+-- where one of two that differ is true, the other isn't
+pub not-ended : (a b : Bool) → a ≡ true → (a ≡ b → ⊥) → b ≡ false
+not-ended a true good apart = absurd (apart good)
+not-ended a false good apart = refl
+
 -- one list of plans more
 pub unfed-last : (full : List (List SegmentPlan)) (x : List SegmentPlan) → unfed_of (full ++ x ∷ []) (length full) ≡ x
 unfed-last [] x = refl

@@ -1,9 +1,9 @@
 -- A run on its way: renditions have their turns.
-use Rattle.std.proofs.Common.{◌≡◌, ◌∙◌, inl, inr, ℕ, zero, suc, ◌+◌, ◌*◌, ◌<◌, ◌≤◌, List, [], ◌∷◌, ◌++◌, length, Some, None, refl, ap, sym, subst, arith}
-use Rattle.std.specs.Prelude.{sum}
+use Rattle.std.proofs.Common.{◌≡◌, ◌∙◌, ◌⊎◌, inl, inr, Bool, true, false, ℕ, zero, suc, ◌+◌, ◌*◌, ◌<◌, ◌≤◌, List, [], ◌∷◌, ◌++◌, length, Some, None, refl, ap, sym, subst, arith}
+use Rattle.std.specs.Prelude.{Decides, ◌||◌, sum}
 use Rattle.std.specs.List.{slice_get, slice_index_or, slice_set}
 use Rattle.std.proofs.Math.Nat.{suc-mul}
-use Rattle.std.proofs.lemmas.Bool.{cases_eq}
+use Rattle.std.proofs.lemmas.Bool.{cases_eq, cases_lt, false≢true}
 use Rattle.std.proofs.lemmas.List.{length-set, get_or-set_same, get_or-set_other}
 use Rattle.std.proofs.lemmas.List.Sums.{sum_by-cons}
 use Rattle.std.proofs.lemmas.Option.{slice_get_within}
@@ -22,16 +22,17 @@ use Rattle.ladder_items.specs.Ladder.{Ladder}
 use Rattle.ladder_items.specs.Weave.{Event, after_all, none_of}
 use Rattle.ladder_items.specs.Runs.{run_of}
 use Rattle.ladder_items.specs.World.{World}
+use Rattle.ladder_items.proofs.Elsewhere.{set-elsewhere}
 use Rattle.ladder_items.proofs.Worlds.{world-read, world-unread}
 use Rattle.rounds.specs.declared.run.course.Course.{Course}
 use Rattle.rounds.specs.Showing.{counts_of, shown_by, ends_of}
-use Rattle.rounds.specs.Courses.{Start, IsOn, IsStopped, ReadsMore, ReadsNone, turns_at, turns_in}
+use Rattle.rounds.specs.Courses.{Start, IsOn, IsStopped, OthersStay, ReadsMore, ReadsNone, turns_at, turns_in}
 
 -- a count in a list of counts
 counts-here : (xs : List ℕ) (r n : ℕ) → r < length xs → slice_index_or (slice_set xs r n) r 0 ≡ n
 counts-here xs r n within = get_or-set_same xs r n 0 within
 
-counts-elsewhere : (xs : List ℕ) (r k n : ℕ) → (k ≡ r → ⊥) → slice_index_or (slice_set xs r n) k 0 ≡ slice_index_or xs k 0
+pub counts-elsewhere : (xs : List ℕ) (r k n : ℕ) → (k ≡ r → ⊥) → slice_index_or (slice_set xs r n) k 0 ≡ slice_index_or xs k 0
 counts-elsewhere xs r k n other = get_or-set_other xs r k n 0 other
 
 counts-length : (xs : List ℕ) (r n : ℕ) → length (slice_set xs r n) ≡ length xs
@@ -68,6 +69,52 @@ more-unread a b none = record { more = omega (arith, ap (λ t. sum t.items) none
 
 pub more-looked : {X Y : Type 0} (a b : Course X Y) → b ≡ record a { sources = b.sources } → ReadsMore a b
 more-looked a b same = record { more = omega (arith, ap (λ (d : Course _ _). turns_in d) same); stays = λ e. ap (λ (d : Course _ _). d.lanes) same }
+
+-- whether turns were had
+pub none-had : (n : ℕ) → Decides false (n < n)
+none-had n = ((λ e. absurd (false≢true e)), λ more. absurd (omega (arith, more)))
+
+had-by : (a b : Bool) (x y z : ℕ) → x ≤ y → y ≤ z → Decides a (x < y) → Decides b (y < z) → ((x < y) ⊎ (y ≤ x)) → Decides (a || b) (x < z)
+had-by true b x y z f g p q _ = ((λ e. let less = p.0 refl in omega (arith, less, g)), λ more. refl)
+had-by false b x y z f g p q (inl less) = absurd (false≢true (p.1 less))
+had-by false b x y z f g p q (inr not) = ((λ e. let less = q.0 e in omega (arith, less, f)), λ more. q.1 (omega (arith, more, not)))
+
+pub had-then : (a b : Bool) (x y z : ℕ) → x ≤ y → y ≤ z → Decides a (x < y) → Decides b (y < z) → Decides (a || b) (x < z)
+had-then a b x y z f g p q = had-by a b x y z f g p q (cases_lt x y)
+
+not-by : (x y : ℕ) → Decides false (x < y) → ((x < y) ⊎ (y ≤ x)) → y ≤ x
+not-by x y p (inl less) = absurd (false≢true (p.1 less))
+not-by x y p (inr not) = not
+
+pub none-more : (b : Bool) (x y : ℕ) → b ≡ false → Decides b (x < y) → y ≤ x
+none-more b x y is p = not-by x y (subst (λ (a : Bool). Decides a (x < y)) is p) (cases_lt x y)
+
+-- no other rendition had a turn
+pub others-none : {X Y : Type 0} (r : ℕ) (course : Course X Y) → OthersStay r course course
+others-none r course = record { turns = λ k other. refl; lanes = λ k other. refl; sources = λ k other. refl }
+
+pub others-then : {X Y : Type 0} (r : ℕ) (a b c : Course X Y) → OthersStay r a b → OthersStay r b c → OthersStay r a c
+others-then r a b c f g = record {
+  turns = λ k other. g.turns k other ∙ f.turns k other;
+  lanes = λ k other. g.lanes k other ∙ f.lanes k other;
+  sources = λ k other. g.sources k other ∙ f.sources k other;
+}
+
+pub others-looked : {X Y : Type 0} (r : ℕ) (a b : Course X Y) → b.sources.items ≡ a.sources.items → b ≡ record a { sources = b.sources } → OthersStay r a b
+others-looked r a b sources same = record {
+  turns = λ k other. ap (λ (d : Course _ _). turns_at d k) same;
+  lanes = λ k other. ap (λ (d : Course _ _). slice_get d.lanes.items k) same;
+  sources = λ k other. ap (λ l. slice_get l k) sources;
+}
+
+pub others-turned : {X Y : Type 0} (r : ℕ) (course now : Course X Y) (c : X) (moved : Lane)
+    → now.sources.items ≡ set course.sources.items r c → now.lanes.items ≡ set course.lanes.items r moved
+    → ((k : ℕ) → (k ≡ r → ⊥) → turns_at now k ≡ turns_at course k) → OthersStay r course now
+others-turned r course now c moved sources lanes turns = record {
+  turns = turns;
+  lanes = λ k other. ap (λ l. slice_get l k) lanes ∙ set-elsewhere course.lanes.items r k moved other;
+  sources = λ k other. ap (λ l. slice_get l k) sources ∙ set-elsewhere course.sources.items r k c other;
+}
 
 module _ (X Y : Type 0) (input : SourceView X) (out : OutletView Y) (ladder : Ladder) where
   -- nothing was given, so that all that is shown stands

@@ -1,5 +1,5 @@
 -- A run under way on many threads.
-use Rattle.std.specs.Prelude.{◌≡◌, ◌≢◌, ℕ, ◌<◌, ◌≤◌, ◌^◌, List, [], ◌∷◌, ◌++◌, length, sum, None, Some, slice_get, slice_index_or, false}
+use Rattle.std.specs.Prelude.{◌≡◌, ◌≢◌, ℕ, ◌<◌, ◌≤◌, ◌^◌, List, [], ◌∷◌, ◌++◌, length, sum, None, Some, slice_get, slice_index_or, true, false}
 use Rattle.cutter.specs.Plans.{SegmentPlan}
 use Rattle.item_io.specs.Items.{ItemValue}
 use Rattle.live_board.specs.Snapshots.{SnapshotFacts, Known}
@@ -88,6 +88,12 @@ pub record Start (X Y : Type 0) : Type 0 where
 -- how many turns rendition k had
 abbrev pub turns_at : {X Y : Type 0} → Course X Y → ℕ → ℕ
 turns_at course k = slice_index_or course.turns.items k 0
+
+-- no other rendition than r had a turn
+pub record OthersStay {X Y : Type 0} (r : ℕ) (old new : Course X Y) : Type 0 where
+  pub turns : (k : ℕ) → k ≢ r → turns_at new k ≡ turns_at old k
+  pub lanes : (k : ℕ) → k ≢ r → slice_get new.lanes.items k ≡ slice_get old.lanes.items k
+  pub sources : (k : ℕ) → k ≢ r → slice_get new.sources.items k ≡ slice_get old.sources.items k
 
 -- how many turns all had together
 abbrev pub turns_in : {X Y : Type 0} → Course X Y → ℕ
@@ -187,6 +193,11 @@ HasClosed lanes = (k : ℕ) × (lane : Lane) × (slice_get lanes k ≡ Some lane
 -- nothing is closed and not swapped out
 abbrev pub NoneClosed : List Lane → Type 0
 NoneClosed lanes = (k : ℕ) (lane : Lane) → slice_get lanes k ≡ Some lane → lane.intake.filled ≡ []
+
+-- the end of rendition r is due: its input ended well, nothing of it is closed and not swapped out, and its end wasn't given
+abbrev pub IsEndDue : {X Y : Type 0} → ℕ → Course X Y → Type 0
+IsEndDue r course = (lane : Lane) → slice_get course.lanes.items r ≡ Some lane
+    → (is_good lane.stop ≡ true) × (lane.intake.filled ≡ []) × (slice_index_or course.ended.items r false ≡ false)
 
 -- of each rendition of which nothing is closed and not swapped out, it is noted whether a good end was given
 abbrev pub HasGoodEnds : {X Y : Type 0} → Ladder → Course X Y → Type 0

@@ -1,9 +1,9 @@
 //! Gives the ends of the renditions that have nothing left to give.
 
-ghost use Rattle.std.specs.Prelude.{◌≡◌, ◌≢◌, ◌<◌, [], ℕ, IfErr, OnOk, Some, false, length, slice_get, slice_index_or};
+ghost use Rattle.std.specs.Prelude.{◌≡◌, ◌≢◌, ◌<◌, [], ℕ, IfErr, OnErr, OnOk, Some, false, length, slice_get, slice_index_or};
 ghost use Rattle.ingest.specs.Lanes.{is_good};
 ghost use Rattle.ingest.specs.declared.lane.Lane.{Lane};
-ghost use Rattle.rounds.specs.Courses.{HasGoodEnds, IsSomeBetween, ReadsNone, StaysBetween, StopsBetween};
+ghost use Rattle.rounds.specs.Courses.{HasGoodEnds, IsEndDue, IsSomeBetween, ReadsNone, StaysBetween, StopsBetween};
 ghost use Rattle.rounds.specs.Gated.{IsUnheld};
 
 use crate::giving::broadcast::Broadcast;
@@ -26,6 +26,7 @@ impl<'r, S: Source, O: Outlet, R: Wait> Broadcast<'r, S, O, R> {
             → slice_index_or self.new.course.ended.items r false ≡ is_good lane.stop) }
         ensures others { OnOk result ((k : ℕ) → k ≢ r
             → slice_index_or self.new.course.ended.items k false ≡ slice_index_or self.old.course.ended.items k false) }
+        ensures none { OnErr result (IsEndDue r self.old.course) }
     {
         let lane = &self.course.lanes[r];
         if lane.intake.plans() > 0 {

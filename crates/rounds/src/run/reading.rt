@@ -2,7 +2,7 @@
 
 ghost use Rattle.std.specs.Prelude.{◌≡◌, ◌+◌, ◌<◌, ◌≤◌, ◌^◌, [], ℕ, Decides, IfOk, OnErr, OnOk, None, Some, true, false, length, slice_get, slice_set};
 ghost use Rattle.ingest.specs.declared.lane.Lane.{Lane};
-ghost use Rattle.rounds.specs.Courses.{HasClosed, IsRun, ReadsMore, ReadsOn, ReadsShort, Rests, turns_at, turns_in};
+ghost use Rattle.rounds.specs.Courses.{HasClosed, IsRun, OthersStay, ReadsMore, ReadsOn, ReadsShort, Rests, turns_at, turns_in};
 ghost use Rattle.rounds.specs.Paces.{HasEnough, closed_in, wanted};
 ghost use Rattle.item_io.specs.declared.limits.TheConstants.{PIECE, READS};
 
@@ -69,6 +69,7 @@ impl<S: Source, O: Outlet> Course<S, O> {
         ensures same { self.new ≡ record self.old { sources = self.new.sources; lanes = self.new.lanes; turns = self.new.turns } }
         ensures count { length self.new.lanes.items ≡ length self.old.lanes.items }
         ensures turns { OnOk result (turns_in self.new ≡ turns_in self.old + 1) }
+        ensures others { OthersStay r self.old self.new }
     {
         self.lanes[r].turn(&mut self.sources[r], buffer)?;
         self.count_turn(r);
@@ -86,6 +87,9 @@ impl<S: Source, O: Outlet> Course<S, O> {
         ensures same { self.new ≡ record self.old { sources = self.new.sources; lanes = self.new.lanes; turns = self.new.turns } }
         ensures count { length self.new.lanes.items ≡ length self.old.lanes.items }
         ensures further { OnOk result (ReadsMore self.old self.new) }
+        ensures told { IfOk result (λ any. Decides any (turns_in self.old < turns_in self.new)) }
+        ensures others { OthersStay r self.old self.new }
+        ensures none { OnErr result ((lane : Lane) → slice_get self.old.lanes.items r ≡ Some lane → lane.stop ≡ None) }
     {
         if !self.goes_on(r) {
             return Ok(false);
@@ -106,6 +110,7 @@ impl<S: Source, O: Outlet> Course<S, O> {
         ensures err { OnErr result (ReadsShort S.input O.output self.old self.new) }
         ensures same { OnOk result (self.new ≡ record self.old { sources = self.new.sources; lanes = self.new.lanes; turns = self.new.turns }) }
         ensures further { OnOk result (ReadsMore self.old self.new) }
+        ensures told { IfOk result (λ any. Decides any (turns_in self.old < turns_in self.new)) }
     {
         let mut any = false;
         for r in 0..self.lanes.len() {
@@ -131,6 +136,8 @@ impl<S: Source, O: Outlet> Course<S, O> {
         ensures playlists { OnOk result (self.new.playlists ≡ self.old.playlists) }
         ensures further { OnOk result (ReadsMore self.old self.new) }
         ensures idle { OnOk result (HasEnough least self.old → self.new ≡ self.old) }
+        ensures some { OnOk result (HasEnough 1 self.new) }
+        ensures none { OnErr result (HasEnough least self.old → ⊥) }
     {
         for _ in rt.forever() {
             if self.has_closed(least) {

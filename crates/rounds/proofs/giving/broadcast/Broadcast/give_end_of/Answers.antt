@@ -1,7 +1,7 @@
 use Rattle.rounds.specs.Showing.{ends_of}
 use Rattle.std.proofs.Common.{◌≡◌, ◌∙◌, ◌<◌, ◌≤◌, List, [], Bool, true, false, refl, ap, sym, arith, length}
 use Rattle.std.specs.List.{slice_index_or}
-use Rattle.std.proofs.lemmas.List.{length-map, get_or_default, get_or-set_same, get_or-set_other}
+use Rattle.std.proofs.lemmas.List.{length-map, nil_from_length, get_or_default, get_or-set_same, get_or-set_other}
 use Rattle.std.proofs.lemmas.Option.{slice_get_read, same_Some}
 use Rattle.std.proofs.lemmas.Result.{err_from_is_err_and}
 use Rattle.ingest.specs.declared.lane.Lane.{Lane}
@@ -11,7 +11,7 @@ use Rattle.ladder_items.specs.Weave.{End}
 use Rattle.ladder_items.proofs.Worlds.{parts-of, parts-length}
 use Rattle.rounds.proofs.Steps.{ends-end}
 use Rattle.rounds.proofs.Running.{stage-of, is-going, on-gave, on-ungiven}
-use Rattle.rounds.proofs.Closing.{beq-same, beq-apart, end-due, end-moved, end-begins}
+use Rattle.rounds.proofs.Closing.{beq-same, beq-apart, not-ended, end-due, end-moved, end-begins}
 use Rattle.ladder_items.proofs.Unheld.{sudden-unheld}
 use Rattle.rounds.proofs.giving.broadcast.Broadcast.give_end_of.Goals as goal
 
@@ -116,3 +116,22 @@ pub returns-in_err-give_its_end-clause-unheld : goal.returns-in_err-give_its_end
 returns-in_err-give_its_end-clause-unheld g c =
     let told = err_from_is_err_and c.from_residual.result c.from_residual.ensures.1 in
     rw (told.1, told.2) (λ q n is. sudden-unheld _ _ _ q n c.in_err-give_its_end.ensures.fault is)
+
+pub returns-in_err-give_its_end-clause-none : goal.returns-in_err-give_its_end-clause-none
+returns-in_err-give_its_end-clause-none g c =
+    let told = err_from_is_err_and c.from_residual.result c.from_residual.ensures.1 in
+    let r = c.args.r in
+    let ended = c.args.self.now.course.ended.items in
+    let inside : r < length ended = omega (arith, c.requires.within, ap length c.requires.on.1.ends, length-map (parts-of c.args.settings.now c.requires.on.1.world.events) (λ (part : Part). part.ended), parts-length c.args.settings.now c.requires.on.1.world.events) in
+    let at0 = slice_get_read c.args.self.now.course.lanes.items _ r c.index-lane.result.now refl (omega (arith, c.requires.within, c.requires.on.1.world.same_lanes)) c.index-lane.ensures in
+    let here : slice_index_or ended r false ≡ c.index.result.now = get_or_default ended r false c.index.result.now inside ∙ sym c.index.ensures in
+    let empty : length c.index-lane.result.now.intake.filled ≤ 0 = omega (arith, c.plans.ensures, c.if-plans-gt0.false) in
+    let differs : is_good c.index-lane.result.now.stop ≡ slice_index_or ended r false → ⊥ = λ e. beq-apart _ _ c.if-is_good-index.false (c.is_good.ensures ∙ (e ∙ here)) in
+    let some = c.requires.on in
+    let due = end-due _ _ _ _ _ some.0 _ _ some.1 r c.requires.within c.index-lane.result.now at0 empty differs in
+    rw told.1 (λ lane at.
+    let same : c.index-lane.result.now ≡ lane = same_Some _ _ (sym at0 ∙ at) in (
+      ap (λ (l : Lane). is_good l.stop) (sym same) ∙ due.3,
+      ap (λ (l : Lane). l.intake.filled) (sym same) ∙ nil_from_length c.index-lane.result.now.intake.filled (omega (arith, empty)),
+      not-ended _ _ due.3 differs,
+    ))

@@ -1,8 +1,9 @@
-use Rattle.std.proofs.Common.{◌∙◌, ap, sym, subst, rules}
+use Rattle.std.proofs.Common.{◌∙◌, refl, ap, sym, subst, rules}
 use Rattle.std.proofs.lemmas.Bool.{false≢true}
 use Rattle.std.proofs.lemmas.Result.{err_from_is_err_and}
 use Rattle.rounds.specs.declared.run.course.Course.{Course}
 use Rattle.rounds.specs.Paces.{HasEnough}
+use Rattle.rounds.proofs.Pacing.{enough-one}
 use Rattle.rounds.proofs.Turning.{more-then, more-looked, on-looked}
 use Rattle.rounds.proofs.run.course.Course.read_more.Goals as goal
 
@@ -57,3 +58,11 @@ loop-preserved g c = record {
 pub returns-then-has_closed-2-clause-idle : goal.returns-then-has_closed-2-clause-idle
 returns-then-has_closed-2-clause-idle g c enough =
     absurd (false≢true (c.if-has_closed.ensures.1 (subst (HasEnough c.args.least) (sym (c.loop.invariant.idle enough)) enough)))
+
+pub returns-then-has_closed-clause-some : goal.returns-then-has_closed-clause-some
+returns-then-has_closed-clause-some g c = enough-one c.args.least c.loop.self (c.if-has_closed.ensures.0 refl)
+
+pub returns-in_err-read_ready-clause-none : goal.returns-in_err-read_ready-clause-none
+returns-in_err-read_ready-clause-none g c =
+    let told = err_from_is_err_and c.from_residual.result c.from_residual.ensures.1 in
+    rw told.1 (λ enough. false≢true (c.if-has_closed.ensures.1 (subst (HasEnough c.args.least) (sym (c.loop.invariant.idle enough)) enough)))

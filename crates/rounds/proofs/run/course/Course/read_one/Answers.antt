@@ -1,9 +1,10 @@
 use Rattle.std.proofs.Common.{◌∙◌, refl, ap, sym, arith}
 use Rattle.std.specs.List.{slice_get}
+use Rattle.std.proofs.lemmas.Bool.{false≢true}
 use Rattle.std.proofs.lemmas.Result.{err_from_is_err_and}
 use Rattle.rounds.specs.declared.run.course.Course.{Course}
 use Rattle.rounds.specs.Courses.{turns_at, turns_in}
-use Rattle.rounds.proofs.Turning.{more-looked, on-looked}
+use Rattle.rounds.proofs.Turning.{more-looked, none-had, on-looked, others-looked, others-none, others-then}
 use Rattle.rounds.proofs.run.course.Course.read_one.Goals as goal
 
 pub returns-then-not-is_ready-clause-ok : goal.returns-then-not-is_ready-clause-ok
@@ -40,3 +41,35 @@ returns-clause-further g c =
 
 pub returns-then-not-is_ready-clause-further : goal.returns-then-not-is_ready-clause-further
 returns-then-not-is_ready-clause-further g c = more-looked _ _ c.if-not-is_ready.ensures.same
+
+pub returns-then-not-goes_on-clause-told : goal.returns-then-not-goes_on-clause-told
+returns-then-not-goes_on-clause-told g c = none-had (turns_in c.args.self.now)
+
+pub returns-then-not-is_ready-clause-told : goal.returns-then-not-is_ready-clause-told
+returns-then-not-is_ready-clause-told g c =
+    let same = ap (λ (d : Course _ _). turns_in d) c.if-not-is_ready.ensures.same in
+    ((λ e. absurd (false≢true e)), λ more. absurd (omega (arith, more, same)))
+
+pub returns-clause-told : goal.returns-clause-told
+returns-clause-told g c =
+    let same = ap (λ (d : Course _ _). turns_in d) c.if-not-is_ready.ensures.same in
+    ((λ e. omega (arith, same, c.in_ok-take_turn.ensures.turns)), λ more. refl)
+
+pub returns-then-not-goes_on-clause-others : goal.returns-then-not-goes_on-clause-others
+returns-then-not-goes_on-clause-others g c = others-none c.args.r c.args.self.now
+
+pub returns-then-not-is_ready-clause-others : goal.returns-then-not-is_ready-clause-others
+returns-then-not-is_ready-clause-others g c = others-looked c.args.r _ _ c.if-not-is_ready.ensures.sources c.if-not-is_ready.ensures.same
+
+pub returns-in_err-take_turn-clause-others : goal.returns-in_err-take_turn-clause-others
+returns-in_err-take_turn-clause-others g c =
+    others-then c.args.r _ _ _ (others-looked c.args.r _ _ c.if-not-is_ready.ensures.sources c.if-not-is_ready.ensures.same) c.in_err-take_turn.ensures.others
+
+pub returns-clause-others : goal.returns-clause-others
+returns-clause-others g c =
+    others-then c.args.r _ _ _ (others-looked c.args.r _ _ c.if-not-is_ready.ensures.sources c.if-not-is_ready.ensures.same) c.in_ok-take_turn.ensures.others
+
+pub returns-in_err-take_turn-clause-none : goal.returns-in_err-take_turn-clause-none
+returns-in_err-take_turn-clause-none g c =
+    let told = err_from_is_err_and c.from_residual.result c.from_residual.ensures.1 in
+    rw told.1 (c.if-not-goes_on.ensures.going refl)

@@ -1,7 +1,8 @@
-use Rattle.std.proofs.Common.{◌∙◌, ap, rules}
+use Rattle.std.proofs.Common.{◌∙◌, refl, ap, rules}
 use Rattle.std.proofs.lemmas.Result.{err_from_is_err_and}
 use Rattle.rounds.specs.declared.run.course.Course.{Course}
-use Rattle.rounds.proofs.Turning.{more-then}
+use Rattle.rounds.specs.Courses.{turns_in}
+use Rattle.rounds.proofs.Turning.{had-then, more-none, more-then, none-had}
 use Rattle.rounds.proofs.run.course.Course.read_ready.Goals as goal
 
 pub read_one-requires-clause-on : goal.read_one-requires-clause-on
@@ -19,5 +20,16 @@ loop-r-preserved g c = record {
       ∙ ap (λ (d : Course _ _). record d { sources = c.read_one.new.self.sources; lanes = c.read_one.new.self.lanes; turns = c.read_one.new.self.turns }) c.loop-r.invariant.same;
   count = c.in_ok-any.ensures.count ∙ c.loop-r.invariant.count;
   further = more-then _ _ _ c.loop-r.invariant.further c.in_ok-any.ensures.further;
+  told = had-then _ _ _ _ _ c.loop-r.invariant.further.more c.in_ok-any.ensures.further.more c.loop-r.invariant.told c.in_ok-any.ensures.told;
   buffer = search rules;
+}
+
+pub loop-r-init : goal.loop-r-init
+loop-r-init g c = record {
+  ok = λ ladder start shows waiting on. on;
+  same = refl;
+  count = refl;
+  further = more-none c.args.self.now;
+  told = none-had (turns_in c.args.self.now);
+  buffer = refl;
 }

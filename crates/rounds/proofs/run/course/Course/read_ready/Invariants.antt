@@ -1,5 +1,6 @@
-use Rattle.std.proofs.Common.{◌≡◌, length}
-use Rattle.rounds.specs.Courses.{ReadsMore, ReadsOn}
+use Rattle.std.proofs.Common.{◌≡◌, ◌<◌, length}
+use Rattle.std.specs.Prelude.{Decides}
+use Rattle.rounds.specs.Courses.{ReadsMore, ReadsOn, turns_in}
 use Rattle.rounds.proofs.run.course.Course.read_ready.Given as goal
 
 abbrev pub invariant-loop-r : goal.invariant-loop-r
@@ -8,5 +9,6 @@ invariant-loop-r g l = record {
   same : l.self ≡ record l.fn.self { sources = l.self.sources; lanes = l.self.lanes; turns = l.self.turns };
   count : length l.self.lanes.items ≡ length l.fn.self.lanes.items;
   further : ReadsMore l.fn.self l.self;
+  told : Decides l.any (turns_in l.fn.self < turns_in l.self);
   buffer : length l.buffer ≡ length l.fn.buffer;
 }

@@ -1,10 +1,11 @@
 use Rattle.std.proofs.Common.{◌≡◌, ◌∙◌, ◌<◌, None, refl, ap, sym, arith, length}
 use Rattle.std.specs.Prelude.{sum}
+use Rattle.std.specs.List.{slice_index_or}
 use Rattle.std.proofs.lemmas.Option.{slice_get_read}
 use Rattle.std.proofs.lemmas.Result.{err_from_is_err_and}
 use Rattle.ingest.proofs.Ordered.{closed_of-grow}
 use Rattle.ladder_items.proofs.Worlds.{stage-at, reads-fit}
-use Rattle.rounds.proofs.Turning.{on-read, on-unread, counts-sum}
+use Rattle.rounds.proofs.Turning.{on-read, on-unread, counts-sum, counts-elsewhere, others-turned}
 use Rattle.rounds.specs.declared.run.course.Course.{Course}
 use Rattle.rounds.proofs.run.course.Course.take_turn.Goals as goal
 
@@ -83,3 +84,11 @@ returns-clause-turns g c =
 
 pub count_turn-requires-clause-most : goal.count_turn-requires-clause-most
 count_turn-requires-clause-most g c = c.requires.on.4.most
+
+pub returns-in_err-turn-clause-others : goal.returns-in_err-turn-clause-others
+returns-in_err-turn-clause-others g c = others-turned c.args.r _ _ c.turn.new.source c.turn.new.self refl refl (λ k other. refl)
+
+pub returns-clause-others : goal.returns-clause-others
+returns-clause-others g c =
+    others-turned c.args.r _ _ c.turn.new.source c.turn.new.self c.count_turn.ensures.sources (ap (λ (d : Course _ _). d.lanes.items) c.count_turn.ensures.same)
+    (λ k other. ap (λ l. slice_index_or l k 0) c.count_turn.ensures.turns ∙ counts-elsewhere c.args.self.now.turns.items c.args.r k _ other)
