@@ -1,8 +1,8 @@
 -- A segment is collected.
-use Rattle.std.proofs.Common.{◌≡◌, ◌∙◌, inl, inr, ℕ, zero, suc, ◌+◌, ◌-◌, ◌<◌, true, false, List, [], ◌∷◌, length, Some, None, refl, ap, sym, arith}
+use Rattle.std.proofs.Common.{◌≡◌, ◌∙◌, ◌⊎◌, inl, inr, ℕ, zero, suc, ◌+◌, ◌-◌, ◌<◌, ◌≤◌, true, false, List, [], ◌∷◌, length, Some, None, refl, ap, sym, arith}
 use Rattle.std.specs.Prelude.{nat_lt}
 use Rattle.std.specs.List.{slice_get, slice_set, slice_index_or}
-use Rattle.std.proofs.lemmas.List.{length-append, length-set}
+use Rattle.std.proofs.lemmas.List.{length-append, length-set, nil_from_length}
 use Rattle.std.proofs.lemmas.Bool.{cases_eq}
 use Rattle.std.proofs.lemmas.Bool.Decides.{nat_tests}
 use Rattle.std.proofs.lemmas.Option.{get_or_from_slice_get}
@@ -100,7 +100,7 @@ lacking-set (s ∷ slots) (suc i) plan at segment =
       length-append (unless_came s.segment s.plan) (lacking (slice_set slots i (record { plan = plan; segment = Some segment }))),
     )
 
-missing-sequence : (sequences : List SequenceValue) (r : ℕ) (sequence d : SequenceValue) → r < length sequences
+pub missing-sequence : (sequences : List SequenceValue) (r : ℕ) (sequence d : SequenceValue) → r < length sequences
     → length (missing_in (slice_set sequences r sequence)) + length (lacking (slice_index_or sequences r d).slots) ≡ length (missing_in sequences) + length (lacking sequence.slots)
 missing-sequence [] r sequence d below = absurd (omega (arith, below))
 missing-sequence (l ∷ sequences) zero sequence d below =
@@ -167,3 +167,9 @@ gathered-segment g h segment right is =
     let moved = gathered-set g r (with_segment sequence segment) within in
     let more = segments-set sequence.slots i segment.plan (record { plan = segment.plan; segment = None }) right.expected refl segment in
     ap (λ (x : Gathering). gathered x.sequences) is ∙ omega (arith, moved, more)
+
+-- what was missing no more stays so
+pub got-on : (old mid new : ℕ) (g h : Gathering) → mid ≤ new → length (missing_in h.sequences) ≤ length (missing_in g.sequences)
+    → (old < mid) ⊎ (missing_in g.sequences ≡ []) → (old < new) ⊎ (missing_in h.sequences ≡ [])
+got-on old mid new g h more fewer (inl took) = inl (omega (arith, took, more))
+got-on old mid new g h more fewer (inr none) = inr (nil_from_length (missing_in h.sequences) (omega (arith, fewer, ap length none)))

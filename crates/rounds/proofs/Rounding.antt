@@ -9,9 +9,9 @@ use Rattle.std.proofs.Math.ListN.{get_or-eq_default}
 use Rattle.cutter.specs.Plans.{SegmentPlan}
 use Rattle.segment_job.specs.Segments.{SealedSegment, sealed_segment}
 use Rattle.flow_core.specs.declared.slot.Slot.{Slot}
-use Rattle.flow_core.specs.Slots.{leading}
+use Rattle.flow_core.specs.Slots.{lacking, leading}
 use Rattle.flow_core.specs.Sequences.{SequenceValue, passed}
-use Rattle.flow_core.specs.Gatherings.{Gathering, no_sequence, sequence_at, with_sequence, awaited}
+use Rattle.flow_core.specs.Gatherings.{Gathering, no_sequence, sequence_at, with_sequence, awaited, missing_in}
 use Rattle.flow_core.proofs.Gathering.{awaited-set}
 use Rattle.flow_core.proofs.Flowing.{sequence-same, sequence-other, inside}
 use Rattle.live_board.specs.Snapshots.{Known}
@@ -30,7 +30,7 @@ use Rattle.rounds.specs.declared.run.course.Course.{Course}
 use Rattle.rounds.specs.Showing.{counts_of}
 use Rattle.rounds.specs.Courses.{Gave, GaveSome, ReadsNone, Start, IsStopped, SaysSudden}
 use Rattle.rounds.specs.Rounds.{Keeps, InRound, NoneReady, expected, unfed_of, segments_in, gathered}
-use Rattle.rounds.proofs.Collecting.{gathered-set}
+use Rattle.rounds.proofs.Collecting.{gathered-set, missing-sequence}
 use Rattle.rounds.proofs.Steps.{counts-are}
 use Rattle.rounds.proofs.Running.{stage-of, stopped-here, first-next, waits-going, on-failures, on-gave, on-ungiven, row-moved, row-begins}
 
@@ -59,6 +59,27 @@ passed-gathered g r plan segment at =
     let moved = gathered-set g r (passed (sequence_at g r)) (inside g r 0 _ at) in
     let front = (front-of (sequence_at g r).slots plan segment at).1 in
     omega (arith, moved, front)
+
+-- and no plan more or fewer is missing
+front-lacking : (slots : List Slot) (plan : SegmentPlan) (segment : SealedSegment) → slice_get slots 0 ≡ Some (record { plan = plan; segment = Some segment }) → lacking slots ≡ lacking (drop 1 slots)
+front-lacking [] plan segment at = cc
+front-lacking (s ∷ slots) plan segment at =
+    let is : s ≡ record { plan = plan; segment = Some segment } = cc in
+    ap (λ (x : Slot). lacking (x ∷ slots)) is
+
+pub passed-missing : (g : Gathering) (r : ℕ) (plan : SegmentPlan) (segment : SealedSegment) → slice_get (sequence_at g r).slots 0 ≡ Some (record { plan = plan; segment = Some segment })
+    → length (missing_in (with_sequence g r (passed (sequence_at g r))).sequences) ≡ length (missing_in g.sequences)
+passed-missing g r plan segment at =
+    let moved = missing-sequence g.sequences r (passed (sequence_at g r)) no_sequence (inside g r 0 _ at) in
+    let same = ap length (front-lacking (sequence_at g r).slots plan segment at) in
+    omega (arith, moved, same)
+
+-- it stood in front
+pub front-ready : (slots : List Slot) (plan : SegmentPlan) (segment : SealedSegment) → slice_get slots 0 ≡ Some (record { plan = plan; segment = Some segment }) → leading slots ≡ 0 → ⊥
+front-ready [] plan segment at none = cc
+front-ready (s ∷ slots) plan segment at none =
+    let is : s ≡ record { plan = plan; segment = Some segment } = cc in
+    absurd (omega (arith, none, ap (λ (x : Slot). leading (x ∷ slots)) is))
 
 -- and leaves one plan fewer
 pub passed-fewer : (g : Gathering) (r : ℕ) (plan : SegmentPlan) (segment : SealedSegment) → slice_get (sequence_at g r).slots 0 ≡ Some (record { plan = plan; segment = Some segment })

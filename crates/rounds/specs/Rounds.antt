@@ -3,7 +3,7 @@ use Rattle.std.specs.Prelude.{◌≡◌, ◌≢◌, ℕ, ◌+◌, ◌<◌, ◌�
 use Rattle.cutter.specs.Plans.{SegmentPlan}
 use Rattle.flow_core.specs.declared.slot.Slot.{Slot}
 use Rattle.flow_core.specs.Slots.{leading, one_more}
-use Rattle.flow_core.specs.Gatherings.{Gathering, sequence_at, sequences_from}
+use Rattle.flow_core.specs.Gatherings.{Gathering, missing_in, sequence_at, sequences_from}
 use Rattle.flow_core.specs.Sequences.{SequenceValue}
 use Rattle.live_board.specs.Snapshots.{Known}
 use Rattle.ingest.specs.declared.lane.Lane.{Lane}
@@ -90,6 +90,15 @@ Breaks {X} {Y} input out ladder old new fault =
 abbrev pub IsFair : {X Y L M R : Type 0} → Round X Y L M R → Round X Y L M R → Type 0
 IsFair old new = new.taker.right + gathered old.collector.sequences ≤ old.taker.right + gathered new.collector.sequences
 
+-- each right segment that was taken was gathered, and no other
+abbrev pub IsExact : {X Y L M R : Type 0} → Round X Y L M R → Round X Y L M R → Type 0
+IsExact old new = new.taker.right + gathered old.collector.sequences ≡ old.taker.right + gathered new.collector.sequences
+
+-- what was taken stays taken, and no more is missing than before
+abbrev pub LosesNone : {X Y L M R : Type 0} → Round X Y L M R → Round X Y L M R → Type 0
+LosesNone old new =
+    (old.taker.pass.count ≤ new.taker.pass.count) × (length (missing_in new.collector.sequences) ≤ length (missing_in old.collector.sequences))
+
 -- in a round nothing was read
 abbrev pub ReadsNoneIn : {X Y L M R : Type 0} → Round X Y L M R → Round X Y L M R → Type 0
 ReadsNoneIn old new = ReadsNone old.broadcast.course new.broadcast.course
@@ -102,9 +111,11 @@ IsDry r at = leading (sequence_at at.collector r).slots ≡ 0
 abbrev pub KeepsOthers : {X Y L M R : Type 0} → ℕ → Round X Y L M R → Round X Y L M R → Type 0
 KeepsOthers r old new = (k : ℕ) → k ≢ r → sequence_at new.collector k ≡ sequence_at old.collector k
 
--- what was gathered and what was taken are as many as before
+-- what was gathered and what is missing are as many as before, and nothing was taken
 abbrev pub KeepsCounts : {X Y L M R : Type 0} → Round X Y L M R → Round X Y L M R → Type 0
-KeepsCounts old new = (gathered new.collector.sequences ≡ gathered old.collector.sequences) × (new.taker.right ≡ old.taker.right)
+KeepsCounts old new =
+    (gathered new.collector.sequences ≡ gathered old.collector.sequences)
+    × (length (missing_in new.collector.sequences) ≡ length (missing_in old.collector.sequences)) × (new.taker ≡ old.taker)
 
 -- some run stands here, and `plan` is the first of rendition r that isn't fed yet
 abbrev pub IsFirstUnfed : {X Y L M R : Type 0} → SourceView X → OutletView Y → Ladder → ℕ → SegmentPlan → Round X Y L M R → Type 0

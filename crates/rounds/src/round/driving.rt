@@ -1,12 +1,12 @@
 //! Driving: the calling thread feeds the full spools, reads the next round, and gives what is expected.
 
-ghost use Rattle.std.specs.Prelude.{◌≡◌, ◌<◌, ◌≤◌, IfErr, IfOk, OnOk, length, map};
+ghost use Rattle.std.specs.Prelude.{◌≡◌, ◌<◌, ◌≤◌, IfErr, IfOk, OnErr, OnOk, length, map};
 ghost use Rattle.flow_core.specs.Gatherings.{awaited, sequences_from};
 ghost use Rattle.ladder_items.specs.Ladder.{RenditionValue};
-ghost use Rattle.rounds.specs.Courses.{ReadsMore};
+ghost use Rattle.rounds.specs.Courses.{ReadsMore, turns_in};
 ghost use Rattle.rounds.specs.Gated.{IsGatesWord};
 ghost use Rattle.rounds.specs.Paces.{HasEnough, wanted};
-ghost use Rattle.rounds.specs.Rounds.{Breaks, IsBehind, IsBroken, IsDriven, IsFair, IsSomeFull, IsSomewhere, Moves};
+ghost use Rattle.rounds.specs.Rounds.{Breaks, IsBehind, IsBroken, IsDriven, IsExact, IsSomeFull, IsSomewhere, Moves, NoneReady};
 ghost use Rattle.rounds.specs.Showing.{counts_of};
 ghost use Rattle.item_io.specs.declared.limits.TheConstants.{PIECE};
 
@@ -90,9 +90,11 @@ impl<'d, 's, 'r, S: Source, O: Outlet, L: Ledger, M: Ledger, R: Wait> Round<
         ensures err { IfErr result (Breaks S.input O.output settings.now self.old self.new) }
         ensures held { IfErr result (IsGatesWord (G.stops sealer.now.gate.now)) }
         ensures further { OnOk result (ReadsMore self.old.broadcast.course self.new.broadcast.course) }
-        ensures fair { OnOk result (IsFair self.old self.new) }
+        ensures exact { OnOk result (IsExact self.old self.new) }
+        ensures dry { OnOk result (turns_in self.old.broadcast.course < turns_in self.new.broadcast.course → NoneReady self.new.collector) }
         ensures idle { OnOk result (HasEnough (wanted pace (awaited self.old.collector.sequences) 0) self.old.broadcast.course
             → self.new ≡ self.old) }
+        ensures none { OnErr result (HasEnough (wanted pace (awaited self.old.collector.sequences) 0) self.old.broadcast.course → ⊥) }
     {
         let rt = self.broadcast.held.rt;
         let before = self.broadcast.course.turns_had();

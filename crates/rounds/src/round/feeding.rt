@@ -1,6 +1,6 @@
 //! Feeding: the collector expects each plan of the full spools, and the plan goes to the desk or is sealed on this thread.
 
-ghost use Rattle.std.specs.Prelude.{◌≡◌, ◌⊎◌, ◌<◌, ◌≤◌, IfErr, OnOk, length};
+ghost use Rattle.std.specs.Prelude.{◌≡◌, ◌≢◌, ◌⊎◌, ◌<◌, ◌≤◌, [], IfErr, OnErr, OnOk, length};
 ghost use Rattle.cutter.specs.Lent.{lent};
 ghost use Rattle.flow_core.specs.Gatherings.{awaited, sequence_at, with_sequence};
 ghost use Rattle.flow_core.specs.Sequences.{following, with_plan};
@@ -65,6 +65,7 @@ impl<'d, 's, 'r, S: Source, O: Outlet, L: Ledger, M: Ledger, R: Wait> Round<
         ensures held { IfErr result (IsGatesWord (G.stops sealer.now.gate.now)) }
         ensures none_read { ReadsNoneIn self.old self.new }
         ensures fair { OnOk result (IsFair self.old self.new) }
+        ensures none { OnErr result (spool.now ≢ []) }
     {
         for i in 0..spool.plans() {
             let Some(plan) = spool.plan(i) else {

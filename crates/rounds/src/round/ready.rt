@@ -1,6 +1,6 @@
 //! Gives what is ready: the sealed segments that come next in their rendition, without a gap.
 
-ghost use Rattle.std.specs.Prelude.{◌<◌, ◌≡◌, IfErr, IfOk, OnOk, false, true};
+ghost use Rattle.std.specs.Prelude.{◌<◌, ◌≡◌, IfErr, IfOk, OnErr, OnOk, false, true};
 ghost use Rattle.flow_core.specs.Gatherings.{awaited};
 ghost use Rattle.rounds.specs.Gated.{IsUnheld};
 ghost use Rattle.rounds.specs.Rounds.{Breaks, IsDry, IsSomewhere, KeepsCounts, KeepsOthers, Moves, NoneReady, ReadsNoneIn};
@@ -63,6 +63,7 @@ impl<'d, 's, 'r, S: Source, O: Outlet, L: Ledger, M: Ledger, R: Wait> Round<
         ensures counts { OnOk result (KeepsCounts self.old self.new) }
         ensures fewer { IfOk result (λ any. any ≡ true → awaited self.new.collector.sequences < awaited self.old.collector.sequences) }
         ensures dry { IfOk result (λ any. any ≡ false → IsDry r self.new) }
+        ensures none { OnErr result (IsDry r self.old → ⊥) }
         ensures others { OnOk result (KeepsOthers r self.old self.new) }
     {
         let Some(sealed) = self.collector.next(r) else {

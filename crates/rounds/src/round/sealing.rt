@@ -47,6 +47,7 @@ pub fn take_in<'s, G: Gate>(
     ensures keeps { Keeps collector.old collector.new }
     ensures counted { right.new + thrown.new ≡ right.old + thrown.old + 1 }
     ensures fair { right.new + gathered collector.old.sequences ≡ right.old + gathered collector.new.sequences }
+    ensures rest { length (missing_in collector.new.sequences) ≤ length (missing_in collector.old.sequences) }
     ensures taken { TakesIn done.entry.outcome collector.old collector.new }
     ensures held { OnErr result (done.entry.outcome ≡ HeldBack) }
     ensures unheld { OnOk result (done.entry.outcome ≡ HeldBack → G.lets gate.now done.entry.rendition done.entry.number) }

@@ -1,9 +1,9 @@
 //! Taking: takes in what is done at the desk, then gives what is ready.
 
-ghost use Rattle.std.specs.Prelude.{◌≡◌, ◌⊎◌, ◌+◌, ◌<◌, ◌≤◌, IfErr, IfNone, IfSome, OnOk};
-ghost use Rattle.flow_core.specs.Gatherings.{awaited};
+ghost use Rattle.std.specs.Prelude.{◌≡◌, ◌≢◌, ◌⊎◌, ◌+◌, ◌<◌, ◌≤◌, [], true, false, length, IfErr, IfNone, IfOk, IfSome, OnErr, OnOk};
+ghost use Rattle.flow_core.specs.Gatherings.{awaited, missing_in};
 ghost use Rattle.rounds.specs.Gated.{IsGatesWord, IsHeldBack, IsLeft};
-ghost use Rattle.rounds.specs.Rounds.{Breaks, HasKeys, IsFair, IsSomewhere, Keeps, Moves, NoneReady, ReadsNoneIn, gathered};
+ghost use Rattle.rounds.specs.Rounds.{Breaks, HasKeys, IsExact, IsFair, IsSomewhere, Keeps, LosesNone, Moves, NoneReady, ReadsNoneIn, gathered};
 
 use crate::round::machine::Round;
 use crate::round::sealer::Sealer;
@@ -39,6 +39,7 @@ impl<'d, 's, 'r, S: Source, O: Outlet, L: Ledger, M: Ledger, R: Wait> Round<
         ensures none_read { ReadsNoneIn self.old self.new }
         ensures fair { OnOk result (IsFair self.old self.new) }
         ensures room { OnOk result (awaited self.new.collector.sequences < self.new.collector.most) }
+        ensures none { OnErr result (awaited self.old.collector.sequences < self.old.collector.most → ⊥) }
     {
         for _ in self.broadcast.held.rt.forever() {
             if self.collector.room() {
@@ -62,6 +63,7 @@ impl<'d, 's, 'r, S: Source, O: Outlet, L: Ledger, M: Ledger, R: Wait> Round<
         ensures none_read { ReadsNoneIn self.old self.new }
         ensures fair { OnOk result (IsFair self.old self.new) }
         ensures all { OnOk result (awaited self.new.collector.sequences ≡ 0) }
+        ensures none { OnErr result (awaited self.old.collector.sequences ≢ 0) }
     {
         for _ in self.broadcast.held.rt.forever() {
             if self.collector.awaited() == 0 {
@@ -84,6 +86,7 @@ impl<'d, 's, 'r, S: Source, O: Outlet, L: Ledger, M: Ledger, R: Wait> Round<
         ensures held { IfErr result (IsGatesWord (G.stops sealer.now.gate.now)) }
         ensures none_read { ReadsNoneIn self.old self.new }
         ensures fair { OnOk result (IsFair self.old self.new) }
+        ensures further { OnOk result ((self.old.taker.pass.count < self.new.taker.pass.count) ⊎ (missing_in self.new.collector.sequences ≡ [])) }
     {
         wait_or_seal(
             self.broadcast.held.rt,
@@ -108,7 +111,8 @@ impl<'d, 's, 'r, S: Source, O: Outlet, L: Ledger, M: Ledger, R: Wait> Round<
         ensures err { IfErr result (Breaks S.input O.output settings.now self.old self.new) }
         ensures held { IfErr result (IsGatesWord (G.stops sealer.now.gate.now)) }
         ensures none_read { ReadsNoneIn self.old self.new }
-        ensures fair { OnOk result (IsFair self.old self.new) }
+        ensures exact { OnOk result (IsExact self.old self.new) }
+        ensures kept { OnOk result (LosesNone self.old self.new) }
         ensures dry { OnOk result (NoneReady self.new.collector) }
     {
         take_all(
@@ -150,6 +154,10 @@ fn take_one<'s, G: Gate, L: Ledger, M: Ledger, R: Wait>(
 ) -> Result<bool, PackFault>
     ensures keeps { Keeps collector.old collector.new }
     ensures fair { taker.new.right + gathered collector.old.sequences ≡ taker.old.right + gathered collector.new.sequences }
+    ensures counted { IfOk result (λ any. any ≡ true → taker.new.pass.count ≡ taker.old.pass.count + 1) }
+    ensures uncounted { IfOk result (λ any. any ≡ false → (taker.new.pass.count ≡ taker.old.pass.count) × (collector.new ≡ collector.old)) }
+    ensures more { taker.old.pass.count ≤ taker.new.pass.count }
+    ensures rest { length (missing_in collector.new.sequences) ≤ length (missing_in collector.old.sequences) }
     ensures fault { IfErr result (IsHeldBack (G.stops gate.now)) }
 {
     let Taker {
@@ -175,6 +183,8 @@ fn take_all<'s, G: Gate, L: Ledger, M: Ledger, R: Wait>(
 ) -> Result<(), PackFault>
     ensures keeps { Keeps collector.old collector.new }
     ensures fair { taker.new.right + gathered collector.old.sequences ≡ taker.old.right + gathered collector.new.sequences }
+    ensures more { taker.old.pass.count ≤ taker.new.pass.count }
+    ensures rest { length (missing_in collector.new.sequences) ≤ length (missing_in collector.old.sequences) }
     ensures fault { IfErr result (IsHeldBack (G.stops gate.now)) }
 {
     for _ in rt.forever() {
@@ -197,11 +207,13 @@ fn wait_or_seal<'s, G: Gate, L: Ledger, M: Ledger, R: Wait>(
     requires keys { HasKeys settings.now collector.old }
     ensures keeps { Keeps collector.old collector.new }
     ensures fair { taker.new.right + gathered collector.old.sequences ≤ taker.old.right + gathered collector.new.sequences }
+    ensures further { OnOk result ((taker.old.pass.count < taker.new.pass.count) ⊎ (missing_in collector.new.sequences ≡ [])) }
     ensures fault { IfErr result (λ fault. IsHeldBack (G.stops sealer.now.gate.now) fault
         ⊎ IsLeft (G.lets sealer.now.gate.now) (G.stops sealer.now.gate.now) collector.new fault) }
 {
-    if !take_one(rt, sealer.gate, desk, true, taker, collector)? {
-        sealer.seal_missing(settings, collector)?;
+    if take_one(rt, sealer.gate, desk, true, taker, collector)? {
+        return Ok(());
     }
+    sealer.seal_missing(settings, collector)?;
     Ok(())
 }

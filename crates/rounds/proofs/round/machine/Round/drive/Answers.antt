@@ -53,7 +53,7 @@ returns-clause-ok g c =
           in-last _ _ _ _ _ start fed.0 _ _ _ c.in_ok-give_expected.ensures.all fed.2 (c.in_ok-give_expected.ensures.ok start fed.0 (c.in_ok-read_on.ensures.ok start fed.0 fed.1));
       further = more-then _ _ _ (more-unread _ _ c.in_ok-feed_all.ensures.none_read)
           (more-then _ _ _ c.in_ok-read_on.ensures.further (more-unread _ _ c.in_ok-give_expected.ensures.none_read));
-      fair = omega (arith, begun, given, c.in_ok-feed_all.ensures.fair, c.in_ok-read_on.ensures.fair, c.in_ok-give_expected.ensures.fair);
+      fair = omega (arith, begun, given, c.in_ok-feed_all.ensures.fair, c.in_ok-read_on.ensures.exact, c.in_ok-give_expected.ensures.fair);
     }
 
 pub returns-in_err-feed_all-clause-held : goal.returns-in_err-feed_all-clause-held

@@ -1,6 +1,7 @@
-use Rattle.std.proofs.Common.{◌+◌, subst, arith, drop}
+use Rattle.std.proofs.Common.{◌+◌, ap, subst, arith, drop, length}
 use Rattle.std.specs.List.{slice_set}
 use Rattle.std.proofs.lemmas.List.{set-set}
+use Rattle.std.proofs.lemmas.Option.{slice_get_within}
 use Rattle.std.proofs.lemmas.Result.{err_from_is_err_and}
 use Rattle.cutter.specs.Lent.{lent}
 use Rattle.rounds.specs.Rounds.{InRound}
@@ -44,3 +45,9 @@ pub returns-in_err-feed_plan-clause-held : goal.returns-in_err-feed_plan-clause-
 returns-in_err-feed_plan-clause-held g c =
     let told = err_from_is_err_and c.from_residual.result c.from_residual.ensures.1 in
     rw (told.1, told.2) c.in_err-feed_plan.ensures.held
+
+pub returns-in_err-feed_plan-clause-none : goal.returns-in_err-feed_plan-clause-none
+returns-in_err-feed_plan-clause-none g c =
+    let told = err_from_is_err_and c.from_residual.result c.from_residual.ensures.1 in
+    let within = slice_get_within c.args.spool.now c.loop-i.i _ c.in-Some.ensures.some in
+    rw told.1 (λ is. absurd (omega (arith, within, ap length is)))

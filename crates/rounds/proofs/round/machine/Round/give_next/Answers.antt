@@ -1,10 +1,10 @@
-use Rattle.std.proofs.Common.{◌∙◌, refl, ap, arith}
+use Rattle.std.proofs.Common.{◌∙◌, refl, ap, arith, length}
 use Rattle.std.proofs.lemmas.Result.{err_from_is_err_and}
 use Rattle.ingest.proofs.Ordered.{made_of-at}
-use Rattle.flow_core.specs.Gatherings.{Gathering, awaited}
+use Rattle.flow_core.specs.Gatherings.{Gathering, awaited, missing_in}
 use Rattle.ladder_items.proofs.Worlds.{InOrder, parts-of}
 use Rattle.rounds.specs.Rounds.{gathered}
-use Rattle.rounds.proofs.Rounding.{in-next, in-sealed, in-gave, in-ungiven, passed-gathered, passed-fewer}
+use Rattle.rounds.proofs.Rounding.{in-next, in-sealed, in-gave, in-ungiven, passed-gathered, passed-fewer, passed-missing, front-ready}
 use Rattle.ladder_items.proofs.Unheld.{sudden-unheld}
 use Rattle.rounds.proofs.round.machine.Round.give_next.Goals as goal
 
@@ -41,6 +41,7 @@ returns-clause-ok g c start unfed now =
 pub returns-clause-counts : goal.returns-clause-counts
 returns-clause-counts g c = (
   ap (λ (x : Gathering). gathered x.sequences) c.in-Some.ensures.some ∙ passed-gathered c.args.self.now.collector c.args.r c.in-Some.sealed.plan c.in-Some.sealed c.in-Some.ensures.first,
+  ap (λ (x : Gathering). length (missing_in x.sequences)) c.in-Some.ensures.some ∙ passed-missing c.args.self.now.collector c.args.r c.in-Some.sealed.plan c.in-Some.sealed c.in-Some.ensures.first,
   refl,
 )
 
@@ -54,3 +55,8 @@ pub returns-in_err-give_segment-clause-unheld : goal.returns-in_err-give_segment
 returns-in_err-give_segment-clause-unheld g c =
     let told = err_from_is_err_and c.from_residual.result c.from_residual.ensures.1 in
     rw (told.1, told.2) (λ q n is. sudden-unheld _ _ _ q n c.in_err-give_segment.ensures.fault is)
+
+pub returns-in_err-give_segment-clause-none : goal.returns-in_err-give_segment-clause-none
+returns-in_err-give_segment-clause-none g c =
+    let told = err_from_is_err_and c.from_residual.result c.from_residual.ensures.1 in
+    rw told.1 (front-ready _ _ _ c.in-Some.ensures.first)

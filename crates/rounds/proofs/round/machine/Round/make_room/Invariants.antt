@@ -1,3 +1,5 @@
+use Rattle.std.proofs.Common.{◌≡◌, ◌<◌}
+use Rattle.flow_core.specs.Gatherings.{awaited}
 use Rattle.rounds.specs.Rounds.{IsFair, Moves, ReadsNoneIn}
 use Rattle.rounds.proofs.round.machine.Round.make_room.Given as goal
 
@@ -6,4 +8,5 @@ invariant-loop g l = record {
   ok : Moves g.S.Source.input g.O.Outlet.output l.settings l.fn.self l.self;
   none_read : ReadsNoneIn l.fn.self l.self;
   fair : IsFair l.fn.self l.self;
+  idle : awaited l.fn.self.collector.sequences < l.fn.self.collector.most → l.self ≡ l.fn.self;
 }

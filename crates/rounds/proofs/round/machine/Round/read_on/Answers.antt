@@ -7,7 +7,7 @@ use Rattle.rounds.specs.declared.round.machine.Round.{Round}
 use Rattle.rounds.specs.Courses.{turns_in}
 use Rattle.rounds.proofs.Driven.{in-read}
 use Rattle.rounds.proofs.Pacing.{still-enough}
-use Rattle.rounds.proofs.Turning.{more-then, more-unread}
+use Rattle.rounds.proofs.Turning.{more-then, more-unread, none-more}
 use Rattle.rounds.proofs.Gates.{none-word}
 use Rattle.rounds.proofs.round.machine.Round.read_on.Goals as goal
 
@@ -65,7 +65,8 @@ loop-preserved g c =
       ok = λ start unfed old. c.in_ok-take_and_give.ensures.ok start unfed
           (in-read _ _ _ _ _ start unfed _ _ _ _ (λ waiting on. c.in_ok-read_ready.ensures.ok c.args.settings.now start c.loop.self.broadcast.held.publisher waiting on) same (c.loop.invariant.ok start unfed old));
       further = more-then _ _ _ c.loop.invariant.further (more-then _ _ _ c.in_ok-read_ready.ensures.further (more-unread _ _ c.in_ok-take_and_give.ensures.none_read));
-      fair = omega (arith, c.loop.invariant.fair, c.in_ok-take_and_give.ensures.fair);
+      exact = omega (arith, c.loop.invariant.exact, c.in_ok-take_and_give.ensures.exact);
+      dry = λ more. c.in_ok-take_and_give.ensures.dry;
       idle = λ enough. let at = c.loop.invariant.idle enough in
           let course = ap (λ (s : Round _ _ _ _ _). s.broadcast.course) at in
           let left = c.awaited-awaited.ensures ∙ ap (λ (s : Round _ _ _ _ _). awaited s.collector.sequences) at in
@@ -91,3 +92,28 @@ returns-then-not-branch-clause-idle g c enough =
     let left = c.awaited-awaited.ensures ∙ ap (λ (s : Round _ _ _ _ _). awaited s.collector.sequences) at in
     let none : c.turns_had.result - c.turns_had-before.result ≡ 0 = omega (arith, c.turns_had.ensures.is, c.turns_had-before.ensures.is, ap turns_in course) in
     absurd (false≢true (c.if-is_enough.ensures.1 (still-enough c.args.pace _ _ _ _ _ course left none enough)))
+
+pub returns-then-not-branch-clause-dry : goal.returns-then-not-branch-clause-dry
+returns-then-not-branch-clause-dry g c more =
+    let none = none-more _ _ _ c.if-not-branch.true c.in_ok-read_ready.ensures.told in
+    c.loop.invariant.dry (omega (arith, more, none))
+
+pub returns-in_err-read_ready-clause-none : goal.returns-in_err-read_ready-clause-none
+returns-in_err-read_ready-clause-none g c =
+    let told = err_from_is_err_and c.from_residual.result c.from_residual.ensures.1 in
+    rw told.1 (λ enough.
+    let at = c.loop.invariant.idle enough in
+    let course = ap (λ (s : Round _ _ _ _ _). s.broadcast.course) at in
+    let left = c.awaited-awaited.ensures ∙ ap (λ (s : Round _ _ _ _ _). awaited s.collector.sequences) at in
+    let none : c.turns_had.result - c.turns_had-before.result ≡ 0 = omega (arith, c.turns_had.ensures.is, c.turns_had-before.ensures.is, ap turns_in course) in
+    false≢true (c.if-is_enough.ensures.1 (still-enough c.args.pace _ _ _ _ _ course left none enough)))
+
+pub returns-in_err-take_and_give-clause-none : goal.returns-in_err-take_and_give-clause-none
+returns-in_err-take_and_give-clause-none g c =
+    let told = err_from_is_err_and c.from_residual-in_err-take_and_give.result c.from_residual-in_err-take_and_give.ensures.1 in
+    rw told.1 (λ enough.
+    let at = c.loop.invariant.idle enough in
+    let course = ap (λ (s : Round _ _ _ _ _). s.broadcast.course) at in
+    let left = c.awaited-awaited.ensures ∙ ap (λ (s : Round _ _ _ _ _). awaited s.collector.sequences) at in
+    let none : c.turns_had.result - c.turns_had-before.result ≡ 0 = omega (arith, c.turns_had.ensures.is, c.turns_had-before.ensures.is, ap turns_in course) in
+    false≢true (c.if-is_enough.ensures.1 (still-enough c.args.pace _ _ _ _ _ course left none enough)))

@@ -1,3 +1,4 @@
+use Rattle.std.proofs.Common.{ap, arith}
 use Rattle.std.proofs.lemmas.Result.{err_from_is_err_and}
 use Rattle.rounds.proofs.Gates.{held-sudden, held-word, unheld-word}
 use Rattle.rounds.proofs.Rounding.{in-keeps, in-stopped}
@@ -28,3 +29,13 @@ pub returns-in_err-give_all_ready-clause-held : goal.returns-in_err-give_all_rea
 returns-in_err-give_all_ready-clause-held g c =
     let told = err_from_is_err_and c.from_residual-in_err-give_all_ready.result c.from_residual-in_err-give_all_ready.ensures.1 in
     rw (told.1, told.2) (unheld-word _ _ c.in_err-give_all_ready.ensures.unheld)
+
+pub returns-clause-exact : goal.returns-clause-exact
+returns-clause-exact g c =
+    let counts = c.in_ok-give_all_ready.ensures.counts in
+    omega (arith, c.in_ok-take_all.ensures.fair, counts.0, ap (λ t. t.right) counts.2)
+
+pub returns-clause-kept : goal.returns-clause-kept
+returns-clause-kept g c =
+    let counts = c.in_ok-give_all_ready.ensures.counts in
+    (omega (arith, c.in_ok-take_all.ensures.more, ap (λ t. t.pass.count) counts.2), omega (arith, c.in_ok-take_all.ensures.rest, counts.1))

@@ -1,4 +1,5 @@
 use Rattle.std.proofs.lemmas.Result.{err_from_is_err_and}
+use Rattle.rounds.proofs.Collecting.{got-on}
 use Rattle.rounds.proofs.Gates.{awaited-sudden, awaited-word}
 use Rattle.rounds.proofs.Rounding.{in-keeps, in-stopped}
 use Rattle.rounds.proofs.round.machine.Round.wait_and_give.Goals as goal
@@ -32,3 +33,8 @@ pub returns-in_err-take_and_give-clause-held : goal.returns-in_err-take_and_give
 returns-in_err-take_and_give-clause-held g c =
     let told = err_from_is_err_and c.from_residual-in_err-take_and_give.result c.from_residual-in_err-take_and_give.ensures.1 in
     rw (told.1, told.2) c.in_err-take_and_give.ensures.held
+
+pub returns-clause-further : goal.returns-clause-further
+returns-clause-further g c =
+    let kept = c.in_ok-take_and_give.ensures.kept in
+    got-on _ _ _ c.wait_or_seal.new.collector c.take_and_give.new.self.collector kept.0 kept.1 c.in_ok-wait_or_seal.ensures.further
