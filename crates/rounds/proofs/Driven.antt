@@ -17,13 +17,10 @@ use Rattle.ladder_items.specs.Shown.{Shown}
 use Rattle.ladder_items.proofs.Blocks.{shown-each}
 use Rattle.ladder_items.proofs.Worlds.{parts-of, parts-length}
 use Rattle.rounds.specs.declared.run.course.Course.{Course}
+use Rattle.rounds.specs.Begun.{keys_of}
 use Rattle.rounds.specs.Showing.{counts_of}
 use Rattle.rounds.specs.Courses.{Start, IsOn}
 use Rattle.rounds.specs.Rounds.{InRound, expected, unfed_of, segments_in, gathered}
-
--- the keys of all renditions
-abbrev pub keys-of : Ladder → List KeyRotation
-keys-of ladder = map (λ (r : RenditionValue). r.keys) ladder.renditions
 
 -- a rendition of a new collector
 sequences-at : (r : ℕ) (keys : List KeyRotation) (starts : List ℕ) (k : ℕ) (d : KeyRotation) → k < length keys
@@ -77,11 +74,11 @@ module _ (X Y : Type 0) (input : SourceView X) (out : OutletView Y) (ladder : La
 
   -- a round begins
   pub in-first : (spools : List (List SegmentPlan)) (course : Course X Y) (shows : Known) (g : Gathering) → length spools ≡ length ladder.renditions
-      → g.sequences ≡ sequences_from 0 (keys-of ladder) (counts_of course.playlists.items)
+      → g.sequences ≡ sequences_from 0 (keys_of ladder) (counts_of course.playlists.items)
       → IsOn input out ladder start course shows (unfed_of spools) → InRound input out ladder start spools course shows g
   in-first spools course shows g each is on =
       let counts = counts_of course.playlists.items in
-      let keys = keys-of ladder in
+      let keys = keys_of ladder in
       let size : length g.sequences ≡ length ladder.renditions = ap length is ∙ (sequences-count 0 keys counts ∙ length-map ladder.renditions (λ (r : RenditionValue). r.keys)) in
       record {
         waiting = unfed_of spools;
@@ -98,11 +95,11 @@ module _ (X Y : Type 0) (input : SourceView X) (out : OutletView Y) (ladder : La
             ∙ get_or-map (λ (r : RenditionValue). r.keys) ladder.renditions k no_rendition (rendition_at ladder k).keys (omega (arith, below, size)));
       }
 
-  pub in-begun : (course : Course X Y) (shows : Known) (waiting : ℕ → List SegmentPlan) (g : Gathering) → g.sequences ≡ sequences_from 0 (keys-of ladder) (counts_of course.playlists.items)
+  pub in-begun : (course : Course X Y) (shows : Known) (waiting : ℕ → List SegmentPlan) (g : Gathering) → g.sequences ≡ sequences_from 0 (keys_of ladder) (counts_of course.playlists.items)
       → IsOn input out ladder start course shows waiting → gathered g.sequences ≡ sum (counts_of course.playlists.items)
   in-begun course shows waiting g is on =
       let counts = counts_of course.playlists.items in
-      let keys = keys-of ladder in
+      let keys = keys_of ladder in
       ap gathered is ∙ gathered-from 0 keys counts (omega (arith, length-map ladder.renditions (λ (r : RenditionValue). r.keys), counts-each course shows waiting on))
 
   -- renditions had their turns

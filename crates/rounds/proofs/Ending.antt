@@ -155,4 +155,5 @@ module _ (X Y : Type 0) (input : SourceView X) (out : OutletView Y) (ladder : La
           shown = on.list ∙ ap (λ (l : List Event). start.shows.list ++ shown_by ladder (none_of ladder) l) (sym p.1);
           each = ap length told.workers ∙ each;
           total = told.total;
+          own = omega (arith, told.own);
         })

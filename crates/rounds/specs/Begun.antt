@@ -1,5 +1,6 @@
 -- What a run begins with, and what it tells at its end.
 use Rattle.std.specs.Prelude.{◌≡◌, ℕ, ◌+◌, false, List, length, map, replicate, sum, Some, None, slice_get}
+use Rattle.segment_job.specs.Rotation.{KeyRotation}
 use Rattle.ingest.specs.declared.lane.Lane.{Lane}
 use Rattle.ingest.specs.Lanes.{IsFirst}
 use Rattle.ladder_items.specs.declared.fault.PackFault.{PackFault}
@@ -13,6 +14,10 @@ use Rattle.ladder_items.specs.Standing.{NoneStands}
 use Rattle.rounds.specs.declared.run.books.Books.{Books}
 use Rattle.rounds.specs.declared.run.first.First.{First}
 
+-- the keys of all renditions
+abbrev pub keys_of : Ladder → List KeyRotation
+keys_of ladder = map (λ (r : RenditionValue). r.keys) ladder.renditions
+
 -- nothing was read or given, and no worker claimed anything
 pub record IsBegun (ladder : Ladder) (workers : ℕ) (first : First) : Type 0 where
   pub lanes : length first.lanes.items ≡ length ladder.renditions
@@ -21,7 +26,7 @@ pub record IsBegun (ladder : Ladder) (workers : ℕ) (first : First) : Type 0 wh
   pub ended : first.ended.items ≡ replicate (length ladder.renditions) false
   pub turns : first.turns.items ≡ replicate (length ladder.renditions) 0
   pub spare : length first.spare.items ≡ length ladder.renditions
-  pub keys : first.keys.items ≡ map (λ (r : RenditionValue). r.keys) ladder.renditions
+  pub keys : first.keys.items ≡ keys_of ladder
   pub right : first.books.right ≡ 0
   pub rounds : first.books.rounds ≡ 0
   pub claims : length first.books.workers.items ≡ workers

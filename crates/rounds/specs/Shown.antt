@@ -38,12 +38,13 @@ Fits ladder inputs workers counts =
     IsAllowed ladder × (inputs ≡ length ladder.renditions) × FitsThreads ladder workers counts
 
 -- The run ended well. Behind each segment and each end one snapshot was shown, that of its moment, and no other. All that the
--- workers claimed and the calling thread sealed was given, or thrown away.
+-- workers claimed and the calling thread sealed was given, or thrown away; what the calling thread sealed was given.
 pub record IsPackedShown {X Y : Type 0} (run : Run X Y) (ladder : Ladder) (workers : ℕ) (old new : List SnapshotFacts) (report : Report) : Type 0 where
   pub packed : IsPacked run ladder report
   pub shown : new ≡ old ++ shown_by ladder (none_of ladder) packed.weave.events
   pub each : length report.workers.items ≡ workers
   pub total : sum report.workers.items + report.own ≡ sum report.counts.items + report.thrown
+  pub own : report.own ≤ sum report.counts.items
 
 -- Each rendition went to its end, rendition r to this one: behind each segment and each end one snapshot was shown.
 pub record IsHaltedShown {X Y : Type 0} (run : Run X Y) (ladder : Ladder) (r : ℕ) (stop : Option Stop) (old new : List SnapshotFacts) : Type 0 where

@@ -1,6 +1,6 @@
 //! The calling thread's part of a round from its start to its end, and how the round's numbers get into the books.
 
-ghost use Rattle.std.specs.Prelude.{◌≡◌, ◌+◌, ◌<◌, ◌^◌, IfErr, OnOk, length, sum};
+ghost use Rattle.std.specs.Prelude.{◌≡◌, ◌+◌, ◌<◌, ◌^◌, ℕ, IfErr, OnOk, length, slice_index_or, sum};
 ghost use Rattle.rounds.specs.Gated.{IsGatesWord};
 ghost use Rattle.rounds.specs.Rounds.{IsBroken, IsDriven, IsSomeFull};
 
@@ -95,6 +95,8 @@ pub fn closed<'r, S, O, M: Ledger, R: Wait>(
     ensures right { result.0.books.right ≡ ended.entry.between.books.right + ended.entry.taker.right }
     ensures thrown { result.0.books.thrown ≡ ended.entry.between.books.thrown + ended.entry.taker.thrown + left }
     ensures each { length result.0.books.workers.items ≡ length ended.entry.between.books.workers.items }
+    ensures by_worker { (k : ℕ) → k < length claims.now → slice_index_or result.0.books.workers.items k 0
+        ≡ slice_index_or ended.entry.between.books.workers.items k 0 + slice_index_or claims.now k 0 }
 {
     let EndedRound {
         between,

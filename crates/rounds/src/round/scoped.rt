@@ -1,6 +1,7 @@
 //! A round in a scope of threads: the workers seal at the desk, and the calling thread drives.
 
 ghost use Rattle.std.specs.Prelude.{◌≡◌, ◌+◌, ◌<◌, ◌^◌, IfErr, OnOk, length, sum, vec_len};
+ghost use Rattle.rounds.specs.Begun.{keys_of};
 ghost use Rattle.rounds.specs.Gated.{IsGatesWord};
 ghost use Rattle.rounds.specs.Rounds.{IsBroken, IsRound, IsSomeFull};
 
@@ -36,6 +37,7 @@ pub fn in_scope<
     crew: Crew<L, M>,
     between: BetweenRounds<'r, S, O, R>,
 ) -> (BetweenRounds<'r, S, O, R>, Result<(), PackFault>)
+    requires keys { keys.now ≡ keys_of setup.now.settings.now }
     requires each { length spools.now ≡ length setup.now.settings.now.renditions }
     requires on { IsSomeFull S.input O.output setup.now.settings.now spools.now between.broadcast }
     requires unused { crew.taker.count ≡ 0 }
@@ -55,10 +57,9 @@ pub fn in_scope<
         thread::scope_env(),
         rt,
         |scope| -> (BetweenRounds<'_, S, O, R>, Result<(), PackFault>)
-            requires { (length spools.now ≡ length setup.now.settings.now.renditions)
-                × IsSomeFull S.input O.output setup.now.settings.now spools.now between.broadcast
-                × (crew.taker.count ≡ 0) × (crew.rest.parts + vec_len crew.workers ≡ L.parts) × (crew.rest.amount ≡ 0) × (M.parts ≡ 1)
-                × (sum crew.claims.items ≡ 0) × (length crew.claims.items ≡ vec_len crew.workers)
+            requires { (length spools.now ≡ length setup.now.settings.now.renditions) × (crew.taker.count ≡ 0) × (crew.rest.amount ≡ 0)
+                × IsSomeFull S.input O.output setup.now.settings.now spools.now between.broadcast × (M.parts ≡ 1)
+                × (crew.rest.parts + vec_len crew.workers ≡ L.parts) × (sum crew.claims.items ≡ 0) × (length crew.claims.items ≡ vec_len crew.workers)
                 × (length crew.claims.items ≡ length between.books.workers.items) × (between.books.rounds < 2 ^ 46) }
             ensures ok { OnOk result.1 (IsRound S.input O.output setup.entry.now.settings.now spools.entry.now between.entry result.0) }
             ensures err { IfErr result.1 (IsBroken S.input O.output setup.entry.now.settings.now spools.entry.now between.entry.broadcast result.0.broadcast) }

@@ -1,6 +1,7 @@
 //! Starts a round: opens its desk, and a scope of threads to work at it.
 
 ghost use Rattle.std.specs.Prelude.{◌≡◌, ◌<◌, ◌^◌, IfErr, OnOk, length};
+ghost use Rattle.rounds.specs.Begun.{keys_of};
 ghost use Rattle.rounds.specs.Gated.{IsGatesWord};
 ghost use Rattle.rounds.specs.Rounds.{HasDueEnds, IsBroken, IsRound, IsSomeFull};
 
@@ -27,6 +28,7 @@ pub fn run_round<'r, S: Source + Drop, O: Outlet + Drop, G: Gate + Sync, R: Thre
     spools: &[Spool],
     between: BetweenRounds<'r, S, O, R>,
 ) -> (BetweenRounds<'r, S, O, R>, Result<(), PackFault>)
+    requires keys { keys.now ≡ keys_of setup.now.settings.now }
     requires each { length spools.now ≡ length setup.now.settings.now.renditions }
     requires on { IsSomeFull S.input O.output setup.now.settings.now spools.now between.broadcast }
     requires ends { HasDueEnds setup.now.settings.now spools.now between.broadcast.course }
@@ -58,6 +60,7 @@ fn round_with<
     takes: Blank,
     between: BetweenRounds<'r, S, O, R>,
 ) -> (BetweenRounds<'r, S, O, R>, Result<(), PackFault>)
+    requires keys { keys.now ≡ keys_of setup.now.settings.now }
     requires each { length spools.now ≡ length setup.now.settings.now.renditions }
     requires on { IsSomeFull S.input O.output setup.now.settings.now spools.now between.broadcast }
     requires workers { length between.books.workers.items ≡ setup.now.workers }

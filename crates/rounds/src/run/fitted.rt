@@ -1,6 +1,6 @@
 //! A run that fits: it goes from round to round, and answers.
 
-ghost use Rattle.std.specs.Prelude.{◌≡◌, ◌<◌, ◌≤◌, ◌^◌, ℕ, IfErr, IfOk};
+ghost use Rattle.std.specs.Prelude.{◌≡◌, ◌<◌, ◌≤◌, ◌^◌, ℕ, IfErr, IfOk, min};
 ghost use Rattle.ladder_items.specs.Ladder.{Ladder};
 ghost use Rattle.ladder_items.specs.World.{HaveRoom};
 ghost use Rattle.rounds.specs.Begun.{IsBegun};
@@ -83,6 +83,7 @@ pub fn pack_fitted<
     requires failures { O.output.failures endpoints.outlet < 2 ^ 63 }
     requires fits { FitsStart setup.now.settings.now setup.now.workers (start_at endpoints) }
     requires begun { IsBegun setup.now.settings.now setup.now.workers first }
+    requires pace { setup.now.pace.least ≡ min setup.now.pace.most setup.now.workers }
     ensures ok { IfOk result.answer (EndsPacked S.input O.output setup.now.settings.now setup.now.workers (start_at endpoints) result) }
     ensures fault { IfErr result.answer (EndsFaulted S.input O.output setup.now.settings.now setup.now.workers (start_at endpoints) result) }
     ensures board { result.publisher.board ≡ endpoints.publisher.board }

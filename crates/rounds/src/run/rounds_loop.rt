@@ -1,9 +1,11 @@
 //! From round to round, until everything is given.
 
 ghost use Rattle.std.specs.Prelude.{◌≡◌, ◌+◌, ◌≤◌, IfErr, IfOk, OnErr, OnOk, length, sum};
+ghost use Rattle.rounds.specs.Begun.{keys_of};
 ghost use Rattle.rounds.specs.Courses.{HasGoodEnds, IsAllGiven, IsSomeBetween, NoneClosed, ReadsNone, StaysBetween, StopsBetween};
 ghost use Rattle.rounds.specs.Courses.{IsRun, ReadsMore, ReadsOn, ReadsShort};
 ghost use Rattle.rounds.specs.Gated.{IsGatesWord, IsUnheld};
+ghost use Rattle.rounds.specs.Paces.{HasEnough};
 ghost use Rattle.rounds.specs.Rounds.{SwapsOut, SwapsShort, TakesClosed};
 ghost use Rattle.rounds.specs.Showing.{counts_of};
 
@@ -82,6 +84,8 @@ fn read_between<'r, S: Source, O: Outlet, R: Wait, H: Herald>(
     ensures err { OnErr result.1 (ReadsShort S.input O.output between.entry.broadcast.course result.0.broadcast.course) }
     ensures playlists { OnOk result.1 (result.0.broadcast.course.playlists ≡ between.entry.broadcast.course.playlists) }
     ensures further { OnOk result.1 (ReadsMore between.entry.broadcast.course result.0.broadcast.course) }
+    ensures some { OnOk result.1 (HasEnough 1 result.0.broadcast.course) }
+    ensures none { OnErr result.1 (HasEnough pace.least between.entry.broadcast.course → ⊥) }
     ensures held { result.0.broadcast.held.publisher ≡ between.entry.broadcast.held.publisher }
     ensures books { result.0.books ≡ between.entry.books }
 {
@@ -124,6 +128,7 @@ pub fn run_rounds<
     between: BetweenRounds<'r, S, O, R>,
     herald: &H,
 ) -> (BetweenRounds<'r, S, O, R>, Result<(), PackFault>)
+    requires keys { keys.now ≡ keys_of setup.now.settings.now }
     requires each { length spare.items ≡ length setup.now.settings.now.renditions }
     requires on { IsSomeBetween S.input O.output setup.now.settings.now between.broadcast }
     requires workers { length between.books.workers.items ≡ setup.now.workers }

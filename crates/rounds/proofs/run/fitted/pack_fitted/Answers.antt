@@ -90,3 +90,6 @@ pub returns-clause-held : goal.returns-clause-held
 returns-clause-held g c =
     rw c.give_back-2.ensures.answer
     (IfErr-weaker c.answer_of-answer.result _ _ (λ fault told. unheld-word _ _ (answered-unheld _ _ told)) c.answer_of-answer.ensures.fault)
+
+pub run_rounds-between-requires-clause-keys : goal.run_rounds-between-requires-clause-keys
+run_rounds-between-requires-clause-keys g c κs within = c.deref.ensures.value ∙ (ap (λ k. k.items) c.set_out-between.ensures.keys ∙ c.requires.begun.keys)
