@@ -1,4 +1,5 @@
 pub mod Faults
+pub mod FaultLines
 pub mod Words
 pub mod Options
 pub mod Jobs

@@ -22,7 +22,7 @@ use clap::error::ErrorKind;
 use commands::{
     DEFAULT_NAME, EntryWords, LadderFault, LadderPackingFault, SettingsFault, cut_entry,
 };
-use pipeline::PackFault;
+use ladder_items::PackFault;
 use std::alloc::{AllocError, Global};
 use std::convert::AsStr;
 use std::fmt;

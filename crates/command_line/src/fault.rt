@@ -5,8 +5,8 @@ use commands::{
     CheckingFault, CipherFault, KeyListFault, LadderFault, LadderPackingFault, OpeningFault,
     SealingFault, SettingsFault,
 };
+use ladder_items::PackFault;
 use live_board::BoardFault;
-use pipeline::PackFault;
 use read_ahead::InputFault;
 use std::alloc::{AllocError, AllocFailed};
 

@@ -1,4 +1,9 @@
 //! How faults print: their names, and the numbers that they have.
+ghost use Rattle.std.specs.Prelude.{◌≡◌, Some};
+ghost use Rattle.std.specs.Fmt.{DisplaysOnOk};
+ghost use Rattle.command_line.specs.FaultLines.{checking_text, cipher_text, fault_line, fault_text, input_text, key_list_text,
+    ladder_packing_text, ladder_text, opening_text, packing_text, resuming_text, sealing_text, settings_text, why_not_text};
+
 use crate::fault::Fault;
 use channel::ResumingFault;
 use channel_folder::WhyNot;
@@ -7,12 +12,14 @@ use commands::{
     SealingFault, SettingsFault,
 };
 use hls_check::{CheckFault, UnpackFault};
+use ladder_items::PackFault;
 use media_reading::ListFault;
-use pipeline::PackFault;
 use read_ahead::InputFault;
 use std::fmt;
 
 impl fmt::Display for Fault {
+    ghost output = { fault_line };
+
     fn fmt<W: fmt::Write>(&self, f: &mut fmt::Formatter<W>) -> fmt::Result {
         if let Fault::Usage(error) = self {
             return write!(f, "{error}");
@@ -23,7 +30,10 @@ impl fmt::Display for Fault {
     }
 }
 
-fn write_fault<W: fmt::Write>(f: &mut fmt::Formatter<W>, fault: &Fault) -> fmt::Result {
+/// The name of a fault and its numbers; of a command line that isn't one, what clap says.
+fn write_fault<W: fmt::Write>(f: &mut fmt::Formatter<W>, fault: &Fault) -> fmt::Result
+    ensures { DisplaysOnOk W.write_str_gives f.old result (fault_text fault.now) f.new }
+{
     match fault {
         Fault::Usage(error) => write!(f, "{error}"),
         Fault::NotUtf8 => f.write_str("NotUtf8"),
@@ -44,7 +54,9 @@ fn write_fault<W: fmt::Write>(f: &mut fmt::Formatter<W>, fault: &Fault) -> fmt::
 }
 
 /// The name of a fault of a key and a vector, and the number of a bad key file.
-fn write_cipher<W: fmt::Write>(f: &mut fmt::Formatter<W>, fault: CipherFault) -> fmt::Result {
+fn write_cipher<W: fmt::Write>(f: &mut fmt::Formatter<W>, fault: CipherFault) -> fmt::Result
+    ensures { DisplaysOnOk W.write_str_gives f.old result (Some (cipher_text fault)) f.new }
+{
     match fault {
         CipherFault::BadKey => write!(f, "BadKey"),
         CipherFault::BadVector => write!(f, "BadVector"),
@@ -55,7 +67,9 @@ fn write_cipher<W: fmt::Write>(f: &mut fmt::Formatter<W>, fault: CipherFault) ->
 }
 
 /// The name of a fault of some keys, and the number of a bad key file.
-fn write_key_list<W: fmt::Write>(f: &mut fmt::Formatter<W>, fault: KeyListFault) -> fmt::Result {
+fn write_key_list<W: fmt::Write>(f: &mut fmt::Formatter<W>, fault: KeyListFault) -> fmt::Result
+    ensures { DisplaysOnOk W.write_str_gives f.old result (Some (key_list_text fault)) f.new }
+{
     match fault {
         KeyListFault::BadKey => write!(f, "BadKey"),
         KeyListFault::Unread => write!(f, "Unread"),
@@ -65,7 +79,9 @@ fn write_key_list<W: fmt::Write>(f: &mut fmt::Formatter<W>, fault: KeyListFault)
 }
 
 /// The name of a fault of a packager's words, and the number of a bad key file.
-fn write_settings<W: fmt::Write>(f: &mut fmt::Formatter<W>, fault: SettingsFault) -> fmt::Result {
+fn write_settings<W: fmt::Write>(f: &mut fmt::Formatter<W>, fault: SettingsFault) -> fmt::Result
+    ensures { DisplaysOnOk W.write_str_gives f.old result (Some (settings_text fault)) f.new }
+{
     match fault {
         SettingsFault::BadKey => write!(f, "BadKey"),
         SettingsFault::BadSize => write!(f, "BadSize"),
@@ -80,7 +96,9 @@ fn write_settings<W: fmt::Write>(f: &mut fmt::Formatter<W>, fault: SettingsFault
 }
 
 /// The name of a fault of the ladder's words, and the number of the entry that is bad or has a bad key file.
-fn write_ladder<W: fmt::Write>(f: &mut fmt::Formatter<W>, fault: LadderFault) -> fmt::Result {
+fn write_ladder<W: fmt::Write>(f: &mut fmt::Formatter<W>, fault: LadderFault) -> fmt::Result
+    ensures { DisplaysOnOk W.write_str_gives f.old result (Some (ladder_text fault)) f.new }
+{
     match fault {
         LadderFault::BadEntry(number) => write!(f, "BadEntry {number}"),
         LadderFault::BadVector => write!(f, "BadVector"),
@@ -93,7 +111,9 @@ fn write_ladder<W: fmt::Write>(f: &mut fmt::Formatter<W>, fault: LadderFault) ->
     }
 }
 
-fn sealing_name(fault: SealingFault) -> &'static str {
+fn sealing_name(fault: SealingFault) -> &'static str
+    ensures { result.now ≡ sealing_text fault }
+{
     match fault {
         SealingFault::Unread => "Unread",
         SealingFault::ReadLimit => "ReadLimit",
@@ -102,7 +122,9 @@ fn sealing_name(fault: SealingFault) -> &'static str {
     }
 }
 
-fn opening_name(fault: OpeningFault) -> &'static str {
+fn opening_name(fault: OpeningFault) -> &'static str
+    ensures { result.now ≡ opening_text fault }
+{
     match fault {
         OpeningFault::Unread => "Unread",
         OpeningFault::ReadLimit => "ReadLimit",
@@ -115,7 +137,9 @@ fn opening_name(fault: OpeningFault) -> &'static str {
 }
 
 /// Why a ladder doesn't go on: a name, and then the rendition's number and that of a segment or a key, where it has them.
-fn write_resuming<W: fmt::Write>(f: &mut fmt::Formatter<W>, fault: ResumingFault) -> fmt::Result {
+fn write_resuming<W: fmt::Write>(f: &mut fmt::Formatter<W>, fault: ResumingFault) -> fmt::Result
+    ensures { DisplaysOnOk W.write_str_gives f.old result (Some (resuming_text fault)) f.new }
+{
     match fault {
         ResumingFault::Unread => write!(f, "Unread"),
         ResumingFault::Outlet => write!(f, "Outlet"),
@@ -125,7 +149,9 @@ fn write_resuming<W: fmt::Write>(f: &mut fmt::Formatter<W>, fault: ResumingFault
     }
 }
 
-fn write_why_not<W: fmt::Write>(f: &mut fmt::Formatter<W>, r: usize, why: WhyNot) -> fmt::Result {
+fn write_why_not<W: fmt::Write>(f: &mut fmt::Formatter<W>, r: usize, why: WhyNot) -> fmt::Result
+    ensures { DisplaysOnOk W.write_str_gives f.old result (Some (why_not_text r why)) f.new }
+{
     match why {
         WhyNot::Foreign => write!(f, "Foreign {r}"),
         WhyNot::Ended => write!(f, "Ended {r}"),
@@ -139,7 +165,9 @@ fn write_why_not<W: fmt::Write>(f: &mut fmt::Formatter<W>, r: usize, why: WhyNot
     }
 }
 
-fn unopened_name(fault: InputFault) -> &'static str {
+fn unopened_name(fault: InputFault) -> &'static str
+    ensures { result.now ≡ input_text fault }
+{
     match fault {
         InputFault::Unread => "Unread",
         InputFault::NoMemory => "NoMemory",
@@ -147,7 +175,9 @@ fn unopened_name(fault: InputFault) -> &'static str {
 }
 
 /// A packager's fault: its name, and then the rendition's number and the segment's, where it has them.
-fn write_packing<W: fmt::Write>(f: &mut fmt::Formatter<W>, fault: PackFault) -> fmt::Result {
+fn write_packing<W: fmt::Write>(f: &mut fmt::Formatter<W>, fault: PackFault) -> fmt::Result
+    ensures { DisplaysOnOk W.write_str_gives f.old result (Some (packing_text fault)) f.new }
+{
     match fault {
         PackFault::Settings => write!(f, "Settings"),
         PackFault::Read(r) => write!(f, "Read {r}"),
@@ -165,7 +195,9 @@ fn write_packing<W: fmt::Write>(f: &mut fmt::Formatter<W>, fault: PackFault) -> 
 
 /// A fault of `check`: its name, and then the number of the first wrong line, or the place of the first such entry,
 /// counted from 0.
-fn write_checking<W: fmt::Write>(f: &mut fmt::Formatter<W>, fault: CheckingFault) -> fmt::Result {
+fn write_checking<W: fmt::Write>(f: &mut fmt::Formatter<W>, fault: CheckingFault) -> fmt::Result
+    ensures { DisplaysOnOk W.write_str_gives f.old result (Some (checking_text fault)) f.new }
+{
     match fault {
         CheckingFault::Unread => write!(f, "Unread"),
         CheckingFault::Unwritten => write!(f, "Unwritten"),
@@ -187,7 +219,9 @@ fn write_checking<W: fmt::Write>(f: &mut fmt::Formatter<W>, fault: CheckingFault
 fn write_ladder_packing<W: fmt::Write>(
     f: &mut fmt::Formatter<W>,
     fault: LadderPackingFault,
-) -> fmt::Result {
+) -> fmt::Result
+    ensures { DisplaysOnOk W.write_str_gives f.old result (Some (ladder_packing_text fault)) f.new }
+{
     match fault {
         LadderPackingFault::Packing(fault) => write_packing(f, fault),
         LadderPackingFault::Unwritten => write!(f, "Unwritten"),

@@ -23,7 +23,7 @@ use commands::{
     CheckOptions, CipherOptions, FileReader, LadderOptions, read_check_options,
     read_cipher_options, read_ladder_options, read_settings,
 };
-use pipeline::Settings;
+use ladder_items::Settings;
 use std::alloc::{AllocError, Global};
 use std::convert::AsStr;
 

@@ -1,13 +1,9 @@
 pub mod EntryKeys
-pub mod FolderRuns
 pub mod GoodEntries
 pub mod KeyBytes
 pub mod KeyWords
-pub mod LadderEnds
 pub mod LadderFacts
-pub mod LineRuns
 pub mod SealedTexts
 pub mod SegmentFiles
-pub mod SummaryLines
 pub mod TextFacts
 pub mod Checked

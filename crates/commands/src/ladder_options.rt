@@ -14,7 +14,7 @@ use crate::ladder_settings::{has_room, has_too_many, read_ladder};
 use crate::numbers::{NumberWords, Numbers};
 use crate::pool::{Pool, PoolWords};
 use crate::settings::read_salt;
-use pipeline::Settings;
+use ladder_items::Settings;
 use std::alloc::{AllocError, Global};
 
 /// The words of a ladder, as they stand.

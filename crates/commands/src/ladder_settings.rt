@@ -19,9 +19,8 @@ use crate::numbers::Numbers;
 use crate::pool::Pool;
 use crate::settings::{PackingWords, kind, rendition_of};
 use cutter::CutSettings;
-use ladder_items::is_allowed;
+use ladder_items::{Rendition, Settings, is_allowed};
 use limits::MOST_KEYS;
-use pipeline::{Rendition, Settings};
 use std::alloc::{AllocError, Global};
 
 /// Whether an entry has more than 4,096 keys.

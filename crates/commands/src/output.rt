@@ -6,7 +6,7 @@ use item_io::OutletFault;
 use std::io::Write;
 
 /// Writes a whole text and flushes it. Where a write fails, a prefix of it was written.
-pub(crate) fn write_all<W: Write>(output: &mut W, text: &[u8]) -> Result<(), OutletFault>
+pub fn write_all<W: Write>(output: &mut W, text: &[u8]) -> Result<(), OutletFault>
     ensures ok { OnOk result (Appends (W.contents output.old) (W.contents output.new) text.now) }
     ensures err { OnErr result (WritesBeginning (W.contents output.old) (W.contents output.new) text.now) }
 {

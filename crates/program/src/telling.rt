@@ -1,6 +1,6 @@
 //! Faults on standard error: each as soon as it stands, and none twice.
 ghost use Rattle.std.specs.Prelude.{◌≡◌, ◌≢◌, Contains, Decides, Some};
-ghost use Rattle.commands.specs.declared.ladder_packing.LadderPackingFault.TheVariants.{Packing};
+ghost use Rattle.commands.specs.declared.packing_fault.LadderPackingFault.TheVariants.{Packing};
 ghost use Rattle.command_line.specs.declared.fault.Fault.TheVariants.{LadderPacking};
 ghost use Rattle.channel.specs.Seen.{as_seen};
 

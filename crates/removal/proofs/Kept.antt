@@ -22,11 +22,11 @@ use Rattle.keeping.specs.Holding.{KeepingState, KeptBy, KeptUpTo}
 use Rattle.keeping.specs.InPlace.{EachKillLeavesUnlisted, EachLossOfPowerLeavesUnlisted, FramesFollow, NoneIsListed}
 use Rattle.keeping.proofs.Left.{held-first, held-of, killed-held, killed-refused, left-more, lost-held, lost-refused}
 use Rattle.keeping.proofs.Between.{holds-unlisted}
-use Rattle.commands.specs.LadderPacking.{LadderSays, TurnsAway}
-use Rattle.commands.specs.declared.destination.Destination.{Destination}
-use Rattle.commands.specs.declared.ladder_packing.LadderPackingFault.{LadderPackingFault}
-use Rattle.commands.specs.declared.ladder_packing.LadderPackingFault.TheVariants.{Packing, Unwritten, NoMemory}
-use Rattle.commands.proofs.FolderRuns.{says-any}
+use Rattle.packing.specs.LadderPacking.{LadderSays, TurnsAway}
+use Rattle.packing.specs.declared.destination.Destination.{Destination}
+use Rattle.commands.specs.declared.packing_fault.LadderPackingFault.{LadderPackingFault}
+use Rattle.commands.specs.declared.packing_fault.LadderPackingFault.TheVariants.{Packing, Unwritten, NoMemory}
+use Rattle.packing.proofs.FolderRuns.{says-any}
 use Rattle.removal.specs.Removing.{LeavesKept, kept_run, kept_view, new_keeping}
 use Rattle.removal.proofs.Following.{weaves-follow}
 

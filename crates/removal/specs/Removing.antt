@@ -11,7 +11,7 @@ use Rattle.ladder_items.specs.Runs.{Run, run_of}
 use Rattle.keeping.specs.Keepings.{KeepingValue}
 use Rattle.keeping.specs.Holding.{KeepingState, KeptBy, KeptUpTo}
 use Rattle.keeping.specs.InPlace.{EachKillLeavesUnlisted, EachLossOfPowerLeavesUnlisted}
-use Rattle.commands.specs.declared.destination.Destination.{Destination}
+use Rattle.packing.specs.declared.destination.Destination.{Destination}
 
 -- an outlet of a folder from which old segments go, as a run sees it
 abbrev pub kept_view : {F : Type 0} → (F → List Move) → OutletView (KeepingState F)

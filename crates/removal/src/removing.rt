@@ -7,15 +7,16 @@ ghost use Rattle.rounds.specs.Shown.{Fits, IsPackedShown};
 ghost use Rattle.item_io.specs.FolderMoves.{new_outlet};
 ghost use Rattle.keeping.specs.Keepings.{AreTold};
 ghost use Rattle.keeping.specs.InPlace.{NoneIsListed};
-ghost use Rattle.commands.specs.LadderPacking.{IsNeverHeld, LadderSays, TurnsAway, WritesSummary};
+ghost use Rattle.packing.specs.LadderPacking.{IsNeverHeld, LadderSays, TurnsAway, WritesSummary};
 ghost use Rattle.removal.specs.Removing.{LeavesKept, kept_run, new_keeping};
 
 use crate::tally::{Tallied, Tally};
-use commands::{Destination, PackedLadder, Pool, pack};
+use commands::Pool;
 use folder::{Folder, PruningFolder};
 use item_io::{FolderOutlet, READS, Source};
 use keeping::{Keeping, KeepingOutlet};
 use live_board::Publisher;
+use packing::{Destination, PackedLadder, pack};
 use pipeline::{Herald, Settings};
 use std::alloc::Global;
 use std::io::Write;

@@ -1,9 +1,10 @@
 //! Tests of `pack` into a folder: what stands there at the end, and after a move that failed.
 
 use crate::fixtures::{settings, stream_bytes};
-use commands::{Destination, PackedLadder, Pool, pack_into_folder};
+use commands::Pool;
 use folder::MemoryFolder;
 use item_io::FailingReader;
+use packing::{Destination, PackedLadder, pack_into_folder};
 use pipeline::{Nobody, opening_board};
 use std::alloc::Global;
 use std::sync::Wait;

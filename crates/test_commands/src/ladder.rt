@@ -1,8 +1,9 @@
 use crate::fixtures::{KEY, NO_FILES, no_numbers};
 use commands::{
-    LadderFault, LadderOptions, LadderWords, NumberWords, PoolWords, read_ladder_options, summary,
+    LadderFault, LadderOptions, LadderWords, NumberWords, PoolWords, read_ladder_options,
 };
 use limits::MOST_KEYS;
+use packing::summary;
 use pipeline::{Kind, Rendition, Report, Settings};
 use std::alloc::{AllocError, Global};
 use std::test::Fail;

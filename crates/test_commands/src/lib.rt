@@ -1,4 +1,4 @@
-//! Tests of `commands`: each command over inputs and outputs in memory, and its words.
+//! Tests of `commands` and `packing`: each command over inputs and outputs in memory, and its words.
 #![tactic(auto)]
 
 #[cfg(test)]

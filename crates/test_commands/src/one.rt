@@ -1,5 +1,5 @@
 use crate::fixtures::{BrokenReader, settings, stream_bytes};
-use commands::{Packed, one};
+use packing::{Packed, one};
 use pipeline::PackFault;
 use std::alloc::Global;
 use std::test::Fail;

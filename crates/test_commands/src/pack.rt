@@ -1,6 +1,7 @@
 use crate::fixtures::{FullWriter, settings, stream_bytes};
-use commands::{LadderPackingFault, PackedLadder, Pool, pack};
+use commands::{LadderPackingFault, Pool};
 use item_io::{FailingOutlet, FailingReader};
+use packing::{PackedLadder, pack};
 use pipeline::{Nobody, PackFault, Report, opening_board};
 use std::alloc::Global;
 use std::io::Write;

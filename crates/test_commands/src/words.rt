@@ -2,9 +2,10 @@ use crate::fixtures::{KEY, NO_FILES, VECTOR, no_numbers, settings, words};
 use commands::{
     CheckOptions, CheckWords, CipherFault, CipherWords, DEFAULT_FRAME, DEFAULT_GAP, DEFAULT_MOST,
     DEFAULT_NAME, DEFAULT_PERIOD, DEFAULT_TARGET, DEFAULT_WINDOW, EntryWords, KeyListFault,
-    SettingsFault, entries, first_bad, one, read_check_options, read_cipher_options, read_settings,
+    SettingsFault, entries, first_bad, read_check_options, read_cipher_options, read_settings,
 };
 use limits::{MOST_KEYS, MOST_PROGRAM, TICKS};
+use packing::one;
 use pipeline::PackFault;
 use std::alloc::{AllocError, Global};
 use std::test::Fail;

@@ -1,0 +1,4 @@
+pub mod FolderRuns
+pub mod LadderEnds
+pub mod LineRuns
+pub mod SummaryLines

@@ -1,0 +1,5 @@
+pub mod FolderPacking
+pub mod LadderPacking
+pub mod StreamPacking
+pub mod SummaryLines
+pub mod Summaries

@@ -1,0 +1,16 @@
+//! The commands that pack: `one` for the stream that it reads, `pack` for a ladder on many threads, into any outlet or into files of
+//! a folder.
+#![tactic(auto)]
+
+mod destination;
+mod folder_packing;
+mod ladder_packing;
+mod stream_packing;
+mod summaries;
+mod summary_text;
+
+pub use destination::Destination;
+pub use folder_packing::pack_into_folder;
+pub use ladder_packing::{PackedLadder, pack};
+pub use stream_packing::{Packed, one};
+pub use summaries::summary;
