@@ -1,8 +1,22 @@
 //! How faults print: their names, and the numbers that they have.
 ghost use Rattle.std.specs.Prelude.{◌≡◌, Some};
 ghost use Rattle.std.specs.Fmt.{DisplaysOnOk};
-ghost use Rattle.command_line.specs.FaultLines.{checking_text, cipher_text, fault_line, fault_text, input_text, key_list_text,
-    ladder_packing_text, ladder_text, opening_text, packing_text, resuming_text, sealing_text, settings_text, why_not_text};
+ghost use Rattle.command_line.specs.FaultLines.{
+  checking_text,
+  cipher_text,
+  fault_line,
+  fault_text,
+  input_text,
+  key_list_text,
+  ladder_packing_text,
+  ladder_text,
+  opening_text,
+  packing_text,
+  resuming_text,
+  sealing_text,
+  settings_text,
+  why_not_text,
+};
 
 use crate::fault::Fault;
 use channel::ResumingFault;
