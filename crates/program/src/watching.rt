@@ -1,4 +1,6 @@
 //! Watches a run: a thread with a viewer of its board writes its metrics to a file. The run waits for nothing of it.
+ghost use Rattle.std.specs.Prelude.{◌≡◌, IfSome, option_map};
+ghost use Rattle.program.specs.Faulted.{name_of, rendition_of};
 
 use crate::metrics_file::replace;
 use crate::told::{RENDITIONS, Tellings, Told};
@@ -348,7 +350,10 @@ impl Watching {
 }
 
 /// The rendition that ended by a fault, and its name.
-fn faulted(fault: PackFault) -> Option<(usize, &'static str)> {
+fn faulted(fault: PackFault) -> Option<(usize, &'static str)>
+    ensures rendition { option_map (λ named. named.0) result ≡ rendition_of fault }
+    ensures name { IfSome result (λ named. named.1.now ≡ name_of fault) }
+{
     match fault {
         PackFault::Read(r) => Some((r, "Read")),
         PackFault::ReadLimit(r) => Some((r, "ReadLimit")),

@@ -1,0 +1,32 @@
+-- What metrics tell of a fault of the packager.
+use Rattle.std.specs.Prelude.{ℕ, List, codes, Option, None, Some}
+use Rattle.ladder_items.specs.declared.fault.PackFault.{PackFault}
+use Rattle.ladder_items.specs.declared.fault.PackFault.TheVariants.{Settings, Read, ReadLimit, NoProgram, NoStart, LongSegment, BigSegment, Limit, Outlet, NoMemory, Held}
+
+-- the rendition that ended by it, counted from 0, if it is one's
+abbrev pub rendition_of : PackFault → Option ℕ
+rendition_of Settings = None
+rendition_of (Read r) = Some r
+rendition_of (ReadLimit r) = Some r
+rendition_of (NoProgram r) = Some r
+rendition_of (NoStart r) = Some r
+rendition_of (LongSegment r n) = Some r
+rendition_of (BigSegment r n) = Some r
+rendition_of (Limit r) = Some r
+rendition_of Outlet = None
+rendition_of NoMemory = None
+rendition_of (Held r n) = Some r
+
+-- its name
+abbrev pub name_of : PackFault → List ℕ
+name_of Settings = codes "Settings"
+name_of (Read r) = codes "Read"
+name_of (ReadLimit r) = codes "ReadLimit"
+name_of (NoProgram r) = codes "NoProgram"
+name_of (NoStart r) = codes "NoStart"
+name_of (LongSegment r n) = codes "LongSegment"
+name_of (BigSegment r n) = codes "BigSegment"
+name_of (Limit r) = codes "Limit"
+name_of Outlet = codes "Outlet"
+name_of NoMemory = codes "NoMemory"
+name_of (Held r n) = codes "Held"
