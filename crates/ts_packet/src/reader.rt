@@ -1,4 +1,4 @@
-ghost use Rattle.std.specs.Prelude.{◌≡◌, ◌+◌, ◌<◌, ◌≤◌, ◌^◌, ◌++◌, [], length, IfOk, OnOk, OnErr};
+ghost use Rattle.std.specs.Prelude.{◌≡◌, ◌+◌, ◌/◌, ◌<◌, ◌≤◌, ◌^◌, ◌++◌, [], length, vec_len, vec_capacity, IfOk, OnOk, OnErr};
 ghost use Rattle.ts_packet.specs.Packets.{decided, packets, skipped};
 ghost use Rattle.ts_packet.specs.State.{GrowsAlike, IsKept};
 
@@ -61,6 +61,7 @@ impl Reader {
         ensures fed { OnOk result (self.new ≡ self.old ++ piece.now) }
         ensures packets { OnOk result (GrowsAlike (decided self.old) (decided self.new) out.old.items out.new.items) }
         ensures err { OnErr result ((self.new ≡ self.old) × (out.new.items ≡ out.old.items)) }
+        ensures scarce { OnErr result (vec_capacity out.old < vec_len out.old + (UNDECIDED + length piece.now) / PACKET) }
     {
         let left = scan_piece(&self.rest, self.locked, piece, out)?;
         self.rest = left.rest;
@@ -83,6 +84,7 @@ impl Reader {
         ensures fed { OnOk result (self.new ≡ self.old ++ piece.now) }
         ensures packets { IfOk result (λ lent. GrowsAlike (decided self.old ++ lent.now) (decided self.new) out.old.items out.new.items) }
         ensures err { OnErr result ((self.new ≡ self.old) × (out.new.items ≡ out.old.items)) }
+        ensures scarce { OnErr result (vec_capacity out.old < vec_len out.old + (UNDECIDED + length piece.now) / PACKET) }
     {
         let lent = ahead(&self.rest, self.locked, piece);
         let behind = &piece[PACKET * lent.len()..];
@@ -101,6 +103,7 @@ impl Reader {
         ensures skipped { IfOk result (λ gone. gone.bytes ≡ skipped self.old) }
         ensures fresh { OnOk result (self.new ≡ []) }
         ensures err { OnErr result ((self.new ≡ self.old) × (out.new.items ≡ out.old.items)) }
+        ensures scarce { OnErr result (vec_capacity out.old < vec_len out.old + UNDECIDED / PACKET) }
     {
         let bytes = Joined::new(&self.rest, &[]);
         out.reserve(bytes.len() / PACKET)?;

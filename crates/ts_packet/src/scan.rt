@@ -92,6 +92,7 @@ pub(crate) fn scan_piece(
     ensures scans { IfOk result (λ left. Scans false locked (rest.now.items ++ piece.now) out.old.items out.new.items left.locked left.rest.items left.passed) }
     ensures few { IfOk result (λ left. length left.rest.items < needed false left.locked) }
     ensures err { OnErr result (out.new.items ≡ out.old.items) }
+    ensures scarce { OnErr result (vec_capacity out.old < vec_len out.old + (length rest.now.items + length piece.now) / PACKET) }
 {
     let bytes = Joined::new(rest, piece);
     out.reserve(bytes.len() / PACKET)?;
