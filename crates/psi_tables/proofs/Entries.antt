@@ -76,6 +76,16 @@ few_programs (a ∷ b ∷ []) few whole = cc
 few_programs (a ∷ b ∷ c ∷ []) few whole = cc
 few_programs (a ∷ b ∷ c ∷ d ∷ s) few whole = absurd (omega arith)
 
+-- an entry that stands before others is one
+one_more : {A : Type 0} (before : List A) (entry : A) (after : Option (List A)) → behind before (option_map (λ entries. entry ∷ entries) after) ≢ Some []
+one_more before entry None is = cc
+one_more [] entry (Some entries) is = cc
+one_more (x ∷ before) entry (Some entries) is = cc
+
+-- four bytes are an entry of a PAT
+pub some_program : (s : List ℕ) → 4 ≤ length s → programs s ≢ Some []
+some_program s long none = one_more [] (first_program s) (programs (drop 4 s)) (sym (behind-start _) ∙ sym (one_program s long) ∙ none)
+
 -- four bytes tell their entry
 first_of_four : (s : List ℕ) → 4 ≤ length s → first_program (take 4 s) ≡ first_program s
 first_of_four [] long = absurd (omega arith)
@@ -183,6 +193,13 @@ next_stream bytes at n all entries entry so_far within descriptors is =
     so_far ∙ ap (behind entries) (stream_there bytes at n within descriptors)
     ∙ behind-push entries (first_stream s) (streams_from (at + (5 + n)) bytes)
     ∙ ap (λ (e : StreamEntry). behind (entries ++ e ∷ []) (streams_from (at + (5 + n)) bytes)) first
+
+-- where five bytes are left there is an entry of a PMT
+pub some_stream : (bytes : List ℕ) (at : ℕ) (all : Option (List StreamEntry)) (entries : List StreamEntry) → all ≡ behind entries (streams_from at bytes) →
+    at + 5 ≤ length bytes → all ≢ Some []
+some_stream bytes at all entries so_far within none =
+    let n = length_at bytes (at + 3) in
+    one_more entries (first_stream (drop at bytes)) (streams_from (at + (5 + n)) bytes) (sym (ap (behind entries) (stream_there bytes at n within refl)) ∙ sym so_far ∙ none)
 
 -- the same where only the end is looked for
 pub next_end : (bytes : List ℕ) (at n : ℕ) (whole : Bool) → whole ≡ is_some (streams_from at bytes) → at + 5 ≤ length bytes → n ≡ length_at bytes (at + 3) →

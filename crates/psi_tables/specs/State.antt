@@ -1,6 +1,6 @@
 -- What assemblers and watches stand for, and what they keep.
-use Rattle.std.specs.Prelude.{◌≡◌, ℕ, ◌<◌, ◌≤◌, Bool, false, ◌&&◌, nat_lt, if◌then◌else◌, List, [], ◌∷◌, ◌++◌, length, Option, Some, None}
-use Rattle.psi_tables.specs.Sections.{Carrier, carriers, follows, pointed, is_whole, is_open, first_section, begun_in, flow_behind, unfinished, bring_too_long, is_given_up, opening, sections_in, sections}
+use Rattle.std.specs.Prelude.{◌≡◌, ◌⊎◌, ℕ, ◌<◌, ◌≤◌, Bool, false, true, ◌&&◌, nat_lt, if◌then◌else◌, List, [], ◌∷◌, ◌++◌, length, Option, Some, None}
+use Rattle.psi_tables.specs.Sections.{Carrier, carriers, follows, pointed, is_whole, is_open, first_section, begun_in, flow_behind, unfinished, bring_too_long, is_given_up, is_taken, opening, sections_in, sections}
 use Rattle.psi_tables.specs.declared.next.Begun.{Begun}
 use Rattle.std.specs.List.{filter_map}
 use Rattle.psi_tables.specs.InForce.{InForce, choice, since_change, tables_of, tables_behind}
@@ -91,6 +91,10 @@ abbrev pub Follows : Gathered → List ℕ → Option Begun → Type 0
 Follows g p None = IsLeftOut g p
 Follows g p (Some begun) = Keeps (with_packet g p) begun.counter begun.bytes.items
 
+-- the packet may carry parts of this PID's sections: it is no repeat where none came before it
+abbrev pub IsCarried : ℕ → List ℕ → Type 0
+IsCarried on p = is_taken on None p ≡ true
+
 -- the program that was asked for, if one was, and the packets that came
 pub record Watched : Type 0 where
   pub program : Option ℕ
@@ -100,6 +104,10 @@ pub record Watched : Type 0 where
 abbrev pub pid_of : Option Choice → ℕ
 pid_of None = 0
 pid_of (Some c) = c.pmt_pid
+
+-- the packet may carry parts of sections of the PAT, or of the PMT that is chosen before it
+abbrev pub CarriesTables : Watched → List ℕ → Type 0
+CarriesTables w p = IsCarried 0 p ⊎ IsCarried (pid_of (choice w.program w.packets)) p
 
 -- the tables among the sections that were found on the chosen PID
 abbrev pub tables_among : Option Choice → List (List ℕ) → List InForce

@@ -1,4 +1,4 @@
-ghost use Rattle.std.specs.Prelude.{◌≡◌, ◌≢◌, ◌≤◌, [], length, map, IfOk};
+ghost use Rattle.std.specs.Prelude.{◌≡◌, ◌≢◌, ◌≤◌, [], length, map, IfOk, IsOk};
 ghost use Rattle.psi_tables.specs.Sections.{carrier, begun_in, unfinished, pointed, behind_pointer};
 ghost use Rattle.psi_tables.specs.State.{whole_front, open_rest, left_open, completed, left_behind};
 
@@ -95,6 +95,7 @@ fn bring(alloc: Global, begun: &[u8], more: &[u8]) -> Result<Brought, AllocError
     requires { unfinished 0 begun.now ≡ begun.now }
     ensures found { IfOk result (λ brought. map (λ section. section.items) brought.found.items ≡ begun_in 0 begun.now more.now) }
     ensures begun { IfOk result (λ brought. brought.begun.items ≡ left_open begun.now more.now) }
+    ensures none { begun.now ≡ [] → IsOk result }
 {
     if begun.is_empty() {
         return Ok(Brought {

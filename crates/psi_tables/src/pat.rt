@@ -1,4 +1,4 @@
-ghost use Rattle.std.specs.Prelude.{◌≡◌, ◌≢◌, ◌%◌, ◌<◌, ◌^◌, ◌⊎◌, length, Some, None, IfOk, OnOk, IfErr, IsSome, is_some};
+ghost use Rattle.std.specs.Prelude.{◌≡◌, ◌≢◌, ◌%◌, ◌<◌, ◌^◌, ◌⊎◌, [], length, Some, None, IfOk, OnOk, IfErr, OnErr, IsSome, is_some};
 ghost use Rattle.psi_tables.specs.Association.{association, programs, pat_fault, chosen};
 
 use crate::fault::TableFault;
@@ -30,11 +30,12 @@ impl Model for Pat {
 
 impl Pat {
     /// Reads a section as a PAT. Each fault is told where it is the first that stands in the order of `TableFault`;
-    /// want of memory only where none does.
+    /// want of memory only where none does, and the table has an entry.
     pub fn read(alloc: Global, section: &[u8]) -> Result<Pat, TableFault>
         ensures value { IfOk result (λ pat. pat ≡ association section.now) }
         ensures ok { OnOk result (pat_fault section.now ≡ None) }
         ensures err { IfErr result (λ fault. (pat_fault section.now ≡ Some fault) ⊎ ((pat_fault section.now ≡ None) × (fault ≡ TableFault.NoMemory))) }
+        ensures scarce { IfErr result (λ fault. fault ≡ TableFault.NoMemory → (association section.now).entries ≢ []) }
     {
         check_frame(section, 12, 0x00)?;
         let (front, _) = section.split_at(section.len() - 4);
@@ -83,7 +84,8 @@ fn are_programs(bytes: &[u8]) -> bool
 fn read_programs(alloc: Global, bytes: &[u8]) -> Result<Vec<ProgramEntry>, AllocError>
     requires few { length bytes.now < 4096 }
     requires whole { IsSome (programs bytes.now) }
-    ensures { IfOk result (λ entries. programs bytes.now ≡ Some entries.items) }
+    ensures ok { IfOk result (λ entries. programs bytes.now ≡ Some entries.items) }
+    ensures scarce { OnErr result (programs bytes.now ≢ Some []) }
 {
     let (parts, _) = bytes.as_chunks::<4>();
     let mut entries = Vec::new(alloc);

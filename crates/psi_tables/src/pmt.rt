@@ -1,4 +1,4 @@
-ghost use Rattle.std.specs.Prelude.{◌≡◌, ◌==◌, ◌+◌, ◌<◌, ◌^◌, ◌⊎◌, length, Some, None, IfOk, OnOk, IfErr, IsSome};
+ghost use Rattle.std.specs.Prelude.{◌≡◌, ◌≢◌, ◌==◌, ◌+◌, ◌<◌, ◌^◌, ◌⊎◌, [], length, Some, None, IfOk, OnOk, IfErr, IsSome};
 ghost use Rattle.std.specs.List.{list_any};
 ghost use Rattle.psi_tables.specs.ProgramMap.{program_map, streams, pmt_fault, video_pid, carries};
 
@@ -32,11 +32,12 @@ impl Model for Pmt {
 
 impl Pmt {
     /// Reads a section as a PMT. Each fault is told where it is the first that stands in the order of `TableFault`;
-    /// want of memory only where none does.
+    /// want of memory only where none does, and the table has an entry.
     pub fn read(alloc: Global, section: &[u8]) -> Result<Pmt, TableFault>
         ensures value { IfOk result (λ pmt. pmt ≡ program_map section.now) }
         ensures ok { OnOk result (pmt_fault section.now ≡ None) }
         ensures err { IfErr result (λ fault. (pmt_fault section.now ≡ Some fault) ⊎ ((pmt_fault section.now ≡ None) × (fault ≡ TableFault.NoMemory))) }
+        ensures scarce { IfErr result (λ fault. fault ≡ TableFault.NoMemory → (program_map section.now).entries ≢ []) }
     {
         check_frame(section, 16, 0x02)?;
         let (front, _) = section.split_at(section.len() - 4);
@@ -106,6 +107,7 @@ fn read_streams(
     ensures ok { IfOk result (λ entries. streams descriptors bytes.now ≡ Some entries.items) }
     ensures err { IfErr result (λ fault. ((fault ≡ TableFault.BadLengths) × (streams descriptors bytes.now ≡ None))
         ⊎ ((fault ≡ TableFault.NoMemory) × IsSome (streams descriptors bytes.now))) }
+    ensures scarce { IfErr result (λ fault. fault ≡ TableFault.NoMemory → streams descriptors bytes.now ≢ Some []) }
 {
     let mut entries = Vec::new(alloc);
     let mut refused = false;

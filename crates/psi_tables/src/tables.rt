@@ -1,5 +1,5 @@
-ghost use Rattle.std.specs.Prelude.{◌≡◌, ◌<◌, ◌^◌, None, map, IfOk, Decides};
-ghost use Rattle.psi_tables.specs.ProgramMap.{program_map, video_pid};
+ghost use Rattle.std.specs.Prelude.{◌≡◌, ◌≢◌, ◌<◌, ◌^◌, None, map, Any, IfOk, OnErr, Decides};
+ghost use Rattle.psi_tables.specs.ProgramMap.{program_map, pmt_fault, video_pid};
 ghost use Rattle.psi_tables.specs.InForce.{IsGood, HasPid, is_same, tables_of, last_or};
 ghost use Rattle.psi_tables.specs.State.{tables_among};
 
@@ -109,11 +109,13 @@ impl Tables {
     }
 }
 
-/// The tables that a section on the chosen PID puts in force, where it is a good PMT of the chosen program.
+/// The tables that a section on the chosen PID puts in force, where it is a good PMT of the chosen program. Only a good PMT
+/// wants memory.
 #[tactic(auto, unfolding(crate::specs::InForce::tables_of))]
 fn read_tables(alloc: Global, choice: Choice, section: &[u8]) -> Result<Option<Tables>, AllocError>
     requires { choice.pmt_pid < 2 ^ 13 }
-    ensures { IfOk result (λ tables. tables ≡ tables_of choice section.now) }
+    ensures value { IfOk result (λ tables. tables ≡ tables_of choice section.now) }
+    ensures scarce { OnErr result (pmt_fault section.now ≡ None) }
 {
     let pmt = match Pmt::read(alloc, section) {
         Ok(pmt) => pmt,
@@ -132,14 +134,16 @@ fn read_tables(alloc: Global, choice: Choice, section: &[u8]) -> Result<Option<T
     }))
 }
 
-/// The last tables that these sections on the chosen PID put in force, if any do.
+/// The last tables that these sections on the chosen PID put in force, if any do. Only good PMTs want memory, and only where
+/// something is chosen.
 pub(crate) fn last_tables(
     alloc: Global,
     choice: Option<Choice>,
     found: &[Vec<u8>],
 ) -> Result<Option<Tables>, AllocError>
     requires { HasPid choice }
-    ensures { IfOk result (λ tables. tables ≡ last_or None (tables_among choice (map (λ section. section.items) found.now))) }
+    ensures value { IfOk result (λ tables. tables ≡ last_or None (tables_among choice (map (λ section. section.items) found.now))) }
+    ensures scarce { OnErr result ((choice ≢ None) × Any (λ section. pmt_fault section.items ≡ None) found.now) }
 {
     let mut tables = None;
     let Some(choice) = choice else {

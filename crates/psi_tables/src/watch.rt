@@ -1,5 +1,6 @@
 ghost use Rattle.std.specs.Prelude.{◌≡◌, [], ◌∷◌, ◌++◌, OnOk, OnErr, option_copied};
 ghost use Rattle.psi_tables.specs.InForce.{tables_behind};
+ghost use Rattle.psi_tables.specs.State.{CarriesTables};
 
 use crate::assembler::Assembler;
 use crate::choice::{Choice, choose, gathered_pid, is_same_pid};
@@ -48,10 +49,11 @@ impl Watch {
         }
     }
 
-    /// Takes the next packet. A refusal leaves the watch as it was.
+    /// Takes the next packet. Only one that may carry parts of the tables takes memory. A refusal leaves the watch as it was.
     pub fn push(&mut self, packet: &Packet) -> Result<(), AllocError>
         ensures pushed { OnOk result (self.new ≡ record self.old { packets = self.old.packets ++ packet.now ∷ [] }) }
         ensures err { OnErr result (self.new ≡ self.old) }
+        ensures none { OnErr result (CarriesTables self.old packet.now) }
     {
         let is_taken = self.pats.takes(packet) || self.pmts.takes(packet);
         if is_taken {

@@ -20,10 +20,10 @@ invariant_of-self c =
     = record {
       found = map (λ section. section.items) c.in_ok-pats.pats.found.items;
       grown = c.in_ok-pats.ensures.found;
-      chosen_is = c.in_ok-choice.ensures ∙ ap (λ found. last_or chosen (filter_map (choice_of wanted) (map (λ section. section.items) found))) c.deref.ensures.value;
+      chosen_is = c.in_ok-choice.ensures.value ∙ ap (λ found. last_or chosen (filter_map (choice_of wanted) (map (λ section. section.items) found))) c.deref.ensures.value;
       pmts_found = map (λ section. section.items) c.in_ok-pmts.pmts.found.items;
       pmts_grown = c.in_ok-pmts.ensures.found;
-      tables_is = ap (λ found. option_or found tables) (c.in_ok-tables.ensures
+      tables_is = ap (λ found. option_or found tables) (c.in_ok-tables.ensures.value
           ∙ ap (λ found. last_or None (tables_among chosen (map (λ section. section.items) found))) c.deref-2.ensures.value);
     } in
     elim c.if-is_same_pid.branch [
