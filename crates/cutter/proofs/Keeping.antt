@@ -40,7 +40,7 @@ new-keeps c watch clock fed top going reel turned = record {
 abbrev pub tables_in : Inside → Option InForce
 tables_in c = tables_behind c.watch.program c.watch.packets
 
-tables-are : (c : Inside) → Keeps c → tables_in c ≡ in_force c.settings c.fed.items
+pub tables-are : (c : Inside) → Keeps c → tables_in c ≡ in_force c.settings c.fed.items
 tables-are c k = ap (λ (w : Watched). tables_behind w.program w.packets) k.watch
 
 by-kept : {A : Type 0} (c : Inside) (read : ℕ → List ℕ → Option InForce → A) → Keeps c

@@ -1,8 +1,10 @@
 -- Where there is nothing to do.
-use Rattle.std.proofs.Common.{◌≡◌, ◌∙◌, ℕ, ◌*◌, Bool, true, false, nat_lt, nat_le, List, [], ◌∷◌, ◌++◌, take, drop, length, Option, Some, None, if◌then◌else◌, inl, inr, refl, sym, ap, subst, arith}
+use Rattle.std.proofs.Common.{◌≡◌, ◌≢◌, ◌∙◌, ℕ, ◌*◌, ◌&&◌, Bool, true, false, is_some, nat_lt, nat_le, List, [], ◌∷◌, ◌++◌, take, drop, length, Option, Some, None, if◌then◌else◌, inl, inr, refl, sym, ap, subst, arith}
 use Rattle.std.proofs.lemmas.List.{append-nil, length-take}
-use Rattle.std.proofs.lemmas.Bool.{false≢true}
+use Rattle.std.proofs.lemmas.Bool.{cases_Bool, false≢true}
+use Rattle.ts_packet.specs.Fields.{random_access_indicator}
 use Rattle.psi_tables.specs.InForce.{InForce}
+use Rattle.psi_tables.specs.State.{Watched, CarriesTables}
 use Rattle.pes_time.specs.declared.clock.Stamp.{Stamp}
 use Rattle.cutter.specs.declared.look.Look.{Look}
 use Rattle.cutter.specs.declared.fault.CutFault.{CutFault}
@@ -10,43 +12,63 @@ use Rattle.cutter.specs.declared.fault.CutFault.TheVariants.{NoMemory}
 use Rattle.cutter.specs.declared.settings.CutSettings.{CutSettings}
 use Rattle.cutter.specs.declared.spool_cutter.SpoolCutter.TheInside.{Inside}
 use Rattle.cutter.specs.Plans.{SegmentPlan}
-use Rattle.cutter.specs.Stream.{is_packet, is_lost, pts_at, facts, Fact}
+use Rattle.cutter.specs.Stream.{is_packet, packets_of, in_force, is_accepted, starts_video, is_lost, pts_at, facts, Fact}
 use Rattle.cutter.specs.Points.{Mark, mark, counted, top_after}
 use Rattle.cutter.specs.Segments.{Point, Segment, bytes_of, AddsNothing, is_cut, is_long, is_big, plan_of}
 use Rattle.cutter.specs.Framing.{Framing}
 use Rattle.cutter.specs.Reels.{Filled}
-use Rattle.cutter.specs.Cuts.{Cuts, uncut, going_on, with_mark, first_segment, next_segment, closing, carried_on, pointed, placed, step, cut_from, cuts}
+use Rattle.cutter.specs.Cuts.{Cuts, uncut, going_on, with_mark, first_segment, next_segment, carried_on, pointed, placed, step, cut_from, cuts}
 use Rattle.cutter.specs.Spooled.{Spooling}
-use Rattle.cutter.specs.SegmentState.{Gathered, Opened, Out, IsIdle, LeavesAll, LeavesBody, Refuses, faults, gives, gathered, held_in, carried, sized, taken}
+use Rattle.cutter.specs.SegmentState.{Gathered, Opened, Out, IsIdle, LeavesAll, LeavesBody, Refuses, faults, gives, gathered, held_in, carried, taken}
 use Rattle.cutter.specs.State.{spooled, Keeps, held}
 use Rattle.ts_packet.specs.declared.lengths.TheConstants.{PACKET}
 use Rattle.limits.specs.declared.TheConstants.{LAST_SEGMENT}
-use Rattle.cutter.proofs.Facts.{nothing, dropped}
-use Rattle.cutter.proofs.Keeping.{Read, tables_in}
+use Rattle.cutter.proofs.Facts.{dropped}
+use Rattle.cutter.proofs.Keeping.{Read, tables_in, tables-are}
 
 -- a packet that isn't accepted has no bytes for a body
 pub no-bytes : (m : Mark) → AddsNothing m → length (bytes_of m) ≡ 0
 no-bytes m none = rw none.bytes refl
 
--- what is read of bytes that are no packet
-pub record IsUnseen (look : Look) (counted : Option Stamp) : Type 0 where
-  pub seen : look ≡ nothing
-  pub point : counted ≡ None
+-- what is read of a packet that isn't accepted
+pub record IsUnseen (m : Mark) : Type 0 where
+  pub adds : AddsNothing m
+  pub point : m.counted ≡ None
+
+never-starts : (t : Option InForce) (p : List ℕ) → is_accepted t p ≡ false → starts_video t p ≡ false
+never-starts None p is = refl
+never-starts (Some t) p is = rw is refl
+
+no-entry : (top : Option Stamp) (look : Look) → look.is_entry ≡ false → counted top look ≡ None
+no-entry top look is = rw is refl
+
+pub read-unseen : (c : Inside) (p : List ℕ) (look : Look) (now : Option Gathered) (t : Option InForce) (c' : Option Stamp) → Read c p look now t c'
+    → is_accepted (tables_in c) p ≡ false → IsUnseen (mark p look c')
+read-unseen c p look now t c' r is =
+    let start = never-starts (tables_in c) p is in
+    let entry : look.is_entry ≡ false = ap (λ (l : Look). l.is_entry) r.look_is ∙ ap (λ starts. starts && random_access_indicator p) start in
+    record {
+      adds = record { bytes = ap (λ (l : Look). l.is_accepted) r.look_is ∙ is; start = ap (λ (l : Look). l.starts_video) r.look_is ∙ start };
+      point = r.counted_is ∙ no-entry c.top look entry;
+    }
+
+-- bytes that are no packet aren't accepted
+never-accepted : (t : Option InForce) (p : List ℕ) → is_packet p ≡ false → is_accepted t p ≡ false
+never-accepted None p is = refl
+never-accepted (Some t) p is = rw is refl
 
 pub read-dropped : (c : Inside) (p : List ℕ) (look : Look) (now : Option Gathered) (t : Option InForce) (c' : Option Stamp) → Read c p look now t c'
-    → is_packet p ≡ false → IsUnseen look c'
-read-dropped c p look now t c' r is =
-    let seen : look ≡ nothing = r.look_is ∙ (dropped c.clock.gap c.clock.list (tables_in c) p is).look in
-    record { seen = seen; point = r.counted_is ∙ ap (counted c.top) seen }
+    → is_packet p ≡ false → IsUnseen (mark p look c')
+read-dropped c p look now t c' r is = read-unseen c p look now t c' r (never-accepted (tables_in c) p is)
 
-leaves-body : (going : Option Opened) (m : Mark) → m.look ≡ nothing → LeavesBody going m
-leaves-body None m is = tt
-leaves-body (Some g) m is = record { bytes = ap (λ (l : Look). l.is_accepted) is; start = ap (λ (l : Look). l.starts_video) is }
+leaves-body : (going : Option Opened) (m : Mark) → AddsNothing m → LeavesBody going m
+leaves-body None m none = tt
+leaves-body (Some g) m none = none
 
-pub leaves-all : (going : Option Opened) (t : Option InForce) (c : Option Stamp) (m : Mark) → c ≡ None → m.look ≡ nothing → LeavesAll going t c m
-leaves-all going None c m none is = leaves-body going m is
-leaves-all going (Some t) None m none is = leaves-body going m is
-leaves-all going (Some t) (Some c) m none is = cc
+pub leaves-all : (going : Option Opened) (t : Option InForce) (c : Option Stamp) (m : Mark) → c ≡ None → AddsNothing m → LeavesAll going t c m
+leaves-all going None c m point none = leaves-body going m none
+leaves-all going (Some t) None m point none = leaves-body going m none
+leaves-all going (Some t) (Some c) m point none = cc
 
 -- a packet that is no counted point closes no plan
 sized-none : (test : Bool) (e : CutFault) (g : Gathered) → (if test then faults e else gives (Some g) None).plan ≡ None
@@ -61,6 +83,40 @@ pub closes-none : (r : ℕ) (s : CutSettings) (g : Option Gathered) (t : Option 
 closes-none r s g None c m none = carried-none s g m
 closes-none r s g (Some t) None m none = carried-none s g m
 closes-none r s g (Some t) (Some c) m none = cc
+
+-- whether a packet is accepted, as the code reads it
+accepted-is : (c : Inside) (v : Spooling) (p : List ℕ) → spooled c ≡ v → Keeps c → is_accepted (tables_in c) p ≡ is_accepted (in_force v.settings v.list) p
+accepted-is c v p is k = ap (λ (t : Option InForce). is_accepted t p) (tables-are c k ∙ ap (λ (x : Spooling). in_force x.settings x.list) is)
+
+-- a packet that closes a plan is accepted
+pub closes-accepted : (c : Inside) (v : Spooling) (p : List ℕ) (look : Look) (now : Option Gathered) (t : Option InForce) (c' : Option Stamp) (closed : Bool)
+    → spooled c ≡ v → Keeps c → Read c p look now t c' → closed ≡ is_some (taken c.rendition c.settings now t c' (mark p look c')).plan → closed ≡ true
+    → is_accepted (in_force v.settings v.list) p ≡ true
+closes-accepted c v p look now t c' closed is k r told one = elim (cases_Bool (is_accepted (tables_in c) p)) [
+  | inl accepted ↦ sym (accepted-is c v p is k) ∙ accepted
+  | inr not_accepted ↦
+      let none = closes-none c.rendition c.settings now t c' (mark p look c') (read-unseen c p look now t c' r not_accepted).point in
+      absurd (false≢true (sym (told ∙ ap is_some none) ∙ one))
+]
+
+-- and so is one that wants memory where it is placed
+pub placed-accepted : (c : Inside) (v : Spooling) (p : List ℕ) (look : Look) (now : Option Gathered) (t : Option InForce) (c' : Option Stamp) (e : CutFault)
+    → spooled c ≡ v → Keeps c → Read c p look now t c' → (LeavesAll c.going t c' (mark p look c') → e ≢ NoMemory) → e ≡ NoMemory
+    → is_accepted (in_force v.settings v.list) p ≡ true
+placed-accepted c v p look now t c' e is k r spared memory = elim (cases_Bool (is_accepted (tables_in c) p)) [
+  | inl accepted ↦ sym (accepted-is c v p is k) ∙ accepted
+  | inr not_accepted ↦
+      let unseen = read-unseen c p look now t c' r not_accepted in
+      absurd (spared (leaves-all c.going t c' (mark p look c') unseen.point unseen.adds) memory)
+]
+
+-- the tables of which a packet may carry parts
+pub carried-tables : (c : Inside) (v : Spooling) (p q : List ℕ) → spooled c ≡ v → Keeps c → q ≡ p → CarriesTables c.watch q
+    → CarriesTables (record { program = v.settings.program; packets = packets_of v.list }) p
+carried-tables c v p q is k same parts =
+    let watch : c.watch ≡ record { program = v.settings.program; packets = packets_of v.list }
+    = k.watch ∙ ap (λ (x : Spooling). record { program = x.settings.program; packets = packets_of x.list }) is in
+    subst (λ (w : Watched). CarriesTables w p) watch (subst (λ (x : List ℕ). CarriesTables c.watch x) same parts)
 
 -- the segment that goes on hasn't too many packets
 abbrev Fits : CutSettings → Option Segment → Type 0
@@ -143,7 +199,7 @@ pub dropped-sound : (c : Inside) (p : List ℕ) (look : Look) (now : Option Gath
 dropped-sound c p look now t c' e k r is refused =
     let unseen = read-dropped c p look now t c' r is in
     let small : IsSmall c.settings now = subst (IsSmall c.settings) (sym r.going) (keeps-small c k) in
-    let none : bytes_of (mark p look c') ≡ [] = rw unseen.seen refl in
+    let none : bytes_of (mark p look c') ≡ [] = rw unseen.adds.bytes refl in
     only-memory _ e refused (taken-sound c.rendition c.settings now t c' (mark p look c') unseen.point small none)
 
 pub never-lost : (gap : ℕ) (list : List ℕ) (t : Option InForce) (p q : List ℕ) → q ≡ p → is_packet p ≡ false → is_lost gap list (pts_at t q) ≡ true → ⊥

@@ -4,7 +4,7 @@ ghost use Rattle.cutter.specs.Cuts.{cuts, closed, fault, plans, made, Ends};
 ghost use Rattle.cutter.specs.Ordered.{IsPlan};
 ghost use Rattle.cutter.specs.Settings.{IsAllowed};
 ghost use Rattle.cutter.specs.Spooled.{IsOne};
-ghost use Rattle.cutter.specs.Stream.{is_packet};
+ghost use Rattle.cutter.specs.Stream.{is_packet, MayWantMemory};
 
 use crate::fault::CutFault;
 use crate::plan::Plan;
@@ -81,6 +81,9 @@ impl Cutter {
             (cuts self.old.rendition self.old.settings (self.old.list ++ packet.now ∷ [])).fault ≡ None) }
         ensures err { OnErr result (self.new ≡ record self.old { ended = true }) }
         ensures dropped { is_packet packet.now ≡ false → self.old.ended ≡ false → result ≡ Ok None }
+
+        // Only a packet that a body takes, or that may carry parts of the tables, wants memory.
+        ensures memory { IfErr result (λ e. e ≡ NoMemory → MayWantMemory self.old.settings self.old.list packet.now) }
     {
         if self.ended {
             return Err(CutFault::Ended);

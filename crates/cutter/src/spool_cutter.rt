@@ -3,7 +3,8 @@ ghost use Rattle.std.specs.Prelude.{IfOk, IfErr, IsOk, OnOk, OnErr};
 ghost use Rattle.cutter.specs.declared.fault.CutFault.TheVariants.{NoMemory, Ended};
 ghost use Rattle.cutter.specs.Plans.{SegmentPlan};
 ghost use Rattle.cutter.specs.Cuts.{cuts, closed, fault, plans, made, Ends};
-ghost use Rattle.cutter.specs.Stream.{is_packet, packet_list};
+ghost use Rattle.cutter.specs.Stream.{in_force, is_accepted, is_packet, packet_list, MayWantMemory};
+ghost use Rattle.psi_tables.specs.State.{CarriesTables};
 ghost use Rattle.cutter.specs.Settings.{IsAllowed};
 ghost use Rattle.cutter.specs.Spooled.{Closes, all_plans};
 
@@ -106,6 +107,10 @@ impl SpoolCutter {
 
         // Bytes that are no packet take no part: they bring no fault, close no plan, and want no memory.
         ensures dropped { is_packet packet.now ≡ false → self.old.ended ≡ false → result ≡ Ok false }
+
+        // Only a packet that a body takes closes a plan. Only such a one, or one that may carry parts of the tables, wants memory.
+        ensures accepted { IfOk result (λ closed. closed ≡ true → is_accepted (in_force self.old.settings self.old.list) packet.now ≡ true) }
+        ensures memory { IfErr result (λ e. e ≡ NoMemory → MayWantMemory self.old.settings self.old.list packet.now) }
     {
         if self.ended {
             return Err(CutFault::Ended);
@@ -205,6 +210,7 @@ fn watch_or_reopen(
     ensures err { OnErr result ((plans : List SegmentPlan) (plan : Option SegmentPlan) →
         reel.old.plans ≡ plans ++ made plan → closed ≡ is_some plan → reel.new.plans ≡ plans) }
     ensures none { is_packet arrival.now ≡ false → IsOk result }
+    ensures tables { OnErr result (CarriesTables watch.old arrival.now) }
 {
     let Err(error) = watch_packet(watch, arrival) else {
         return Ok(());

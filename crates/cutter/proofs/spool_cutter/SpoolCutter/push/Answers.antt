@@ -1,4 +1,4 @@
-use Rattle.std.proofs.Common.{◌∙◌, ◌++◌, Ok, refl, subst, sym, ap, All, rules}
+use Rattle.std.proofs.Common.{◌∙◌, ◌++◌, Ok, inl, inr, refl, subst, sym, ap, All, rules}
 use Rattle.std.specs.Prelude.{option_copied, is_some}
 use Rattle.std.proofs.lemmas.Bool.{false≢true}
 use Rattle.std.proofs.lemmas.List.Elements.{All-push}
@@ -10,7 +10,7 @@ use Rattle.cutter.specs.Reels.{Filled}
 use Rattle.cutter.specs.Spooled.{Spooling, joined}
 use Rattle.cutter.specs.SegmentState.{held_in, taken, Places}
 use Rattle.cutter.proofs.Keeping.{few, push-lost, push-fault, push-scarce, push-closes, push-all, push-sound, push-keeps, read-of}
-use Rattle.cutter.proofs.Sparing.{read-dropped, leaves-all, closes-none, dropped-sound, never-lost}
+use Rattle.cutter.proofs.Sparing.{read-dropped, leaves-all, closes-none, closes-accepted, placed-accepted, carried-tables, dropped-sound, never-lost}
 use Rattle.cutter.proofs.spool_cutter.SpoolCutter.push.Goals as goal
 
 pub look_behind-requires : goal.look_behind-requires
@@ -89,7 +89,7 @@ returns-in_err-closed-clause-dropped c = λ is going.
     let read = read-of c.self.inside c.args.packet.now c.new-arrival.result c.in_ok-look.look (held_in c.self.inside.going c.self.inside.reel) (option_copied c.tables.result) c.counted-counted.result
     c.new-arrival.ensures c.in_ok-look.ensures.look c.in_ok-look.ensures.kept refl c.tables.ensures c.counted-counted.ensures.is in
     let unseen = read-dropped _ _ _ _ _ _ read is in
-    let none = c.in_err-closed.ensures.none (leaves-all _ _ _ _ unseen.point unseen.seen) in
+    let none = c.in_err-closed.ensures.none (leaves-all _ _ _ _ unseen.point unseen.adds) in
     absurd (none (dropped-sound c.self.inside c.args.packet.now c.in_ok-look.look _ _ c.counted-counted.result c.in_err-closed.field-0.0 (c.self.invariant.keeps c.if-self.false) read is c.in_err-closed.ensures.err))
 
 pub returns-in_err-watch_or_reopen-clause-dropped : goal.returns-in_err-watch_or_reopen-clause-dropped
@@ -103,3 +103,30 @@ returns-clause-dropped c = λ is going.
     let unseen = read-dropped _ _ _ _ _ _ read is in
     let none = closes-none c.self.inside.rendition c.self.inside.settings (held_in c.self.inside.going c.self.inside.reel) (option_copied c.tables.result) c.counted-counted.result (mark c.args.packet.now c.in_ok-look.look c.counted-counted.result) unseen.point in
     ap (λ closed. Ok closed) (c.in_ok-closed.ensures.ok.told ∙ ap is_some none)
+
+pub returns-in_err-look-clause-memory : goal.returns-in_err-look-clause-memory
+returns-in_err-look-clause-memory c =
+    let told = err_from_is_err_and c.from_residual.result c.from_residual.ensures.1 in
+    let limit = c.in_err-look.ensures.lost.0 in
+    rw (told.1, told.2) (λ memory. absurd (cc))
+
+pub returns-in_err-closed-clause-memory : goal.returns-in_err-closed-clause-memory
+returns-in_err-closed-clause-memory c =
+    let told = err_from_is_err_and c.from_residual-in_err-closed.result c.from_residual-in_err-closed.ensures.1 in
+    let read = read-of c.self.inside c.args.packet.now c.new-arrival.result c.in_ok-look.look (held_in c.self.inside.going c.self.inside.reel) (option_copied c.tables.result) c.counted-counted.result
+    c.new-arrival.ensures c.in_ok-look.ensures.look c.in_ok-look.ensures.kept refl c.tables.ensures c.counted-counted.ensures.is in
+    rw (told.1, told.2) (λ memory. inl (placed-accepted c.self.inside c.args.self.now c.args.packet.now c.in_ok-look.look _ _ c.counted-counted.result c.in_err-closed.field-0.0 c.self.view_is
+    (c.self.invariant.keeps c.if-self.false) read c.in_err-closed.ensures.none memory))
+
+pub returns-in_err-watch_or_reopen-clause-memory : goal.returns-in_err-watch_or_reopen-clause-memory
+returns-in_err-watch_or_reopen-clause-memory c =
+    let told = err_from_is_err_and c.from_residual-in_err-watch_or_reopen.result c.from_residual-in_err-watch_or_reopen.ensures.1 in
+    rw (told.1, told.2) (λ memory. inr (carried-tables c.self.inside c.args.self.now c.args.packet.now c.new-arrival.result c.self.view_is (c.self.invariant.keeps c.if-self.false) c.new-arrival.ensures
+    c.in_err-watch_or_reopen.ensures.tables))
+
+pub returns-clause-accepted : goal.returns-clause-accepted
+returns-clause-accepted c =
+    let read = read-of c.self.inside c.args.packet.now c.new-arrival.result c.in_ok-look.look (held_in c.self.inside.going c.self.inside.reel) (option_copied c.tables.result) c.counted-counted.result
+    c.new-arrival.ensures c.in_ok-look.ensures.look c.in_ok-look.ensures.kept refl c.tables.ensures c.counted-counted.ensures.is in
+    closes-accepted c.self.inside c.args.self.now c.args.packet.now c.in_ok-look.look _ _ c.counted-counted.result c.in_ok-closed.closed c.self.view_is
+    (c.self.invariant.keeps c.if-self.false) read c.in_ok-closed.ensures.ok.told
