@@ -1,6 +1,6 @@
 -- A stream that ends here.
-use Rattle.std.proofs.Common.{◌≡◌, ◌∙◌, ◌⊎◌, inl, inr, ℕ, Bool, true, false, List, [], ◌∷◌, ◌++◌, Option, Some, None, is_none, if◌then◌else◌, refl, ap, sym, subst, All}
-use Rattle.std.proofs.lemmas.List.{append-nil, append_assoc}
+use Rattle.std.proofs.Common.{◌≡◌, ◌∙◌, ◌⊎◌, inl, inr, ℕ, Bool, true, false, List, [], ◌∷◌, ◌++◌, length, Option, Some, None, is_none, if◌then◌else◌, refl, ap, sym, subst, arith, All}
+use Rattle.std.proofs.lemmas.List.{append-nil, append_assoc, length-append}
 use Rattle.psi_tables.specs.InForce.{InForce, tables_behind}
 use Rattle.psi_tables.specs.State.{Watched}
 use Rattle.cutter.specs.declared.settings.CutSettings.{CutSettings}
@@ -11,7 +11,7 @@ use Rattle.cutter.specs.Spooled.{Spooling, joined, Closes}
 use Rattle.cutter.specs.Plans.{SegmentPlan}
 use Rattle.cutter.specs.Stream.{in_force}
 use Rattle.cutter.specs.Segments.{Segment, is_long, plan_of}
-use Rattle.cutter.specs.Cuts.{cuts, closed, fault, plans, made, end_fault, last_plan, Ends}
+use Rattle.cutter.specs.Cuts.{cuts, closed, fault, plans, made, first_fault, end_fault, last_plan, Ends}
 use Rattle.cutter.specs.SegmentState.{Gathered, Out, gathered, Refuses, gives, faults, finished, held_in, Places}
 use Rattle.cutter.specs.Reels.{Filled}
 use Rattle.cutter.specs.Ordered.{IsPacketLong}
@@ -124,3 +124,31 @@ pub finish-all : (c : Inside) (v : Spooling) (now : Option Gathered) (t : Option
 finish-all c v now t after is k going tables placed =
     let plan = (finished c.rendition c.settings t now).plan in
     all-more c v after.plans plan _ is k placed.plans (finish-plan c v now t plan is k going tables placed.going)
+
+-- where the end brings no fault it closes one plan
+no-first : (a b : Option CutFault) → first_fault a b ≡ None → b ≡ None
+no-first None b none = none
+no-first (Some e) b none = cc
+
+one-last : (r : ℕ) (s : CutSettings) (t : Option InForce) (going : Option Segment) → end_fault r s t going ≡ None → length (last_plan r s going) ≡ 1
+one-last r s t (Some g) none = refl
+one-last r s None None none = cc
+one-last r s (Some t) None none = cc
+
+last-is : (r : ℕ) (s : CutSettings) (ps : List (List ℕ)) → fault r s ps ≡ None → plans r s ps ≡ closed r s ps ++ last_plan r s (cuts r s ps).going
+unfolding plans
+last-is r s ps sound = ap (λ (f : Option CutFault). closed r s ps ++ (if is_none f then last_plan r s (cuts r s ps).going else [])) sound
+
+sound-end : (r : ℕ) (s : CutSettings) (ps : List (List ℕ)) → fault r s ps ≡ None → end_fault r s (in_force s ps) (cuts r s ps).going ≡ None
+unfolding fault
+sound-end r s ps sound = no-first (cuts r s ps).fault _ sound
+
+-- so before it not all plans are there
+pub one-short : (c : Inside) (after : List SegmentPlan) → Keeps c → after ≡ c.reel.plans → fault c.rendition c.settings c.fed.items ≡ None
+    → joined c.turned.items ++ after ≡ plans c.rendition c.settings c.fed.items → ⊥
+one-short c after k same sound all =
+    let r = c.rendition in
+    let s = c.settings in
+    let ps = c.fed.items in
+    let grown : closed r s ps ≡ closed r s ps ++ last_plan r s (cuts r s ps).going = sym k.plans ∙ ap (λ list. joined c.turned.items ++ list) (sym same) ∙ all ∙ last-is r s ps sound in
+    omega (arith, ap length grown, length-append (closed r s ps) (last_plan r s (cuts r s ps).going), one-last r s (in_force s ps) (cuts r s ps).going (sound-end r s ps sound))

@@ -182,8 +182,10 @@ impl SpoolCutter {
         ensures spare { IfErr result (λ spare. spare ≡ []) }
         ensures err { OnErr result (self.new ≡ self.old) }
 
-        // Where no segment goes on there is nothing to copy.
+        // Where no segment goes on there is nothing to copy. None does behind the last plan of a stream without a fault.
         ensures none { self.old.ended ≡ false → (cuts self.old.rendition self.old.settings self.old.list).going ≡ None → IsOk result }
+        ensures last { self.old.ended ≡ true → fault self.old.rendition self.old.settings self.old.list ≡ None
+            → all_plans self.old ≡ plans self.old.rendition self.old.settings self.old.list → IsOk result }
     {
         let Spool { mut reel } = spool;
         if reel.copy_open(&self.reel).is_err() {

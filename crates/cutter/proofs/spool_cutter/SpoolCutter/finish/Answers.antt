@@ -1,8 +1,9 @@
 use Rattle.std.proofs.Common.{◌∙◌, ◌++◌, ap}
+use Rattle.std.proofs.lemmas.Bool.{true≢false}
 use Rattle.std.proofs.lemmas.Result.{err_from_is_err_and}
 use Rattle.cutter.specs.SegmentState.{held_in}
 use Rattle.cutter.specs.Spooled.{Spooling, joined}
-use Rattle.cutter.proofs.Ending.{finish-sound, finish-fault, finish-scarce, finish-closes, finish-all}
+use Rattle.cutter.proofs.Ending.{finish-sound, finish-fault, finish-scarce, finish-closes, finish-all, one-short}
 use Rattle.cutter.proofs.spool_cutter.SpoolCutter.finish.Goals as goal
 
 pub returns-in_err-finish-clause-fault : goal.returns-in_err-finish-clause-fault
@@ -30,3 +31,11 @@ returns-clause-all c =
 pub returns-clause-sound : goal.returns-clause-sound
 returns-clause-sound c = finish-sound c.self.inside c.args.self.now _ _ _ c.self.view_is (c.self.invariant.keeps c.if-self.false)
     (ap (λ g. held_in g c.self.inside.reel) c.take-going.ensures.value) c.tables.ensures c.in_ok-finish.ensures.ok.going
+
+pub invariant_of-self : goal.invariant_of-self
+invariant_of-self c = record {
+  settings = c.self.invariant.settings;
+  packets = c.self.invariant.packets;
+  keeps = λ going. absurd (true≢false going);
+  idle = λ _ sound all. absurd (one-short c.self.inside c.finish.new.reel.plans (c.self.invariant.keeps c.if-self.false) c.in_err-finish.ensures.kept sound all);
+}

@@ -1,6 +1,6 @@
 use Rattle.std.proofs.Common.{◌∙◌, ◌++◌, Ok, inl, inr, refl, subst, sym, ap, All, rules}
 use Rattle.std.specs.Prelude.{option_copied, is_some}
-use Rattle.std.proofs.lemmas.Bool.{false≢true}
+use Rattle.std.proofs.lemmas.Bool.{false≢true, true≢false}
 use Rattle.std.proofs.lemmas.List.Elements.{All-push}
 use Rattle.std.proofs.lemmas.Result.{err_from_is_err_and}
 use Rattle.cutter.specs.Ordered.{IsPacketLong}
@@ -9,6 +9,7 @@ use Rattle.cutter.specs.Stream.{is_packet}
 use Rattle.cutter.specs.Reels.{Filled}
 use Rattle.cutter.specs.Spooled.{Spooling, joined}
 use Rattle.cutter.specs.SegmentState.{held_in, taken, Places}
+use Rattle.cutter.proofs.Ending.{one-short}
 use Rattle.cutter.proofs.Keeping.{few, push-lost, push-fault, push-scarce, push-closes, push-all, push-sound, push-keeps, read-of}
 use Rattle.cutter.proofs.Sparing.{read-dropped, leaves-all, closes-none, closes-accepted, placed-accepted, carried-tables, dropped-sound, never-lost}
 use Rattle.cutter.proofs.spool_cutter.SpoolCutter.push.Goals as goal
@@ -56,6 +57,7 @@ invariant_of-self-2 c =
       packets = subst (All IsPacketLong) (sym c.push.ensures) (All-push IsPacketLong c.self.inside.fed.items c.args.packet.now c.self.invariant.packets (search rules));
       keeps = λ _. push-keeps c.self.inside _ c.args.packet.now c.new-arrival.result c.in_ok-look.look _ _ c.counted-counted.result c.in_ok-closed.closed
           (c.self.invariant.keeps c.if-self.false) read placed c.new-arrival.ensures refl refl c.in_ok-watch_or_reopen.ensures.ok c.in_ok-look.ensures.pushed c.or-self-inside.ensures c.push.ensures refl;
+      idle = λ ended. absurd (false≢true ended);
     }
 
 pub returns-clause-closes : goal.returns-clause-closes
@@ -130,3 +132,27 @@ returns-clause-accepted c =
     c.new-arrival.ensures c.in_ok-look.ensures.look c.in_ok-look.ensures.kept refl c.tables.ensures c.counted-counted.ensures.is in
     closes-accepted c.self.inside c.args.self.now c.args.packet.now c.in_ok-look.look _ _ c.counted-counted.result c.in_ok-closed.closed c.self.view_is
     (c.self.invariant.keeps c.if-self.false) read c.in_ok-closed.ensures.ok.told
+
+pub invariant_of-self : goal.invariant_of-self
+invariant_of-self c = record {
+  settings = c.self.invariant.settings;
+  packets = c.self.invariant.packets;
+  keeps = λ going. absurd (true≢false going);
+  idle = λ _ sound all. absurd (one-short c.self.inside c.self.inside.reel.plans (c.self.invariant.keeps c.if-self.false) refl sound all);
+}
+
+pub invariant_of-self-in_err-closed : goal.invariant_of-self-in_err-closed
+invariant_of-self-in_err-closed c = record {
+  settings = c.self.invariant.settings;
+  packets = c.self.invariant.packets;
+  keeps = λ going. absurd (true≢false going);
+  idle = λ _ sound all. absurd (one-short c.self.inside c.place.new.reel.plans (c.self.invariant.keeps c.if-self.false) c.in_err-closed.ensures.kept sound all);
+}
+
+pub invariant_of-self-in_err-watch_or_reopen : goal.invariant_of-self-in_err-watch_or_reopen
+invariant_of-self-in_err-watch_or_reopen c = record {
+  settings = c.self.invariant.settings;
+  packets = c.self.invariant.packets;
+  keeps = λ going. absurd (true≢false going);
+  idle = λ _ sound all. absurd (one-short c.self.inside c.watch_or_reopen.new.reel.plans (c.self.invariant.keeps c.if-self.false) (c.in_err-watch_or_reopen.ensures.err c.self.inside.reel.plans _ c.in_ok-closed.ensures.ok.plans c.in_ok-closed.ensures.ok.told) sound all);
+}
