@@ -1,4 +1,4 @@
-ghost use Rattle.std.specs.Prelude.{◌≡◌, [], ◌∷◌, ◌++◌, map, Some, None, IfOk, OnOk, MatchOption, IsOkUnless};
+ghost use Rattle.std.specs.Prelude.{◌≡◌, [], ◌∷◌, ◌++◌, map, Some, None, IfOk, IsOk, OnOk, MatchOption, IsOkUnless};
 ghost use Rattle.std.specs.List.{flat_map};
 ghost use Rattle.std.specs.String.{string_bytes};
 ghost use Rattle.playlist_text.specs.Lines.{text_of};
@@ -15,11 +15,12 @@ use playlist_text::{
 use std::alloc::{AllocError, Global};
 
 /// The text of the master playlist: the lines of all variants, then those of all their I-frame playlists (RFC 8216,
-/// 4.3.4). No variants have the empty text.
+/// 4.3.4). No variants have the empty text, which takes no memory.
 pub fn master_text(alloc: Global, variants: &[Variant<'_>]) -> Result<String, MasterFault>
     ensures told { MatchOption (fault_of variants.now) (IsOkUnless result MasterFault.NoMemory)
         (λ fault. result ≡ Err fault) }
     ensures text { IfOk result (λ text. string_bytes text ≡ MasterLines.master_text variants.now) }
+    ensures none { variants.now ≡ [] → IsOk result }
 {
     if let Some(fault) = crate::fault::fault_of(variants) {
         return Err(fault);
@@ -29,7 +30,8 @@ pub fn master_text(alloc: Global, variants: &[Variant<'_>]) -> Result<String, Ma
 }
 
 fn text_of_lines(alloc: Global, variants: &[Variant<'_>]) -> Result<String, AllocError>
-    ensures { IfOk result (λ text. string_bytes text ≡ MasterLines.master_text variants.now) }
+    ensures text { IfOk result (λ text. string_bytes text ≡ MasterLines.master_text variants.now) }
+    ensures none { variants.now ≡ [] → IsOk result }
 {
     let mut text = String::new(alloc);
     if variants.is_empty() {
