@@ -1,8 +1,9 @@
 //! The head of a segment, taken off (RFC 8216, 3.2).
 
-ghost use Rattle.std.specs.Prelude.{◌≡◌, ◌*◌, ◌+◌, ◌<◌, ◌≤◌, ◌^◌, ℕ, List, ◌++◌, length, slice_index, IfOk, OnErr, IsSomeAnd, MatchOption, Decides, None};
+ghost use Rattle.std.specs.Prelude.{◌≡◌, ◌*◌, ◌+◌, ◌/◌, ◌<◌, ◌≤◌, ◌^◌, ℕ, List, ◌++◌, length, slice_index, IfOk, OnErr, IsSomeAnd, MatchOption, Decides, None};
 ghost use Rattle.psi_tables.specs.ProgramMap.{pmt_fault};
 ghost use Rattle.psi_tables.specs.Head.{head, section_packets, IsSendable};
+ghost use Rattle.psi_tables.specs.Section.{length_at};
 ghost use Rattle.hls_check.specs.Unpacking.{BeginsWithHead};
 ghost use Rattle.hls_check.specs.Heads;
 ghost use Rattle.hls_check.specs.Heads.{IsSized, IsTheHead, told_tables};
@@ -14,11 +15,12 @@ use std::alloc::{AllocError, Global};
 use ts_packet::PACKET;
 
 /// What stands behind the head that a text begins with, if it begins with one: the packet of a PAT and those of a good PMT
-/// section, with any counters.
+/// section, with any counters. A text that is too short for a head wants no memory.
 pub fn behind_head<'a>(alloc: Global, text: &'a [u8]) -> Result<Option<&'a [u8]>, AllocError>
-    ensures { IfOk result (λ found. MatchOption found
+    ensures found { IfOk result (λ found. MatchOption found
         ((rest : List ℕ) → ¬ BeginsWithHead text.now rest)
         (λ rest. BeginsWithHead text.now rest.now)) }
+    ensures memory { OnErr result (2 * PACKET ≤ length text.now) }
 {
     let Some(head) = told_head(alloc, text)? else {
         return Ok(None);
@@ -29,9 +31,10 @@ pub fn behind_head<'a>(alloc: Global, text: &'a [u8]) -> Result<Option<&'a [u8]>
 /// The only head that a text may begin with: that of the tables and counters which stand where a head has them. None where
 /// these can't be those of a head.
 fn told_head(alloc: Global, text: &[u8]) -> Result<Option<Vec<u8>>, AllocError>
-    ensures { IfOk result (λ found. MatchOption found
+    ensures found { IfOk result (λ found. MatchOption found
         ((rest : List ℕ) → ¬ BeginsWithHead text.now rest)
         (λ bytes. IsTheHead text.now bytes.items)) }
+    ensures memory { OnErr result (2 * PACKET ≤ length text.now) }
 {
     if text.len() < 2 * PACKET {
         return Ok(None);
@@ -77,11 +80,12 @@ fn is_pmt(alloc: Global, section: &[u8]) -> Result<bool, AllocError>
     }
 }
 
-/// The section that packets carry, by the length that it tells; None where there are too few packets.
+/// The section that packets carry, by the length that it tells; None where there are too few packets, which want no memory.
 fn carried_section(alloc: Global, packets: &[u8]) -> Result<Option<Vec<u8>>, AllocError>
     requires { PACKET ≤ length packets.now }
-    ensures { IfOk result (λ found. (pid counter : ℕ) (section rest : List ℕ) → IsSized section →
+    ensures found { IfOk result (λ found. (pid counter : ℕ) (section rest : List ℕ) → IsSized section →
         packets.now ≡ section_packets pid counter section ++ rest → IsSomeAnd found (λ bytes. bytes.items ≡ section)) }
+    ensures memory { OnErr result (PACKET * ((3 + length_at packets.now 6 + PAYLOAD) / PAYLOAD) ≤ length packets.now) }
 {
     let len = 3 + read_length(packets, 6);
     let count = (len + PAYLOAD) / PAYLOAD;

@@ -1,8 +1,8 @@
 //! The texts of sealed segments.
 
-ghost use Rattle.std.specs.Prelude.{◌≡◌, ◌<◌, ℕ, List, map, length, IfOk, IfErr, OnErr, MatchOption};
+ghost use Rattle.std.specs.Prelude.{◌≡◌, ◌<◌, ℕ, List, [], map, length, IfOk, IfErr, OnErr, MatchOption};
 ghost use Rattle.aes_cbc.specs.Opening.{Seals};
-ghost use Rattle.hls_check.specs.Unpacking.{packed, IsThere, IsOpen, IsFirstWithout, OfAll};
+ghost use Rattle.hls_check.specs.Unpacking.{packed, IsThere, IsOpen, Opens, IsFirstWithout, OfAll};
 ghost use Rattle.hls_check.specs.Texts.{AreTexts, IsNoText, IsTheText, OpensAlone};
 
 use crate::fault::UnpackFault;
@@ -54,7 +54,7 @@ pub fn open_segments(
     Ok(texts)
 }
 
-/// The text of an entry's segment, if there is one. Only such a text wants memory.
+/// The text of an entry's segment, if there is one. Only such a text wants memory, and only one with bytes.
 pub fn open_entry(
     alloc: Global,
     salt: Option<[u8; 16]>,
@@ -69,6 +69,8 @@ pub fn open_entry(
         IfOk result (λ found. MatchOption found (¬ IsOpen p i) (λ text. OpensAlone p i text.items)) }
     ensures memory { let p = packed salt entries.now (map (λ s. s.items) segments.now) keys.now in
         OnErr result (IsOpen p i) }
+    ensures some { let p = packed salt entries.now (map (λ s. s.items) segments.now) keys.now in
+        OnErr result (¬ Opens p i []) }
 {
     let entry = entries[i];
     let key = keys[entry.key as usize];
@@ -80,7 +82,7 @@ pub fn open_entry(
     )
 }
 
-/// The text of a sealed segment, if there is one. Only such a text wants memory.
+/// The text of a sealed segment, if there is one. Only such a text wants memory, and only one with bytes.
 fn open_segment(
     alloc: Global,
     key: &[u8; 16],
@@ -91,6 +93,7 @@ fn open_segment(
         ((text : List ℕ) → ¬ Seals key.now vector.now text sealed.now)
         (λ text. IsTheText key.now vector.now sealed.now text.items)) }
     ensures memory { OnErr result ((text : List ℕ) × Seals key.now vector.now text sealed.now) }
+    ensures some { OnErr result (¬ Seals key.now vector.now [] sealed.now) }
 {
     match open(alloc, &Key::new(*key), vector, sealed) {
         Ok(text) => Ok(Some(text)),

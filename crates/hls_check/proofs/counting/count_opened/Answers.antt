@@ -19,12 +19,12 @@ loop-i-preserved-then-is_some c =
 
 pub loop-i-preserved-in_default-2 : goal.loop-i-preserved-in_default-2
 loop-i-preserved-in_default-2 c =
-    let without = subst (λ t. (rest : _) → ¬ BeginsWithHead t rest) c.deref.ensures.value (MatchOption-none _ _ _ c.in_default-2.not-Some c.in_ok-rest.ensures) in
+    let without = subst (λ t. (rest : _) → ¬ BeginsWithHead t rest) c.deref.ensures.value (MatchOption-none _ _ _ c.in_default-2.not-Some c.in_ok-rest.ensures.found) in
     headless-here _ _ _ c.in-Some.text.items (MatchOption-at_some _ _ _ c.in-Some.is c.in_ok-text.ensures.found) c.loop-i.headless (sym c.is_some.ensures ∙ c.if-is_some.false) without c.loop-i.invariant
 
 pub loop-i-preserved : goal.loop-i-preserved
 loop-i-preserved c =
-    let begins = subst (λ t. BeginsWithHead t c.in-Some-2.rest.now) c.deref.ensures.value (MatchOption-at_some _ _ _ c.in-Some-2.is c.in_ok-rest.ensures) in
+    let begins = subst (λ t. BeginsWithHead t c.in-Some-2.rest.now) c.deref.ensures.value (MatchOption-at_some _ _ _ c.in-Some-2.is c.in_ok-rest.ensures.found) in
     counted-here _ _ _ c.in-Some.text.items (MatchOption-at_some _ _ _ c.in-Some.is c.in_ok-text.ensures.found) c.loop-i.headless c.in-Some-2.rest.now _ (sym c.is_some.ensures ∙ c.if-is_some.false) begins (search rules)
     c.loop-i.invariant
 

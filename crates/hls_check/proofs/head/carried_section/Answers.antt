@@ -4,16 +4,16 @@ use Rattle.hls_check.specs.Heads.{payloads}
 use Rattle.hls_check.proofs.Payloads.{number-told, length-section, section-carried}
 use Rattle.hls_check.proofs.head.carried_section.Goals as goal
 
-pub returns-then-packets-count : goal.returns-then-packets-count
-returns-then-packets-count c = λ pid counter section rest sized same.
+pub returns-then-packets-count-clause-found : goal.returns-then-packets-count-clause-found
+returns-then-packets-count-clause-found c = λ pid counter section rest sized same.
     let told = ap (λ x. number_at x 6) same ∙ number-told pid counter section rest sized.fields in
     absurd (omega (arith, c.if-packets-count.true, c.read_length-len.ensures.value, told, sized.whole, length-section pid counter section rest, ap length same))
 
 pub slice_bounds-from_slice-end : goal.slice_bounds-from_slice-end
 slice_bounds-from_slice-end c = omega (arith, c.in_ok-carried.ensures.len, c.deref.ensures.len)
 
-pub returns : goal.returns
-returns c = λ pid counter section rest sized same.
+pub returns-clause-found : goal.returns-clause-found
+returns-clause-found c = λ pid counter section rest sized same.
     let told = ap (λ x. number_at x 6) same ∙ number-told pid counter section rest sized.fields in
     let is : 3 + c.read_length-len.result ≡ length section = omega (arith, c.read_length-len.ensures.value, told, sized.whole) in
     let len = 3 + c.read_length-len.result in

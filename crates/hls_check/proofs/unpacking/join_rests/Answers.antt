@@ -1,16 +1,18 @@
-use Rattle.std.proofs.Common.{◌∙◌, ◌++◌, map, get_or, [], ◌∷◌, sym, ap, arith, append-nil, subst, length-append}
+use Rattle.std.proofs.Common.{◌<◌, ◌∙◌, ◌++◌, length, map, get_or, [], ◌∷◌, sym, ap, arith, append-nil, subst, length-append}
 use Rattle.std.specs.List.{concat}
-use Rattle.std.proofs.lemmas.List.{length-map}
+use Rattle.std.proofs.lemmas.List.{get_or_default, length-map}
 use Rattle.std.proofs.lemmas.List.Folds.{concat-append}
 use Rattle.std.proofs.lemmas.Option.{MatchOption-at_some}
 use Rattle.hls_check.specs.Unpacking.{BeginsWithHead}
 use Rattle.hls_check.proofs.Growing.{each-more, items_at}
+use Rattle.hls_check.proofs.TheHead.{begins-long}
+use Rattle.hls_check.proofs.Wanting.{memory-told}
 use Rattle.media_reading.proofs.Found.{MatchOption-none}
 use Rattle.hls_check.proofs.unpacking.join_rests.Goals as goal
 
 pub returns-in_default-clause-err : goal.returns-in_default-clause-err
 returns-in_default-clause-err c =
-    let none = MatchOption-none _ _ _ c.in_default.not-Some c.in_ok-rest.ensures in
+    let none = MatchOption-none _ _ _ c.in_default.not-Some c.in_ok-rest.ensures.found in
     let text = c.deref.ensures.value ∙ items_at c.args.texts.now c.index-texts-i.result c.loop-i.i c.loop-i-test.true c.index-texts-i.is in
     record {
       text = omega (arith, c.loop-i-test.true, length-map c.args.texts.now (λ t. t.items));
@@ -24,7 +26,7 @@ loop-i-preserved c =
     let held = c.loop-i.invariant in
     let rest = c.in-Some.rest.now in
     let text = c.deref.ensures.value ∙ items_at c.args.texts.now c.index-texts-i.result c.loop-i.i c.loop-i-test.true c.index-texts-i.is in
-    let begins = subst (λ t. BeginsWithHead t rest) text (MatchOption-at_some _ _ _ c.in-Some.is c.in_ok-rest.ensures) in
+    let begins = subst (λ t. BeginsWithHead t rest) text (MatchOption-at_some _ _ _ c.in-Some.is c.in_ok-rest.ensures.found) in
     record {
       rests = held.rests ++ rest ∷ [];
       each_one = omega (arith, length-append held.rests (rest ∷ []), held.each_one);
@@ -33,3 +35,20 @@ loop-i-preserved c =
           c.in_ok-extend_from_slice.ensures.items ∙ ap (λ x. x ++ rest) held.joined ∙ ap (λ x. concat held.rests ++ x) (sym (append-nil rest))
           ∙ sym (concat-append held.rests (rest ∷ []));
     }
+
+pub returns-in_err-rest-clause-err : goal.returns-in_err-rest-clause-err
+returns-in_err-rest-clause-err c =
+    let texts = map (λ t. t.items) c.args.texts.now in
+    let text = c.deref.ensures.value ∙ items_at c.args.texts.now c.index-texts-i.result c.loop-i.i c.loop-i-test.true c.index-texts-i.is in
+    let lt : c.loop-i.i < length texts = omega (arith, c.loop-i-test.true, length-map c.args.texts.now (λ t. t.items)) in
+    memory-told c.from_residual.result _ c.from_residual.ensures.1
+    (c.loop-i.i, get_or texts c.loop-i.i [], lt, get_or_default texts c.loop-i.i _ _ lt, omega (arith, ap length text, c.in_err-rest.ensures.memory))
+
+pub returns-in_err-extend_from_slice-clause-err : goal.returns-in_err-extend_from_slice-clause-err
+returns-in_err-extend_from_slice-clause-err c =
+    let texts = map (λ t. t.items) c.args.texts.now in
+    let text = c.deref.ensures.value ∙ items_at c.args.texts.now c.index-texts-i.result c.loop-i.i c.loop-i-test.true c.index-texts-i.is in
+    let lt : c.loop-i.i < length texts = omega (arith, c.loop-i-test.true, length-map c.args.texts.now (λ t. t.items)) in
+    let long = begins-long _ c.in-Some.rest.now (MatchOption-at_some _ _ _ c.in-Some.is c.in_ok-rest.ensures.found) in
+    memory-told c.from_residual-in_err-extend_from_slice.result _ c.from_residual-in_err-extend_from_slice.ensures.1
+    (c.loop-i.i, get_or texts c.loop-i.i [], lt, get_or_default texts c.loop-i.i _ _ lt, omega (arith, ap length text, long))
