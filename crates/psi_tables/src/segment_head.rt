@@ -71,6 +71,7 @@ pub fn append_section(
 ) -> Result<(), AllocError>
     ensures packets { OnOk result (bytes.new.items ≡ bytes.old.items ++ section_packets pid counter section.now) }
     ensures err { OnErr result (bytes.new.items ≡ bytes.old.items) }
+    ensures room { OnErr result (vec_capacity bytes.old < vec_len bytes.old + PACKET * packet_count section.now) }
 {
     bytes.reserve(PACKET * packet_count(section))?;
     let (front, rest) = section.split_at(usize::min(PAYLOAD - 1, section.len()));

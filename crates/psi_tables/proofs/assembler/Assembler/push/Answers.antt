@@ -1,4 +1,4 @@
-use Rattle.std.proofs.Common.{◌≡◌, length, arith, ap, inl, inr}
+use Rattle.std.proofs.Common.{length, arith, ap, inl, inr}
 use Rattle.std.proofs.lemmas.Result.{err_from_is_err_and}
 use Rattle.psi_tables.proofs.assembler.Assembler.push.Goals as goal
 
