@@ -3,7 +3,7 @@ ghost use Rattle.std.specs.Path.{path_buf_bytes, path_join};
 ghost use Rattle.std.specs.String.{string_bytes};
 ghost use Rattle.folder.specs.FileFolders.{folder_path};
 ghost use Rattle.folder.specs.Kills.{IsFailedWrite};
-ghost use Rattle.folder.specs.Moves.{Move, Sync, Write};
+ghost use Rattle.folder.specs.Moves.{Looked, Move, Remove, Rename, Sync, Write};
 
 use crate::fault::FolderFault;
 use crate::folder::Folder;
@@ -95,6 +95,8 @@ impl<R: Files> Folder for FileFolder<R> {
             IsFailedWrite name.now bytes.now more) }
         ensures syncs { OnOk result (may_sync self.new ≡ may_sync self.old) }
         ensures unsynced { OnErr result ((file_moves self.new ≡ file_moves self.old) ⊎ (may_sync self.new ≡ false)) }
+        ensures stays { OnErr result (may_sync self.old ≡ false → may_sync self.new ≡ false) }
+        ensures path { folder_path self.new ≡ folder_path self.old }
     {
         let path = self.path_of(name)?;
         match write_anew(&self.files, path.as_path(), bytes, self.syncs) {
@@ -112,7 +114,12 @@ impl<R: Files> Folder for FileFolder<R> {
         }
     }
 
-    fn rename(&mut self, old: &str, new: &str) -> Result<(), FolderFault> {
+    fn rename(&mut self, old: &str, new: &str) -> Result<(), FolderFault>
+        ensures made { OnOk result (file_moves self.new ≡ file_moves self.old ++ Rename old.now new.now ∷ []) }
+        ensures kept { OnErr result (file_moves self.new ≡ file_moves self.old) }
+        ensures syncs { may_sync self.new ≡ may_sync self.old }
+        ensures path { folder_path self.new ≡ folder_path self.old }
+    {
         let from = self.path_of(old)?;
         let to = self.path_of(new)?;
         if fs::rename(&self.files, from.as_path(), to.as_path()).is_err() {
@@ -122,7 +129,12 @@ impl<R: Files> Folder for FileFolder<R> {
         Ok(())
     }
 
-    fn remove(&mut self, name: &str) -> Result<(), FolderFault> {
+    fn remove(&mut self, name: &str) -> Result<(), FolderFault>
+        ensures made { OnOk result (file_moves self.new ≡ file_moves self.old ++ Remove name.now ∷ []) }
+        ensures kept { OnErr result (file_moves self.new ≡ file_moves self.old) }
+        ensures syncs { may_sync self.new ≡ may_sync self.old }
+        ensures path { folder_path self.new ≡ folder_path self.old }
+    {
         let path = self.path_of(name)?;
         if let Err(fault) = fs::remove_file(&self.files, path.as_path())
             && fault.kind() != io::ErrorKind::NotFound
@@ -133,7 +145,12 @@ impl<R: Files> Folder for FileFolder<R> {
         Ok(())
     }
 
-    fn has(&mut self, name: &str) -> Result<bool, FolderFault> {
+    fn has(&mut self, name: &str) -> Result<bool, FolderFault>
+        ensures made { IfOk result (λ there. file_moves self.new ≡ file_moves self.old ++ Looked name.now there ∷ []) }
+        ensures kept { OnErr result (file_moves self.new ≡ file_moves self.old) }
+        ensures syncs { may_sync self.new ≡ may_sync self.old }
+        ensures path { folder_path self.new ≡ folder_path self.old }
+    {
         let path = self.path_of(name)?;
         let Ok(there) = fs::exists(&self.files, path.as_path()) else {
             return Err(FolderFault);
@@ -146,6 +163,8 @@ impl<R: Files> Folder for FileFolder<R> {
         ensures made { OnOk result (file_moves self.new ≡ file_moves self.old ++ Sync ∷ []) }
         ensures kept { OnErr result (file_moves self.new ≡ file_moves self.old) }
         ensures unsynced { may_sync self.old ≡ false → IsErr result }
+        ensures syncs { may_sync self.new ≡ may_sync self.old }
+        ensures path { folder_path self.new ≡ folder_path self.old }
     {
         if !self.syncs || sync_path(&self.files, self.path.as_str()).is_err() {
             return Err(FolderFault);
