@@ -1,7 +1,8 @@
 //! Faults on standard error: each as soon as it stands, and none twice.
-ghost use Rattle.std.specs.Prelude.{◌≡◌, ◌≢◌, Contains, Decides, Some};
+ghost use Rattle.std.specs.Prelude.{◌≡◌, ◌≢◌, Contains, Decides, Some, false};
 ghost use Rattle.commands.specs.declared.packing_fault.LadderPackingFault.TheVariants.{Packing};
 ghost use Rattle.command_line.specs.declared.fault.Fault.TheVariants.{LadderPacking};
+ghost use Rattle.command_line.specs.Faults.{status_of};
 ghost use Rattle.channel.specs.Seen.{as_seen};
 
 use crate::told::Tellings;
@@ -52,7 +53,9 @@ impl<'w, R: Wait> Teller<'w, R> {
     }
 
     /// Whether this fault was told.
-    pub fn has_told(&self, fault: &Fault) -> bool {
+    pub fn has_told(&self, fault: &Fault) -> bool
+        ensures other { ((why : _) → fault.now ≢ LadderPacking (Packing why)) → result ≡ false }
+    {
         let Fault::LadderPacking(LadderPackingFault::Packing(fault)) = fault else {
             return false;
         };
@@ -64,6 +67,7 @@ impl<'w, R: Wait> Teller<'w, R> {
     pub fn seen(&self, fault: Fault) -> Fault
         ensures packing { (why : _) → fault ≡ LadderPacking (Packing why) → result ≡ LadderPacking (Packing (as_seen self.now.settings.now why)) }
         ensures other { ((why : _) → fault ≢ LadderPacking (Packing why)) → result ≡ fault }
+        ensures status { status_of result ≡ status_of fault }
     {
         match fault {
             Fault::LadderPacking(LadderPackingFault::Packing(fault)) => Fault::LadderPacking(
