@@ -1,14 +1,18 @@
-ghost use Rattle.std.specs.Prelude.{◌≡◌, ◌*◌, [], All, IfOk, IsOk, false, map, option_map};
+ghost use Rattle.std.specs.Prelude.{◌≡◌, ◌⊎◌, ◌*◌, [], All, IfErr, IfOk, IsOk, false, map, option_map, true};
 ghost use Rattle.std.specs.Duration.{as_nanos};
 ghost use Rattle.folder.specs.FileFolders.{file_moves, folder_path, may_sync};
-ghost use Rattle.program.specs.Channels.{IsJobBehind};
+ghost use Rattle.channel.specs.Resuming.{IsNotResumed, IsResumed};
+ghost use Rattle.channel.specs.Views.{folder_view};
+ghost use Rattle.channel.specs.declared.fault.ResumingFault.{ResumingFault};
+ghost use Rattle.command_line.specs.declared.fault.Fault.TheVariants.{NoMemory, Resuming};
+ghost use Rattle.program.specs.Channels.{GoesNotOn, GoesOn, IsJobBehind};
 
 use crate::told::Tellings;
 use crate::watching::{Watched, Watching};
 use channel::{Resumed, resume};
 use command_line::{Fault, LadderJob};
 use commands::{LadderOptions, Pool};
-use folder::FileFolder;
+use folder::{FileFolder, Folder, FolderReader};
 use packing::{Destination, PackedLadder, pack_into_folder};
 use pipeline::{Herald, opening_board};
 use read_ahead::{Ahead, InputAt, InputFiles, InputsView, Limits, open_paths};
@@ -36,12 +40,31 @@ pub fn begin_channel<'a, R: Files + AllocGlobal + Clone + Copy + Drop>(
     ensures behind { IfOk result (λ channel. IsJobBehind job.entry channel.job) }
     ensures first { job.entry.resumes ≡ false → IfOk result (λ channel. (channel.job ≡ job.entry) × (channel.older.items ≡ [])) }
     ensures none { job.entry.resumes ≡ false → IsOk result }
+    ensures resumed { job.entry.resumes ≡ true → IfOk result (λ channel. GoesOn R job.entry channel.job (map (λ n. n.items) channel.older.items)) }
+    ensures refused { IfErr result (λ fault. (fault ≡ NoMemory) ⊎ GoesNotOn R job.entry fault) }
 {
     if !job.resumes {
         let older = Vec::new(alloc);
         return Ok(Channel { job, older });
     }
     let mut folder = folder_of(rt, alloc, &job)?;
+    go_on(alloc, &mut folder, job)
+}
+
+/// The ladder behind what an earlier run left in a folder.
+fn go_on<'a, F: Folder + FolderReader>(
+    alloc: Global,
+    folder: &mut F,
+    job: LadderJob<'a>,
+) -> Result<Channel<'a>, Fault>
+    ensures behind { IfOk result (λ channel. IsJobBehind job.entry channel.job) }
+    ensures ok { let view = folder_view F.lists F.gives F.lacks F.refuses F.made in
+        IfOk result (λ channel. IsResumed view job.entry.options.settings folder.old folder.new
+        channel.job.options.settings (map (λ n. n.items) channel.older.items)) }
+    ensures err { let view = folder_view F.lists F.gives F.lacks F.refuses F.made in
+        IfErr result (λ fault. (why : ResumingFault) × (fault ≡ Resuming why) ×
+        IsNotResumed view job.entry.options.settings folder.old folder.new why) }
+{
     let LadderJob {
         options,
         folder: path,
@@ -55,7 +78,7 @@ pub fn begin_channel<'a, R: Files + AllocGlobal + Clone + Copy + Drop>(
         pool,
         paths,
     } = options;
-    let Resumed { settings, older } = resume(alloc, &mut folder, settings)?;
+    let Resumed { settings, older } = resume(alloc, folder, settings)?;
     let options = LadderOptions {
         settings,
         pool,
