@@ -1,5 +1,5 @@
 -- What metrics tell of a fault of the packager.
-use Rattle.std.specs.Prelude.{ℕ, List, codes, Option, None, Some}
+use Rattle.std.specs.Prelude.{ℕ, List, codes, Option, None, Some, slice_set}
 use Rattle.ladder_items.specs.declared.fault.PackFault.{PackFault}
 use Rattle.ladder_items.specs.declared.fault.PackFault.TheVariants.{Settings, Read, ReadLimit, NoProgram, NoStart, LongSegment, BigSegment, Limit, Outlet, NoMemory, Held}
 
@@ -30,3 +30,13 @@ name_of (Limit r) = codes "Limit"
 name_of Outlet = codes "Outlet"
 name_of NoMemory = codes "NoMemory"
 name_of (Held r n) = codes "Held"
+
+-- the names of faults by rendition, once this one is named too
+abbrev pub named_at : List (Option (List ℕ)) → Option ℕ → List ℕ → List (Option (List ℕ))
+named_at names None name = names
+named_at names (Some r) name = slice_set names r (Some name)
+
+-- the same of a fault that there may be
+abbrev pub named_in : List (Option (List ℕ)) → Option PackFault → List (Option (List ℕ))
+named_in names None = names
+named_in names (Some fault) = named_at names (rendition_of fault) (name_of fault)

@@ -1,4 +1,6 @@
 //! What a run tells of itself while it goes on.
+ghost use Rattle.std.specs.Prelude.{◌≡◌, ◌++◌, ◌∷◌, All, Contains, IsSome, List, None, Option, Some};
+ghost use Rattle.ladder_items.specs.declared.fault.PackFault.{PackFault};
 
 use pipeline::PackFault;
 use std::sync::{Mutex, Wait};
@@ -43,12 +45,7 @@ impl Tellings {
     /// Keeps in mind that this fault was told.
     pub fn note_fault<R: Wait>(&self, rt: &R, fault: PackFault) {
         let mut told = self.told.lock(rt);
-        for known in told.faults.iter_mut() {
-            if known.is_none() {
-                *known = Some(fault);
-                return;
-            }
-        }
+        note_in(&mut told.faults, fault);
     }
 
     /// So many segments are complete.
@@ -59,5 +56,20 @@ impl Tellings {
     /// So many segments were removed.
     pub fn note_removed<R: Wait>(&self, rt: &R, segments: u128) {
         self.told.lock(rt).removed = segments;
+    }
+}
+
+/// Puts a fault into the first place that is free. Where none is, it is left out.
+#[tactic(auto, using(crate::proofs::Naming::noted_at))]
+fn note_in(faults: &mut [Option<PackFault>], fault: PackFault)
+    ensures noted { Contains faults.old None → (front behind : List (Option PackFault)) × All IsSome front ×
+        (faults.old ≡ front ++ None ∷ behind) × (faults.new ≡ front ++ Some fault ∷ behind) }
+    ensures full { All IsSome faults.old → faults.new ≡ faults.old }
+{
+    for place in 0..faults.len() {
+        if faults[place].is_none() {
+            faults[place] = Some(fault);
+            return;
+        }
     }
 }

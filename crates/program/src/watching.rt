@@ -1,6 +1,6 @@
 //! Watches a run: a thread with a viewer of its board writes its metrics to a file. The run waits for nothing of it.
-ghost use Rattle.std.specs.Prelude.{◌≡◌, IfSome, option_map};
-ghost use Rattle.program.specs.Faulted.{name_of, rendition_of};
+ghost use Rattle.std.specs.Prelude.{◌≡◌, IfSome, None, fold, map, option_copied, option_map, replicate};
+ghost use Rattle.program.specs.Faulted.{name_of, named_in, rendition_of};
 
 use crate::metrics_file::replace;
 use crate::told::{RENDITIONS, Tellings, Told};
@@ -206,7 +206,9 @@ fn since<R: Clock>(rt: &R, begun: Option<Instant>) -> u128 {
 }
 
 /// The names of the faults that renditions ended by, by rendition: those that were told, and another one, if any.
-fn faults_of(told: &Told, last: Option<PackFault>) -> [Option<&'static str>; RENDITIONS] {
+fn faults_of(told: &Told, last: Option<PackFault>) -> [Option<&'static str>; RENDITIONS]
+    ensures { map option_copied result ≡ named_in (fold named_in (replicate RENDITIONS None) told.now.faults) last }
+{
     let mut faults = [None; RENDITIONS];
     for fault in told.faults {
         name_fault(&mut faults, fault);
@@ -216,14 +218,18 @@ fn faults_of(told: &Told, last: Option<PackFault>) -> [Option<&'static str>; REN
 }
 
 /// Names a fault beside its rendition.
-fn name_fault(faults: &mut [Option<&'static str>], fault: Option<PackFault>) {
+#[tactic(auto, using(crate::proofs::Naming::named_set, crate::proofs::Naming::named_past, crate::proofs::Naming::named_none))]
+fn name_fault(faults: &mut [Option<&'static str>], fault: Option<PackFault>)
+    ensures { map option_copied faults.new ≡ named_in (map option_copied faults.old) fault }
+{
     let Some(fault) = fault else {
         return;
     };
-    if let Some((rendition, name)) = faulted(fault)
-        && let Some(place) = faults.get_mut(rendition)
-    {
-        *place = Some(name);
+    let Some((rendition, name)) = faulted(fault) else {
+        return;
+    };
+    if rendition < faults.len() {
+        faults[rendition] = Some(name);
     }
 }
 
