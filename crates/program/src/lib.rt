@@ -1,12 +1,13 @@
 //! What the program does, whatever processor it's built for.
 #![tactic(auto)]
 
-ghost use Rattle.std.specs.Prelude.{◌≡◌, ◌≢◌, IfErr, OnOk};
+ghost use Rattle.std.specs.Prelude.{◌≡◌, ◌≢◌, Err, IfErr, IsErrOf, Ok, OnOk, false, true};
 ghost use Rattle.std.specs.IoError.{error_kind};
 ghost use Rattle.std.specs.Process.{exit_status};
 ghost use Rattle.std.specs.declared.io.ErrorKind.TheVariants.{OutOfMemory};
+ghost use Rattle.std.specs.declared.fs.locks.TryLockError.TheVariants.{WouldBlock};
 ghost use Rattle.command_line.specs.Faults.{status_of};
-ghost use Rattle.command_line.specs.declared.fault.Fault.TheVariants.{NoMemory, NotUtf8};
+ghost use Rattle.command_line.specs.declared.fault.Fault.TheVariants.{Busy, NoMemory, NotUtf8};
 
 mod ladder;
 mod metrics_file;
@@ -148,10 +149,22 @@ fn hold(rt: &HostRuntime, folder: &str) -> Result<Option<File>, Fault> {
     let Ok(held) = File::open(rt, folder) else {
         return Ok(None);
     };
-    match held.try_lock() {
-        Ok(()) => Ok(Some(held)),
+    if is_held(held.try_lock())? {
+        return Ok(Some(held));
+    }
+    Ok(None)
+}
+
+/// Whether a lock was taken, by what the system answered. One that another packager has is a fault.
+fn is_held(taken: Result<(), TryLockError>) -> Result<bool, Fault>
+    ensures taken { OnOk taken (result ≡ Ok true) }
+    ensures busy { IsErrOf taken WouldBlock → result ≡ Err Busy }
+    ensures none { IfErr taken (λ why. why ≢ WouldBlock → result ≡ Ok false) }
+{
+    match taken {
+        Ok(()) => Ok(true),
         Err(TryLockError::WouldBlock) => Err(Fault::Busy),
-        Err(TryLockError::Error(_)) => Ok(None),
+        Err(TryLockError::Error(_)) => Ok(false),
     }
 }
 
