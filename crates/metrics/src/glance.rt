@@ -1,8 +1,9 @@
 //! The numbers of a board's last snapshot.
 
-ghost use Rattle.std.specs.Prelude.{◌≡◌, IfOk};
+ghost use Rattle.std.specs.Prelude.{◌≡◌, Err, IfOk};
 ghost use Rattle.ghost_list.specs.Lists.{IsBeginning};
 ghost use Rattle.metrics.specs.Glances.{IsCopyOf, IsOfTheLast};
+ghost use Rattle.metrics.specs.declared.glance.GlanceFault.TheVariants.{Gone};
 
 use live_board::{Snapshot, Totals, Viewer};
 use std::alloc::{AllocError, Global};
@@ -57,6 +58,7 @@ pub fn look(alloc: Global, viewer: Viewer) -> (Viewer, Result<Glance, GlanceFaul
     ensures grows { IsBeginning viewer.list result.0.list }
     ensures board { result.0.board ≡ viewer.board }
     ensures last { IfOk result.1 (IsOfTheLast result.0.list) }
+    ensures gone { result.1 ≡ Err Gone → result.0 ≡ viewer }
 {
     match viewer.view() {
         Ok(view) => match copied(alloc, view.snapshot()) {
