@@ -1,5 +1,5 @@
 //! The rows of earlier runs, which a rendition goes on behind.
-ghost use Rattle.std.specs.Prelude.{◌≡◌, ◌+◌, ◌*◌, ◌<◌, ◌≤◌, ◌^◌, ◌++◌, [], false, length, All, Decides, IfOk, OnOk};
+ghost use Rattle.std.specs.Prelude.{◌≡◌, ◌+◌, ◌*◌, ◌<◌, ◌≤◌, ◌^◌, ◌++◌, [], false, length, All, Decides, IfOk, IsOk, OnOk};
 ghost use Rattle.ladder_items.specs.Shown.{IsNextRow, IsSmallFrame, AreNextRows, known};
 
 use crate::playlists::Playlists;
@@ -60,7 +60,8 @@ pub fn push_rows(alloc: Global, playlists: &mut Playlists, rows: &[Row]) -> Resu
     requires none { known playlists.old ≡ [] }
     requires few { length rows.now < 2 ^ 32 }
     requires follow { AreNextRows playlists.old.target playlists.old.gone.rows rows.now }
-    ensures { OnOk result (playlists.new ≡ record playlists.old { rows = playlists.old.rows ++ rows.now }) }
+    ensures ok { OnOk result (playlists.new ≡ record playlists.old { rows = playlists.old.rows ++ rows.now }) }
+    ensures none { rows.now ≡ [] → IsOk result }
 {
     for row in rows {
         let copy = copy_of(alloc, row)?;

@@ -1,4 +1,4 @@
-ghost use Rattle.std.specs.Prelude.{◌≡◌, ◌+◌, ◌*◌, ◌<◌, ◌≤◌, ◌^◌, [], ◌∷◌, ◌++◌, true, false, length, map, All, IfOk, IfErr, IfSome, OnOk, OnErr};
+ghost use Rattle.std.specs.Prelude.{◌≡◌, ◌+◌, ◌*◌, ◌<◌, ◌≤◌, ◌^◌, [], ◌∷◌, ◌++◌, true, false, length, map, All, IfOk, IfErr, IfSome, IsOk, OnOk, OnErr};
 ghost use Rattle.std.specs.Arc.{arc_value};
 ghost use Rattle.std.specs.String.{string_bytes};
 ghost use Rattle.playlist_text.specs.Lines.{text_of};
@@ -104,7 +104,8 @@ impl Playlists {
         requires small { IsSmall gone }
         requires few { length earlier.now < 2 ^ 32 }
         requires follow { AreNextRows self.target gone.rows earlier.now }
-        ensures { IfOk result (λ new. new ≡ record self { gone = gone; earlier = earlier.now }) }
+        ensures ok { IfOk result (λ new. new ≡ record self { gone = gone; earlier = earlier.now }) }
+        ensures none { earlier.now ≡ [] → IsOk result }
     {
         let mut playlists = self;
         playlists.media = None;
