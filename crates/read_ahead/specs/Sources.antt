@@ -47,10 +47,13 @@ going_by Told.End = Ended
 going_by Told.Failed = Failed
 going_by Told.Refused = Failed
 
+-- The next message was taken, and the input stands as that says.
+abbrev pub TakesNext : {I : Type 0} → (Message I → Phase) → List (Message I) → List (Message I) → Phase → Type 0
+TakesNext {I} phase_by before now phase = (message : Message I) × (now ≡ before ++ message ∷ []) × (phase ≡ phase_by message)
+
 -- The next message was taken, and the input stands as that says; or none came, and it has failed.
 abbrev pub StandsBy : {I : Type 0} → (Message I → Phase) → List (Message I) → List (Message I) → Phase → Type 0
-StandsBy {I} phase_by before now phase =
-    ((now ≡ before) × (phase ≡ Failed)) ⊎ ((message : Message I) × (now ≡ before ++ message ∷ []) × (phase ≡ phase_by message))
+StandsBy {I} phase_by before now phase = ((now ≡ before) × (phase ≡ Failed)) ⊎ TakesNext phase_by before now phase
 
 -- for how long an input was waited for since then, in nanoseconds: nothing where no more of it is given, or it isn't waited for
 abbrev pub silence_of : Bool → Option Instant → Option Instant → ℕ

@@ -77,16 +77,8 @@ impl<R: Wait + Clock + Copy, I: Contents> Source for Ahead<R, I> {
     ghost input = { source_view (λ s. s.left) (λ s. s.reads) (λ s. s.failures) };
 
     fn read(&mut self, buffer: &mut [u8]) -> Result<usize, ReadFault> {
-        let number = self.incoming.number;
-        self.incoming.go_on(&self.rt);
-        let share = self
-            .incoming
-            .backlogs
-            .share(&self.rt, number)
-            .min(buffer.len());
-        match self.incoming.give(&self.rt, &mut buffer[..share]) {
+        match self.incoming.read(&self.rt, buffer) {
             Ok(count) => {
-                self.incoming.backlogs.give(&self.rt, number, count);
                 if count > 0 {
                     self.reads += 1;
                 }

@@ -1,5 +1,5 @@
 //! The backlogs of all inputs under one lock, and who waits for them. No claim on bytes rests on it.
-ghost use Rattle.std.specs.Prelude.{◌<◌};
+ghost use Rattle.std.specs.Prelude.{◌≡◌, ◌<◌, None, false};
 
 use crate::backlog::Backlog;
 use crate::limits::{BLOCKS, Limits};
@@ -32,8 +32,8 @@ pub struct Backlogs {
     taken: Vec<Condvar>,
     /// The most bytes of an input that lie ready, but for a block that was put where none did.
     room: usize,
-    /// An input that gives nothing for so long is silent.
-    stall: Option<Duration>,
+    /// An input that gives nothing for so long is silent. If absent, none ever is.
+    pub stall: Option<Duration>,
 }
 
 impl Backlogs {
@@ -157,7 +157,9 @@ impl Backlogs {
     }
 
     /// Whether an input gave nothing for too long.
-    pub fn is_silent<R: Wait + Clock>(&self, rt: &R, number: usize) -> bool {
+    pub fn is_silent<R: Wait + Clock>(&self, rt: &R, number: usize) -> bool
+        ensures never { self.now.stall ≡ None → result ≡ false }
+    {
         let Some(stall) = self.stall else {
             return false;
         };

@@ -1,10 +1,11 @@
 //! What comes of an input: the bytes that its thread told, in the order in which it told them.
 ghost use Rattle.std.specs.Prelude.{◌≡◌, ◌≢◌, ◌+◌, ◌-◌, ◌≤◌, ◌<◌, [], ◌∷◌, ◌++◌, ◌⊎◌, true, false};
-ghost use Rattle.std.specs.Prelude.{length, take, drop, min, Some, None, IfOk, IfSome, IsSome, OnErr};
+ghost use Rattle.std.specs.Prelude.{length, take, drop, min, Some, None, IfOk, IfSome, IsOk, IsSome, OnErr};
+ghost use Rattle.std.specs.Arc.{arc_value};
 ghost use Rattle.std.specs.Io.KnownBytes.{Consumes, IsAtEnd, Keeps};
 ghost use Rattle.rtrb.specs.Ring.{known_items, received};
 ghost use Rattle.read_ahead.specs.Messages.{MayFollow};
-ghost use Rattle.read_ahead.specs.Sources.{IsSound, StandsBy, going_by, opened_by, rest_of};
+ghost use Rattle.read_ahead.specs.Sources.{IsSound, StandsBy, TakesNext, going_by, opened_by, rest_of};
 ghost use Rattle.read_ahead.specs.declared.incoming.Phase.TheVariants.{Opening, Going, Ended, Failed};
 
 use crate::backlogs::Backlogs;
@@ -80,6 +81,8 @@ impl<I: Contents> Incoming<I> {
             ⊎ StandsBy opened_by (received self.old.consumer) (received self.new.consumer) self.new.phase }
         ensures failed { self.new.phase ≡ Failed → result ≡ Some false }
         ensures open { self.new.phase ≢ Opening → self.new.phase ≢ Failed → result ≡ Some true }
+        ensures patient { (arc_value self.old.backlogs).stall ≡ None → self.new.phase ≡ Failed →
+            (self.old.phase ≡ Failed) ⊎ (length (received self.old.consumer) < length (received self.new.consumer)) }
     {
         if matches!(self.phase, Phase::Opening) {
             if self.consumer.is_empty() {
@@ -118,7 +121,7 @@ impl<I: Contents> Incoming<I> {
     }
 
     /// Waits until the input is open, or can't be opened, or is silent for too long.
-    pub fn wait_open<R: Wait + Clock>(&mut self, rt: &R)
+    fn wait_open<R: Wait + Clock>(&mut self, rt: &R)
         requires sound { IsSound I.holds self.old }
         requires opening { self.old.phase ≡ Opening }
         ensures sound { IsSound I.holds self.new }
@@ -126,6 +129,7 @@ impl<I: Contents> Incoming<I> {
         ensures same { rest_of I.holds self.new ≡ rest_of I.holds self.old }
         ensures phase { self.new.phase ≢ Opening }
         ensures stands { StandsBy opened_by (received self.old.consumer) (received self.new.consumer) self.new.phase }
+        ensures patient { (arc_value self.old.backlogs).stall ≡ None → TakesNext opened_by (received self.old.consumer) (received self.new.consumer) self.new.phase }
     {
         let Some(message) = wait_message(rt, &self.backlogs, self.number, &mut self.consumer) else {
             return self.fail();
@@ -151,6 +155,7 @@ impl<I: Contents> Incoming<I> {
         ensures some { (self.new.at < length self.new.front.items) ⊎ (self.new.phase ≢ Going) }
         ensures phase { self.new.phase ≢ Opening }
         ensures stands { StandsBy going_by (received self.old.consumer) (received self.new.consumer) self.new.phase }
+        ensures patient { (arc_value self.old.backlogs).stall ≡ None → TakesNext going_by (received self.old.consumer) (received self.new.consumer) self.new.phase }
     {
         let Some(message) = wait_message(rt, &self.backlogs, self.number, &mut self.consumer) else {
             return self.fail();
@@ -170,7 +175,7 @@ impl<I: Contents> Incoming<I> {
     }
 
     /// Waits until a byte can be given, or none comes any more.
-    pub fn go_on<R: Wait + Clock>(&mut self, rt: &R)
+    fn go_on<R: Wait + Clock>(&mut self, rt: &R)
         requires { IsSound I.holds self.old }
         ensures sound { IsSound I.holds self.new }
         ensures number { self.new.number ≡ self.old.number }
@@ -180,6 +185,8 @@ impl<I: Contents> Incoming<I> {
         ensures ended { self.old.phase ≡ Ended → self.new.phase ≡ Ended }
         ensures stands { self.old.phase ≡ Going → ((received self.new.consumer ≡ received self.old.consumer) × (self.new.phase ≡ Going))
             ⊎ StandsBy going_by (received self.old.consumer) (received self.new.consumer) self.new.phase }
+        ensures patient { (arc_value self.old.backlogs).stall ≡ None → self.new.phase ≡ Failed →
+            (self.old.phase ≡ Failed) ⊎ (length (received self.old.consumer) < length (received self.new.consumer)) }
     {
         if matches!(self.phase, Phase::Opening) {
             self.wait_open(rt);
@@ -224,8 +231,27 @@ impl<I: Contents> Incoming<I> {
         count
     }
 
+    /// Waits until a byte can be given, or none comes any more, and gives as much of the buffer as is a fair share.
+    pub fn read<R: Wait + Clock>(&mut self, rt: &R, buffer: &mut [u8]) -> Result<usize, ReadFault>
+        requires { IsSound I.holds self.old }
+        ensures sound { IsSound I.holds self.new }
+        ensures number { self.new.number ≡ self.old.number }
+        ensures within { IfOk result (λ count. count ≤ length buffer.new) }
+        ensures gave { IfOk result (λ count. Consumes (rest_of I.holds self.old) (rest_of I.holds self.new) (take count buffer.new)) }
+        ensures end { IfOk result (λ count. count ≡ 0 → 0 < length buffer.new → IsAtEnd (rest_of I.holds self.new)) }
+        ensures kept { OnErr result (Keeps (rest_of I.holds self.old) (rest_of I.holds self.new)) }
+        ensures failed { OnErr result (self.new.phase ≡ Failed) }
+        ensures ended { self.old.phase ≡ Ended → IsOk result }
+    {
+        self.go_on(rt);
+        let share = self.backlogs.share(rt, self.number).min(buffer.len());
+        let count = self.give(rt, &mut buffer[..share])?;
+        self.backlogs.give(rt, self.number, count);
+        Ok(count)
+    }
+
     /// Fills a buffer as far as bytes lie ready, and answers how many they are; where none do, the end or the failure.
-    pub fn give<R: Wait + Clock>(&mut self, rt: &R, buffer: &mut [u8]) -> Result<usize, ReadFault>
+    fn give<R: Wait + Clock>(&mut self, rt: &R, buffer: &mut [u8]) -> Result<usize, ReadFault>
         requires sound { IsSound I.holds self.old }
         requires phase { self.old.phase ≢ Opening }
         requires some { (self.old.at < length self.old.front.items) ⊎ (self.old.phase ≢ Going) }
@@ -236,6 +262,7 @@ impl<I: Contents> Incoming<I> {
         ensures end { IfOk result (λ count. count ≡ 0 → 0 < length buffer.new → IsAtEnd (rest_of I.holds self.new)) }
         ensures kept { OnErr result (Keeps (rest_of I.holds self.old) (rest_of I.holds self.new)) }
         ensures failed { OnErr result ((self.old.phase ≡ Failed) × (self.old.at ≡ length self.old.front.items)) }
+        ensures same { OnErr result (self.new ≡ self.old) }
     {
         if self.at < self.front.len() {
             return Ok(self.fill(rt, buffer));
@@ -289,6 +316,7 @@ fn wait_message<R: Wait + Clock, I: Contents>(
     ensures allowed { IfSome result (MayFollow I.holds (received consumer.old)) }
     ensures none { result ≡ None → received consumer.new ≡ received consumer.old }
     ensures ready { 0 < length (known_items consumer.old) → IsSome result }
+    ensures patient { result ≡ None → backlogs.now.stall ≢ None }
 {
     for _ in rt.forever() {
         let seen = backlogs.news(rt);

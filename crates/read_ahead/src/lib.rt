@@ -21,6 +21,6 @@ mod waiting;
 pub use ahead::Ahead;
 pub use input::{Contents, Input, OpenInput};
 pub use input_files::{InputAt, InputFiles};
-pub use limits::Limits;
+pub use limits::{Limits, bounds_are_these};
 pub use starting::{InputFault, open_all, open_paths};
 pub use view::{InputState, InputsView};

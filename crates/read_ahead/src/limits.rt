@@ -1,6 +1,7 @@
 //! How much is read ahead at the most, and how long an input is waited for.
-ghost use Rattle.std.specs.Prelude.{◌≡◌};
+ghost use Rattle.std.specs.Prelude.{◌≡◌, ◌*◌, ◌^◌};
 ghost use Rattle.read_ahead.specs.Shares.{room_for};
+ghost use Rattle.read_ahead.specs.declared.limits.TheConstants.{BLOCK, ROOM};
 
 use std::time::Duration;
 
@@ -18,6 +19,12 @@ pub const BLOCK: usize = 64 << 10;
 
 /// How long the writers of all FIFOs are waited for before it begins without them, in milliseconds.
 pub const MOMENT: u64 = 100;
+
+/// What the bounds are that clauses cite by their names.
+pub fn bounds_are_these()
+    ensures room { ROOM ≡ 32 * 2 ^ 20 }
+    ensures block { BLOCK ≡ 2 ^ 16 }
+{}
 
 /// How inputs are read ahead.
 #[derive(Clone, Copy, Debug, Drop)]
