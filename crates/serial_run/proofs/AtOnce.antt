@@ -88,6 +88,7 @@ module _ (X Y : Type 0) (input : SourceView X) (out : OutletView Y) (most_reads 
       record {
         cut = c.cut;
         in_turn = r;
+        within = some-at before r (omega (arith, within, w.same_before));
         at_once = record {
           earlier = w.streams;
           events = w.events;
@@ -109,6 +110,7 @@ module _ (X Y : Type 0) (input : SourceView X) (out : OutletView Y) (most_reads 
       record {
         cut = c.cut;
         in_turn = 0;
+        within = some-at before 0 (omega (arith, allowed.within.renditions.0, w.same_before));
         at_once = record {
           earlier = w.streams;
           events = w.events;
@@ -124,14 +126,16 @@ module _ (X Y : Type 0) (input : SourceView X) (out : OutletView Y) (most_reads 
       }
 
   -- nothing was read or given
-  pub none-at-once : (before : List X) (x : Y) → ((k : ℕ) → closed_of k ladder.cut [] ≡ []) → IsCutAtOnce (run_of input out most_reads before before x x) ladder
+  pub none-at-once : (before : List X) (x : Y) → 0 < length before → ((k : ℕ) → closed_of k ladder.cut [] ≡ [])
+      → IsCutAtOnce (run_of input out most_reads before before x x) ladder
   unfolding after_all blocks AreLegal
-  none-at-once before x none =
+  none-at-once before x some none =
       let n = length ladder.renditions in
       let c = (nothing-given X Y input out most_reads ladder before x none).0 in
       record {
         cut = c.cut;
         in_turn = 0;
+        within = some-at before 0 some;
         at_once = record {
           earlier = replicate n [];
           events = [];

@@ -27,5 +27,6 @@ pub record StopsAtOnce (ladder : Ladder) (r : ℕ) (streams : List (List ℕ)) (
 pub record IsCutAtOnce {X Y : Type 0} (run : Run X Y) (ladder : Ladder) : Type 0 where
   pub cut : IsCutShort run ladder
   pub in_turn : ℕ
+  pub within : (a : X) × (slice_get run.before in_turn ≡ Some a)
   pub at_once : StopsAtOnce ladder in_turn cut.streams cut.some.given
   pub unfailed : (a b : X) → slice_get run.before in_turn ≡ Some a → slice_get run.now in_turn ≡ Some b → run.input.failures b ≡ run.input.failures a

@@ -1,4 +1,4 @@
-use Rattle.std.proofs.Common.{◌≡◌, ◌∙◌, length, refl, ap, sym, rules}
+use Rattle.std.proofs.Common.{◌≡◌, ◌∙◌, length, refl, ap, sym, rules, arith}
 use Rattle.std.proofs.lemmas.Result.{IfOk-weaker, IfErr-weaker, err_from_is_err_and}
 use Rattle.ingest.proofs.Ordered.{closed_of-none}
 use Rattle.ladder_items.specs.Ladder.{IsAllowed}
@@ -61,13 +61,19 @@ returns-clause-fault g c =
 
 pub returns-in_err-lanes-clause-at_once : goal.returns-in_err-lanes-clause-at_once
 returns-in_err-lanes-clause-at_once g c =
+    let allowed : IsAllowed c.args.settings.now × (c.len.result ≡ length c.args.settings.now.renditions) = search rules in
+    let whole : c.len.result ≡ length c.args.sources.now.items = search rules in
     let told = err_from_is_err_and c.from_residual.result c.from_residual.ensures.1 in
-    rw told.1 (λ sudden. none-at-once _ _ _ _ _ _ _ _ (λ k. closed_of-none k c.args.settings.now.cut))
+    rw told.1 (λ sudden. none-at-once _ _ _ _ _ _ _ _ (omega (arith, allowed.0.within.renditions.0, allowed.1, whole))
+    (λ k. closed_of-none k c.args.settings.now.cut))
 
 pub returns-in_err-playlists-clause-at_once : goal.returns-in_err-playlists-clause-at_once
 returns-in_err-playlists-clause-at_once g c =
+    let allowed : IsAllowed c.args.settings.now × (c.len.result ≡ length c.args.settings.now.renditions) = search rules in
+    let whole : c.len.result ≡ length c.args.sources.now.items = search rules in
     let told = err_from_is_err_and c.from_residual-in_err-playlists.result c.from_residual-in_err-playlists.ensures.1 in
-    rw told.1 (λ sudden. none-at-once _ _ _ _ _ _ _ _ (λ k. closed_of-none k c.args.settings.now.cut))
+    rw told.1 (λ sudden. none-at-once _ _ _ _ _ _ _ _ (omega (arith, allowed.0.within.renditions.0, allowed.1, whole))
+    (λ k. closed_of-none k c.args.settings.now.cut))
 
 pub returns-clause-at_once : goal.returns-clause-at_once
 returns-clause-at_once g c =
