@@ -1,5 +1,5 @@
 -- A run of one rendition whose outlet writes lines.
-use Rattle.std.proofs.Common.{◌≡◌, refl, sym, ap, subst, ◌∙◌, ℕ, ◌+◌, ◌^◌, zero, suc, List, [], ◌∷◌, ◌++◌, inr, length, replicate, get_or}
+use Rattle.std.proofs.Common.{◌≡◌, refl, sym, ap, subst, ◌∙◌, ℕ, ◌+◌, ◌^◌, zero, suc, List, [], ◌∷◌, ◌++◌, inl, inr, ◌⊎◌, length, replicate, get_or}
 use Rattle.std.specs.Prelude.{Option, Some, None, slice_get}
 use Rattle.std.specs.Io.KnownBytes.{Consumes, Appends}
 use Rattle.std.proofs.KnownBytes.{Appends-nil}
@@ -7,7 +7,7 @@ use Rattle.item_io.specs.Items.{ItemValue}
 use Rattle.item_io.specs.Outlets.{Grows, BreaksOff}
 use Rattle.item_io.specs.ItemLines.{LineState, HoldsLines, HoldsBeginning, WritesUpTo, lines_of}
 use Rattle.ladder_items.specs.declared.fault.PackFault.{PackFault}
-use Rattle.ladder_items.specs.declared.fault.PackFault.TheVariants.{Held}
+use Rattle.ladder_items.specs.declared.fault.PackFault.TheVariants.{Held, NoMemory, Outlet}
 use Rattle.ingest.specs.declared.lane.Stop.{Stop}
 use Rattle.ingest.specs.declared.lane.Stop.TheVariants.{Good, Cut, Read as ReadFailed}
 use Rattle.ladder_items.specs.declared.report.Report.{Report}
@@ -21,13 +21,20 @@ use Rattle.ladder_items.specs.Runs.{run_of}
 use Rattle.ladder_items.specs.Putting.{PutAll}
 use Rattle.ladder_items.specs.World.{stream_at}
 use Rattle.ladder_items.specs.Packed.{IsPacked, IsCutShort, HasHalted, IsRefused, IsLeft, of_run, FaultSays}
-use Rattle.ladder_items.proofs.Endings.{says-as}
+use Rattle.ladder_items.proofs.Endings.{says-as, says-by}
 use Rattle.packing.specs.StreamPacking.{WritesPacked, FaultStands, StopsPacking, CutsPackingOff, WantsMemory, FailsToPut, RefusesSettings, of_one, PackingSays, NoneFailed, StopCounts, of_counts, CountsSay}
 
 -- the only element of a list is at its front
 only-at : {X : Type 0} (a x : X) (r : ℕ) → slice_get (a ∷ []) r ≡ Some x → r ≡ 0
 only-at a x zero is = refl
 only-at a x (suc r) is = cc
+
+-- no read failed of the only rendition, where none did of the one in whose turn the run was stopped
+pub none-read : {X : Type 0} (input : SourceView X) (a b : X) (r : ℕ) → (e : X) × (slice_get (a ∷ []) r ≡ Some e)
+    → ((e f : X) → slice_get (a ∷ []) r ≡ Some e → slice_get (b ∷ []) r ≡ Some f → input.failures f ≡ input.failures e) → input.failures b ≡ input.failures a
+none-read input a b r within same =
+    let first : r ≡ 0 = only-at a within.0 r within.1 in
+    same a b (ap (slice_get (a ∷ [])) first) (ap (slice_get (b ∷ [])) first)
 
 none-at : (n : ℕ) → get_or (replicate n no_part) 0 no_part ≡ no_part
 none-at zero = refl
@@ -187,8 +194,10 @@ module _ {X Y : Type 0} (input : SourceView X) (out : OutletView Y) (ladder : La
       let same : b ≡ a = ap (λ (xs : List X). get_or xs 0 a) p.unread in
       (ap input.reads same ∙ unread, record { reads = ap input.failures same ∙ unfailed; puts = p.unput.unfailed ∙ none_failed })
 
-  pub counts : (fault : PackFault) → ((r n : ℕ) → fault ≡ Held r n → ⊥) → FaultSays (run_of input out (2 ^ 40) (a ∷ []) (b ∷ []) x y) ladder fault
+  pub counts : (fault : PackFault) → ((r n : ℕ) → fault ≡ Held r n → ⊥) → ((fault ≡ Outlet) ⊎ (fault ≡ NoMemory) → input.failures b ≡ 0)
+      → FaultSays (run_of input out (2 ^ 40) (a ∷ []) (b ∷ []) x y) ladder fault
       → CountsSay (input.reads b) (input.failures b) (out.failures y) fault
-  counts fault never_held s =
-      says-as (of_run (run_of input out (2 ^ 40) (a ∷ []) (b ∷ []) x y) ladder) (of_counts (input.reads b) (input.failures b) (out.failures y)) fault
-      untouched halted (λ p. p.1 ∙ ap (λ n. n + 1) none_failed) (λ p. p.1 ∙ none_failed) (λ r n is p. never_held r n is) s
+  counts fault never_held none_read s =
+      says-by (of_run (run_of input out (2 ^ 40) (a ∷ []) (b ∷ []) x y) ladder) (of_counts (input.reads b) (input.failures b) (out.failures y)) fault
+      untouched halted (λ is p. (none_read (inl is), p.1 ∙ ap (λ n. n + 1) none_failed))
+      (λ is p. record { reads = none_read (inr is); puts = p.1 ∙ none_failed }) (λ r n is p. never_held r n is) s

@@ -102,8 +102,8 @@ abbrev pub of_counts : ℕ → ℕ → ℕ → Sayings
 of_counts reads failed_reads failed_puts = record {
   refused = (reads ≡ 0) × NoneFailed failed_reads failed_puts;
   halted = λ r stop. StopCounts stop reads failed_reads failed_puts;
-  unput = failed_puts ≡ 1;
-  wanting = failed_puts ≡ 0;
+  unput = (failed_reads ≡ 0) × (failed_puts ≡ 1);
+  wanting = NoneFailed failed_reads failed_puts;
   held = λ r n. ⊥;
 }
 

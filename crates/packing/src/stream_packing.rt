@@ -1,4 +1,5 @@
-ghost use Rattle.std.specs.Prelude.{◌≡◌, ◌∷◌, [], length, IfOk, IfErr, OnOk};
+ghost use Rattle.std.specs.Prelude.{◌≡◌, ◌⊎◌, ◌∷◌, [], length, IfOk, IfErr, OnOk};
+ghost use Rattle.ladder_items.specs.declared.fault.PackFault.TheVariants.{Settings as SettingsFault, NoMemory};
 ghost use Rattle.ladder_items.specs.Ladder.{IsAllowed};
 ghost use Rattle.packing.specs.StreamPacking.{WritesPacked, PackingSays, NoneFailed, CountsSay};
 
@@ -44,6 +45,7 @@ fn pack<R: Read, W: Write>(
     ensures fault { IfErr result (λ fault. (a b : _) → sources.old.items ≡ a ∷ [] → sources.new.items ≡ b ∷ [] →
         PackingSays settings.now (R.remaining a.reader) (R.remaining b.reader) (W.contents outlet.old.writer) (W.contents outlet.new.writer) fault) }
     ensures fault_counts { IfErr result (λ fault. (b : _) → sources.new.items ≡ b ∷ [] → CountsSay b.reads b.failures outlet.new.failures fault) }
+    ensures breach { IfErr result (λ fault. ((IsAllowed settings.now × (length settings.now.renditions ≡ 1)) → ⊥) → fault ≡ SettingsFault) }
 {
     lines_of_given_items_are_written();
     match pack_serial(alloc, sources, settings, outlet) {
@@ -72,6 +74,8 @@ pub fn one<R: Read + Drop, W: Write>(
     ensures fault { IfErr result.answer (PackingSays settings.now (R.remaining input) (R.remaining result.source.reader) (W.contents output)
         (W.contents result.outlet.writer)) }
     ensures fault_counts { IfErr result.answer (CountsSay result.source.reads result.source.failures result.outlet.failures) }
+    ensures breach { IfErr result.answer (λ fault. ((IsAllowed settings.now × (length settings.now.renditions ≡ 1)) → ⊥) →
+        (fault ≡ SettingsFault) ⊎ ((fault ≡ NoMemory) × (result.source.reads ≡ 0))) }
 {
     let mut outlet = LineOutlet::new(alloc, output);
     let mut sources = match alone(alloc, ReaderSource::new(input)) {
