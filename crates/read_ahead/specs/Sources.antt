@@ -1,6 +1,7 @@
 -- Sources that read ahead.
 use Rattle.std.specs.Prelude.{◌≡◌, ◌⊎◌, ℕ, ◌-◌, ◌<◌, ◌≤◌, Bool, true, false, List, [], ◌∷◌, ◌++◌, length, drop, Option, Some, None}
 use Rattle.std.specs.Time.{instant_nanos}
+use Rattle.std.specs.declared.time.Duration.{Duration}
 use Rattle.std.specs.declared.time.Instant.{Instant}
 use Rattle.std.specs.Io.KnownBytes.{IsAtEnd, prepend_known}
 use Rattle.rtrb.specs.Ring.{received}
@@ -23,11 +24,15 @@ pub record IsSound {I : Type 0} (holds : I → Option (List ℕ)) (i : Incoming 
   pub empty : i.phase ≡ Opening → i.front.items ≡ []
   pub ended : i.phase ≡ Ended → IsAtEnd (untold holds (received i.consumer))
 
--- a source, as its callers see it: the bytes that are left, where the input tells them, how many reads gave a byte, and how many failed
+-- a source, as its callers see it: the bytes that are left, where the input tells them, how many reads gave a byte, and how many
+-- failed; its input's number, for how long that may be silent, and how many bytes of it may lie ready
 pub record Seen : Type 0 where
   pub left : Option (List ℕ)
   pub reads : ℕ
   pub failures : ℕ
+  pub number : ℕ
+  pub stall : Option Duration
+  pub room : ℕ
 
 -- how an input stands that was being opened, by what was told next
 abbrev pub opened_by : {I : Type 0} → Message I → Phase

@@ -1,4 +1,5 @@
 ghost use Rattle.std.specs.Prelude.{◌≡◌};
+ghost use Rattle.std.specs.Arc.{arc_value};
 ghost use Rattle.item_io.specs.Views.{source_view};
 ghost use Rattle.read_ahead.specs.Sources.{IsSound, rest_of};
 
@@ -22,11 +23,19 @@ pub struct Ahead<R: Wait, I: Contents> {
 }
 
 impl<R: Wait, I: Contents> Model for Ahead<R, I> {
+    ghost use Rattle.std.specs.Arc.{arc_value};
     ghost use Rattle.read_ahead.specs.Sources.{IsSound, Seen, rest_of};
 
     ghost Value = { Seen };
 
-    ghost view = { λ s. record { left = rest_of I.holds s.incoming; reads = s.reads; failures = s.failures } };
+    ghost view = { λ s. record {
+      left = rest_of I.holds s.incoming;
+      reads = s.reads;
+      failures = s.failures;
+      number = s.incoming.number;
+      stall = (arc_value s.incoming.backlogs).stall;
+      room = (arc_value s.incoming.backlogs).room;
+    } };
 
     ghost invariant = { λ s. IsSound I.holds s.incoming };
 }
@@ -38,6 +47,9 @@ impl<R: Wait + Clock, I: Contents> Ahead<R, I> {
         ensures left { result.left ≡ rest_of I.holds incoming }
         ensures reads { result.reads ≡ 0 }
         ensures failures { result.failures ≡ 0 }
+        ensures number { result.number ≡ incoming.number }
+        ensures stall { result.stall ≡ (arc_value incoming.backlogs).stall }
+        ensures room { result.room ≡ (arc_value incoming.backlogs).room }
     {
         Ahead {
             rt,

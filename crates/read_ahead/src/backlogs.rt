@@ -1,5 +1,7 @@
 //! The backlogs of all inputs under one lock, and who waits for them. No claim on bytes rests on it.
-ghost use Rattle.std.specs.Prelude.{◌≡◌, ◌<◌, None, false};
+ghost use Rattle.std.specs.Prelude.{◌≡◌, ◌<◌, None, IfOk, false, length};
+ghost use Rattle.std.specs.Arc.{arc_value};
+ghost use Rattle.read_ahead.specs.Shares.{room_for};
 
 use crate::backlog::Backlog;
 use crate::limits::{BLOCKS, Limits};
@@ -31,7 +33,7 @@ pub struct Backlogs {
     /// Of an input bytes were taken, or no more are given.
     taken: Vec<Condvar>,
     /// The most bytes of an input that lie ready, but for a block that was put where none did.
-    room: usize,
+    pub room: usize,
     /// An input that gives nothing for so long is silent. If absent, none ever is.
     pub stall: Option<Duration>,
 }
@@ -43,7 +45,11 @@ impl Backlogs {
         alloc: Global,
         count: usize,
         limits: Limits,
-    ) -> Result<Arc<Backlogs, Global>, AllocError> {
+    ) -> Result<Arc<Backlogs, Global>, AllocError>
+        ensures stall { IfOk result (λ backlogs. (arc_value backlogs).stall ≡ limits.stall) }
+        ensures room { IfOk result (λ backlogs. (arc_value backlogs).room ≡ room_for limits.ahead count) }
+        ensures taken { IfOk result (λ backlogs. length (arc_value backlogs).taken.items ≡ count) }
+    {
         let now = Instant::now(rt).ok();
         let mut backlogs = Vec::with_capacity(alloc, count)?;
         let mut since = Vec::with_capacity(alloc, count)?;

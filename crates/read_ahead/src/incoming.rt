@@ -60,6 +60,7 @@ impl<I: Contents> Incoming<I> {
         requires { IsSound I.holds self.old }
         ensures sound { IsSound I.holds self.new }
         ensures number { self.new.number ≡ self.old.number }
+        ensures backlogs { self.new.backlogs ≡ self.old.backlogs }
         ensures same { rest_of I.holds self.new ≡ rest_of I.holds self.old }
         ensures phase { self.new.phase ≡ self.old.phase }
         ensures ready { (self.old.at < length self.old.front.items) ⊎ (self.old.phase ≡ Ended) ⊎ (self.old.phase ≡ Failed) → result ≡ true }
@@ -75,6 +76,7 @@ impl<I: Contents> Incoming<I> {
         requires { IsSound I.holds self.old }
         ensures sound { IsSound I.holds self.new }
         ensures number { self.new.number ≡ self.old.number }
+        ensures backlogs { self.new.backlogs ≡ self.old.backlogs }
         ensures same { rest_of I.holds self.new ≡ rest_of I.holds self.old }
         ensures kept { self.old.phase ≢ Opening → self.new.phase ≡ self.old.phase }
         ensures stands { self.old.phase ≡ Opening → ((received self.new.consumer ≡ received self.old.consumer) × (self.new.phase ≡ Opening))
@@ -98,6 +100,7 @@ impl<I: Contents> Incoming<I> {
         requires { IsSound I.holds self.old }
         ensures sound { IsSound I.holds self.new }
         ensures number { self.new.number ≡ self.old.number }
+        ensures backlogs { self.new.backlogs ≡ self.old.backlogs }
         ensures same { rest_of I.holds self.new ≡ rest_of I.holds self.old }
         ensures phase { self.new.phase ≢ Opening }
         ensures ended { self.old.phase ≡ Ended → self.new.phase ≡ Ended }
@@ -113,6 +116,7 @@ impl<I: Contents> Incoming<I> {
         requires { IsSound I.holds self.old }
         ensures sound { IsSound I.holds self.new }
         ensures number { self.new.number ≡ self.old.number }
+        ensures backlogs { self.new.backlogs ≡ self.old.backlogs }
         ensures same { rest_of I.holds self.new ≡ rest_of I.holds self.old }
         ensures phase { self.new.phase ≡ Failed }
         ensures told { received self.new.consumer ≡ received self.old.consumer }
@@ -126,10 +130,12 @@ impl<I: Contents> Incoming<I> {
         requires opening { self.old.phase ≡ Opening }
         ensures sound { IsSound I.holds self.new }
         ensures number { self.new.number ≡ self.old.number }
+        ensures backlogs { self.new.backlogs ≡ self.old.backlogs }
         ensures same { rest_of I.holds self.new ≡ rest_of I.holds self.old }
         ensures phase { self.new.phase ≢ Opening }
         ensures stands { StandsBy opened_by (received self.old.consumer) (received self.new.consumer) self.new.phase }
-        ensures patient { (arc_value self.old.backlogs).stall ≡ None → TakesNext opened_by (received self.old.consumer) (received self.new.consumer) self.new.phase }
+        ensures patient { (arc_value self.old.backlogs).stall ≡ None →
+            TakesNext opened_by (received self.old.consumer) (received self.new.consumer) self.new.phase }
     {
         let Some(message) = wait_message(rt, &self.backlogs, self.number, &mut self.consumer) else {
             return self.fail();
@@ -151,11 +157,13 @@ impl<I: Contents> Incoming<I> {
         requires going { self.old.phase ≡ Going }
         ensures sound { IsSound I.holds self.new }
         ensures number { self.new.number ≡ self.old.number }
+        ensures backlogs { self.new.backlogs ≡ self.old.backlogs }
         ensures same { rest_of I.holds self.new ≡ rest_of I.holds self.old }
         ensures some { (self.new.at < length self.new.front.items) ⊎ (self.new.phase ≢ Going) }
         ensures phase { self.new.phase ≢ Opening }
         ensures stands { StandsBy going_by (received self.old.consumer) (received self.new.consumer) self.new.phase }
-        ensures patient { (arc_value self.old.backlogs).stall ≡ None → TakesNext going_by (received self.old.consumer) (received self.new.consumer) self.new.phase }
+        ensures patient { (arc_value self.old.backlogs).stall ≡ None →
+            TakesNext going_by (received self.old.consumer) (received self.new.consumer) self.new.phase }
     {
         let Some(message) = wait_message(rt, &self.backlogs, self.number, &mut self.consumer) else {
             return self.fail();
@@ -179,6 +187,7 @@ impl<I: Contents> Incoming<I> {
         requires { IsSound I.holds self.old }
         ensures sound { IsSound I.holds self.new }
         ensures number { self.new.number ≡ self.old.number }
+        ensures backlogs { self.new.backlogs ≡ self.old.backlogs }
         ensures same { rest_of I.holds self.new ≡ rest_of I.holds self.old }
         ensures some { (self.new.at < length self.new.front.items) ⊎ (self.new.phase ≢ Going) }
         ensures phase { self.new.phase ≢ Opening }
@@ -202,6 +211,7 @@ impl<I: Contents> Incoming<I> {
         requires phase { self.old.phase ≢ Opening }
         ensures sound { IsSound I.holds self.new }
         ensures number { self.new.number ≡ self.old.number }
+        ensures backlogs { self.new.backlogs ≡ self.old.backlogs }
         ensures phase { self.new.phase ≢ Opening }
         ensures within { result ≤ length buffer.old }
         ensures some { self.old.at < length self.old.front.items → 0 < length buffer.old → 0 < result }
@@ -219,6 +229,7 @@ impl<I: Contents> Incoming<I> {
         requires phase { self.old.phase ≢ Opening }
         ensures sound { IsSound I.holds self.new }
         ensures number { self.new.number ≡ self.old.number }
+        ensures backlogs { self.new.backlogs ≡ self.old.backlogs }
         ensures phase { self.new.phase ≢ Opening }
         ensures within { result ≤ length buffer.old }
         ensures some { self.old.at < length self.old.front.items → 0 < length buffer.old → 0 < result }
@@ -236,6 +247,7 @@ impl<I: Contents> Incoming<I> {
         requires { IsSound I.holds self.old }
         ensures sound { IsSound I.holds self.new }
         ensures number { self.new.number ≡ self.old.number }
+        ensures backlogs { self.new.backlogs ≡ self.old.backlogs }
         ensures within { IfOk result (λ count. count ≤ length buffer.new) }
         ensures gave { IfOk result (λ count. Consumes (rest_of I.holds self.old) (rest_of I.holds self.new) (take count buffer.new)) }
         ensures end { IfOk result (λ count. count ≡ 0 → 0 < length buffer.new → IsAtEnd (rest_of I.holds self.new)) }
@@ -257,6 +269,7 @@ impl<I: Contents> Incoming<I> {
         requires some { (self.old.at < length self.old.front.items) ⊎ (self.old.phase ≢ Going) }
         ensures sound { IsSound I.holds self.new }
         ensures number { self.new.number ≡ self.old.number }
+        ensures backlogs { self.new.backlogs ≡ self.old.backlogs }
         ensures within { IfOk result (λ count. count ≤ length buffer.new) }
         ensures gave { IfOk result (λ count. Consumes (rest_of I.holds self.old) (rest_of I.holds self.new) (take count buffer.new)) }
         ensures end { IfOk result (λ count. count ≡ 0 → 0 < length buffer.new → IsAtEnd (rest_of I.holds self.new)) }
@@ -280,6 +293,7 @@ impl<I: Contents> Incoming<I> {
         requires some { self.old.at < length self.old.front.items }
         ensures sound { IsSound I.holds self.new }
         ensures number { self.new.number ≡ self.old.number }
+        ensures backlogs { self.new.backlogs ≡ self.old.backlogs }
         ensures within { result ≤ length buffer.new }
         ensures some { 0 < length buffer.new → 0 < result }
         ensures full { (result ≡ length buffer.new) ⊎ (length self.new.front.items ≤ self.new.at) }

@@ -1,8 +1,11 @@
 //! A thread for each input, and the sources of what they read.
 ghost use Rattle.std.specs.Prelude.{◌≡◌, [], All, Err, Ok, false, map, length, true, IfOk};
+ghost use Rattle.std.specs.Arc.{arc_value};
+ghost use Rattle.std.specs.List.{range_with_len};
 ghost use Rattle.std.specs.String.{string_bytes};
 ghost use Rattle.rtrb.specs.Ring.{received, sent};
 ghost use Rattle.read_ahead.specs.Messages.{Asks};
+ghost use Rattle.read_ahead.specs.Shares.{room_for};
 ghost use Rattle.read_ahead.specs.declared.starting.InputFault.TheVariants.{NoMemory, Unread};
 
 use crate::ahead::Ahead;
@@ -59,6 +62,9 @@ where
     F::Reader: Send + 'static,
     ensures left { IfOk result (λ sources. map (λ source. source.left) sources.items ≡ map (λ path. F.holds files path.now) paths.now) }
     ensures unread { IfOk result (λ sources. All (λ source. (source.reads ≡ 0) × (source.failures ≡ 0)) sources.items) }
+    ensures numbers { IfOk result (λ sources. map (λ source. source.number) sources.items ≡ range_with_len 0 (length paths.now)) }
+    ensures limits { IfOk result (λ sources.
+        All (λ source. (source.stall ≡ limits.stall) × (source.room ≡ room_for limits.ahead (length paths.now))) sources.items) }
 {
     open_all(rt, alloc, inputs_at(alloc, files, paths)?, limits)
 }
@@ -72,6 +78,9 @@ where
     I::Reader: Send + 'static,
     ensures left { IfOk result (λ sources. map (λ source. source.left) sources.items ≡ map I.holds inputs.items) }
     ensures unread { IfOk result (λ sources. All (λ source. (source.reads ≡ 0) × (source.failures ≡ 0)) sources.items) }
+    ensures numbers { IfOk result (λ sources. map (λ source. source.number) sources.items ≡ range_with_len 0 (length inputs.items)) }
+    ensures limits { IfOk result (λ sources.
+        All (λ source. (source.stall ≡ limits.stall) × (source.room ≡ room_for limits.ahead (length inputs.items))) sources.items) }
 {
     let backlogs = Backlogs::new(&rt, alloc, inputs.len(), limits)?;
     let mut sources = start_all(rt, alloc, &backlogs, inputs)?;
@@ -104,6 +113,9 @@ where
     I::Reader: Send + 'static,
     ensures left { IfOk result (λ sources. map (λ source. source.left) sources.items ≡ map I.holds inputs.items) }
     ensures unread { IfOk result (λ sources. All (λ source. (source.reads ≡ 0) × (source.failures ≡ 0)) sources.items) }
+    ensures numbers { IfOk result (λ sources. map (λ source. source.number) sources.items ≡ range_with_len 0 (length inputs.items)) }
+    ensures limits { IfOk result (λ sources.
+        All (λ source. (source.stall ≡ (arc_value backlogs.now).stall) × (source.room ≡ (arc_value backlogs.now).room)) sources.items) }
 {
     let mut sources = Vec::with_capacity(alloc, inputs.len())?;
     for input in inputs {
@@ -126,6 +138,9 @@ where
     ensures left { IfOk result (λ source. source.left ≡ I.holds input) }
     ensures reads { IfOk result (λ source. source.reads ≡ 0) }
     ensures failures { IfOk result (λ source. source.failures ≡ 0) }
+    ensures number { IfOk result (λ source. source.number ≡ number) }
+    ensures stall { IfOk result (λ source. source.stall ≡ (arc_value backlogs.now).stall) }
+    ensures room { IfOk result (λ source. source.room ≡ (arc_value backlogs.now).room) }
 {
     let may_wait = input.may_wait();
     let (mut producer, mut consumer) = RingBuffer::with_protocol::<Global, InOrder<I>>(

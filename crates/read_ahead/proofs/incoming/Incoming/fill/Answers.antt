@@ -18,6 +18,7 @@ loop-given-preserved g c =
       phase = c.take_some-given.ensures.phase;
       within = omega (arith, c.take_some-given.ensures.within, c.loop-given.auto.buffer, length-take (length buffer - given) (drop given buffer), length-drop given buffer, c.loop-given.invariant.within);
       number = c.take_some-given.ensures.number ∙ c.loop-given.invariant.number;
+      backlogs = c.take_some-given.ensures.backlogs ∙ c.loop-given.invariant.backlogs;
       first = λ none. absurd (search (rules, none, c.take_some-given.ensures.some));
       gave = rw grown (consumes_on (rest_of g.I.Contents.holds c.args.self.now) (rest_of g.I.Contents.holds c.loop-given.self) (rest_of g.I.Contents.holds new.self) (take given buffer) (take some new.buffer) c.loop-given.invariant.gave c.take_some-given.ensures.gave);
     }

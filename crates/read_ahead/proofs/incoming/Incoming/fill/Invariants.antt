@@ -9,6 +9,7 @@ invariant-loop-given g l = record {
   sound : IsSound g.I.Contents.holds l.self;
   phase : l.self.phase ≢ Opening;
   number : l.self.number ≡ l.initial.self.number;
+  backlogs : l.self.backlogs ≡ l.initial.self.backlogs;
   within : l.given ≤ length l.initial.buffer;
   first : l.given ≡ 0 → l.self.at < length l.self.front.items;
   gave : Consumes (rest_of g.I.Contents.holds l.initial.self) (rest_of g.I.Contents.holds l.self) (take l.given l.buffer);

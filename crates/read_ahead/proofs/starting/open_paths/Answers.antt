@@ -1,0 +1,9 @@
+use Rattle.std.proofs.Common.{◌≡◌, ◌∙◌, ap, length, sym}
+use Rattle.std.proofs.lemmas.List.{length-map}
+use Rattle.read_ahead.proofs.starting.open_paths.Goals as goal
+
+pub returns-clause-limits : goal.returns-clause-limits
+returns-clause-limits g c =
+    let same : length c.in_ok-inputs_at.field-0.items ≡ length c.args.paths.now =
+    sym (length-map _ _) ∙ (ap length c.in_ok-inputs_at.ensures ∙ length-map _ _) in
+    rw same at c.open_all.ensures.limits
