@@ -87,6 +87,7 @@ impl<'d, 's, 'r, S: Source, O: Outlet, L: Ledger, M: Ledger, R: Wait> Round<
         ensures none_read { ReadsNoneIn self.old self.new }
         ensures fair { OnOk result (IsFair self.old self.new) }
         ensures further { OnOk result ((self.old.taker.pass.count < self.new.taker.pass.count) ⊎ (missing_in self.new.collector.sequences ≡ [])) }
+        ensures dry { OnOk result (NoneReady self.new.collector) }
     {
         wait_or_seal(
             self.broadcast.held.rt,

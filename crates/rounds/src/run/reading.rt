@@ -89,7 +89,9 @@ impl<S: Source, O: Outlet> Course<S, O> {
         ensures further { OnOk result (ReadsMore self.old self.new) }
         ensures told { IfOk result (λ any. Decides any (turns_in self.old < turns_in self.new)) }
         ensures others { OthersStay r self.old self.new }
+        ensures once { OnOk result (turns_in self.new ≤ turns_in self.old + 1) }
         ensures none { OnErr result ((lane : Lane) → slice_get self.old.lanes.items r ≡ Some lane → lane.stop ≡ None) }
+        ensures unread { OnErr result (turns_at self.old r < self.old.reads) }
     {
         if !self.goes_on(r) {
             return Ok(false);
@@ -101,7 +103,7 @@ impl<S: Source, O: Outlet> Course<S, O> {
         Ok(true)
     }
 
-    /// Gives each rendition its turn that goes on and is ready. Returns whether any did.
+    /// Gives each rendition that goes on and is ready one turn. Returns whether any had one.
     pub fn read_ready(&mut self, buffer: &mut [u8]) -> Result<bool, AllocError>
         requires some { 0 < length buffer.old }
         requires short { length buffer.old ≤ PIECE }
@@ -111,6 +113,7 @@ impl<S: Source, O: Outlet> Course<S, O> {
         ensures same { OnOk result (self.new ≡ record self.old { sources = self.new.sources; lanes = self.new.lanes; turns = self.new.turns }) }
         ensures further { OnOk result (ReadsMore self.old self.new) }
         ensures told { IfOk result (λ any. Decides any (turns_in self.old < turns_in self.new)) }
+        ensures once { OnOk result (turns_in self.new ≤ turns_in self.old + length self.old.lanes.items) }
     {
         let mut any = false;
         for r in 0..self.lanes.len() {

@@ -73,3 +73,16 @@ pub returns-in_err-take_turn-clause-none : goal.returns-in_err-take_turn-clause-
 returns-in_err-take_turn-clause-none g c =
     let told = err_from_is_err_and c.from_residual.result c.from_residual.ensures.1 in
     rw told.1 (c.if-not-goes_on.ensures.going refl)
+
+pub returns-clause-once : goal.returns-clause-once
+returns-clause-once g c =
+    let same = ap (λ (d : Course _ _). turns_in d) c.if-not-is_ready.ensures.same in
+    omega (arith, same, c.in_ok-take_turn.ensures.turns)
+
+pub returns-then-not-is_ready-clause-once : goal.returns-then-not-is_ready-clause-once
+returns-then-not-is_ready-clause-once g c = omega (arith, ap (λ (d : Course _ _). turns_in d) c.if-not-is_ready.ensures.same)
+
+pub returns-in_err-take_turn-clause-unread : goal.returns-in_err-take_turn-clause-unread
+returns-in_err-take_turn-clause-unread g c =
+    let told = err_from_is_err_and c.from_residual.result c.from_residual.ensures.1 in
+    rw told.1 (c.if-not-goes_on.ensures.below refl)

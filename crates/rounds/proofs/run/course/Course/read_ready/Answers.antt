@@ -1,4 +1,4 @@
-use Rattle.std.proofs.Common.{◌∙◌, refl, ap, rules}
+use Rattle.std.proofs.Common.{◌∙◌, refl, ap, arith, rules}
 use Rattle.std.proofs.lemmas.Result.{err_from_is_err_and}
 use Rattle.rounds.specs.declared.run.course.Course.{Course}
 use Rattle.rounds.specs.Courses.{turns_in}
@@ -21,6 +21,7 @@ loop-r-preserved g c = record {
   count = c.in_ok-any.ensures.count ∙ c.loop-r.invariant.count;
   further = more-then _ _ _ c.loop-r.invariant.further c.in_ok-any.ensures.further;
   told = had-then _ _ _ _ _ c.loop-r.invariant.further.more c.in_ok-any.ensures.further.more c.loop-r.invariant.told c.in_ok-any.ensures.told;
+  once = omega (arith, c.loop-r.invariant.once, c.in_ok-any.ensures.once);
   buffer = search rules;
 }
 
@@ -31,5 +32,6 @@ loop-r-init g c = record {
   count = refl;
   further = more-none c.args.self.now;
   told = none-had (turns_in c.args.self.now);
+  once = omega arith;
   buffer = refl;
 }

@@ -1,4 +1,4 @@
-use Rattle.std.proofs.Common.{◌≡◌, ◌<◌, length}
+use Rattle.std.proofs.Common.{◌≡◌, ◌+◌, ◌<◌, ◌≤◌, length}
 use Rattle.std.specs.Prelude.{Decides}
 use Rattle.rounds.specs.Courses.{ReadsMore, ReadsOn, turns_in}
 use Rattle.rounds.proofs.run.course.Course.read_ready.Given as goal
@@ -10,5 +10,6 @@ invariant-loop-r g l = record {
   count : length l.self.lanes.items ≡ length l.fn.self.lanes.items;
   further : ReadsMore l.fn.self l.self;
   told : Decides l.any (turns_in l.fn.self < turns_in l.self);
+  once : turns_in l.self ≤ turns_in l.fn.self + l.r;
   buffer : length l.buffer ≡ length l.fn.buffer;
 }
