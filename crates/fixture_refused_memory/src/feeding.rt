@@ -13,7 +13,8 @@ use std::sync::ledger::{Blank, Ledger};
 fn feed<'s, L: Ledger, M: Ledger>(queue: &mut Queue<'s, L, M>, plan: PlanRef<'s>) -> &'static str {
     let before = queue.outstanding();
     let back = match queue.feed(plan) {
-        Ok(()) => return "at once",
+        Ok(fed) if fed.plan().same(plan) => return "at once",
+        Ok(_) => return "wrong",
         Err(FeedFault::NoMemory(back)) => back,
         Err(_) => return "wrong",
     };

@@ -1,11 +1,11 @@
 -- A segment is collected.
-use Rattle.std.proofs.Common.{◌≡◌, ◌∙◌, ◌⊎◌, inl, inr, ℕ, zero, suc, ◌+◌, ◌-◌, ◌<◌, ◌≤◌, true, false, List, [], ◌∷◌, length, Some, None, refl, ap, sym, arith}
+use Rattle.std.proofs.Common.{◌≡◌, ◌∙◌, ◌⊎◌, inl, inr, ℕ, zero, suc, ◌+◌, ◌-◌, ◌<◌, ◌≤◌, true, false, List, [], ◌∷◌, length, Some, None, refl, ap, sym, subst, arith}
 use Rattle.std.specs.Prelude.{nat_lt}
 use Rattle.std.specs.List.{slice_get, slice_set, slice_index_or}
-use Rattle.std.proofs.lemmas.List.{length-append, length-set, nil_from_length}
+use Rattle.std.proofs.lemmas.List.{get_or-set_same, length-append, length-set, nil_from_length}
 use Rattle.std.proofs.lemmas.Bool.{cases_eq}
 use Rattle.std.proofs.lemmas.Bool.Decides.{nat_tests}
-use Rattle.std.proofs.lemmas.Option.{get_or_from_slice_get}
+use Rattle.std.proofs.lemmas.Option.{get_or_from_slice_get, slice_get_within}
 use Rattle.std.proofs.Math.Seq.{map-set_same}
 use Rattle.cutter.specs.Plans.{SegmentPlan}
 use Rattle.segment_job.specs.Rotation.{KeyRotation}
@@ -137,6 +137,35 @@ own-right ladder g plan keys has lacks is =
       expected = lacks.expected;
       sealed = ap (λ (k : KeyRotation). sealed_segment k plan) (is ∙ sym (has.keys plan.rendition within));
     }
+
+-- a segment that was put in its place is lacking no more
+segment-stands : (sequence : SequenceValue) (segment : SealedSegment) → segment.plan.number - sequence.next < length sequence.slots
+    → Lacks (with_segment sequence segment) segment.plan → ⊥
+segment-stands sequence segment within lacks =
+    let i = segment.plan.number - sequence.next in
+    let slot : Slot = record { plan = segment.plan; segment = Some segment } in
+    let bare : Slot = record { plan = segment.plan; segment = None } in
+    let at = get_or_from_slice_get (slice_set sequence.slots i slot) i bare bare lacks.expected in
+    let here = get_or-set_same sequence.slots i slot bare within in
+    cc (ap (λ (s : Slot). s.segment) (sym here ∙ at))
+
+right-stands : (g h : Gathering) (segment : SealedSegment) → IsRight (sequence_at g segment.plan.rendition) segment
+    → h ≡ with_sequence g segment.plan.rendition (with_segment (sequence_at g segment.plan.rendition) segment)
+    → Lacks (sequence_at h segment.plan.rendition) segment.plan → ⊥
+right-stands g h segment right is lacks =
+    let r = segment.plan.rendition in
+    let sequence = sequence_at g r in
+    let i = segment.plan.number - sequence.next in
+    let within = inside g r i _ right.expected in
+    let here = ap (λ (x : Gathering). sequence_at x r) is ∙ sequence-same g r r (with_segment sequence segment) within refl in
+    segment-stands sequence segment (slice_get_within sequence.slots i _ right.expected) (subst (λ (s : SequenceValue). Lacks s segment.plan) here lacks)
+
+-- of a plan that was sealed under the ladder's keys and collected the segment isn't lacking
+pub own-stands : (ladder : Ladder) (g h : Gathering) (plan : SegmentPlan) (keys : KeyRotation) → HasKeys ladder g → keys ≡ (rendition_at ladder plan.rendition).keys
+    → Collects g (sealed_segment keys plan) h → Lacks (sequence_at h plan.rendition) plan → ⊥
+own-stands ladder g h plan keys has is collects lacks =
+    let not : IsRight (sequence_at g plan.rendition) (sealed_segment keys plan) → ⊥ = λ right. right-stands g h (sealed_segment keys plan) right (collects.right right) lacks in
+    not (own-right ladder g plan keys has (subst (λ (x : Gathering). Lacks (sequence_at x plan.rendition) plan) (collects.wrong not) lacks) is)
 
 -- one segment more
 segments-set : (slots : List Slot) (i : ℕ) (plan : SegmentPlan) (slot : Slot) → slice_get slots i ≡ Some (record { plan = plan; segment = None }) → slot.segment ≡ None → (segment : SealedSegment)

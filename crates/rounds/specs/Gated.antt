@@ -1,5 +1,5 @@
 -- What the calling thread asks the gate: nothing is sealed without it, and what it tells of it is the gate's own word.
-use Rattle.std.specs.Prelude.{◌≡◌, ◌⊎◌, ℕ, ◌<◌, length, Result, Ok, Err, IsOk, IsErrOf, MatchResult}
+use Rattle.std.specs.Prelude.{◌≡◌, ◌⊎◌, ℕ, ◌<◌, length, Option, Some, None, Result, Ok, Err, IsErrOf, MatchResult}
 use Rattle.cutter.specs.Plans.{SegmentPlan}
 use Rattle.flow_core.specs.declared.fault.FeedFault.{FeedFault}
 use Rattle.flow_core.specs.declared.fault.FeedFault.TheVariants.{Full, Closed, Twice, NoMemory as HadNone}
@@ -20,10 +20,16 @@ IsUnheld fault = (r n : ℕ) → fault ≡ Held r n → ⊥
 abbrev pub IsHeldBack : (stops : ℕ → ℕ → Type 0) → PackFault → Type 0
 IsHeldBack stops fault = (r n : ℕ) × (fault ≡ Held r n) × stops r n
 
--- the calling thread sealed a plan that was let through: a collector that lacked its segment lacks fewer now
+-- the calling thread sealed a plan that was let through: a collector lacks its segment no more, and fewer than before if it did
 pub record SealsOwn (lets : ℕ → ℕ → Type 0) (plan : SegmentPlan) (old new : Gathering) : Type 0 where
   pub passed : lets plan.rendition plan.number
   pub fewer : Lacks (sequence_at old plan.rendition) plan → length (missing_in new.sequences) < length (missing_in old.sequences)
+  pub has : Lacks (sequence_at new plan.rendition) plan → ⊥
+
+-- a plan is in good hands: the desk has it, as its receipt says, or it was let through and the collector has its segment
+abbrev pub IsHandedOn : (lets : ℕ → ℕ → Type 0) → SegmentPlan → Gathering → Option SegmentPlan → Type 0
+IsHandedOn lets plan g (Some fed) = fed ≡ plan
+IsHandedOn lets plan g None = lets plan.rendition plan.number × (Lacks (sequence_at g plan.rendition) plan → ⊥)
 
 -- it didn't seal a plan: the plan was held back, as the gate stops it, or was let through, and memory was wanting
 abbrev pub IsUnsealed : (lets stops : ℕ → ℕ → Type 0) → SegmentPlan → PackFault → Type 0
@@ -34,14 +40,16 @@ IsUnsealed lets stops plan fault =
 abbrev pub IsLeft : (lets stops : ℕ → ℕ → Type 0) → Gathering → PackFault → Type 0
 IsLeft lets stops g fault = (plan : SegmentPlan) × Lacks (sequence_at g plan.rendition) plan × IsUnsealed lets stops plan fault
 
--- it sealed a plan, or tells why not
-abbrev pub SealsOrTells : (lets stops : ℕ → ℕ → Type 0) → SegmentPlan → Gathering → Gathering → Result (Unit {0}) PackFault → Type 0
-SealsOrTells lets stops plan old new result = MatchResult result (λ done. SealsOwn lets plan old new) (λ fault. IsUnsealed lets stops plan fault × (new ≡ old))
+-- it sealed a plan, for which there is no receipt, or tells why not
+abbrev pub SealsOrTells : (lets stops : ℕ → ℕ → Type 0) → SegmentPlan → Gathering → Gathering → Result (Option SegmentPlan) PackFault → Type 0
+SealsOrTells lets stops plan old new result =
+    MatchResult result (λ fed. (fed ≡ None) × SealsOwn lets plan old new) (λ fault. IsUnsealed lets stops plan fault × (new ≡ old))
 
--- What follows from a desk's answer to a plan: one that it took is left to the workers, its want of memory is told, and one that it
--- refused is sealed by the calling thread.
-abbrev pub Follows : (lets stops : ℕ → ℕ → Type 0) → SegmentPlan → Gathering → Gathering → Result (Unit {0}) FeedFault → Result (Unit {0}) PackFault → Type 0
-Follows lets stops plan old new (Ok done) result = IsOk result × (new ≡ old)
+-- What follows from a desk's answer to a plan: one that it took is left to the workers, and its receipt handed on; its want of memory
+-- is told; and one that it refused is sealed by the calling thread.
+abbrev pub Follows : (lets stops : ℕ → ℕ → Type 0) → SegmentPlan → Gathering → Gathering
+    → Result SegmentPlan FeedFault → Result (Option SegmentPlan) PackFault → Type 0
+Follows lets stops plan old new (Ok fed) result = (result ≡ Ok (Some fed)) × (new ≡ old)
 Follows lets stops plan old new (Err (HadNone back)) result = IsErrOf result NoMemory × (new ≡ old)
 Follows lets stops plan old new (Err (Full back)) result = SealsOrTells lets stops plan old new result
 Follows lets stops plan old new (Err (Closed back)) result = SealsOrTells lets stops plan old new result

@@ -3,7 +3,7 @@
 ghost use Rattle.std.specs.Prelude.{◌≡◌};
 
 use crate::fixtures::Things;
-use crate::told::{Told, claimed, ended, fed, given};
+use crate::told::{Told, claimed, ended, given, queued};
 use Event::{Claim as Claims, Close, Deliver, Feed, Hold, Look, Refuse, Stop, Take};
 use Told::{Claimed, Closed, Done, Full, Held, Nothing, Refused, Sealed, Seen, Twice};
 use flow_core::{Claim, Queue};
@@ -49,8 +49,8 @@ impl<'s, L: Ledger, M: Ledger> Hands<'s, L, M> {
         let Some(plan) = things.plans.get(at) else {
             return Nothing;
         };
-        match fed(self.queue.feed(plan.lend())) {
-            Told::NoMemory(_) => fed(self.queue.feed(plan.lend())),
+        match queued(self.queue.feed(plan.lend()), plan.lend()) {
+            Told::NoMemory(_) => queued(self.queue.feed(plan.lend()), plan.lend()),
             told => told,
         }
     }

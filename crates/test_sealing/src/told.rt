@@ -3,7 +3,7 @@
 ghost use Rattle.std.specs.Prelude.{◌<◌, vec_len, vec_capacity};
 
 use cutter::PlanRef;
-use flow_core::{Claim, CollectFault, Collected, Delivery, FeedFault, Outcome};
+use flow_core::{Claim, CollectFault, Collected, Delivery, Fed, FeedFault, Outcome};
 
 /// A plan, by its rendition and its number.
 pub(crate) type Name = (usize, u64);
@@ -52,6 +52,15 @@ pub(crate) fn fed(answer: Result<(), FeedFault<'_>>) -> Told {
         Err(FeedFault::Closed(back)) => Told::Closed(name(back)),
         Err(FeedFault::Twice(back)) => Told::Twice(name(back)),
         Err(FeedFault::NoMemory(back)) => Told::NoMemory(name(back)),
+    }
+}
+
+/// What is told of a plan that is fed to a queue. A receipt for another plan is told as nothing.
+pub(crate) fn queued(answer: Result<Fed<'_>, FeedFault<'_>>, plan: PlanRef<'_>) -> Told {
+    match answer {
+        Ok(receipt) if receipt.plan().same(plan) => Told::Done,
+        Ok(_) => Told::Nothing,
+        Err(fault) => fed(Err(fault)),
     }
 }
 

@@ -93,7 +93,7 @@ fn feed_one<'p, L: Ledger, M: Ledger, R: Wait>(
 ) {
     for _ in rt.forever() {
         match desk.feed(rt, plan) {
-            Ok(()) => return,
+            Ok(_) => return,
             Err(FeedFault::Full(_)) => {}
             Err(_) => {
                 taken.is_wrong();

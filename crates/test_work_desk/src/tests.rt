@@ -184,7 +184,7 @@ fn feed<'s, L: Ledger, M: Ledger, R: Wait>(
     plan: PlanRef<'s>,
 ) -> (&'static str, u64) {
     match desk.feed(rt, plan) {
-        Ok(()) => ("waits", plan.number),
+        Ok(fed) => ("waits", fed.plan().number),
         Err(FeedFault::Full(back)) => ("full", back.number),
         Err(FeedFault::Closed(back)) => ("closed", back.number),
         Err(FeedFault::Twice(back)) => ("twice", back.number),

@@ -8,7 +8,7 @@ ghost use Rattle.work_desk.specs.Waiting.{GivesBack};
 use crate::pass::Pass;
 use crate::steps::{claim, claim_more, deliver, take, take_awaited, taker_waits, workers_wait};
 use cutter::PlanRef;
-use flow_core::{Claim, Delivery, FeedFault, Outcome, Queue};
+use flow_core::{Claim, Delivery, Fed, FeedFault, Outcome, Queue};
 use std::alloc::{AllocError, Global};
 use std::sync::atomic::{AtomicUsize, Ordering};
 use std::sync::ledger::{Blank, Ledger, Share};
@@ -90,9 +90,10 @@ impl<'s, L: Ledger, M: Ledger> Desk<'s, L, M> {
         })
     }
 
-    /// A plan waits for a worker from now on. Where it may not, it comes back.
-    pub fn feed<R: Wait>(&self, rt: &R, plan: PlanRef<'s>) -> Result<(), FeedFault<'s>>
-        ensures { IfErr result (GivesBack (lent plan.entry)) }
+    /// A plan waits for a worker from now on, and its receipt is returned. Where it may not, the plan comes back.
+    pub fn feed<R: Wait>(&self, rt: &R, plan: PlanRef<'s>) -> Result<Fed<'s>, FeedFault<'s>>
+        ensures fed { IfOk result (λ fed. fed ≡ lent plan.entry) }
+        ensures back { IfErr result (GivesBack (lent plan.entry)) }
     {
         let answer = self.queue.lock(rt).feed(plan);
         self.fed.notify_one();

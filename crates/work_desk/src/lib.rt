@@ -15,7 +15,7 @@ mod steps;
 mod worker;
 
 pub use desk::{Desk, Opened};
-pub use flow_core::{Claim, Delivery, FeedFault, Outcome};
+pub use flow_core::{Claim, Delivery, Fed, FeedFault, Outcome};
 pub use gate::{FreeGate, Gate};
 pub use pass::{Pass, Tally};
 pub use worker::work;

@@ -1,19 +1,19 @@
 //! Feeding: the collector expects each plan of the full spools, and the plan goes to the desk or is sealed on this thread.
 
-ghost use Rattle.std.specs.Prelude.{◌≡◌, ◌≢◌, ◌⊎◌, ◌<◌, ◌≤◌, [], IfErr, OnErr, OnOk, length};
+ghost use Rattle.std.specs.Prelude.{◌≡◌, ◌≢◌, ◌⊎◌, ◌<◌, ◌≤◌, [], IfErr, IfOk, OnErr, OnOk, length};
 ghost use Rattle.cutter.specs.Lent.{lent};
 ghost use Rattle.flow_core.specs.Gatherings.{awaited, sequence_at, with_sequence};
 ghost use Rattle.flow_core.specs.Sequences.{following, with_plan};
 ghost use Rattle.ladder_items.specs.declared.fault.PackFault.TheVariants.{NoMemory};
 ghost use Rattle.rounds.specs.Rounds.{Breaks, BreaksAll, BreaksSpool, FeedsAll, FeedsPlan, FeedsSpool, HasAllUnfed, IsFirstUnfed, IsUnfed};
-ghost use Rattle.rounds.specs.Gated.{IsGatesWord, IsUnsealed};
+ghost use Rattle.rounds.specs.Gated.{IsGatesWord, IsHandedOn, IsUnsealed};
 ghost use Rattle.rounds.specs.Rounds.{HasKeys, IsFair, Keeps, ReadsNoneIn, gathered};
 ghost use Rattle.limits.specs.declared.TheConstants.{LAST_SEGMENT};
 
 use crate::round::machine::Round;
 use crate::round::sealer::Sealer;
 use cutter::{PlanRef, Spool};
-use flow_core::Collector;
+use flow_core::{Collector, Fed};
 use item_io::{Outlet, Source};
 use ladder_items::{PackFault, Settings};
 use std::sync::Wait;
@@ -76,17 +76,19 @@ impl<'d, 's, 'r, S: Source, O: Outlet, L: Ledger, M: Ledger, R: Wait> Round<
         Ok(())
     }
 
-    /// Feeds the first plan of rendition `r` that hasn't been fed, once there is room for it.
+    /// Feeds the first plan of rendition `r` that hasn't been fed, once there is room for it. Returns the desk's receipt, or None
+    /// where it was sealed on this thread.
     fn feed_plan<G: Gate>(
         &mut self,
         sealer: &Sealer<'_, G>,
         settings: &Settings,
         r: usize,
         plan: PlanRef<'s>,
-    ) -> Result<(), PackFault>
+    ) -> Result<Option<Fed<'s>>, PackFault>
         requires within { r < length settings.now.renditions }
         requires somewhere { IsFirstUnfed S.input O.output settings.now r (lent plan) self.old }
         ensures ok { OnOk result (FeedsPlan S.input O.output settings.now r (lent plan.entry) self.old self.new) }
+        ensures handed { IfOk result (IsHandedOn (G.lets sealer.now.gate.now) (lent plan.entry) self.new.collector) }
         ensures err { IfErr result (Breaks S.input O.output settings.now self.old self.new) }
         ensures held { IfErr result (IsGatesWord (G.stops sealer.now.gate.now)) }
         ensures none_read { ReadsNoneIn self.old self.new }
@@ -94,7 +96,7 @@ impl<'d, 's, 'r, S: Source, O: Outlet, L: Ledger, M: Ledger, R: Wait> Round<
     {
         self.make_room(sealer, settings)?;
         expect(&mut self.collector, plan)?;
-        offer(
+        let fed = offer(
             self.broadcast.held.rt,
             sealer,
             settings,
@@ -102,7 +104,7 @@ impl<'d, 's, 'r, S: Source, O: Outlet, L: Ledger, M: Ledger, R: Wait> Round<
             plan,
             &mut self.collector,
         )?;
-        Ok(())
+        Ok(fed)
     }
 }
 
@@ -122,7 +124,7 @@ fn expect<'s>(collector: &mut Collector<'s>, plan: PlanRef<'s>) -> Result<(), Pa
     }
 }
 
-/// Offers a plan to the workers. If the desk refuses it, it is sealed on this thread.
+/// Offers a plan to the workers. If the desk refuses it, it is sealed on this thread, without a receipt.
 fn offer<'s, G: Gate, L: Ledger, M: Ledger, R: Wait>(
     rt: &R,
     sealer: &Sealer<'_, G>,
@@ -130,10 +132,11 @@ fn offer<'s, G: Gate, L: Ledger, M: Ledger, R: Wait>(
     desk: &Desk<'s, L, M>,
     plan: PlanRef<'s>,
     collector: &mut Collector<'s>,
-) -> Result<(), PackFault>
+) -> Result<Option<Fed<'s>>, PackFault>
     requires keys { HasKeys settings.now collector.old }
     ensures keeps { Keeps collector.old collector.new }
     ensures more { gathered collector.old.sequences ≤ gathered collector.new.sequences }
+    ensures handed { IfOk result (IsHandedOn (G.lets sealer.now.gate.now) (lent plan.entry) collector.new) }
     ensures fault { IfErr result (λ fault. (fault ≡ NoMemory) ⊎ IsUnsealed (G.lets sealer.now.gate.now) (G.stops sealer.now.gate.now) (lent plan.entry) fault) }
 {
     let answer = desk.feed(rt, plan);

@@ -12,7 +12,7 @@ ghost use Rattle.rounds.specs.Rounds.{HasKeys, Keeps, gathered};
 
 use crate::round::sealer::Sealer;
 use cutter::PlanRef;
-use flow_core::{Collector, Delivery, FeedFault, Outcome};
+use flow_core::{Collector, Delivery, Fed, FeedFault, Outcome};
 use ladder_items::{PackFault, Settings};
 use segment_job::{Sealed, seal_plan};
 use work_desk::Gate;
@@ -108,26 +108,27 @@ impl<'g, G: Gate> Sealer<'g, G> {
         Ok(())
     }
 
-    /// Does what the desk's answer to a plan asks for: a plan that the desk took is left to the workers, want of memory is told,
-    /// and a plan that it refused is sealed on this thread.
+    /// Does what the desk's answer to a plan asks for: a plan that the desk took is left to the workers, and its receipt returned;
+    /// want of memory is told; and a plan that it refused is sealed on this thread, without a receipt.
     #[tactic(auto, using(crate::proofs::Collecting::keeps_same))]
     pub fn follow<'s>(
         &self,
-        answer: Result<(), FeedFault<'s>>,
+        answer: Result<Fed<'s>, FeedFault<'s>>,
         settings: &Settings,
         plan: PlanRef<'s>,
         collector: &mut Collector<'s>,
-    ) -> Result<(), PackFault>
+    ) -> Result<Option<Fed<'s>>, PackFault>
         requires keys { HasKeys settings.now collector.old }
         ensures keeps { Keeps collector.old collector.new }
         ensures more { gathered collector.old.sequences ≤ gathered collector.new.sequences }
         ensures follows { Follows (G.lets self.now.gate.now) (G.stops self.now.gate.now) (lent plan.entry) collector.old collector.new answer.entry result }
     {
         match answer {
-            Ok(()) => Ok(()),
+            Ok(fed) => Ok(Some(fed)),
             Err(FeedFault::NoMemory(_)) => Err(PackFault::NoMemory),
             Err(FeedFault::Full(_) | FeedFault::Closed(_) | FeedFault::Twice(_)) => {
-                self.seal_own(settings, plan, collector)
+                self.seal_own(settings, plan, collector)?;
+                Ok(None)
             }
         }
     }

@@ -57,11 +57,11 @@ offer-requires g c =
     let there = in-expect _ _ _ _ _ some.0 some.1 _ _ _ now c.args.r c.requires.within (lent c.args.plan) some.2 some.4 _ made in
     record { keys = record { each = there.each; keys = there.keys } }
 
-pub returns-in_err-offer-clause-err : goal.returns-in_err-offer-clause-err
-returns-in_err-offer-clause-err g c =
-    let told = err_from_is_err_and c.from_residual-in_err-offer.result c.from_residual-in_err-offer.ensures.1 in
+pub returns-in_err-fed-clause-err : goal.returns-in_err-fed-clause-err
+returns-in_err-fed-clause-err g c =
+    let told = err_from_is_err_and c.from_residual-in_err-fed.result c.from_residual-in_err-fed.ensures.1 in
     rw (told.1, told.2) (λ start unfed now. in-stopped _ _ _ _ _ start unfed _ _ _ _
-    (offered-sudden (g.G.Gate.lets c.args.sealer.now.gate.now) (g.G.Gate.stops c.args.sealer.now.gate.now) (lent c.args.plan) _ (g.O.Outlet.output.failures c.make_room.new.self.broadcast.course.outlet) c.in_err-offer.ensures.fault) (c.in_ok-make_room.ensures.ok start unfed now))
+    (offered-sudden (g.G.Gate.lets c.args.sealer.now.gate.now) (g.G.Gate.stops c.args.sealer.now.gate.now) (lent c.args.plan) _ (g.O.Outlet.output.failures c.make_room.new.self.broadcast.course.outlet) c.in_err-fed.ensures.fault) (c.in_ok-make_room.ensures.ok start unfed now))
 
 pub returns-clause-ok : goal.returns-clause-ok
 returns-clause-ok g c start unfed left is old =
@@ -69,7 +69,7 @@ returns-clause-ok g c start unfed left is old =
     let now = c.in_ok-make_room.ensures.ok start unfed old in
     let p = plan-follows _ _ _ _ _ start unfed _ _ _ now c.args.r c.requires.within (lent c.args.plan) left is order in
     let made = subst (λ k. c.expect.new.collector ≡ with_sequence c.make_room.new.self.collector k (with_plan (sequence_at c.make_room.new.self.collector k) (lent c.args.plan))) p.rendition c.in_ok-expect.ensures.ok in
-    in-keeps _ _ _ _ _ start _ _ _ _ _ c.in_ok-offer.ensures.keeps (in-expect _ _ _ _ _ start unfed _ _ _ now c.args.r c.requires.within (lent c.args.plan) left is _ made)
+    in-keeps _ _ _ _ _ start _ _ _ _ _ c.in_ok-fed.ensures.keeps (in-expect _ _ _ _ _ start unfed _ _ _ now c.args.r c.requires.within (lent c.args.plan) left is _ made)
 
 pub returns-clause-fair : goal.returns-clause-fair
 returns-clause-fair g c =
@@ -78,7 +78,7 @@ returns-clause-fair g c =
     let now = c.in_ok-make_room.ensures.ok some.0 some.1 some.3 in
     let p = plan-follows _ _ _ _ _ some.0 some.1 _ _ _ now c.args.r c.requires.within (lent c.args.plan) some.2 some.4 order in
     let same = expects-gathered _ _ _ _ (omega (arith, p.rendition, c.requires.within, now.each)) c.in_ok-expect.ensures.ok in
-    omega (arith, c.in_ok-make_room.ensures.fair, same, c.in_ok-offer.ensures.more)
+    omega (arith, c.in_ok-make_room.ensures.fair, same, c.in_ok-fed.ensures.more)
 
 pub returns-in_err-make_room-clause-held : goal.returns-in_err-make_room-clause-held
 returns-in_err-make_room-clause-held g c =
@@ -90,7 +90,7 @@ returns-in_err-expect-clause-held g c =
     let told = err_from_is_err_and c.from_residual-in_err-expect.result c.from_residual-in_err-expect.ensures.1 in
     rw (told.1, told.2) (none-word _ _ c.in_err-expect.ensures.fault)
 
-pub returns-in_err-offer-clause-held : goal.returns-in_err-offer-clause-held
-returns-in_err-offer-clause-held g c =
-    let told = err_from_is_err_and c.from_residual-in_err-offer.result c.from_residual-in_err-offer.ensures.1 in
-    rw (told.1, told.2) (offered-word (g.G.Gate.lets c.args.sealer.now.gate.now) _ (lent c.args.plan) _ c.in_err-offer.ensures.fault)
+pub returns-in_err-fed-clause-held : goal.returns-in_err-fed-clause-held
+returns-in_err-fed-clause-held g c =
+    let told = err_from_is_err_and c.from_residual-in_err-fed.result c.from_residual-in_err-fed.ensures.1 in
+    rw (told.1, told.2) (offered-word (g.G.Gate.lets c.args.sealer.now.gate.now) _ (lent c.args.plan) _ c.in_err-fed.ensures.fault)
