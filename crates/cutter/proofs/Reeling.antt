@@ -1,7 +1,7 @@
 -- A reel whose body grows, or is closed.
 use Rattle.std.proofs.Common.{◌≡◌, ◌∙◌, ℕ, ◌+◌, ◌-◌, true, false, List, [], ◌∷◌, ◌++◌, length, drop, None, refl, sym, ap, subst, arith}
 use Rattle.std.specs.Prelude.{slice_range}
-use Rattle.std.proofs.lemmas.List.{append-nil, length-append, drop-append-le}
+use Rattle.std.proofs.lemmas.List.{append-nil, length-append, length-drop, drop-append-le}
 use Rattle.pes_time.specs.declared.clock.Stamp.{Stamp}
 use Rattle.cutter.specs.Plans.{SegmentPlan}
 use Rattle.cutter.specs.Points.{Mark}
@@ -10,8 +10,8 @@ use Rattle.cutter.specs.declared.plan.Frame.{Frame}
 use Rattle.cutter.specs.declared.reel.Row.{Row}
 use Rattle.cutter.specs.declared.reel.Reel.TheInside.{Inside}
 use Rattle.cutter.specs.Framing.{framed, end_of, pending_at, IsWithin}
-use Rattle.cutter.specs.Reels.{Filled, labelled, plan_in, plans_in, AreWithin, AreInFront, filled_by, IsLaid}
-use Rattle.cutter.proofs.Rows.{within_more, within_last, within_less, front_last, front_less, front_same, pending_more, part_more, rows_more, rows_last, past_is, past_more, rest_is}
+use Rattle.cutter.specs.Reels.{Filled, labelled, plan_in, plans_in, AreWithin, AreJoined, filled_by, unfilled, IsLaid}
+use Rattle.cutter.proofs.Rows.{within_more, within_last, within_less, alone_in_front, joined_last, joined_less, front_same, pending_more, part_more, rows_more, rows_last, past_is, past_more, rest_is}
 
 -- there are these bytes and I-frames more
 pub record Grows (s t : Inside) (more : List ℕ) (others : List Frame) : Type 0 where
@@ -49,7 +49,7 @@ longer_laid s t more others laid l pending =
       body = omega (arith, b, l.body_at, laid.body);
       frames = omega (arith, f, l.frames_at, laid.frames);
       pending = pending;
-      front = rw (l.rows, l.body_at, l.frames_at) laid.front;
+      joined = rw (l.rows, l.body_at, l.frames_at) laid.joined;
     }
 
 -- the I-frame that went on still lies in the body
@@ -114,7 +114,8 @@ ends_laid s t row more others laid e pending =
       body = omega (arith, b, e.next_at);
       frames = omega (arith, e.next_frames_at);
       pending = pending_more t.pending 0 _ (omega arith) pending;
-      front = rw e.rows (front_last s.body_at s.frames_at t.body_at t.frames_at s.rows.items row laid.front e.at e.frames_at);
+      joined = rw e.rows (joined_last 0 0 s.body_at s.frames_at t.body_at t.frames_at s.rows.items row laid.joined e.at e.frames_at
+          (e.end ∙ sym e.next_at) (e.frames_end ∙ sym e.next_frames_at));
     }
 
 pub ends_is : (s t : Inside) (row : Row) (more : List ℕ) (others : List Frame) → IsLaid s → Ends s t row more others → filled_by t ≡ record {
@@ -153,7 +154,7 @@ reopens_laid s t row laid r =
       body = rw (r.bytes, r.at) within.1;
       frames = rw (r.frames, r.frames_at) within.2;
       pending = rw r.pending tt;
-      front = rw (r.at, r.frames_at) (front_less s.body_at s.frames_at t.rows.items row (subst (AreInFront s.body_at s.frames_at) r.rows laid.front));
+      joined = rw (r.at, r.frames_at) (joined_less 0 0 s.body_at s.frames_at t.rows.items row (subst (AreJoined 0 0 s.body_at s.frames_at) r.rows laid.joined));
     }
 
 pub reopens_is : (s t : Inside) (v : Filled) (row : Row) (plans : List SegmentPlan) (last : SegmentPlan) → filled_by s ≡ v → Reopens s t row → v.plans ≡ plans ++ last ∷ []
@@ -162,3 +163,58 @@ reopens_is s t v row plans last is r whole =
     let same : plans_in t.bytes.items t.frames.items t.rows.items ≡ plans_in s.bytes.items s.frames.items t.rows.items = λ i. plans_in (r.bytes i).items (r.frames i).items t.rows.items in
     same ∙ front_same _ plans (plan_in s.bytes.items s.frames.items row) last
     (sym (rows_last s.bytes.items s.frames.items t.rows.items row) ∙ ap (plans_in s.bytes.items s.frames.items) (sym r.rows) ∙ ap (λ (f : Filled). f.plans) is ∙ whole)
+
+-- an emptied one into which the body that goes on in another was copied
+pub record Copies (s o t : Inside) : Type 0 where
+  pub emptied : filled_by s ≡ unfilled
+  pub bytes : t.bytes.items ≡ s.bytes.items ++ slice_range o.bytes.items o.body_at (length o.bytes.items)
+  pub frames : t.frames.items ≡ s.frames.items ++ slice_range o.frames.items o.frames_at (length o.frames.items)
+  pub rows : t.rows ≡ s.rows
+  pub body_at : t.body_at ≡ s.body_at
+  pub frames_at : t.frames_at ≡ s.frames_at
+  pub pending : t.pending ≡ o.pending
+
+-- in which there is no plan, so that its body lies in front
+pub record IsCopy (o t : Inside) : Type 0 where
+  pub rows : t.rows.items ≡ []
+  pub body_at : t.body_at ≡ 0
+  pub frames_at : t.frames_at ≡ 0
+  pub bytes : t.bytes.items ≡ drop o.body_at o.bytes.items
+  pub frames : t.frames.items ≡ drop o.frames_at o.frames.items
+
+copies : (s o t : Inside) → IsLaid s → Copies s o t → IsCopy o t
+copies s o t laid c =
+    let alone = alone_in_front s.bytes.items s.frames.items s.body_at s.frames_at s.rows.items laid.joined (ap (λ (f : Filled). f.plans) c.emptied) in
+    let none : s.bytes.items ≡ [] = sym (ap (λ n. drop n s.bytes.items) alone.1) ∙ ap (λ (f : Filled). f.body) c.emptied in
+    let no_frames : s.frames.items ≡ [] = sym (ap (λ n. drop n s.frames.items) alone.2) ∙ ap (λ (f : Filled). f.framing.ended) c.emptied in
+    record {
+      rows = ap (λ rows. rows.items) c.rows ∙ alone.0;
+      body_at = c.body_at ∙ alone.1;
+      frames_at = c.frames_at ∙ alone.2;
+      bytes = c.bytes ∙ (λ i. none i ++ rest_is o.bytes.items o.body_at i);
+      frames = c.frames ∙ (λ i. no_frames i ++ rest_is o.frames.items o.frames_at i);
+    }
+
+pub copied_laid : (s o t : Inside) → IsLaid s → IsLaid o → Copies s o t → IsLaid t
+copied_laid s o t laid other c =
+    let k = copies s o t laid c in
+    let len : length t.bytes.items ≡ length o.bytes.items - o.body_at = ap (λ (l : List ℕ). length l) k.bytes ∙ length-drop o.body_at o.bytes.items in
+    record {
+      within = rw k.rows tt;
+      body = omega (arith, k.body_at);
+      frames = omega (arith, k.frames_at);
+      pending = rw c.pending (pending_more o.pending _ _ (omega (arith, len, k.body_at)) other.pending);
+      joined = rw k.rows (k.body_at, k.frames_at);
+    }
+
+pub copied_is : (s o t : Inside) (v : Filled) → IsLaid s → filled_by o ≡ v → Copies s o t → filled_by t ≡ record v { plans = [] }
+copied_is s o t v laid is c =
+    let k = copies s o t laid c in
+    let whole : length t.bytes.items ≡ length o.bytes.items - o.body_at = ap (λ (l : List ℕ). length l) k.bytes ∙ length-drop o.body_at o.bytes.items in
+    let len : length t.bytes.items - t.body_at ≡ length o.bytes.items - o.body_at = omega (arith, whole, k.body_at) in
+    let at : filled_by t ≡ record (filled_by o) { plans = [] } = λ i. record {
+      plans = plans_in t.bytes.items t.frames.items (k.rows i);
+      body = drop (k.body_at i) (k.bytes i);
+      framing = record { ended = drop (k.frames_at i) (k.frames i); pending = c.pending i; offset = len i };
+    } in
+    at ∙ ap (λ (f : Filled). record f { plans = [] }) is

@@ -44,10 +44,12 @@ AreWithin bytes frames [] = Unit {0}
 AreWithin bytes frames (row ∷ rows) =
     (row.body_at ≤ row.body_end) × (row.body_end ≤ bytes) × (row.frames_at ≤ row.frames_end) × (row.frames_end ≤ frames) × AreWithin bytes frames rows
 
--- the first one, or else the body that goes on, lies in front
-abbrev pub AreInFront : ℕ → ℕ → List Row → Type 0
-AreInFront body_at frames_at [] = (body_at ≡ 0) × (frames_at ≡ 0)
-AreInFront body_at frames_at (row ∷ rows) = (row.body_at ≡ 0) × (row.frames_at ≡ 0)
+-- From these places on each begins where the one before it ends, and the body that goes on, with its I-frames, behind the last one: no
+-- bytes lie between them.
+abbrev pub AreJoined : ℕ → ℕ → ℕ → ℕ → List Row → Type 0
+AreJoined bytes frames body_at frames_at [] = (body_at ≡ bytes) × (frames_at ≡ frames)
+AreJoined bytes frames body_at frames_at (row ∷ rows) =
+    (row.body_at ≡ bytes) × (row.frames_at ≡ frames) × AreJoined row.body_end row.frames_end body_at frames_at rows
 
 abbrev pub filled_by : ReelInside → Filled
 filled_by s = record {
@@ -61,4 +63,4 @@ pub record IsLaid (s : ReelInside) : Type 0 where
   pub body : s.body_at ≤ length s.bytes.items
   pub frames : s.frames_at ≤ length s.frames.items
   pub pending : IsWithin s.pending (length s.bytes.items - s.body_at)
-  pub front : AreInFront s.body_at s.frames_at s.rows.items
+  pub joined : AreJoined 0 0 s.body_at s.frames_at s.rows.items
