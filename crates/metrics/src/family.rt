@@ -1,6 +1,6 @@
 //! A metric of all renditions.
 
-ghost use Rattle.std.specs.Prelude.{◌≡◌, ◌≢◌, ◌++◌, map, option_map, Any, IsOk, None, OnErr, OnOk};
+ghost use Rattle.std.specs.Prelude.{◌≡◌, ◌≢◌, ◌<◌, ◌++◌, length, map, option_map, Any, IsErr, IsOk, None, OnErr, OnOk};
 ghost use Rattle.metrics.specs.Format.{head_text, sample_line, fault_line};
 ghost use Rattle.metrics.specs.Samples.{facts_of, value_of, column_text, fault_of, faults_text};
 
@@ -50,7 +50,8 @@ pub(crate) fn push_column(
     column: Column,
     samples: &[Sample<'_>],
 ) -> Result<(), AllocError>
-    ensures { OnOk result (out.new.items ≡ out.old.items ++ column_text name.now column (map facts_of samples.now)) }
+    ensures text { OnOk result (out.new.items ≡ out.old.items ++ column_text name.now column (map facts_of samples.now)) }
+    ensures none { IsErr result → 0 < length samples.now }
 {
     for sample in samples {
         let text = value(*out.allocator(), column, sample)?;
