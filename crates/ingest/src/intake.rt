@@ -1,9 +1,9 @@
-ghost use Rattle.std.specs.Prelude.{◌≡◌, ◌+◌, ◌<◌, ◌≤◌, ◌^◌, ◌⊎◌, ℕ, List, [], ◌++◌, None, true, false, length, IfOk, IfErr, OnOk, OnErr};
+ghost use Rattle.std.specs.Prelude.{◌≡◌, ◌+◌, ◌<◌, ◌≤◌, ◌^◌, ◌⊎◌, ℕ, List, [], ◌++◌, None, true, false, length, IfOk, IfErr, IsOk, OnOk, OnErr};
 ghost use Rattle.ghost_list.specs.Lists.{IsBeginning};
 ghost use Rattle.ts_packet.specs.Packets.{packets, decided, skipped};
 ghost use Rattle.cutter.specs.declared.settings.CutSettings.{CutSettings};
 ghost use Rattle.cutter.specs.declared.fault.CutFault.TheVariants.{NoMemory};
-ghost use Rattle.cutter.specs.Cuts.{closed};
+ghost use Rattle.cutter.specs.Cuts.{closed, cuts};
 ghost use Rattle.cutter.specs.Settings.{IsAllowed};
 ghost use Rattle.ingest.specs.Streams.{untaken, plans_of, fault_of, closed_of, GrowsAlike, Stops, StopsAtPacket, Faults, Stays};
 
@@ -112,6 +112,9 @@ impl Intake {
         ensures turned { OnOk result (self.new ≡ record self.old { turned = self.old.turned ++ self.old.filled; filled = [] }) }
         ensures spare { IfErr result (λ spare. spare ≡ []) }
         ensures err { OnErr result (self.new ≡ self.old) }
+
+        // Where no segment goes on there is nothing to copy, and so no memory is wanted.
+        ensures none { self.old.ended ≡ false → (cuts self.old.rendition self.old.settings (decided self.old.stream)).going ≡ None → IsOk result }
     {
         self.cutter.swap(spool)
     }
