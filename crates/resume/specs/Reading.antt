@@ -1,11 +1,13 @@
 -- What is read back of a rendition's playlists.
 use Rattle.std.specs.Prelude.{◌≡◌, ℕ, ◌+◌, ◌<◌, ◌^◌, List, map, length, All}
+use Rattle.playlist_text.specs.Lines.{text_of}
 use Rattle.playlist_text.specs.MediaLines.{Listing}
 use Rattle.media_playlist.specs.Rows.{SegmentRow}
 use Rattle.media_playlist.specs.Lines.{entry_of}
 use Rattle.media_playlist.specs.Sequences.{frames_of}
 use Rattle.ladder_items.specs.Shown.{AreNextRows}
-use Rattle.resume.specs.Picking.{Picks}
+use Rattle.media_reading.specs.MediaTexts.{IsLine}
+use Rattle.resume.specs.Picking.{Picks, no_picks, pick_lines}
 use Rattle.resume.specs.Restoring.{RestoredValue, LiesWithin}
 use Rattle.resume.specs.Starts.{starts_from}
 
@@ -29,3 +31,14 @@ pub record ArePicked (p : Picks) (first : ℕ) (rows : List SegmentRow) : Type 0
   pub first_is : p.first ≡ first
   pub frames_are : p.frames ≡ frames_of rows
   pub starts_are : p.starts ≡ starts_from 0 rows
+
+-- what the lines of a text tell as the number of the first I-frame
+pub record IsFirstFrame (frames : List ℕ) (first : ℕ) : Type 0 where
+  pub told : (lines : List (List ℕ)) → All IsLine lines → frames ≡ text_of lines → first ≡ (pick_lines no_picks lines).first
+
+-- There are as many files as segments are listed, and the number of the first I-frame is one that may be.
+pub record MayBeOf (listing : Listing) (frames sizes : List ℕ) : Type 0 where
+  pub each : length sizes ≡ length listing.entries
+  pub first : ℕ
+  pub is_first : IsFirstFrame frames first
+  pub small : first < 2 ^ 63

@@ -1,6 +1,6 @@
 //! The rows of what a media playlist lists.
 
-ghost use Rattle.std.specs.Prelude.{◌≡◌, ◌+◌, ◌≤◌, ℕ, List, All, length, IfOk, IfSome, IsSomeAnd, OnErr, Decides};
+ghost use Rattle.std.specs.Prelude.{◌≡◌, ◌⊎◌, ◌+◌, ◌≤◌, ℕ, List, All, length, IfOk, IfSome, IsSomeAnd, OnErr, Decides};
 ghost use Rattle.media_playlist.specs.Rows.{SegmentRow};
 ghost use Rattle.media_reading.specs.MediaTexts.{IsListing};
 ghost use Rattle.resume.specs.declared.restored.Wanted as TheWanted;
@@ -9,7 +9,8 @@ ghost use Rattle.resume.specs.Picked.{picks_of};
 ghost use Rattle.limits.specs.declared.TheConstants.{LAST_SEGMENT};
 ghost use Rattle.media_playlist.specs.Lines.{entry_of};
 ghost use Rattle.ladder_items.specs.Shown.{IsNextRow, IsSmallFrame};
-ghost use Rattle.resume.specs.Reading.{AreRowsOf, IsReadBack, ArePicked};
+ghost use Rattle.resume.specs.Picking.{MayWantMemory};
+ghost use Rattle.resume.specs.Reading.{ArePicked, AreRowsOf, IsFirstFrame, IsReadBack, MayBeOf};
 
 use crate::picking::{Picked, pick};
 use crate::restored::Restored;
@@ -32,6 +33,10 @@ pub fn read_back(
     ensures read { IfOk result (λ found. IfSome found (IsReadBack listing.now sizes.now)) }
     ensures whole { (name : List ℕ) (wanted : TheWanted.Wanted) (r : RestoredValue) →
         IsRestored name wanted listing.now frames.now sizes.now r → IfOk result (λ found. IsSomeAnd found (λ it. it ≡ r)) }
+    ensures first { IfOk result (λ found. IfSome found (λ it. IsFirstFrame frames.now it.gone.frames)) }
+
+    // Memory is wanted for a line of the text that adds to what is picked, and for rows only where they may be had.
+    ensures scarce { OnErr result (MayWantMemory frames.now ⊎ MayBeOf listing.now frames.now sizes.now) }
 {
     let picked = pick(alloc, frames)?;
     if picked.first >= 1 << 63 {

@@ -9,6 +9,8 @@ ghost use Rattle.ladder_items.specs.Ladder;
 ghost use Rattle.resume.specs.declared.fault.ResumeFault as TheFault;
 ghost use Rattle.resume.specs.Wanting.{IsWithin, IsRefused, IsAsWanted};
 ghost use Rattle.resume.specs.Restoring.{RestoredValue, window_over, MayGoOn, IsRestored};
+ghost use Rattle.resume.specs.Picking.{MayWantMemory};
+ghost use Rattle.resume.specs.Reading.{MayBeOf};
 
 use crate::fault::ResumeFault;
 use crate::reading_back::read_back;
@@ -45,6 +47,9 @@ pub fn restore(
 
     // Memory is wanted only for playlists of this name.
     ensures scarce { IsErrOf result ResumeFault.NoMemory → listing.now.name ≡ name.now }
+
+    // It is wanted for a line of the text that adds to what is picked, and for rows only where they may be had.
+    ensures rows { IsErrOf result ResumeFault.NoMemory → MayWantMemory frames.now ⊎ MayBeOf listing.now frames.now sizes.now }
 {
     look(wanted, listing)?;
     match restored_of(alloc, name, wanted, listing, frames, sizes)? {
@@ -112,6 +117,7 @@ fn restored_of(
     ensures whole { (r : RestoredValue) → IsRestored name.now wanted listing.now frames.now sizes.now r →
         IfOk result (λ found. IsSomeAnd found (λ it. it ≡ r)) }
     ensures scarce { OnErr result (listing.now.name ≡ name.now) }
+    ensures rows { OnErr result (MayWantMemory frames.now ⊎ MayBeOf listing.now frames.now sizes.now) }
 {
     if !is_named(listing, name) {
         return Ok(None);

@@ -1,6 +1,8 @@
-use Rattle.std.proofs.Common.{◌≡◌, ◌+◌, ap, ◌∙◌, arith}
+use Rattle.std.proofs.Common.{◌≡◌, ◌+◌, ap, ◌∙◌, arith, inr}
+use Rattle.std.proofs.lemmas.Result.{err_from_is_err_and}
 use Rattle.playlist_text.specs.MediaLines.{Listing}
 use Rattle.resume.specs.Picked.{picks_of}
+use Rattle.resume.specs.Picking.{Picks}
 use Rattle.resume.proofs.Complete.{are-picked, rows-of, read-same}
 use Rattle.resume.proofs.reading_back.read_back.Goals as goal
 
@@ -28,3 +30,13 @@ returns-clause-whole c = λ name wanted r is.
       next = c.listing.inside.sequence + c.len.result;
     })
     is sequence (c.from.ensures ∙ are.first_is) (ap (λ (m : Listing). m.discontinuity_sequence) c.listing.view_is) earlier (omega (arith, sequence, c.len.ensures))
+
+pub returns-in_err-earlier-clause-scarce : goal.returns-in_err-earlier-clause-scarce
+returns-in_err-earlier-clause-scarce c =
+    let told = err_from_is_err_and c.from_residual-in_err-earlier.result c.from_residual-in_err-earlier.ensures.1 in
+    rw told.1 (inr (record {
+      each = c.in_err-earlier.ensures.scarce;
+      first = c.in_ok-picked.picked.first;
+      is_first = record { told = λ lines each is. ap (λ (p : Picks). p.first) (c.in_ok-picked.ensures.picked lines each is) };
+      small = omega (arith, c.if-picked.false);
+    }))
