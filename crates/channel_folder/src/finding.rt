@@ -1,5 +1,5 @@
 //! Each rendition of a ladder goes on by itself, or has no playlists.
-ghost use Rattle.std.specs.Prelude.{◌≡◌, ◌<◌, Some, IfOk, IfErr, length, slice_get};
+ghost use Rattle.std.specs.Prelude.{◌≡◌, ◌<◌, Some, IfOk, IfErr, IsErr, length, slice_get};
 ghost use Rattle.channel_folder.specs.Reopened.{AllStand};
 ghost use Rattle.channel_folder.specs.StopOf;
 ghost use Rattle.channel_folder.specs.Stopped.{IsStopped};
@@ -21,6 +21,9 @@ pub(crate) fn find_each<F: FolderReader>(
 ) -> Result<Vec<Option<Restored>>, ReopenFault>
     ensures ok { IfOk result (λ found. AllStand (F.gives folder.now) (F.lacks folder.now) scan.now asked.now found.items) }
     ensures err { IfErr result (IsStopped (F.refuses folder.now) (F.gives folder.now) (F.lacks folder.now) scan.now asked.now) }
+
+    // Where no rendition is asked for, none is looked for.
+    ensures none { IsErr result → 0 < length asked.now }
 {
     let mut found = Vec::new(alloc);
     for r in 0..asked.len() {

@@ -1,5 +1,5 @@
 //! One rendition's playlists are read back, by its name and the files of its segments.
-ghost use Rattle.std.specs.Prelude.{◌≡◌, ◌≢◌, ℕ, List, IfOk, IfErr, IsErrOf, Contains};
+ghost use Rattle.std.specs.Prelude.{◌≡◌, ◌≢◌, ◌<◌, ℕ, List, IfOk, IfErr, IsErr, IsErrOf, Contains, length};
 ghost use Rattle.std.specs.Str.{IsUtf8};
 ghost use Rattle.media_reading.specs.MediaTexts.{IsListing, MayWantMemory, listing_text};
 ghost use Rattle.playlist_text.specs.MediaLines;
@@ -107,6 +107,9 @@ fn sizes_of<F: FolderReader>(
 ) -> Result<Vec<u64>, Stop>
     ensures ok { IfOk result (λ sizes. AreSizes (F.gives folder.now) name.now entries.now sizes.items) }
     ensures err { IfErr result (IsSizeStop (F.refuses folder.now) (F.gives folder.now) (F.lacks folder.now) name.now entries.now) }
+
+    // Where nothing is listed no file is looked at.
+    ensures none { IsErr result → 0 < length entries.now }
 {
     let mut sizes = Vec::new(alloc);
     for entry in entries {

@@ -1,5 +1,5 @@
 //! A channel's folder is gone on in.
-ghost use Rattle.std.specs.Prelude.{IfOk, IfErr};
+ghost use Rattle.std.specs.Prelude.{◌<◌, IfOk, IfErr, IsErr, length};
 ghost use Rattle.channel_folder.specs.Reopened.{AreReopened};
 ghost use Rattle.channel_folder.specs.Stopped.{IsNotReopened};
 
@@ -28,6 +28,9 @@ pub fn reopen<F: FolderReader>(
 ) -> Result<Reopened, ReopenFault>
     ensures ok { IfOk result (AreReopened (F.gives folder.now) (F.lacks folder.now) scan.now kind asked.now) }
     ensures err { IfErr result (IsNotReopened (F.refuses folder.now) (F.gives folder.now) (F.lacks folder.now) scan.now kind asked.now) }
+
+    // Where no rendition is asked for none stands in the way.
+    ensures none { IsErr result → 0 < length asked.now }
 {
     let found = find_each(alloc, folder, scan, asked)?;
     match common_breaks(kind, &found) {
