@@ -12,3 +12,4 @@ pub mod Answered
 pub mod Between
 pub mod Ending
 pub mod Pacing
+pub mod Telling

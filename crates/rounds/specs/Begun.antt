@@ -1,5 +1,5 @@
 -- What a run begins with, and what it tells at its end.
-use Rattle.std.specs.Prelude.{◌≡◌, ℕ, ◌+◌, false, List, length, map, replicate, sum, Some, None, slice_get}
+use Rattle.std.specs.Prelude.{◌≡◌, ℕ, ◌+◌, false, List, length, map, replicate, sum, Some, slice_get}
 use Rattle.segment_job.specs.Rotation.{KeyRotation}
 use Rattle.ingest.specs.declared.lane.Lane.{Lane}
 use Rattle.ingest.specs.Lanes.{IsFirst}

@@ -1,5 +1,6 @@
 -- Which faults are told when they stand.
-use Rattle.std.specs.Prelude.{◌≡◌, ℕ, List, Bool, false, true, Option, None, Some, slice_index_or}
+use Rattle.std.specs.Prelude.{◌≡◌, ◌≢◌, ℕ, ◌<◌, List, Bool, false, true, Option, None, Some, slice_get, slice_index_or}
+use Rattle.ingest.specs.declared.lane.Lane.{Lane}
 use Rattle.ingest.specs.declared.lane.Stop.{Stop}
 use Rattle.ladder_items.specs.declared.fault.PackFault.{PackFault}
 use Rattle.ladder_items.specs.Packed.{told_of}
@@ -13,3 +14,18 @@ fault_of r (Some stop) = told_of r (Some stop)
 pub record Untold (told : List Bool) (r : ℕ) (stop : Option Stop) (fault : PackFault) : Type 0 where
   pub stands : fault_of r stop ≡ Some fault
   pub new : slice_index_or told r true ≡ false
+
+-- rendition r counts as told from now on if it stopped by a fault, and each other one as before
+pub record TellsOne (told : List Bool) (r : ℕ) (stop : Option Stop) (told_now : List Bool) : Type 0 where
+  pub stands : (fault : PackFault) → fault_of r stop ≡ Some fault → slice_index_or told_now r true ≡ true
+  pub none : fault_of r stop ≡ None → told_now ≡ told
+  pub others : (k : ℕ) → k ≢ r → slice_index_or told_now k true ≡ slice_index_or told k true
+
+-- one of the first n renditions stopped by a fault
+abbrev pub HasFault : ℕ → List Lane → ℕ → Type 0
+HasFault n lanes k = (lane : Lane) × (fault : PackFault) × (k < n) × (slice_get lanes k ≡ Some lane) × (fault_of k lane.stop ≡ Some fault)
+
+-- of the first n renditions, those that stopped by a fault count as told from now on, and all others as before
+pub record TellsAll (n : ℕ) (told : List Bool) (lanes : List Lane) (told_now : List Bool) : Type 0 where
+  pub stands : (k : ℕ) → HasFault n lanes k → slice_index_or told_now k true ≡ true
+  pub others : (k : ℕ) → (HasFault n lanes k → ⊥) → slice_index_or told_now k true ≡ slice_index_or told k true

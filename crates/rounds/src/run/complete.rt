@@ -1,12 +1,19 @@
 //! How many segments are complete: those that were given, and those of the round that begins.
 
-ghost use Rattle.std.specs.Prelude.{◌≡◌, ◌<◌, ◌^◌, length, sum_by};
+ghost use Rattle.std.specs.Prelude.{◌≡◌, ◌+◌, ◌<◌, ◌^◌, length, sum_by};
 
 use cutter::Spool;
 use ladder_items::Playlists;
 
+/// How many segments are complete as a round begins: those that were given, and those whose plans these spools hold.
+pub fn complete_by(playlists: &[Playlists], full: &[Spool]) -> u128
+    ensures { result ≡ sum_by (λ shown. length shown.rows) playlists.now + sum_by (λ plans. length plans) full.now }
+{
+    given_of(playlists) + closed_of(full)
+}
+
 /// How many segments were given of all renditions.
-pub fn given_of(playlists: &[Playlists]) -> u128
+fn given_of(playlists: &[Playlists]) -> u128
     ensures is { result ≡ sum_by (λ shown. length shown.rows) playlists.now }
     ensures small { result < 2 ^ 127 }
 {
@@ -18,7 +25,7 @@ pub fn given_of(playlists: &[Playlists]) -> u128
 }
 
 /// How many plans these spools hold.
-pub fn closed_of(full: &[Spool]) -> u128
+fn closed_of(full: &[Spool]) -> u128
     ensures is { result ≡ sum_by (λ plans. length plans) full.now }
     ensures small { result < 2 ^ 127 }
 {

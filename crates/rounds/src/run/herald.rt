@@ -1,7 +1,7 @@
 //! Faults are told when they stand, while the other renditions are packed on.
 
 ghost use Rattle.std.specs.Prelude.{◌≡◌, ◌<◌, None, Some, false, true, IfSome, replicate, slice_index_or, slice_set};
-ghost use Rattle.rounds.specs.Heralds.{fault_of, Untold};
+ghost use Rattle.rounds.specs.Heralds.{fault_of, TellsAll, TellsOne, Untold};
 ghost use Rattle.ladder_items.specs.Packed.{told_of_cut};
 
 use crate::run::course::Course;
@@ -50,6 +50,7 @@ impl<'h, H: Herald> Telling<'h, H> {
     /// Tells the fault of rendition `r`, if it stopped by one that wasn't told yet.
     fn tell(&mut self, r: usize, stop: Option<Stop>)
         requires { r < RENDITIONS }
+        ensures { TellsOne self.old.told r stop self.new.told }
     {
         if let Some(fault) = self.untold(r, stop) {
             self.herald.tell(fault);
@@ -100,7 +101,9 @@ fn cut_fault(r: usize, fault: StreamFault) -> PackFault
 
 impl<S, O> Course<S, O> {
     /// Tells the faults of all renditions that weren't told yet.
-    pub fn tell_faults<H: Herald>(&self, telling: &mut Telling<'_, H>) {
+    pub fn tell_faults<H: Herald>(&self, telling: &mut Telling<'_, H>)
+        ensures { TellsAll RENDITIONS telling.old.told self.now.lanes.items telling.new.told }
+    {
         for r in 0..self.lanes.len().min(RENDITIONS) {
             telling.tell(r, self.lanes[r].stop);
         }

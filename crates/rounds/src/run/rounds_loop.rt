@@ -11,7 +11,7 @@ ghost use Rattle.rounds.specs.Showing.{counts_of};
 
 use crate::round::starting::run_round;
 use crate::run::between::BetweenRounds;
-use crate::run::complete::{closed_of, given_of};
+use crate::run::complete::complete_by;
 use crate::run::herald::{Herald, Telling};
 use crate::run::pace::Pace;
 use crate::run::reading::any_closed;
@@ -106,8 +106,7 @@ fn tell_completed<'r, S: Source, O: Outlet, R: Wait, H: Herald>(
     between: &BetweenRounds<'r, S, O, R>,
     full: &Vec<Spool>,
 ) {
-    let given = given_of(&between.broadcast.course.playlists);
-    herald.completed(given + closed_of(full));
+    herald.completed(complete_by(&between.broadcast.course.playlists, full));
 }
 
 /// Goes from round to round until everything is given.

@@ -1,0 +1,20 @@
+use Rattle.std.proofs.Common.{◌≡◌, ◌<◌, refl, arith, rules, length}
+use Rattle.std.proofs.lemmas.Option.{slice_get_read, slice_get_within}
+use Rattle.rounds.proofs.Telling.{tells-more, tells-none, tells-past}
+use Rattle.rounds.proofs.run.course.Course.tell_faults.Goals as goal
+
+pub loop-r-init : goal.loop-r-init
+loop-r-init g c = tells-none _ _
+
+pub loop-r-preserved : goal.loop-r-preserved
+loop-r-preserved g c =
+    let within : c.loop-r.r < length c.args.self.now.lanes.items = search rules in
+    let at = slice_get_read c.args.self.now.lanes.items _ c.loop-r.r c.index.result.now refl within c.index.ensures in
+    tells-more c.loop-r.r _ _ _ _ _ c.index.result.now at refl c.loop-r.invariant c.tell.ensures
+
+pub returns : goal.returns
+returns g c =
+    let size : c.len.result ≡ length c.args.self.now.lanes.items = search rules in
+    tells-past c.loop-r.r _ _ _ c.args.self.now.lanes.items
+    (λ k lane at small. omega (arith, small, size, slice_get_within c.args.self.now.lanes.items k lane at, c.min-r-end.ensures, c.loop-r-test.false))
+    (omega (arith, c.min-r-end.ensures, c.loop-r.auto.r-end)) c.loop-r.invariant
