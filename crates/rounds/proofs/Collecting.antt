@@ -2,7 +2,7 @@
 use Rattle.std.proofs.Common.{◌≡◌, ◌∙◌, ◌⊎◌, inl, inr, ℕ, zero, suc, ◌+◌, ◌-◌, ◌<◌, ◌≤◌, true, false, List, [], ◌∷◌, length, Some, None, refl, ap, sym, subst, arith}
 use Rattle.std.specs.Prelude.{nat_lt}
 use Rattle.std.specs.List.{slice_get, slice_set, slice_index_or}
-use Rattle.std.proofs.lemmas.List.{get_or-set_same, length-append, length-set, nil_from_length}
+use Rattle.std.proofs.lemmas.List.{get_or-set_same, length-append, length-map, length-set, nil_from_length}
 use Rattle.std.proofs.lemmas.Bool.{cases_eq}
 use Rattle.std.proofs.lemmas.Bool.Decides.{nat_tests}
 use Rattle.std.proofs.lemmas.Option.{get_or_from_slice_get, slice_get_within}
@@ -15,7 +15,7 @@ use Rattle.flow_core.specs.Slots.{came, lacking, unless_came}
 use Rattle.flow_core.specs.declared.fault.CollectFault.{CollectFault}
 use Rattle.flow_core.specs.declared.fault.CollectFault.TheVariants.{Stray, Double, NoMemory}
 use Rattle.flow_core.specs.Sequences.{SequenceValue, IsRight, GivesBack, Lacks, has_come, with_segment}
-use Rattle.flow_core.specs.Gatherings.{Gathering, no_sequence, sequence_at, with_sequence, missing_in}
+use Rattle.flow_core.specs.Gatherings.{Gathering, awaited, no_sequence, sequence_at, with_sequence, missing_in}
 use Rattle.flow_core.proofs.Flowing.{sequence-same, sequence-other, inside}
 use Rattle.ladder_items.specs.Ladder.{Ladder, rendition_at}
 use Rattle.rounds.specs.Collected.{Collects}
@@ -202,3 +202,17 @@ pub got-on : (old mid new : ℕ) (g h : Gathering) → mid ≤ new → length (m
     → (old < mid) ⊎ (missing_in g.sequences ≡ []) → (old < new) ⊎ (missing_in h.sequences ≡ [])
 got-on old mid new g h more fewer (inl took) = inl (omega (arith, took, more))
 got-on old mid new g h more fewer (inr none) = inr (nil_from_length (missing_in h.sequences) (omega (arith, fewer, ap length none)))
+
+-- where the same plans are expected, as many are awaited
+awaited-by : (xs ys : List SequenceValue) → length ys ≡ length xs
+    → ((k : ℕ) → length (expected (slice_index_or ys k no_sequence)) ≡ length (expected (slice_index_or xs k no_sequence))) → awaited ys ≡ awaited xs
+awaited-by [] [] each same = refl
+awaited-by [] (y ∷ ys) each same = absurd (omega (arith, each))
+awaited-by (x ∷ xs) [] each same = absurd (omega (arith, each))
+awaited-by (x ∷ xs) (y ∷ ys) each same =
+    let rest = awaited-by xs ys (omega (arith, each)) (λ k. same (suc k)) in
+    let first : length (expected y) ≡ length (expected x) = same zero in
+    omega (arith, rest, first, length-map y.slots (λ (slot : Slot). slot.plan), length-map x.slots (λ (slot : Slot). slot.plan))
+
+pub keeps-awaited : (g h : Gathering) → Keeps g h → awaited h.sequences ≡ awaited g.sequences
+keeps-awaited g h keeps = awaited-by g.sequences h.sequences keeps.count (λ k. ap length (keeps.each k).2)

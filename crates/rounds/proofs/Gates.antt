@@ -1,7 +1,7 @@
 -- What the calling thread doesn't seal, and why; and what it tells of the gate.
-use Rattle.std.proofs.Common.{◌≡◌, ◌∙◌, ◌⊎◌, inl, inr, ℕ, List, refl, sym, subst}
+use Rattle.std.proofs.Common.{◌≡◌, ◌∙◌, ◌⊎◌, ◌<◌, ◌≤◌, inl, inr, ℕ, List, refl, sym, subst, arith}
 use Rattle.cutter.specs.Plans.{SegmentPlan}
-use Rattle.flow_core.specs.Gatherings.{Gathering}
+use Rattle.flow_core.specs.Gatherings.{Gathering, awaited}
 use Rattle.ingest.specs.declared.lane.Lane.{Lane}
 use Rattle.ladder_items.specs.declared.fault.PackFault.{PackFault}
 use Rattle.ladder_items.specs.declared.fault.PackFault.TheVariants.{Held, NoMemory, Settings}
@@ -10,7 +10,7 @@ use Rattle.ladder_items.proofs.Unheld.{told-unheld}
 use Rattle.ladder_items.specs.Standing.{IsFirstStanding}
 use Rattle.rounds.specs.Courses.{SaysSudden}
 use Rattle.rounds.specs.Shown.{IsUnbegun}
-use Rattle.rounds.specs.Gated.{IsGatesWord, IsHeldBack, IsLeft, IsUnheld, IsUnsealed}
+use Rattle.rounds.specs.Gated.{IsGatesWord, IsHeldBack, IsLeft, IsOwnFault, IsUnheld, IsUnsealed}
 
 -- a held segment and want of memory say nothing of the outlet
 held-as : (fault : PackFault) (r n k : ℕ) → fault ≡ Held r n → SaysSudden fault k k
@@ -82,3 +82,20 @@ answered-unheld lanes fault (inr first) = λ r n told. told-unheld first.0 first
 pub unbegun-unheld : (ladder : Ladder) (inputs workers : ℕ) (counts : List ℕ) (fault : PackFault) → IsUnbegun ladder inputs workers counts fault → IsUnheld fault
 unbegun-unheld ladder inputs workers counts fault (inl refused) = settings-unheld fault refused.0
 unbegun-unheld ladder inputs workers counts fault (inr wanting) = none-unheld fault wanting.0
+
+-- a fault that names no segment as held back is told for a reason of its own
+pub held-own : (stops : ℕ → ℕ → Type 0) (A : Type 0) (fault : PackFault) → IsHeldBack stops fault → IsUnheld fault → A
+held-own stops A fault held unheld = absurd (unheld held.0 held.1 held.2)
+
+pub awaited-own : (lets stops : ℕ → ℕ → Type 0) (g h : Gathering) (fault : PackFault) → IsHeldBack stops fault ⊎ IsLeft lets stops h fault → IsOwnFault lets stops g h fault
+awaited-own lets stops g h fault (inl held) unheld = held-own stops _ fault held unheld
+awaited-own lets stops g h fault (inr left) unheld = inr left
+
+own-less : (m n : ℕ) (A : Type 0) → m ≤ n → (k : ℕ) → (k < m) ⊎ A → (k < n) ⊎ A
+own-less m n A less k (inl few) = inl (omega (arith, few, less))
+own-less m n A less k (inr other) = inr other
+
+-- also where no more were awaited by then
+pub own-then : (lets stops : ℕ → ℕ → Type 0) (f g h : Gathering) (fault : PackFault) → awaited g.sequences ≤ awaited f.sequences
+    → IsOwnFault lets stops g h fault → IsOwnFault lets stops f h fault
+own-then lets stops f g h fault less own unheld = own-less _ _ _ less _ (own unheld)

@@ -199,6 +199,10 @@ abbrev pub IsEndDue : {X Y : Type 0} → ℕ → Course X Y → Type 0
 IsEndDue r course = (lane : Lane) → slice_get course.lanes.items r ≡ Some lane
     → (is_good lane.stop ≡ true) × (lane.intake.filled ≡ []) × (slice_index_or course.ended.items r false ≡ false)
 
+-- the end of some rendition is due
+abbrev pub HasEndDue : {X Y : Type 0} → Ladder → Course X Y → Type 0
+HasEndDue ladder course = (r : ℕ) × (r < length ladder.renditions) × IsEndDue r course
+
 -- of each rendition of which nothing is closed and not swapped out, it is noted whether a good end was given
 abbrev pub HasGoodEnds : {X Y : Type 0} → Ladder → Course X Y → Type 0
 HasGoodEnds ladder course =

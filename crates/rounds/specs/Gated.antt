@@ -3,7 +3,7 @@ use Rattle.std.specs.Prelude.{◌≡◌, ◌⊎◌, ℕ, ◌<◌, length, Option
 use Rattle.cutter.specs.Plans.{SegmentPlan}
 use Rattle.flow_core.specs.declared.fault.FeedFault.{FeedFault}
 use Rattle.flow_core.specs.declared.fault.FeedFault.TheVariants.{Full, Closed, Twice, NoMemory as HadNone}
-use Rattle.flow_core.specs.Gatherings.{Gathering, sequence_at, missing_in}
+use Rattle.flow_core.specs.Gatherings.{Gathering, awaited, sequence_at, missing_in}
 use Rattle.flow_core.specs.Sequences.{Lacks}
 use Rattle.ladder_items.specs.declared.fault.PackFault.{PackFault}
 use Rattle.ladder_items.specs.declared.fault.PackFault.TheVariants.{Held, NoMemory}
@@ -39,6 +39,12 @@ IsUnsealed lets stops plan fault =
 -- it didn't seal some plan whose segment a collector lacks
 abbrev pub IsLeft : (lets stops : ℕ → ℕ → Type 0) → Gathering → PackFault → Type 0
 IsLeft lets stops g fault = (plan : SegmentPlan) × Lacks (sequence_at g plan.rendition) plan × IsUnsealed lets stops plan fault
+
+-- A fault that names no segment as held back is told where a segment was on its way to the outlet, so that fewer are awaited than before,
+-- or where a plan whose segment a collector lacks was let through and not sealed.
+abbrev pub IsOwnFault : (lets stops : ℕ → ℕ → Type 0) → Gathering → Gathering → PackFault → Type 0
+IsOwnFault lets stops old new fault =
+    IsUnheld fault → (awaited new.sequences < awaited old.sequences) ⊎ IsLeft lets stops new fault
 
 -- it sealed a plan, for which there is no receipt, or tells why not
 abbrev pub SealsOrTells : (lets stops : ℕ → ℕ → Type 0) → SegmentPlan → Gathering → Gathering → Result (Option SegmentPlan) PackFault → Type 0

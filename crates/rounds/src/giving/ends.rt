@@ -3,7 +3,7 @@
 ghost use Rattle.std.specs.Prelude.{◌≡◌, ◌≢◌, ◌<◌, [], ℕ, IfErr, OnErr, OnOk, Some, false, length, slice_get, slice_index_or};
 ghost use Rattle.ingest.specs.Lanes.{is_good};
 ghost use Rattle.ingest.specs.declared.lane.Lane.{Lane};
-ghost use Rattle.rounds.specs.Courses.{HasGoodEnds, IsEndDue, IsSomeBetween, ReadsNone, StaysBetween, StopsBetween};
+ghost use Rattle.rounds.specs.Courses.{HasEndDue, HasGoodEnds, IsEndDue, IsSomeBetween, ReadsNone, StaysBetween, StopsBetween};
 ghost use Rattle.rounds.specs.Gated.{IsUnheld};
 
 use crate::giving::broadcast::Broadcast;
@@ -48,6 +48,7 @@ impl<'r, S: Source, O: Outlet, R: Wait> Broadcast<'r, S, O, R> {
         ensures none_read { ReadsNone self.old.course self.new.course }
         ensures playlists { self.new.course.playlists ≡ self.old.course.playlists }
         ensures ended { OnOk result (HasGoodEnds settings.now self.new.course) }
+        ensures none { OnErr result (HasEndDue settings.now self.old.course) }
     {
         for r in 0..settings.renditions.len() {
             self.give_end_of(alloc, settings, r)?;

@@ -1,6 +1,6 @@
 //! Gives what is ready: the sealed segments that come next in their rendition, without a gap.
 
-ghost use Rattle.std.specs.Prelude.{◌<◌, ◌≡◌, IfErr, IfOk, OnErr, OnOk, false, true};
+ghost use Rattle.std.specs.Prelude.{◌<◌, ◌≡◌, ◌≤◌, IfErr, IfOk, OnErr, OnOk, false, true};
 ghost use Rattle.flow_core.specs.Gatherings.{awaited};
 ghost use Rattle.rounds.specs.Gated.{IsUnheld};
 ghost use Rattle.rounds.specs.Rounds.{Breaks, IsDry, IsSomewhere, KeepsCounts, KeepsOthers, Moves, NoneReady, ReadsNoneIn};
@@ -31,6 +31,9 @@ impl<'d, 's, 'r, S: Source, O: Outlet, L: Ledger, M: Ledger, R: Wait> Round<
         ensures none_read { ReadsNoneIn self.old self.new }
         ensures counts { OnOk result (KeepsCounts self.old self.new) }
         ensures dry { OnOk result (NoneReady self.new.collector) }
+        ensures none { OnErr result (NoneReady self.old.collector → ⊥) }
+        ensures fewer { OnOk result (awaited self.new.collector.sequences ≤ awaited self.old.collector.sequences) }
+        ensures fell { OnErr result (awaited self.new.collector.sequences < awaited self.old.collector.sequences) }
     {
         for r in 0..settings.renditions.len() {
             self.give_ready(alloc, settings, r)?;
@@ -48,6 +51,10 @@ impl<'d, 's, 'r, S: Source, O: Outlet, L: Ledger, M: Ledger, R: Wait> Round<
         ensures counts { OnOk result (KeepsCounts self.old self.new) }
         ensures dry { OnOk result (IsDry r self.new) }
         ensures others { OnOk result (KeepsOthers r self.old self.new) }
+        ensures idle { OnOk result (IsDry r self.old → self.new ≡ self.old) }
+        ensures none { OnErr result (IsDry r self.old → ⊥) }
+        ensures fewer { OnOk result (awaited self.new.collector.sequences ≤ awaited self.old.collector.sequences) }
+        ensures fell { OnErr result (awaited self.new.collector.sequences < awaited self.old.collector.sequences) }
     {
         while self.give_next(alloc, settings, r)? {}
         Ok(())
@@ -63,6 +70,9 @@ impl<'d, 's, 'r, S: Source, O: Outlet, L: Ledger, M: Ledger, R: Wait> Round<
         ensures counts { OnOk result (KeepsCounts self.old self.new) }
         ensures fewer { IfOk result (λ any. any ≡ true → awaited self.new.collector.sequences < awaited self.old.collector.sequences) }
         ensures dry { IfOk result (λ any. any ≡ false → IsDry r self.new) }
+        ensures stood { IfOk result (λ any. any ≡ true → IsDry r self.old → ⊥) }
+        ensures idle { IfOk result (λ any. any ≡ false → self.new ≡ self.old) }
+        ensures fell { OnErr result (awaited self.new.collector.sequences < awaited self.old.collector.sequences) }
         ensures none { OnErr result (IsDry r self.old → ⊥) }
         ensures others { OnOk result (KeepsOthers r self.old self.new) }
     {

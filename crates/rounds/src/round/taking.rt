@@ -2,7 +2,7 @@
 
 ghost use Rattle.std.specs.Prelude.{◌≡◌, ◌≢◌, ◌⊎◌, ◌+◌, ◌<◌, ◌≤◌, [], true, false, length, IfErr, IfNone, IfOk, IfSome, OnErr, OnOk};
 ghost use Rattle.flow_core.specs.Gatherings.{awaited, missing_in};
-ghost use Rattle.rounds.specs.Gated.{IsGatesWord, IsHeldBack, IsLeft};
+ghost use Rattle.rounds.specs.Gated.{IsGatesWord, IsHeldBack, IsLeft, IsOwnFault, IsUnheld};
 ghost use Rattle.rounds.specs.Rounds.{Breaks, HasKeys, IsExact, IsFair, IsSomewhere, Keeps, LosesNone, Moves, NoneReady, ReadsNoneIn, gathered};
 
 use crate::round::machine::Round;
@@ -40,6 +40,7 @@ impl<'d, 's, 'r, S: Source, O: Outlet, L: Ledger, M: Ledger, R: Wait> Round<
         ensures fair { OnOk result (IsFair self.old self.new) }
         ensures room { OnOk result (awaited self.new.collector.sequences < self.new.collector.most) }
         ensures none { OnErr result (awaited self.old.collector.sequences < self.old.collector.most → ⊥) }
+        ensures told { IfErr result (IsOwnFault (G.lets sealer.now.gate.now) (G.stops sealer.now.gate.now) self.old.collector self.new.collector) }
     {
         for _ in self.broadcast.held.rt.forever() {
             if self.collector.room() {
@@ -64,6 +65,7 @@ impl<'d, 's, 'r, S: Source, O: Outlet, L: Ledger, M: Ledger, R: Wait> Round<
         ensures fair { OnOk result (IsFair self.old self.new) }
         ensures all { OnOk result (awaited self.new.collector.sequences ≡ 0) }
         ensures none { OnErr result (awaited self.old.collector.sequences ≢ 0) }
+        ensures told { IfErr result (IsOwnFault (G.lets sealer.now.gate.now) (G.stops sealer.now.gate.now) self.old.collector self.new.collector) }
     {
         for _ in self.broadcast.held.rt.forever() {
             if self.collector.awaited() == 0 {
@@ -88,6 +90,8 @@ impl<'d, 's, 'r, S: Source, O: Outlet, L: Ledger, M: Ledger, R: Wait> Round<
         ensures fair { OnOk result (IsFair self.old self.new) }
         ensures further { OnOk result ((self.old.taker.pass.count < self.new.taker.pass.count) ⊎ (missing_in self.new.collector.sequences ≡ [])) }
         ensures dry { OnOk result (NoneReady self.new.collector) }
+        ensures fewer { OnOk result (awaited self.new.collector.sequences ≤ awaited self.old.collector.sequences) }
+        ensures told { IfErr result (IsOwnFault (G.lets sealer.now.gate.now) (G.stops sealer.now.gate.now) self.old.collector self.new.collector) }
     {
         wait_or_seal(
             self.broadcast.held.rt,
@@ -115,6 +119,8 @@ impl<'d, 's, 'r, S: Source, O: Outlet, L: Ledger, M: Ledger, R: Wait> Round<
         ensures exact { OnOk result (IsExact self.old self.new) }
         ensures kept { OnOk result (LosesNone self.old self.new) }
         ensures dry { OnOk result (NoneReady self.new.collector) }
+        ensures fewer { OnOk result (awaited self.new.collector.sequences ≤ awaited self.old.collector.sequences) }
+        ensures told { IfErr result (λ fault. IsUnheld fault → awaited self.new.collector.sequences < awaited self.old.collector.sequences) }
     {
         take_all(
             self.broadcast.held.rt,

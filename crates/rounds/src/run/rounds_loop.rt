@@ -3,7 +3,7 @@
 ghost use Rattle.std.specs.Prelude.{◌≡◌, ◌+◌, ◌≤◌, IfErr, IfOk, OnErr, OnOk, length, sum};
 ghost use Rattle.rounds.specs.Begun.{keys_of};
 ghost use Rattle.rounds.specs.Courses.{HasGoodEnds, IsAllGiven, IsSomeBetween, NoneClosed, ReadsNone, StaysBetween, StopsBetween};
-ghost use Rattle.rounds.specs.Courses.{IsRun, ReadsMore, ReadsOn, ReadsShort};
+ghost use Rattle.rounds.specs.Courses.{HasEndDue, IsRun, ReadsMore, ReadsOn, ReadsShort};
 ghost use Rattle.rounds.specs.Gated.{IsGatesWord, IsUnheld};
 ghost use Rattle.rounds.specs.Paces.{HasEnough};
 ghost use Rattle.rounds.specs.Rounds.{SwapsOut, SwapsShort, TakesClosed};
@@ -38,6 +38,7 @@ fn give_due_ends<'r, S: Source, O: Outlet, R: Wait>(
     ensures none_read { ReadsNone between.entry.broadcast.course result.0.broadcast.course }
     ensures playlists { result.0.broadcast.course.playlists ≡ between.entry.broadcast.course.playlists }
     ensures ended { OnOk result.1 (HasGoodEnds settings.now result.0.broadcast.course) }
+    ensures none { OnErr result.1 (HasEndDue settings.now between.entry.broadcast.course) }
     ensures books { result.0.books ≡ between.entry.books }
 {
     let BetweenRounds {

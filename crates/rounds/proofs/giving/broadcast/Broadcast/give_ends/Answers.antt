@@ -1,4 +1,4 @@
-use Rattle.std.proofs.Common.{◌≡◌, ◌∙◌, inl, inr, Some, false, ap, sym, arith}
+use Rattle.std.proofs.Common.{◌≡◌, ◌∙◌, ◌<◌, inl, inr, Some, false, ap, sym, arith, rules, length}
 use Rattle.std.specs.List.{slice_get, slice_index_or}
 use Rattle.std.proofs.lemmas.Bool.{cases_eq}
 use Rattle.std.proofs.lemmas.Result.{err_from_is_err_and}
@@ -27,9 +27,23 @@ loop-r-preserved g c = record {
             ap (λ j. slice_index_or c.give_end_of.new.self.course.ended.items j false) q ∙ c.in_ok-give_end_of.ensures.ended lane here filled
         | inr q ↦ c.in_ok-give_end_of.ensures.others k q ∙ c.loop-r.invariant.ended k lane (omega (arith, below, q)) at filled
       ];
+  left = λ k above. c.in_ok-give_end_of.ensures.others k (λ q. absurd (omega (arith, above, q))) ∙ c.loop-r.invariant.left k (omega (arith, above));
 }
 
 pub returns-in_err-give_end_of-clause-unheld : goal.returns-in_err-give_end_of-clause-unheld
 returns-in_err-give_end_of-clause-unheld g c =
     let told = err_from_is_err_and c.from_residual.result c.from_residual.ensures.1 in
     rw (told.1, told.2) c.in_err-give_end_of.ensures.unheld
+
+pub returns-in_err-give_end_of-clause-none : goal.returns-in_err-give_end_of-clause-none
+returns-in_err-give_end_of-clause-none g c =
+    let told = err_from_is_err_and c.from_residual.result c.from_residual.ensures.1 in
+    let r = c.loop-r.r in
+    let below : r < length c.args.settings.now.renditions = search rules in
+    rw told.1 (
+      r,
+      below,
+      λ lane at.
+          let due = c.in_err-give_end_of.ensures.none lane (ap (λ l. slice_get l.items r) c.loop-r.invariant.none_read.lanes ∙ at) in
+          (due.0, due.1, sym (c.loop-r.invariant.left r (omega arith)) ∙ due.2),
+    )

@@ -1,4 +1,4 @@
-use Rattle.std.proofs.Common.{◌≡◌, ◌<◌, ℕ, [], Some, false}
+use Rattle.std.proofs.Common.{◌≡◌, ◌<◌, ◌≤◌, ℕ, [], Some, false}
 use Rattle.std.specs.List.{slice_get, slice_index_or}
 use Rattle.ingest.specs.Lanes.{is_good}
 use Rattle.ingest.specs.declared.lane.Lane.{Lane}
@@ -11,4 +11,5 @@ invariant-loop-r g l = record {
   none_read : ReadsNone l.fn.self.course l.self.course;
   playlists : l.self.course.playlists ≡ l.fn.self.course.playlists;
   ended : (k : ℕ) (lane : Lane) → k < l.r → slice_get l.fn.self.course.lanes.items k ≡ Some lane → lane.intake.filled ≡ [] → slice_index_or l.self.course.ended.items k false ≡ is_good lane.stop;
+  left : (k : ℕ) → l.r ≤ k → slice_index_or l.self.course.ended.items k false ≡ slice_index_or l.fn.self.course.ended.items k false;
 }

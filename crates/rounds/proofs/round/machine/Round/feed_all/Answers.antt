@@ -47,3 +47,9 @@ pub returns-in_err-feed_spool-clause-held : goal.returns-in_err-feed_spool-claus
 returns-in_err-feed_spool-clause-held g c =
     let told = err_from_is_err_and c.from_residual.result c.from_residual.ensures.1 in
     rw (told.1, told.2) c.in_err-feed_spool.ensures.held
+
+pub returns-in_err-feed_spool-clause-none : goal.returns-in_err-feed_spool-clause-none
+returns-in_err-feed_spool-clause-none g c =
+    let told = err_from_is_err_and c.from_residual.result c.from_residual.ensures.1 in
+    let here = get_or_default c.args.spools.now c.loop-r.r [] c.index-spools-r.result (search rules) ∙ sym c.index-spools-r.is in
+    rw told.1 (c.loop-r.r, λ none. c.in_err-feed_spool.ensures.none (sym here ∙ none))

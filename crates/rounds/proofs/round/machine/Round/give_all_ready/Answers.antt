@@ -1,5 +1,10 @@
-use Rattle.std.proofs.Common.{rules, ◌≤◌, arith, length}
+use Rattle.std.proofs.Common.{rules, inl, inr, ◌≤◌, ◌∙◌, ap, sym, subst, arith, length, ℕ}
+use Rattle.std.proofs.lemmas.Bool.{cases_eq}
 use Rattle.std.proofs.lemmas.Result.{err_from_is_err_and}
+use Rattle.flow_core.specs.Sequences.{SequenceValue}
+use Rattle.flow_core.specs.Slots.{leading}
+use Rattle.rounds.specs.Rounds.{IsDry}
+use Rattle.rounds.proofs.Running.{reads-then}
 use Rattle.rounds.proofs.Rounding.{none-ready}
 use Rattle.rounds.proofs.round.machine.Round.give_all_ready.Goals as goal
 
@@ -22,3 +27,32 @@ pub returns-in_err-give_ready-clause-unheld : goal.returns-in_err-give_ready-cla
 returns-in_err-give_ready-clause-unheld g c =
     let told = err_from_is_err_and c.from_residual.result c.from_residual.ensures.1 in
     rw (told.1, told.2) c.in_err-give_ready.ensures.unheld
+
+pub returns-in_err-give_ready-clause-none : goal.returns-in_err-give_ready-clause-none
+returns-in_err-give_ready-clause-none g c =
+    let told = err_from_is_err_and c.from_residual.result c.from_residual.ensures.1 in
+    rw told.1 (λ dry. c.in_err-give_ready.ensures.none (subst (IsDry c.loop-r.r) (sym (c.loop-r.invariant.idle dry)) (dry c.loop-r.r)))
+
+pub returns-in_err-give_ready-clause-fell : goal.returns-in_err-give_ready-clause-fell
+returns-in_err-give_ready-clause-fell g c =
+    let told = err_from_is_err_and c.from_residual.result c.from_residual.ensures.1 in
+    rw told.1 (omega (arith, c.loop-r.invariant.fewer, c.in_err-give_ready.ensures.fell))
+
+pub loop-r-preserved : goal.loop-r-preserved
+loop-r-preserved g c =
+    let e = c.in_ok-give_ready.ensures in
+    let i = c.loop-r.invariant in
+    record {
+      ok = λ start unfed now. e.ok start unfed (i.ok start unfed now);
+      none_read = reads-then _ _ _ i.none_read e.none_read;
+      counts = (e.counts.0 ∙ i.counts.0, e.counts.1 ∙ i.counts.1, e.counts.2 ∙ i.counts.2);
+      idle = λ none.
+          let same = i.idle none in
+          e.idle (subst (IsDry c.loop-r.r) (sym same) (none c.loop-r.r)) ∙ same;
+      fewer = omega (arith, i.fewer, e.fewer);
+      dry = λ k below.
+          elim (cases_eq k c.loop-r.r) as (λ _. IsDry k c.give_ready.new.self) [
+            | inl q ↦ subst (λ (j : ℕ). IsDry j c.give_ready.new.self) (sym q) e.dry
+            | inr q ↦ ap (λ (l : SequenceValue). leading l.slots) (e.others k q) ∙ i.dry k (omega (arith, below, q))
+          ];
+    }

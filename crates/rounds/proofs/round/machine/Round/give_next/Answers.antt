@@ -60,3 +60,13 @@ pub returns-in_err-give_segment-clause-none : goal.returns-in_err-give_segment-c
 returns-in_err-give_segment-clause-none g c =
     let told = err_from_is_err_and c.from_residual.result c.from_residual.ensures.1 in
     rw told.1 (front-ready _ _ _ c.in-Some.ensures.first)
+
+pub returns-clause-stood : goal.returns-clause-stood
+returns-clause-stood g c any dry = front-ready _ _ _ c.in-Some.ensures.first dry
+
+pub returns-in_err-give_segment-clause-fell : goal.returns-in_err-give_segment-clause-fell
+returns-in_err-give_segment-clause-fell g c =
+    let told = err_from_is_err_and c.from_residual.result c.from_residual.ensures.1 in
+    let now = ap (λ (x : Gathering). awaited x.sequences) c.in-Some.ensures.some in
+    let less = passed-fewer c.args.self.now.collector c.args.r c.in-Some.sealed.plan c.in-Some.sealed c.in-Some.ensures.first in
+    rw told.1 (omega (arith, now, less))

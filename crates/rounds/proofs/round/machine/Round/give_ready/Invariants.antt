@@ -1,5 +1,6 @@
+use Rattle.std.proofs.Common.{◌≡◌, ◌≤◌}
 use Rattle.flow_core.specs.Gatherings.{awaited}
-use Rattle.rounds.specs.Rounds.{KeepsCounts, KeepsOthers, Moves, ReadsNoneIn}
+use Rattle.rounds.specs.Rounds.{IsDry, KeepsCounts, KeepsOthers, Moves, ReadsNoneIn}
 use Rattle.rounds.proofs.round.machine.Round.give_ready.Given as goal
 
 abbrev pub invariant-loop : goal.invariant-loop
@@ -7,6 +8,8 @@ invariant-loop g l = record {
   ok : Moves g.S.Source.input g.O.Outlet.output l.settings l.fn.self l.self;
   none_read : ReadsNoneIn l.fn.self l.self;
   counts : KeepsCounts l.fn.self l.self;
+  idle : IsDry l.r l.fn.self → l.self ≡ l.fn.self;
+  fewer : awaited l.self.collector.sequences ≤ awaited l.fn.self.collector.sequences;
   others : KeepsOthers l.r l.fn.self l.self;
 }
 

@@ -3,6 +3,7 @@ use Rattle.std.proofs.lemmas.Bool.{false≢true}
 use Rattle.std.proofs.lemmas.Result.{err_from_is_err_and}
 use Rattle.flow_core.specs.Gatherings.{awaited}
 use Rattle.rounds.specs.declared.round.machine.Round.{Round}
+use Rattle.rounds.proofs.Gates.{own-then}
 use Rattle.rounds.proofs.Running.{reads-then}
 use Rattle.rounds.proofs.round.machine.Round.make_room.Goals as goal
 
@@ -33,9 +34,15 @@ loop-preserved g c = record {
   ok = λ start unfed now. c.in_ok-wait_and_give.ensures.ok start unfed (c.loop.invariant.ok start unfed now);
   none_read = reads-then _ _ _ c.loop.invariant.none_read c.in_ok-wait_and_give.ensures.none_read;
   fair = omega (arith, c.loop.invariant.fair, c.in_ok-wait_and_give.ensures.fair);
+  fewer = omega (arith, c.loop.invariant.fewer, c.in_ok-wait_and_give.ensures.fewer);
   idle = λ has.
       let same = c.loop.invariant.idle has in
       let left = ap (λ (s : Round _ _ _ _ _). awaited s.collector.sequences) same in
       let most = ap (λ (s : Round _ _ _ _ _). s.collector.most) same in
       absurd (false≢true (c.if-room.ensures.1 (omega (arith, has, left, most))));
 }
+
+pub returns-in_err-wait_and_give-clause-told : goal.returns-in_err-wait_and_give-clause-told
+returns-in_err-wait_and_give-clause-told g c =
+    let told = err_from_is_err_and c.from_residual.result c.from_residual.ensures.1 in
+    rw (told.1, told.2) (own-then (g.G.Gate.lets c.args.sealer.now.gate.now) (g.G.Gate.stops c.args.sealer.now.gate.now) c.args.self.now.collector c.loop.self.collector c.wait_and_give.new.self.collector _ c.loop.invariant.fewer c.in_err-wait_and_give.ensures.told)

@@ -1,6 +1,7 @@
 use Rattle.std.proofs.Common.{ap, arith}
 use Rattle.std.proofs.lemmas.Result.{err_from_is_err_and}
-use Rattle.rounds.proofs.Gates.{held-sudden, held-word, unheld-word}
+use Rattle.rounds.proofs.Collecting.{keeps-awaited}
+use Rattle.rounds.proofs.Gates.{held-own, held-sudden, held-word, unheld-word}
 use Rattle.rounds.proofs.Rounding.{in-keeps, in-stopped}
 use Rattle.rounds.proofs.round.machine.Round.take_and_give.Goals as goal
 
@@ -39,3 +40,16 @@ pub returns-clause-kept : goal.returns-clause-kept
 returns-clause-kept g c =
     let counts = c.in_ok-give_all_ready.ensures.counts in
     (omega (arith, c.in_ok-take_all.ensures.more, ap (λ t. t.pass.count) counts.2), omega (arith, c.in_ok-take_all.ensures.rest, counts.1))
+
+pub returns-clause-fewer : goal.returns-clause-fewer
+returns-clause-fewer g c = omega (arith, keeps-awaited _ _ c.in_ok-take_all.ensures.keeps, c.in_ok-give_all_ready.ensures.fewer)
+
+pub returns-in_err-take_all-clause-told : goal.returns-in_err-take_all-clause-told
+returns-in_err-take_all-clause-told g c =
+    let told = err_from_is_err_and c.from_residual.result c.from_residual.ensures.1 in
+    rw (told.1, told.2) (held-own (g.G.Gate.stops c.args.sealer.now.gate.now) _ _ c.in_err-take_all.ensures.fault)
+
+pub returns-in_err-give_all_ready-clause-told : goal.returns-in_err-give_all_ready-clause-told
+returns-in_err-give_all_ready-clause-told g c =
+    let told = err_from_is_err_and c.from_residual-in_err-give_all_ready.result c.from_residual-in_err-give_all_ready.ensures.1 in
+    rw (told.1, told.2) (λ unheld. omega (arith, keeps-awaited _ _ c.in_ok-take_all.ensures.keeps, c.in_err-give_all_ready.ensures.fell))

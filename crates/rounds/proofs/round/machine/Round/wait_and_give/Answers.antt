@@ -1,6 +1,7 @@
+use Rattle.std.proofs.Common.{inl, arith}
 use Rattle.std.proofs.lemmas.Result.{err_from_is_err_and}
-use Rattle.rounds.proofs.Collecting.{got-on}
-use Rattle.rounds.proofs.Gates.{awaited-sudden, awaited-word}
+use Rattle.rounds.proofs.Collecting.{got-on, keeps-awaited}
+use Rattle.rounds.proofs.Gates.{awaited-own, awaited-sudden, awaited-word}
 use Rattle.rounds.proofs.Rounding.{in-keeps, in-stopped}
 use Rattle.rounds.proofs.round.machine.Round.wait_and_give.Goals as goal
 
@@ -38,3 +39,16 @@ pub returns-clause-further : goal.returns-clause-further
 returns-clause-further g c =
     let kept = c.in_ok-take_and_give.ensures.kept in
     got-on _ _ _ c.wait_or_seal.new.collector c.take_and_give.new.self.collector kept.0 kept.1 c.in_ok-wait_or_seal.ensures.further
+
+pub returns-clause-fewer : goal.returns-clause-fewer
+returns-clause-fewer g c = omega (arith, keeps-awaited _ _ c.in_ok-wait_or_seal.ensures.keeps, c.in_ok-take_and_give.ensures.fewer)
+
+pub returns-in_err-wait_or_seal-clause-told : goal.returns-in_err-wait_or_seal-clause-told
+returns-in_err-wait_or_seal-clause-told g c =
+    let told = err_from_is_err_and c.from_residual.result c.from_residual.ensures.1 in
+    rw (told.1, told.2) (awaited-own (g.G.Gate.lets c.args.sealer.now.gate.now) (g.G.Gate.stops c.args.sealer.now.gate.now) c.args.self.now.collector c.wait_or_seal.new.collector _ c.in_err-wait_or_seal.ensures.fault)
+
+pub returns-in_err-take_and_give-clause-told : goal.returns-in_err-take_and_give-clause-told
+returns-in_err-take_and_give-clause-told g c =
+    let told = err_from_is_err_and c.from_residual-in_err-take_and_give.result c.from_residual-in_err-take_and_give.ensures.1 in
+    rw (told.1, told.2) (λ unheld. inl (omega (arith, keeps-awaited _ _ c.in_ok-wait_or_seal.ensures.keeps, c.in_err-take_and_give.ensures.told unheld)))
