@@ -11,28 +11,29 @@ use Rattle.rounds.specs.declared.run.books.Books.{Books}
 use Rattle.rounds.specs.declared.giving.broadcast.Broadcast.{Broadcast}
 use Rattle.rounds.specs.declared.run.between.BetweenRounds.{BetweenRounds}
 use Rattle.rounds.specs.declared.run.course.Course.{Course}
+use Rattle.rounds.specs.declared.run.pace.Pace.{Pace}
 use Rattle.rounds.specs.Courses.{Start, IsOn, IsStopped}
 use Rattle.rounds.specs.Rounds.{IsDriven, IsRound, unfed_of}
 
-module _ {X Y R : Type 0} (input : SourceView X) (out : OutletView Y) (ladder : Ladder) (spools : List (List SegmentPlan)) (old mid closed : BetweenRounds X Y R)
+module _ {X Y R : Type 0} (input : SourceView X) (out : OutletView Y) (ladder : Ladder) (spools : List (List SegmentPlan)) (pace : Pace) (old mid closed : BetweenRounds X Y R)
     (answer told : Result (Unit {0}) PackFault) (same : told ≡ answer) (is : closed.broadcast ≡ mid.broadcast) where
   round-made : (right : ℕ) → mid.books ≡ old.books → closed.books.rounds ≡ mid.books.rounds + 1 → closed.books.right ≡ mid.books.right + right
       → length closed.books.workers.items ≡ length mid.books.workers.items
-      → IsDriven input out ladder spools old.broadcast 0 mid.broadcast right → IsRound input out ladder spools old closed
+      → IsDriven input out ladder spools pace old.broadcast 0 mid.broadcast right → IsRound input out ladder spools pace old closed
   round-made right kept rounds more each there =
-      let d = subst (λ (b : Broadcast X Y R). IsDriven input out ladder spools old.broadcast 0 b right) (sym is) there in
+      let d = subst (λ (b : Broadcast X Y R). IsDriven input out ladder spools pace old.broadcast 0 b right) (sym is) there in
       record {
-        driven = record { on = d.on; further = d.further; fair = omega (arith, more, ap (λ (b : Books). b.right) kept, d.fair) };
+        driven = record { on = d.on; further = d.further; fair = omega (arith, more, ap (λ (b : Books). b.right) kept, d.fair); soon = d.soon };
         rounds = rounds ∙ ap (λ (b : Books). b.rounds + 1) kept;
         each = each ∙ ap (λ (b : Books). length b.workers.items) kept;
       }
 
   pub round-closed : (right : ℕ) → mid.books ≡ old.books → closed.books.rounds ≡ mid.books.rounds + 1 → closed.books.right ≡ mid.books.right + right
       → length closed.books.workers.items ≡ length mid.books.workers.items
-      → OnOk answer (IsDriven input out ladder spools old.broadcast 0 mid.broadcast right) → OnOk told (IsRound input out ladder spools old closed)
+      → OnOk answer (IsDriven input out ladder spools pace old.broadcast 0 mid.broadcast right) → OnOk told (IsRound input out ladder spools pace old closed)
   round-closed right kept rounds more each all =
-      subst (λ (r : Result (Unit {0}) PackFault). OnOk r (IsRound input out ladder spools old closed)) (sym same)
-      (on_ok_weaker {Q = IsRound input out ladder spools old closed} answer (round-made right kept rounds more each) all)
+      subst (λ (r : Result (Unit {0}) PackFault). OnOk r (IsRound input out ladder spools pace old closed)) (sym same)
+      (on_ok_weaker {Q = IsRound input out ladder spools pace old closed} answer (round-made right kept rounds more each) all)
 
 module _ {X Y : Type 0} (input : SourceView X) (out : OutletView Y) (ladder : Ladder) (spools : List (List SegmentPlan)) (old new closed : Course X Y) (shows shows_now shows_closed : Known)
     (answer told : Result (Unit {0}) PackFault) (same : told ≡ answer) (courses : closed ≡ new) (shown : shows_closed ≡ shows_now) where

@@ -12,4 +12,5 @@ pub mod Answered
 pub mod Between
 pub mod Ending
 pub mod Pacing
+pub mod Soon
 pub mod Telling

@@ -14,3 +14,9 @@ still-enough {X} {Y} pace old new awaited left turns same is none enough =
 pub enough-one : {X Y : Type 0} (least : ℕ) (course : Course X Y) → HasEnough least course → HasEnough 1 course
 enough-one least course (inl rests) = inl rests
 enough-one least course (inr closed) = let some = closed.0 in inr (some, omega (arith, some))
+
+-- there is as much by the same numbers
+pub enough-as : {X Y : Type 0} (pace : Pace) (course : Course X Y) (awaited left turns had : ℕ) → left ≡ awaited → had ≡ turns
+    → HasEnough (wanted pace awaited turns) course → HasEnough (wanted pace left had) course
+enough-as pace course awaited left turns had is same enough =
+    subst (λ (n : ℕ). HasEnough (wanted pace left n) course) (sym same) (subst (λ (n : ℕ). HasEnough (wanted pace n turns) course) (sym is) enough)

@@ -1,12 +1,12 @@
 -- A run under way on many threads.
-use Rattle.std.specs.Prelude.{◌≡◌, ◌≢◌, ℕ, ◌<◌, ◌≤◌, ◌^◌, List, [], ◌∷◌, ◌++◌, length, sum, None, Some, slice_get, slice_index_or, true, false}
+use Rattle.std.specs.Prelude.{◌≡◌, ◌≢◌, ◌⊎◌, ℕ, ◌+◌, ◌<◌, ◌≤◌, ◌^◌, List, [], ◌∷◌, ◌++◌, length, sum, None, Some, slice_get, slice_index_or, true, false}
 use Rattle.cutter.specs.Plans.{SegmentPlan}
 use Rattle.item_io.specs.Items.{ItemValue}
 use Rattle.live_board.specs.Snapshots.{SnapshotFacts, Known}
 use Rattle.live_board.specs.Counts.{counts_shown}
 use Rattle.item_io.specs.Views.{OutletView, SourceView}
 use Rattle.ingest.specs.declared.lane.Lane.{Lane}
-use Rattle.ingest.specs.Lanes.{is_good}
+use Rattle.ingest.specs.Lanes.{is_good, IsTurned}
 use Rattle.ladder_items.specs.declared.fault.PackFault.{PackFault}
 use Rattle.ladder_items.specs.declared.fault.PackFault.TheVariants.{NoMemory}
 use Rattle.ladder_items.specs.Ladder.{Ladder, IsAllowed}
@@ -94,6 +94,29 @@ pub record OthersStay {X Y : Type 0} (r : ℕ) (old new : Course X Y) : Type 0 w
   pub turns : (k : ℕ) → k ≢ r → turns_at new k ≡ turns_at old k
   pub lanes : (k : ℕ) → k ≢ r → slice_get new.lanes.items k ≡ slice_get old.lanes.items k
   pub sources : (k : ℕ) → k ≢ r → slice_get new.sources.items k ≡ slice_get old.sources.items k
+
+-- rendition k had no turn, and is as it was
+pub record HadNone {X Y : Type 0} (k : ℕ) (old new : Course X Y) : Type 0 where
+  pub turns : turns_at new k ≡ turns_at old k
+  pub lanes : slice_get new.lanes.items k ≡ slice_get old.lanes.items k
+  pub sources : slice_get new.sources.items k ≡ slice_get old.sources.items k
+
+-- rendition k had one turn, in which its input was read once
+pub record HadOne {X Y : Type 0} (input : SourceView X) (k : ℕ) (old new : Course X Y) : Type 0 where
+  pub turns : turns_at new k ≡ turns_at old k + 1
+  pub source : X
+  pub source_now : X
+  pub lane : Lane
+  pub lane_now : Lane
+  pub source_was : slice_get old.sources.items k ≡ Some source
+  pub source_is : slice_get new.sources.items k ≡ Some source_now
+  pub lane_was : slice_get old.lanes.items k ≡ Some lane
+  pub lane_is : slice_get new.lanes.items k ≡ Some lane_now
+  pub turned : IsTurned input source source_now lane lane_now
+
+-- rendition k had one turn at the most
+abbrev pub HadOneAtMost : {X Y : Type 0} → SourceView X → ℕ → Course X Y → Course X Y → Type 0
+HadOneAtMost input k old new = HadNone k old new ⊎ HadOne input k old new
 
 -- how many turns all had together
 abbrev pub turns_in : {X Y : Type 0} → Course X Y → ℕ

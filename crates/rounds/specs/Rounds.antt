@@ -1,9 +1,9 @@
 -- A round: plans are expected, and segments come for them.
-use Rattle.std.specs.Prelude.{◌≡◌, ◌≢◌, ℕ, ◌+◌, ◌<◌, ◌≤◌, sum, List, [], ◌∷◌, ◌++◌, map, length, Some, slice_get, slice_index_or, slice_set, false}
+use Rattle.std.specs.Prelude.{◌≡◌, ◌≢◌, ℕ, ◌+◌, ◌-◌, ◌<◌, ◌≤◌, sum, List, [], ◌∷◌, ◌++◌, map, length, Some, slice_get, slice_index_or, slice_set, false}
 use Rattle.cutter.specs.Plans.{SegmentPlan}
 use Rattle.flow_core.specs.declared.slot.Slot.{Slot}
 use Rattle.flow_core.specs.Slots.{leading, one_more}
-use Rattle.flow_core.specs.Gatherings.{Gathering, missing_in, sequence_at, sequences_from}
+use Rattle.flow_core.specs.Gatherings.{Gathering, awaited, missing_in, sequence_at, sequences_from}
 use Rattle.flow_core.specs.Sequences.{SequenceValue}
 use Rattle.live_board.specs.Snapshots.{Known}
 use Rattle.ingest.specs.declared.lane.Lane.{Lane}
@@ -16,7 +16,9 @@ use Rattle.rounds.specs.declared.giving.broadcast.Broadcast.{Broadcast}
 use Rattle.rounds.specs.declared.round.machine.Round.{Round}
 use Rattle.rounds.specs.declared.run.between.BetweenRounds.{BetweenRounds}
 use Rattle.rounds.specs.declared.run.course.Course.{Course}
-use Rattle.rounds.specs.Courses.{Start, IsBetween, IsOn, IsStopped, ReadsMore, ReadsNone}
+use Rattle.rounds.specs.declared.run.pace.Pace.{Pace}
+use Rattle.rounds.specs.Courses.{Start, HadOneAtMost, IsBetween, IsOn, IsStopped, ReadsMore, ReadsNone, turns_in}
+use Rattle.rounds.specs.Paces.{HasEnough, wanted}
 use Rattle.rounds.specs.Showing.{counts_of}
 
 -- the plans that a rendition of a collector expects, in order
@@ -85,6 +87,15 @@ StopsIn input out ladder start at fault = IsStopped input out ladder start at.br
 abbrev pub Breaks : {X Y L M R : Type 0} → SourceView X → OutletView Y → Ladder → Round X Y L M R → Round X Y L M R → PackFault → Type 0
 Breaks {X} {Y} input out ladder old new fault =
     (start : Start X Y) (unfed : List (List SegmentPlan)) → StandsIn input out ladder start unfed old → StopsIn input out ladder start new fault
+
+-- In a round, what is read stops with the turns that make it enough for the next one: before them, one of each rendition at the
+-- most, there wasn't enough, by the segments that were awaited and the turns that were had then.
+pub record StopsInTime {X Y L M R : Type 0} (input : SourceView X) (out : OutletView Y) (ladder : Ladder) (pace : Pace) (old new : Round X Y L M R) : Type 0 where
+  pub before : Round X Y L M R
+  pub moves : Moves input out ladder old before
+  pub further : ReadsMore old.broadcast.course before.broadcast.course
+  pub few : HasEnough (wanted pace (awaited before.collector.sequences) (turns_in before.broadcast.course - turns_in old.broadcast.course)) before.broadcast.course → ⊥
+  pub last : (k : ℕ) → HadOneAtMost input k before.broadcast.course new.broadcast.course
 
 -- no more right segments were taken than were gathered
 abbrev pub IsFair : {X Y L M R : Type 0} → Round X Y L M R → Round X Y L M R → Type 0
@@ -203,18 +214,31 @@ abbrev pub IsBehind : {X Y L M R : Type 0} → Ladder → Round X Y L M R → Ty
 IsBehind ladder at =
     at.collector.sequences ≡ sequences_from 0 (map (λ (r : RenditionValue). r.keys) ladder.renditions) (counts_of at.broadcast.course.playlists.items)
 
+-- A round that read for the next one stopped with the turns that made it enough: before them, one of each rendition at the most, each
+-- run that stood there with these full spools stood in the round, with all of them fed, and there wasn't enough.
+pub record ReadsInTime {X Y R : Type 0} (input : SourceView X) (out : OutletView Y) (ladder : Ladder) (spools : List (List SegmentPlan)) (pace : Pace)
+    (old new : Broadcast X Y R) : Type 0 where
+  pub before : Broadcast X Y R
+  pub collector : Gathering
+  pub stands : (start : Start X Y) → IsFull input out ladder start spools old
+      → (left : List (List SegmentPlan)) × InRound input out ladder start left before.course before.held.publisher collector × ((k : ℕ) → unfed_of left k ≡ [])
+  pub further : ReadsMore old.course before.course
+  pub few : HasEnough (wanted pace (awaited collector.sequences) (turns_in before.course - turns_in old.course)) before.course → ⊥
+  pub last : (k : ℕ) → HadOneAtMost input k before.course new.course
+
 -- What the calling thread made of each run that stood there with these full spools: all of them was given. It took no more right
--- segments than were given.
-pub record IsDriven {X Y R : Type 0} (input : SourceView X) (out : OutletView Y) (ladder : Ladder) (spools : List (List SegmentPlan))
+-- segments than were given, and read no more than makes it enough for the next round.
+pub record IsDriven {X Y R : Type 0} (input : SourceView X) (out : OutletView Y) (ladder : Ladder) (spools : List (List SegmentPlan)) (pace : Pace)
     (old : Broadcast X Y R) (right : ℕ) (new : Broadcast X Y R) (right_now : ℕ) : Type 0 where
   pub on : (start : Start X Y) → IsFull input out ladder start spools old → IsBetween input out ladder start new
   pub further : ReadsMore old.course new.course
   pub fair : right_now + sum (counts_of old.course.playlists.items) ≤ right + sum (counts_of new.course.playlists.items)
+  pub soon : turns_in old.course < turns_in new.course → ReadsInTime input out ladder spools pace old new
 
 -- a round whose numbers stand in the books
-pub record IsRound {X Y R : Type 0} (input : SourceView X) (out : OutletView Y) (ladder : Ladder) (spools : List (List SegmentPlan))
+pub record IsRound {X Y R : Type 0} (input : SourceView X) (out : OutletView Y) (ladder : Ladder) (spools : List (List SegmentPlan)) (pace : Pace)
     (old new : BetweenRounds X Y R) : Type 0 where
-  pub driven : IsDriven input out ladder spools old.broadcast old.books.right new.broadcast new.books.right
+  pub driven : IsDriven input out ladder spools pace old.broadcast old.books.right new.broadcast new.books.right
   pub rounds : new.books.rounds ≡ old.books.rounds + 1
   pub each : length new.books.workers.items ≡ length old.books.workers.items
 

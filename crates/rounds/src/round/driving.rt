@@ -6,7 +6,7 @@ ghost use Rattle.ladder_items.specs.Ladder.{RenditionValue};
 ghost use Rattle.rounds.specs.Courses.{ReadsMore, turns_in};
 ghost use Rattle.rounds.specs.Gated.{IsGatesWord};
 ghost use Rattle.rounds.specs.Paces.{HasEnough, wanted};
-ghost use Rattle.rounds.specs.Rounds.{Breaks, IsBehind, IsBroken, IsDriven, IsExact, IsSomeFull, IsSomewhere, Moves, NoneReady};
+ghost use Rattle.rounds.specs.Rounds.{Breaks, IsBehind, IsBroken, IsDriven, IsExact, IsSomeFull, IsSomewhere, Moves, NoneReady, StopsInTime};
 ghost use Rattle.rounds.specs.Showing.{counts_of};
 ghost use Rattle.item_io.specs.declared.limits.TheConstants.{PIECE};
 
@@ -62,7 +62,7 @@ impl<'d, 's, 'r, S: Source, O: Outlet, L: Ledger, M: Ledger, R: Wait> Round<
         requires each { length spools.now ≡ length settings.now.renditions }
         requires on { IsSomeFull S.input O.output settings.now spools.now self.old.broadcast }
         requires behind { IsBehind settings.now self.old }
-        ensures ok { OnOk result (IsDriven S.input O.output settings.now spools.now
+        ensures ok { OnOk result (IsDriven S.input O.output settings.now spools.now pace
             self.old.broadcast self.old.taker.right self.new.broadcast self.new.taker.right) }
         ensures err { IfErr result (IsBroken S.input O.output settings.now spools.now self.old.broadcast self.new.broadcast) }
         ensures held { IfErr result (IsGatesWord (G.stops sealer.now.gate.now)) }
@@ -92,6 +92,8 @@ impl<'d, 's, 'r, S: Source, O: Outlet, L: Ledger, M: Ledger, R: Wait> Round<
         ensures further { OnOk result (ReadsMore self.old.broadcast.course self.new.broadcast.course) }
         ensures exact { OnOk result (IsExact self.old self.new) }
         ensures dry { OnOk result (turns_in self.old.broadcast.course < turns_in self.new.broadcast.course → NoneReady self.new.collector) }
+        ensures soon { OnOk result (turns_in self.old.broadcast.course < turns_in self.new.broadcast.course
+            → StopsInTime S.input O.output settings.now pace self.old self.new) }
         ensures idle { OnOk result (HasEnough (wanted pace (awaited self.old.collector.sequences) 0) self.old.broadcast.course
             → self.new ≡ self.old) }
         ensures none { OnErr result (HasEnough (wanted pace (awaited self.old.collector.sequences) 0) self.old.broadcast.course → ⊥) }

@@ -36,7 +36,7 @@ pub fn driven<'s, 'r, S: Source, O: Outlet, G: Gate, L: Ledger, M: Ledger, R: Wa
     requires each { length spools.now ≡ length setup.now.settings.now.renditions }
     requires unused { pass.count ≡ 0 }
     requires on { IsSomeFull S.input O.output setup.now.settings.now spools.now between.broadcast }
-    ensures ok { OnOk result.answer (IsDriven S.input O.output setup.now.settings.now spools.now
+    ensures ok { OnOk result.answer (IsDriven S.input O.output setup.now.settings.now spools.now setup.now.pace
         between.entry.broadcast 0 result.between.broadcast result.taker.right) }
     ensures err { IfErr result.answer (IsBroken S.input O.output setup.now.settings.now spools.now between.entry.broadcast result.between.broadcast) }
     ensures held { IfErr result.answer (IsGatesWord (G.stops setup.now.gate.now)) }

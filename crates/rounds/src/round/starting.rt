@@ -34,7 +34,7 @@ pub fn run_round<'r, S: Source + Drop, O: Outlet + Drop, G: Gate + Sync, R: Thre
     requires ends { HasDueEnds setup.now.settings.now spools.now between.broadcast.course }
     requires workers { length between.books.workers.items ≡ setup.now.workers }
     requires rounds { between.books.rounds < 2 ^ 46 }
-    ensures ok { OnOk result.1 (IsRound S.input O.output setup.now.settings.now spools.now between.entry result.0) }
+    ensures ok { OnOk result.1 (IsRound S.input O.output setup.now.settings.now spools.now setup.now.pace between.entry result.0) }
     ensures err { IfErr result.1 (IsBroken S.input O.output setup.now.settings.now spools.now between.entry.broadcast result.0.broadcast) }
     ensures held { IfErr result.1 (IsGatesWord (G.stops setup.now.gate.now)) }
 {
@@ -67,7 +67,7 @@ fn round_with<
     requires rounds { between.books.rounds < 2 ^ 46 }
     requires claims { (claims.name ≡ L.name) × (claims.parts ≡ L.parts) × (L.parts ≡ setup.now.workers) }
     requires takes { (takes.name ≡ M.name) × (takes.parts ≡ M.parts) × (M.parts ≡ 1) }
-    ensures ok { OnOk result.1 (IsRound S.input O.output setup.now.settings.now spools.now between.entry result.0) }
+    ensures ok { OnOk result.1 (IsRound S.input O.output setup.now.settings.now spools.now setup.now.pace between.entry result.0) }
     ensures err { IfErr result.1 (IsBroken S.input O.output setup.now.settings.now spools.now between.entry.broadcast result.0.broadcast) }
     ensures held { IfErr result.1 (IsGatesWord (G.stops setup.now.gate.now)) }
 {

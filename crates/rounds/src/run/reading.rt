@@ -2,8 +2,8 @@
 
 ghost use Rattle.std.specs.Prelude.{◌≡◌, ◌+◌, ◌<◌, ◌≤◌, ◌^◌, [], ℕ, Decides, IfOk, OnErr, OnOk, None, Some, true, false, length, slice_get, slice_set};
 ghost use Rattle.ingest.specs.declared.lane.Lane.{Lane};
-ghost use Rattle.rounds.specs.Courses.{HasClosed, IsRun, OthersStay, ReadsMore, ReadsOn, ReadsShort, Rests, turns_at, turns_in};
-ghost use Rattle.rounds.specs.Paces.{HasEnough, closed_in, wanted};
+ghost use Rattle.rounds.specs.Courses.{HadOne, HadOneAtMost, HasClosed, IsRun, OthersStay, ReadsMore, ReadsOn, ReadsShort, Rests, turns_at, turns_in};
+ghost use Rattle.rounds.specs.Paces.{HasEnough, StopsSoon, closed_in, wanted};
 ghost use Rattle.item_io.specs.declared.limits.TheConstants.{PIECE, READS};
 
 use crate::run::course::Course;
@@ -70,6 +70,9 @@ impl<S: Source, O: Outlet> Course<S, O> {
         ensures count { length self.new.lanes.items ≡ length self.old.lanes.items }
         ensures turns { OnOk result (turns_in self.new ≡ turns_in self.old + 1) }
         ensures others { OthersStay r self.old self.new }
+        ensures had { OnOk result (HadOne S.input r self.old self.new) }
+        ensures unfailed { OnErr result ((source now : S) → slice_get self.old.sources.items r ≡ Some source
+            → slice_get self.new.sources.items r ≡ Some now → S.input.failures now ≡ S.input.failures source) }
     {
         self.lanes[r].turn(&mut self.sources[r], buffer)?;
         self.count_turn(r);
@@ -90,6 +93,7 @@ impl<S: Source, O: Outlet> Course<S, O> {
         ensures told { IfOk result (λ any. Decides any (turns_in self.old < turns_in self.new)) }
         ensures others { OthersStay r self.old self.new }
         ensures once { OnOk result (turns_in self.new ≤ turns_in self.old + 1) }
+        ensures one { OnOk result (HadOneAtMost S.input r self.old self.new) }
         ensures none { OnErr result ((lane : Lane) → slice_get self.old.lanes.items r ≡ Some lane → lane.stop ≡ None) }
         ensures unread { OnErr result (turns_at self.old r < self.old.reads) }
     {
@@ -114,6 +118,8 @@ impl<S: Source, O: Outlet> Course<S, O> {
         ensures further { OnOk result (ReadsMore self.old self.new) }
         ensures told { IfOk result (λ any. Decides any (turns_in self.old < turns_in self.new)) }
         ensures once { OnOk result (turns_in self.new ≤ turns_in self.old + length self.old.lanes.items) }
+        ensures each { OnOk result ((k : ℕ) → HadOneAtMost S.input k self.old self.new) }
+        ensures none { OnErr result (Rests self.old → ⊥) }
     {
         let mut any = false;
         for r in 0..self.lanes.len() {
@@ -140,6 +146,7 @@ impl<S: Source, O: Outlet> Course<S, O> {
         ensures further { OnOk result (ReadsMore self.old self.new) }
         ensures idle { OnOk result (HasEnough least self.old → self.new ≡ self.old) }
         ensures some { OnOk result (HasEnough 1 self.new) }
+        ensures soon { OnOk result (turns_in self.old < turns_in self.new → StopsSoon S.input O.output least self.old self.new) }
         ensures none { OnErr result (HasEnough least self.old → ⊥) }
     {
         for _ in rt.forever() {

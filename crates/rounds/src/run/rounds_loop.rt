@@ -1,11 +1,11 @@
 //! From round to round, until everything is given.
 
-ghost use Rattle.std.specs.Prelude.{◌≡◌, ◌+◌, ◌≤◌, IfErr, IfOk, OnErr, OnOk, length, sum};
+ghost use Rattle.std.specs.Prelude.{◌≡◌, ◌+◌, ◌<◌, ◌≤◌, IfErr, IfOk, OnErr, OnOk, length, sum};
 ghost use Rattle.rounds.specs.Begun.{keys_of};
 ghost use Rattle.rounds.specs.Courses.{HasGoodEnds, IsAllGiven, IsSomeBetween, NoneClosed, ReadsNone, StaysBetween, StopsBetween};
-ghost use Rattle.rounds.specs.Courses.{HasEndDue, IsRun, ReadsMore, ReadsOn, ReadsShort};
+ghost use Rattle.rounds.specs.Courses.{HasEndDue, IsRun, ReadsMore, ReadsOn, ReadsShort, turns_in};
 ghost use Rattle.rounds.specs.Gated.{IsGatesWord, IsUnheld};
-ghost use Rattle.rounds.specs.Paces.{HasEnough};
+ghost use Rattle.rounds.specs.Paces.{HasEnough, StopsSoon};
 ghost use Rattle.rounds.specs.Rounds.{SwapsOut, SwapsShort, TakesClosed};
 ghost use Rattle.rounds.specs.Showing.{counts_of};
 
@@ -86,6 +86,8 @@ fn read_between<'r, S: Source, O: Outlet, R: Wait, H: Herald>(
     ensures playlists { OnOk result.1 (result.0.broadcast.course.playlists ≡ between.entry.broadcast.course.playlists) }
     ensures further { OnOk result.1 (ReadsMore between.entry.broadcast.course result.0.broadcast.course) }
     ensures some { OnOk result.1 (HasEnough 1 result.0.broadcast.course) }
+    ensures soon { OnOk result.1 (turns_in between.entry.broadcast.course < turns_in result.0.broadcast.course
+        → StopsSoon S.input O.output pace.least between.entry.broadcast.course result.0.broadcast.course) }
     ensures none { OnErr result.1 (HasEnough pace.least between.entry.broadcast.course → ⊥) }
     ensures held { result.0.broadcast.held.publisher ≡ between.entry.broadcast.held.publisher }
     ensures books { result.0.books ≡ between.entry.books }

@@ -1,6 +1,11 @@
-use Rattle.std.proofs.Common.{arith}
+use Rattle.std.proofs.Common.{ap, arith, subst, ℕ, ◌-◌}
+use Rattle.std.specs.Prelude.{sum}
 use Rattle.std.proofs.lemmas.Result.{err_from_is_err_and}
 use Rattle.rounds.proofs.Driven.{in-first, in-begun, in-last, in-given}
+use Rattle.flow_core.specs.Gatherings.{awaited}
+use Rattle.rounds.specs.Courses.{turns_in}
+use Rattle.rounds.specs.Paces.{HasEnough, wanted}
+use Rattle.rounds.proofs.Soon.{most-before, none-unread}
 use Rattle.rounds.proofs.Turning.{more-then, more-unread}
 use Rattle.rounds.proofs.round.machine.Round.drive.Goals as goal
 
@@ -54,6 +59,20 @@ returns-clause-ok g c =
       further = more-then _ _ _ (more-unread _ _ c.in_ok-feed_all.ensures.none_read)
           (more-then _ _ _ c.in_ok-read_on.ensures.further (more-unread _ _ c.in_ok-give_expected.ensures.none_read));
       fair = omega (arith, begun, given, c.in_ok-feed_all.ensures.fair, c.in_ok-read_on.ensures.exact, c.in_ok-give_expected.ensures.fair);
+      soon = λ more.
+          let first = ap (λ t. sum t.items) c.in_ok-feed_all.ensures.none_read.turns in
+          let last = ap (λ t. sum t.items) c.in_ok-give_expected.ensures.none_read.turns in
+          let s = c.in_ok-read_on.ensures.soon (omega (arith, more, first, last)) in
+          record {
+            before = s.before.broadcast;
+            collector = s.before.collector;
+            stands = λ start on.
+                let fed = c.in_ok-feed_all.ensures.ok start (in-first _ _ _ _ _ start c.args.spools.now _ _ _ c.requires.each c.requires.behind on) in
+                (fed.0, s.moves start fed.0 fed.1, fed.2);
+            further = more-then _ _ _ (more-unread _ _ c.in_ok-feed_all.ensures.none_read) s.further;
+            few = subst (λ (n : ℕ). HasEnough (wanted c.args.pace (awaited s.before.collector.sequences) (turns_in s.before.broadcast.course - n)) s.before.broadcast.course → ⊥) first s.few;
+            last = λ k. most-before _ k _ _ _ (s.last k) (none-unread k _ _ c.in_ok-give_expected.ensures.none_read);
+          };
     }
 
 pub returns-in_err-feed_all-clause-held : goal.returns-in_err-feed_all-clause-held

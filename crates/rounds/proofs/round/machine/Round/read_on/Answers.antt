@@ -6,7 +6,8 @@ use Rattle.flow_core.specs.Gatherings.{awaited}
 use Rattle.rounds.specs.declared.round.machine.Round.{Round}
 use Rattle.rounds.specs.Courses.{turns_in}
 use Rattle.rounds.proofs.Driven.{in-read}
-use Rattle.rounds.proofs.Pacing.{still-enough}
+use Rattle.rounds.proofs.Pacing.{enough-as, still-enough}
+use Rattle.rounds.proofs.Soon.{most-before, none-unread}
 use Rattle.rounds.proofs.Turning.{more-then, more-unread, none-more}
 use Rattle.rounds.proofs.Gates.{none-word}
 use Rattle.rounds.proofs.round.machine.Round.read_on.Goals as goal
@@ -72,6 +73,15 @@ loop-preserved g c =
           let left = c.awaited-awaited.ensures ∙ ap (λ (s : Round _ _ _ _ _). awaited s.collector.sequences) at in
           let none : c.turns_had.result - c.turns_had-before.result ≡ 0 = omega (arith, c.turns_had.ensures.is, c.turns_had-before.ensures.is, ap turns_in course) in
           absurd (false≢true (c.if-is_enough.ensures.1 (still-enough c.args.pace _ _ _ _ _ course left none enough)));
+      soon = λ more. record {
+        before = c.loop.self;
+        moves = c.loop.invariant.ok;
+        further = c.loop.invariant.further;
+        few = λ enough.
+            let had : c.turns_had.result - c.turns_had-before.result ≡ turns_in c.loop.self.broadcast.course - turns_in c.args.self.now.broadcast.course = omega (arith, c.turns_had.ensures.is, c.turns_had-before.ensures.is) in
+            false≢true (c.if-is_enough.ensures.1 (enough-as c.args.pace c.loop.self.broadcast.course _ _ _ _ c.awaited-awaited.ensures had enough));
+        last = λ k. most-before _ k _ _ _ (c.in_ok-read_ready.ensures.each k) (none-unread k _ _ c.in_ok-take_and_give.ensures.none_read);
+      };
       buffer = search rules;
     }
 
@@ -117,3 +127,14 @@ returns-in_err-take_and_give-clause-none g c =
     let left = c.awaited-awaited.ensures ∙ ap (λ (s : Round _ _ _ _ _). awaited s.collector.sequences) at in
     let none : c.turns_had.result - c.turns_had-before.result ≡ 0 = omega (arith, c.turns_had.ensures.is, c.turns_had-before.ensures.is, ap turns_in course) in
     false≢true (c.if-is_enough.ensures.1 (still-enough c.args.pace _ _ _ _ _ course left none enough)))
+
+pub returns-then-not-branch-clause-soon : goal.returns-then-not-branch-clause-soon
+returns-then-not-branch-clause-soon g c more = record {
+  before = c.loop.self;
+  moves = c.loop.invariant.ok;
+  further = c.loop.invariant.further;
+  few = λ enough.
+      let had : c.turns_had.result - c.turns_had-before.result ≡ turns_in c.loop.self.broadcast.course - turns_in c.args.self.now.broadcast.course = omega (arith, c.turns_had.ensures.is, c.turns_had-before.ensures.is) in
+      false≢true (c.if-is_enough.ensures.1 (enough-as c.args.pace c.loop.self.broadcast.course _ _ _ _ c.awaited-awaited.ensures had enough));
+  last = c.in_ok-read_ready.ensures.each;
+}

@@ -4,6 +4,7 @@ use Rattle.std.proofs.lemmas.Result.{err_from_is_err_and}
 use Rattle.rounds.specs.declared.run.course.Course.{Course}
 use Rattle.rounds.specs.Paces.{HasEnough}
 use Rattle.rounds.proofs.Pacing.{enough-one}
+use Rattle.rounds.proofs.Soon.{most-before, none-looked}
 use Rattle.rounds.proofs.Turning.{more-then, more-looked, on-looked}
 use Rattle.rounds.proofs.run.course.Course.read_more.Goals as goal
 
@@ -27,6 +28,13 @@ loop-preserved-then-branch g c = record {
   playlists = ap (λ (d : Course _ _). d.playlists) c.in_ok-read_ready.ensures.same ∙ c.loop.invariant.playlists;
   further = more-then _ _ _ c.loop.invariant.further c.in_ok-read_ready.ensures.further;
   idle = λ enough. absurd (false≢true (c.if-has_closed.ensures.1 (subst (HasEnough c.args.least) (sym (c.loop.invariant.idle enough)) enough)));
+  soon = λ more. record {
+    before = c.loop.self;
+    reads_on = c.loop.invariant.ok;
+    further = c.loop.invariant.further;
+    few = λ enough. false≢true (c.if-has_closed.ensures.1 enough);
+    last = c.in_ok-read_ready.ensures.each;
+  };
   buffer = search rules;
 }
 
@@ -52,6 +60,13 @@ loop-preserved g c = record {
   playlists = ap (λ (d : Course _ _). d.playlists) c.wait.ensures.same ∙ (ap (λ (d : Course _ _). d.playlists) c.in_ok-read_ready.ensures.same ∙ c.loop.invariant.playlists);
   further = more-then _ _ _ (more-then _ _ _ c.loop.invariant.further c.in_ok-read_ready.ensures.further) (more-looked _ _ c.wait.ensures.same);
   idle = λ enough. absurd (false≢true (c.if-has_closed.ensures.1 (subst (HasEnough c.args.least) (sym (c.loop.invariant.idle enough)) enough)));
+  soon = λ more. record {
+    before = c.loop.self;
+    reads_on = c.loop.invariant.ok;
+    further = c.loop.invariant.further;
+    few = λ enough. false≢true (c.if-has_closed.ensures.1 enough);
+    last = λ k. most-before _ k _ _ _ (c.in_ok-read_ready.ensures.each k) (none-looked k _ _ c.wait.ensures.sources c.wait.ensures.same);
+  };
   buffer = search rules;
 }
 
@@ -66,3 +81,12 @@ pub returns-in_err-read_ready-clause-none : goal.returns-in_err-read_ready-claus
 returns-in_err-read_ready-clause-none g c =
     let told = err_from_is_err_and c.from_residual.result c.from_residual.ensures.1 in
     rw told.1 (λ enough. false≢true (c.if-has_closed.ensures.1 (subst (HasEnough c.args.least) (sym (c.loop.invariant.idle enough)) enough)))
+
+pub returns-then-has_closed-2-clause-soon : goal.returns-then-has_closed-2-clause-soon
+returns-then-has_closed-2-clause-soon g c more = record {
+  before = c.loop.self;
+  reads_on = c.loop.invariant.ok;
+  further = c.loop.invariant.further;
+  few = λ enough. false≢true (c.if-has_closed.ensures.1 enough);
+  last = c.in_ok-read_ready.ensures.each;
+}

@@ -1,6 +1,6 @@
-use Rattle.std.proofs.Common.{◌≡◌, length}
-use Rattle.rounds.specs.Courses.{ReadsMore, ReadsOn}
-use Rattle.rounds.specs.Paces.{HasEnough}
+use Rattle.std.proofs.Common.{◌≡◌, ◌<◌, length}
+use Rattle.rounds.specs.Courses.{ReadsMore, ReadsOn, turns_in}
+use Rattle.rounds.specs.Paces.{HasEnough, StopsSoon}
 use Rattle.rounds.proofs.run.course.Course.read_more.Given as goal
 
 abbrev pub invariant-loop : goal.invariant-loop
@@ -9,5 +9,6 @@ invariant-loop g l = record {
   playlists : l.self.playlists ≡ l.fn.self.playlists;
   further : ReadsMore l.fn.self l.self;
   idle : HasEnough l.least l.fn.self → l.self ≡ l.fn.self;
+  soon : turns_in l.fn.self < turns_in l.self → StopsSoon g.S.Source.input g.O.Outlet.output l.least l.fn.self l.self;
   buffer : length l.buffer ≡ length l.fn.buffer;
 }

@@ -1,10 +1,11 @@
-use Rattle.std.proofs.Common.{◌∙◌, refl, ap, sym, arith}
+use Rattle.std.proofs.Common.{◌∙◌, inl, inr, refl, ap, sym, arith}
 use Rattle.std.specs.List.{slice_get}
 use Rattle.std.proofs.lemmas.Bool.{false≢true}
 use Rattle.std.proofs.lemmas.Result.{err_from_is_err_and}
 use Rattle.rounds.specs.declared.run.course.Course.{Course}
 use Rattle.rounds.specs.Courses.{turns_at, turns_in}
 use Rattle.rounds.proofs.Turning.{more-looked, none-had, on-looked, others-looked, others-none, others-then}
+use Rattle.rounds.proofs.Soon.{had-none, none-looked, one-behind}
 use Rattle.rounds.proofs.run.course.Course.read_one.Goals as goal
 
 pub returns-then-not-is_ready-clause-ok : goal.returns-then-not-is_ready-clause-ok
@@ -86,3 +87,13 @@ pub returns-in_err-take_turn-clause-unread : goal.returns-in_err-take_turn-claus
 returns-in_err-take_turn-clause-unread g c =
     let told = err_from_is_err_and c.from_residual.result c.from_residual.ensures.1 in
     rw told.1 (c.if-not-goes_on.ensures.below refl)
+
+pub returns-then-not-goes_on-clause-one : goal.returns-then-not-goes_on-clause-one
+returns-then-not-goes_on-clause-one g c = inl (had-none c.args.r c.args.self.now)
+
+pub returns-then-not-is_ready-clause-one : goal.returns-then-not-is_ready-clause-one
+returns-then-not-is_ready-clause-one g c = inl (none-looked c.args.r _ _ c.if-not-is_ready.ensures.sources c.if-not-is_ready.ensures.same)
+
+pub returns-clause-one : goal.returns-clause-one
+returns-clause-one g c =
+    inr (one-behind _ c.args.r _ _ _ (none-looked c.args.r _ _ c.if-not-is_ready.ensures.sources c.if-not-is_ready.ensures.same) c.in_ok-take_turn.ensures.had)

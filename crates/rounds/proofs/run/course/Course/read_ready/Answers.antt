@@ -1,7 +1,9 @@
-use Rattle.std.proofs.Common.{◌∙◌, refl, ap, arith, rules}
+use Rattle.std.proofs.Common.{◌∙◌, ◌<◌, inl, refl, ap, sym, arith, rules, length}
 use Rattle.std.proofs.lemmas.Result.{err_from_is_err_and}
+use Rattle.ladder_items.proofs.Elsewhere.{some-at}
 use Rattle.rounds.specs.declared.run.course.Course.{Course}
 use Rattle.rounds.specs.Courses.{turns_in}
+use Rattle.rounds.proofs.Soon.{had-none, most-then, rest-then}
 use Rattle.rounds.proofs.Turning.{had-then, more-none, more-then, none-had}
 use Rattle.rounds.proofs.run.course.Course.read_ready.Goals as goal
 
@@ -22,6 +24,8 @@ loop-r-preserved g c = record {
   further = more-then _ _ _ c.loop-r.invariant.further c.in_ok-any.ensures.further;
   told = had-then _ _ _ _ _ c.loop-r.invariant.further.more c.in_ok-any.ensures.further.more c.loop-r.invariant.told c.in_ok-any.ensures.told;
   once = omega (arith, c.loop-r.invariant.once, c.in_ok-any.ensures.once);
+  each = most-then _ c.loop-r.r _ _ _ c.loop-r.invariant.each c.loop-r.invariant.rest c.in_ok-any.ensures.one c.in_ok-any.ensures.others;
+  rest = rest-then c.loop-r.r _ _ _ c.loop-r.invariant.rest c.in_ok-any.ensures.others;
   buffer = search rules;
 }
 
@@ -33,5 +37,18 @@ loop-r-init g c = record {
   further = more-none c.args.self.now;
   told = none-had (turns_in c.args.self.now);
   once = omega arith;
+  each = λ k. inl (had-none k c.args.self.now);
+  rest = λ k above. had-none k c.args.self.now;
   buffer = refl;
 }
+
+pub returns-in_err-any-clause-none : goal.returns-in_err-any-clause-none
+returns-in_err-any-clause-none g c =
+    let told = err_from_is_err_and c.from_residual.result c.from_residual.ensures.1 in
+    let r = c.loop-r.r in
+    let within : r < length c.loop-r.self.lanes.items = search rules in
+    let some = some-at c.loop-r.self.lanes.items r within in
+    let was = c.loop-r.invariant.rest r (omega arith) in
+    rw told.1 (λ rests.
+    let all = rests r some.0 (sym was.lanes ∙ some.1) (c.in_err-any.ensures.none some.0 some.1) in
+    absurd (omega (arith, all, was.turns, c.in_err-any.ensures.unread, ap (λ (d : Course _ _). d.reads) c.loop-r.invariant.same)))

@@ -1,6 +1,6 @@
-use Rattle.std.proofs.Common.{◌≡◌, ◌+◌, ◌<◌, ◌≤◌, length}
+use Rattle.std.proofs.Common.{◌≡◌, ℕ, ◌+◌, ◌<◌, ◌≤◌, length}
 use Rattle.std.specs.Prelude.{Decides}
-use Rattle.rounds.specs.Courses.{ReadsMore, ReadsOn, turns_in}
+use Rattle.rounds.specs.Courses.{HadNone, HadOneAtMost, ReadsMore, ReadsOn, turns_in}
 use Rattle.rounds.proofs.run.course.Course.read_ready.Given as goal
 
 abbrev pub invariant-loop-r : goal.invariant-loop-r
@@ -11,5 +11,7 @@ invariant-loop-r g l = record {
   further : ReadsMore l.fn.self l.self;
   told : Decides l.any (turns_in l.fn.self < turns_in l.self);
   once : turns_in l.self ≤ turns_in l.fn.self + l.r;
+  each : (k : ℕ) → HadOneAtMost g.S.Source.input k l.fn.self l.self;
+  rest : (k : ℕ) → l.r ≤ k → HadNone k l.fn.self l.self;
   buffer : length l.buffer ≡ length l.fn.buffer;
 }

@@ -1,10 +1,12 @@
 use Rattle.std.proofs.Common.{◌≡◌, ◌∙◌, ◌<◌, None, refl, ap, sym, arith, length}
 use Rattle.std.specs.Prelude.{sum}
 use Rattle.std.specs.List.{slice_index_or}
-use Rattle.std.proofs.lemmas.Option.{slice_get_read}
+use Rattle.std.proofs.lemmas.Option.{slice_get_read, same_Some}
 use Rattle.std.proofs.lemmas.Result.{err_from_is_err_and}
 use Rattle.ingest.proofs.Ordered.{closed_of-grow}
+use Rattle.ladder_items.proofs.Elsewhere.{set-here}
 use Rattle.ladder_items.proofs.Worlds.{stage-at, reads-fit}
+use Rattle.rounds.proofs.Soon.{had-one}
 use Rattle.rounds.proofs.Turning.{on-read, on-unread, counts-sum, counts-elsewhere, others-turned}
 use Rattle.rounds.specs.declared.run.course.Course.{Course}
 use Rattle.rounds.proofs.run.course.Course.take_turn.Goals as goal
@@ -92,3 +94,23 @@ pub returns-clause-others : goal.returns-clause-others
 returns-clause-others g c =
     others-turned c.args.r _ _ c.turn.new.source c.turn.new.self c.count_turn.ensures.sources (ap (λ (d : Course _ _). d.lanes.items) c.count_turn.ensures.same)
     (λ k other. ap (λ l. slice_index_or l k 0) c.count_turn.ensures.turns ∙ counts-elsewhere c.args.self.now.turns.items c.args.r k _ other)
+
+pub returns-clause-had : goal.returns-clause-had
+returns-clause-had g c =
+    let on = c.requires.on.4 in
+    let at = slice_get_read c.args.self.now.lanes.items _ c.args.r c.index_mut.result.now refl c.requires.within c.index_mut.ensures.value in
+    let below : c.args.r < length c.requires.on.0.renditions = omega (arith, c.requires.within, on.world.same_lanes) in
+    let there = slice_get_read c.args.self.now.sources.items _ c.args.r c.index_mut-2.result.now (sym on.world.same_now) below c.index_mut-2.ensures.value in
+    had-one _ c.args.r _ _ c.index_mut-2.result.now c.turn.new.source c.index_mut.result.now c.turn.new.self there at c.in_ok-turn.ensures.ok
+    c.count_turn.ensures.sources (ap (λ (d : Course _ _). d.lanes.items) c.count_turn.ensures.same) c.count_turn.ensures.turns (omega (arith, below, on.counted))
+
+pub returns-in_err-turn-clause-unfailed : goal.returns-in_err-turn-clause-unfailed
+returns-in_err-turn-clause-unfailed g c =
+    let told = err_from_is_err_and c.from_residual.result c.from_residual.ensures.1 in
+    let on = c.requires.on.4 in
+    let below : c.args.r < length c.requires.on.0.renditions = omega (arith, c.requires.within, on.world.same_lanes) in
+    let there = slice_get_read c.args.self.now.sources.items _ c.args.r c.index_mut-2.result.now (sym on.world.same_now) below c.index_mut-2.ensures.value in
+    rw told.1 (λ source now was is.
+    let old = same_Some _ _ (sym there ∙ was) in
+    let new = set-here c.args.self.now.sources.items c.args.r c.turn.new.source now is in
+    ap g.S.Source.input.failures (sym new) ∙ (c.in_err-turn.ensures.no_read_failed ∙ ap g.S.Source.input.failures old))

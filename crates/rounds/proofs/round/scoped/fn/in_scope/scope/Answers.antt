@@ -13,7 +13,7 @@ returns g c =
     let d = c.driven-ended.ensures in
     let e = c.joined.ensures in
     record {
-      ok = round-closed _ _ _ _ _ _ c.joined.result.0 _ _ e.answer e.broadcast _ d.books e.rounds e.right e.each d.ok;
+      ok = round-closed _ _ _ _ _ _ _ c.joined.result.0 _ _ e.answer e.broadcast _ d.books e.rounds e.right e.each d.ok;
       err = break-closed _ _ _ _ _ _ _ _ _ _ _ _ e.answer (ap (λ (b : Broadcast _ _ _). b.course) e.broadcast) (ap (λ (b : Broadcast _ _ _). b.held.publisher) e.broadcast) d.err;
       held = fault-told _ _ _ e.answer d.held;
     }
