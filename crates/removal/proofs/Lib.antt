@@ -1,3 +1,4 @@
 pub mod Following
 pub mod Kept
+pub mod Since
 pub mod Untold

@@ -1,2 +1,3 @@
 pub mod Removing
 pub mod Retaining
+pub mod Since

@@ -5,7 +5,7 @@ ghost use Rattle.ladder_items.specs.World.{HaveRoom};
 ghost use Rattle.live_board.specs.Counts.{counts_shown};
 ghost use Rattle.rounds.specs.Shown.{Fits, IsPackedShown};
 ghost use Rattle.item_io.specs.FolderMoves.{new_outlet};
-ghost use Rattle.keeping.specs.Keepings.{AreTold};
+ghost use Rattle.keeping.specs.Keepings.{AreTold, Stay};
 ghost use Rattle.keeping.specs.InPlace.{NoneIsListed};
 ghost use Rattle.packing.specs.LadderPacking.{IsNeverHeld, LadderSays, TurnsAway, WritesSummary};
 ghost use Rattle.removal.specs.Removing.{LeavesKept, kept_run, new_keeping};
@@ -67,6 +67,9 @@ pub fn pack_and_remove<
         (kept_run S.input F.made READS sources.items result.sources.items (new_keeping into renditions.items) result.outlet)
         settings.now pool.workers publisher.list result.publisher.list) }
     ensures never_held { IfErr result.answer IsNeverHeld }
+
+    // Each rendition that comes back is the one that was handed in: none is lost, made anew, or takes the place of another one.
+    ensures same { Stay renditions.items result.outlet.renditions }
 {
     let outlet = Tallied {
         outlet: KeepingOutlet::new(outlet_of(into, alloc), alloc, renditions),

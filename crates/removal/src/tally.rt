@@ -3,8 +3,7 @@
 ghost use Rattle.std.specs.Prelude.{◌≡◌, ◌+◌, ◌<◌, ◌^◌, ◌∷◌, [], OnErr, OnOk};
 ghost use Rattle.item_io.specs.Items.{item_value};
 ghost use Rattle.item_io.specs.Outlets.{BreaksOff, Grows};
-ghost use Rattle.item_io.specs.Views.{outlet_view};
-ghost use Rattle.keeping.specs.Holding.{KeptBy, KeptUpTo};
+ghost use Rattle.removal.specs.Since.{HoldsSince, HoldsSinceUpTo, since_view};
 
 use folder::Folder;
 use item_io::{Item, Outlet, OutletFault};
@@ -17,7 +16,8 @@ pub trait Tally {
     fn removed(&self, segments: u128);
 }
 
-/// An outlet that tells behind each item how many segments were removed. Clauses see the outlet alone.
+/// An outlet that tells behind each item how many segments were removed. Clauses see the outlet alone; what it holds says also with
+/// which renditions it began.
 #[derive(Drop)]
 pub struct Tallied<'t, F, T> {
     pub outlet: KeepingOutlet<F>,
@@ -43,15 +43,15 @@ impl<'t, F, T> Tallied<'t, F, T> {
 }
 
 impl<F: Folder, T: Tally> Outlet for Tallied<'_, F, T> {
-    ghost output = { outlet_view (KeptBy F.made) (KeptUpTo F.made) (λ o. o.files.failures) };
+    ghost output = { since_view F.made };
 
     fn put(&mut self, item: &Item) -> Result<(), OutletFault>
         requires { self.old.files.failures < 2 ^ 63 }
-        ensures grown { OnOk result (Grows (KeptBy F.made self.old) (KeptBy F.made self.new) (item_value item.now ∷ [])) }
+        ensures grown { OnOk result (Grows (HoldsSince F.made self.old) (HoldsSince F.made self.new) (item_value item.now ∷ [])) }
         ensures ok { OnOk result (self.new.files.failures ≡ self.old.files.failures) }
-        ensures kept { OnErr result (Grows (KeptBy F.made self.old) (KeptBy F.made self.new) []) }
+        ensures kept { OnErr result (Grows (HoldsSince F.made self.old) (HoldsSince F.made self.new) []) }
         ensures refused { OnErr result (self.old.files.failures ≡ 0 →
-            BreaksOff (KeptBy F.made self.old) (KeptUpTo F.made self.new) [] (item_value item.now)) }
+            BreaksOff (HoldsSince F.made self.old) (HoldsSinceUpTo F.made self.new) [] (item_value item.now)) }
         ensures failed { OnErr result (self.new.files.failures ≡ self.old.files.failures + 1) }
     {
         let answer = self.outlet.put(item);
