@@ -11,17 +11,16 @@ ghost use Rattle.command_line.specs.declared.fault.Fault.TheVariants.{Busy, NoMe
 
 mod ladder;
 mod metrics_file;
+mod streaming;
 mod telling;
 mod told;
 mod watching;
 
 use crate::ladder::{Channel, begin_channel, pack_ladder};
+use crate::streaming::{Streamed, stream};
 use crate::telling::{Teller, tell};
 use crate::told::Tellings;
-use command_line::{Fault, Job, LadderJob, StreamJob, line, version};
-use commands::{check, open, seal};
-use item_io::ReaderSource;
-use packing::{Packed, one};
+use command_line::{Fault, Job, LadderJob, line, version};
 use read_ahead::InputFiles;
 use std::alloc::{AllocError, AllocGlobal, Global};
 use std::fs::{File, Files, TryLockError};
@@ -46,39 +45,6 @@ fn unread_words(error: io::Error) -> Fault
 /// The words of the command line.
 fn words(rt: &HostRuntime) -> Result<Vec<String>, Fault> {
     Ok(env::args(rt).map_err(unread_words)?.collect(rt.alloc())?)
-}
-
-/// Does what a command asks for that reads in the calling thread alone.
-fn stream(rt: &HostRuntime, job: StreamJob) -> Result<(), Fault> {
-    let alloc = rt.alloc();
-    match job {
-        StreamJob::Seal(options) => seal(
-            alloc,
-            &options.key,
-            &options.vector,
-            &mut ReaderSource::new(rt.stdin()),
-            &mut rt.stdout(),
-        )?,
-        StreamJob::Open(options) => open(
-            alloc,
-            &options.key,
-            &options.vector,
-            &mut ReaderSource::new(rt.stdin()),
-            &mut rt.stdout(),
-        )?,
-        StreamJob::One(settings) => {
-            let Packed { answer, .. } = one(alloc, &settings, rt.stdin(), rt.stdout());
-            answer?
-        }
-        StreamJob::Check(options) => check(
-            alloc,
-            rt,
-            &options.keys,
-            &options.playlist,
-            &mut rt.stdout(),
-        )?,
-    }
-    Ok(())
 }
 
 /// Packs a ladder, and tells how that ends. A fault that was told as it stood isn't told once more.
@@ -115,10 +81,28 @@ where
     };
     let teller = Teller::new(rt, *host, words, &job.options.settings, theirs);
     let into = &mut host.stdout();
-    match pack_ladder(rt, host.alloc(), &job, older, into, &teller, told) {
-        Err(fault) if teller.has_told(&fault) => ExitCode::from(fault.status()),
-        Err(fault) => ended(host, words, Err(teller.seen(fault))),
+    let answer = pack_ladder(rt, host.alloc(), &job, older, into, &teller, told);
+    end_of(host, words, &teller, answer)
+}
+
+/// Tells how a ladder ends: a fault that was told as it stood isn't told once more.
+fn end_of<R: Wait>(
+    host: &HostRuntime,
+    words: &[String],
+    teller: &Teller<'_, R>,
+    answer: Result<(), Fault>,
+) -> ExitCode
+    ensures well { OnOk answer (exit_status result ≡ 0) }
+    ensures fault { IfErr answer (λ fault. exit_status result ≡ status_of fault) }
+{
+    match answer {
         Ok(()) => ended(host, words, Ok(())),
+        Err(fault) => {
+            if teller.has_told(&fault) {
+                return ExitCode::from(fault.status());
+            }
+            ended(host, words, Err(teller.seen(fault)))
+        }
     }
 }
 
@@ -197,7 +181,16 @@ where
         return ended(&host, words.as_slice(), Err(Fault::NoMemory));
     };
     let answer = match line(host.alloc(), &host, words.as_slice(), version.as_str()) {
-        Ok(Job::Stream(job)) => stream(&host, job),
+        Ok(Job::Stream(job)) => {
+            let Streamed { answer, .. } = stream(
+                host.alloc(),
+                &host,
+                host.stdin(),
+                host.stdout(),
+                job,
+            );
+            answer
+        }
         Ok(Job::Ladder(job)) => return pack(rt, &host, words.as_slice(), job),
         Err(fault) => Err(fault),
     };
