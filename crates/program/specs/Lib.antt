@@ -1,3 +1,4 @@
+pub mod Asked
 pub mod Channels
 pub mod Faulted
 pub mod Streaming

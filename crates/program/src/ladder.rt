@@ -1,20 +1,24 @@
-ghost use Rattle.std.specs.Prelude.{◌≡◌, ◌⊎◌, ◌*◌, [], All, IfErr, IfOk, IsOk, false, map, option_map, true};
+ghost use Rattle.std.specs.Prelude.{◌≡◌, ◌⊎◌, ◌*◌, [], All, IfErr, IfOk, IsErrOf, IsOk, OnOk, false, length, map, option_map, true};
+ghost use Rattle.std.specs.List.{range_with_len};
 ghost use Rattle.std.specs.Duration.{as_nanos};
 ghost use Rattle.folder.specs.FileFolders.{file_moves, folder_path, may_sync};
 ghost use Rattle.channel.specs.Resuming.{IsNotResumed, IsResumed};
 ghost use Rattle.channel.specs.Views.{folder_view};
 ghost use Rattle.channel.specs.declared.fault.ResumingFault.{ResumingFault};
-ghost use Rattle.command_line.specs.declared.fault.Fault.TheVariants.{NoMemory, Resuming};
+ghost use Rattle.command_line.specs.declared.fault.Fault.TheVariants.{LadderPacking, NoMemory, Resuming};
+ghost use Rattle.packing.specs.LadderPacking.{WritesSummary};
+ghost use Rattle.program.specs.Asked.{IsAsAsked};
 ghost use Rattle.program.specs.Channels.{GoesNotOn, GoesOn, IsJobBehind};
 
 use crate::told::Tellings;
 use crate::watching::{Watched, Watching};
 use channel::{Resumed, resume};
 use command_line::{Fault, LadderJob};
-use commands::{LadderOptions, Pool};
+use commands::{LadderOptions, LadderPackingFault, Pool};
 use folder::{FileFolder, Folder, FolderReader};
+use live_board::Publisher;
 use packing::{Destination, PackedLadder, pack_into_folder};
-use pipeline::{Herald, opening_board};
+use pipeline::{Herald, Report, opening_board};
 use read_ahead::{Ahead, InputAt, InputFiles, InputsView, Limits, open_paths};
 use removal::{Tally, keepings, pack_and_remove};
 use std::alloc::{AllocError, AllocGlobal, Global};
@@ -115,6 +119,9 @@ where
     R::Reader: Send + 'static,
     R::File: Send + 'static,
     R::Dir: Send + 'static,
+
+    // It ends well only where all was packed and the summary was written.
+    ensures written { OnOk result ((report : _) × WritesSummary job.now.options.settings report (W.contents output.old) (W.contents output.new)) }
 {
     let settings = &job.options.settings;
     let pool = job.options.pool;
@@ -128,7 +135,7 @@ where
         told,
     };
     let watching = Watching::begin(rt, alloc, &settings.renditions, job.metrics, watched);
-    let (publisher, answer) = if job.removes {
+    if job.removes {
         let PackedLadder {
             sources: _,
             publisher,
@@ -137,24 +144,40 @@ where
         } = pack_and_remove(
             &rt, alloc, sources, settings, pool, publisher, into, kept, output, herald,
         );
-        (publisher, answer)
-    } else {
-        let PackedLadder {
-            sources: _,
-            publisher,
-            outlet: _,
-            answer,
-        } = pack_into_folder(
-            &rt, alloc, sources, settings, pool, publisher, into, output, herald,
-        );
-        (publisher, answer)
-    };
-    if let Some(watching) = watching {
-        watching.end(&rt, alloc, answer.as_ref().err());
+        let ended = end_run(&rt, alloc, watching, publisher, answer);
+        return ended;
     }
-    publisher.end(&rt);
-    answer?;
-    Ok(())
+    let PackedLadder {
+        sources: _,
+        publisher,
+        outlet: _,
+        answer,
+    } = pack_into_folder(
+        &rt, alloc, sources, settings, pool, publisher, into, output, herald,
+    );
+    let ended = end_run(&rt, alloc, watching, publisher, answer);
+    ended
+}
+
+/// Ends what watches a run, and its board, and tells how the run ended.
+fn end_run<R: Files + Clock + Eprint + Threads + Wait>(
+    rt: &R,
+    alloc: Global,
+    watching: Option<Watching>,
+    publisher: Publisher,
+    answer: Result<Report, LadderPackingFault>,
+) -> Result<(), Fault>
+    ensures well { OnOk answer (IsOk result) }
+    ensures fault { IfErr answer (λ why. IsErrOf result (LadderPacking why)) }
+{
+    if let Some(watching) = watching {
+        watching.end(rt, alloc, answer.as_ref().err());
+    }
+    publisher.end(rt);
+    match answer {
+        Ok(_) => Ok(()),
+        Err(why) => Err(Fault::LadderPacking(why)),
+    }
 }
 
 /// The inputs of a ladder, which are read ahead, and a view of them, if there are any.
@@ -173,6 +196,9 @@ where
     R::Reader: Send + 'static,
     ensures left { IfOk result (λ inputs. map (λ source. source.left) inputs.sources.items ≡ map (λ path. R.holds rt path.now) options.now.paths.items) }
     ensures unread { IfOk result (λ inputs. All (λ source. (source.reads ≡ 0) × (source.failures ≡ 0)) inputs.sources.items) }
+    ensures numbers { IfOk result (λ inputs. map (λ source. source.number) inputs.sources.items ≡ range_with_len 0 (length options.now.paths.items)) }
+    ensures limits { IfOk result (λ inputs. All (λ source.
+        IsAsAsked options.now.pool.stall options.now.pool.ahead (length options.now.paths.items) source.stall source.room) inputs.sources.items) }
 {
     let limits = limits_of(options.pool);
     let sources = open_paths(rt, alloc, rt, options.paths.as_slice(), limits)?;

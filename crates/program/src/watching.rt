@@ -1,6 +1,7 @@
 //! Watches a run: a thread with a viewer of its board writes its metrics to a file. The run waits for nothing of it.
-ghost use Rattle.std.specs.Prelude.{◌≡◌, IfSome, None, fold, map, option_copied, option_map, replicate};
+ghost use Rattle.std.specs.Prelude.{◌≡◌, ◌<◌, IfOk, IfSome, IsErr, None, fold, length, map, option_copied, option_map, replicate};
 ghost use Rattle.program.specs.Faulted.{name_of, named_in, rendition_of};
+ghost use Rattle.program.specs.Asked.{input_sample};
 
 use crate::metrics_file::replace;
 use crate::told::{RENDITIONS, Tellings, Told};
@@ -10,7 +11,7 @@ use metrics::{
     Glance, InputSample, Known, RunSample, Seen, look, metrics_text, samples, seen_again, waiting,
 };
 use pipeline::{PackFault, Rendition};
-use read_ahead::InputsView;
+use read_ahead::{InputState, InputsView};
 use std::alloc::{AllocError, Global};
 use std::fs::Files;
 use std::io::{self, Eprint};
@@ -161,17 +162,10 @@ impl Writer {
         rt: &R,
         alloc: Global,
     ) -> Result<Vec<InputSample>, AllocError> {
-        let mut all = Vec::new(alloc);
-        let Some(inputs) = &self.inputs else {
-            return Ok(all);
-        };
-        for state in inputs.look(rt, alloc)? {
-            all.push(InputSample {
-                ahead: state.bytes as u64,
-                silent: state.silent.as_micros(),
-            })?;
+        match &self.inputs {
+            Some(inputs) => samples_of(alloc, &inputs.look(rt, alloc)?),
+            None => Ok(Vec::new(alloc)),
         }
-        Ok(all)
     }
 
     /// Tells that the metrics can't be written, the first time.
@@ -181,6 +175,21 @@ impl Writer {
             let _ = rt.eprint(UNWRITTEN);
         }
     }
+}
+
+/// What metrics tell of inputs that stand so.
+fn samples_of(alloc: Global, states: &[InputState]) -> Result<Vec<InputSample>, AllocError>
+    ensures all { IfOk result (λ all. all.items ≡ map input_sample states.now) }
+    ensures none { IsErr result → 0 < length states.now }
+{
+    let mut all = Vec::new(alloc);
+    for state in states {
+        all.push(InputSample {
+            ahead: state.bytes as u64,
+            silent: state.silent.as_micros(),
+        })?;
+    }
+    Ok(all)
 }
 
 /// Microseconds since 1970; 0 where there is no clock.
