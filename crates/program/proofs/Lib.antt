@@ -1,2 +1,3 @@
 mod Ending
 mod Naming
+mod Slashes

@@ -1,4 +1,5 @@
 pub mod Asked
 pub mod Channels
 pub mod Faulted
+pub mod PartPaths
 pub mod Streaming

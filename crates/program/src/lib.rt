@@ -20,6 +20,7 @@ use crate::ladder::{Channel, begin_channel, pack_ladder};
 use crate::streaming::{Streamed, stream};
 use crate::telling::{Teller, tell};
 use crate::told::Tellings;
+pub use crate::told::each_has_a_place;
 use command_line::{Fault, Job, LadderJob, line, version};
 use read_ahead::InputFiles;
 use std::alloc::{AllocError, AllocGlobal, Global};

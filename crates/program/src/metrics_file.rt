@@ -1,11 +1,16 @@
 //! The file of a run's metrics, which is replaced as a whole.
+ghost use Rattle.std.specs.Prelude.{IfOk};
+ghost use Rattle.std.specs.String.{string_bytes};
+ghost use Rattle.program.specs.PartPaths.{IsPartPath};
 
 use std::alloc::{AllocError, Global};
 use std::fs::{self, File, Files};
 use std::io::{self, Write};
 
 /// The path of the file until it is whole: a hidden one in the same folder.
-fn part_path(alloc: Global, path: &str) -> Result<String, AllocError> {
+fn part_path(alloc: Global, path: &str) -> Result<String, AllocError>
+    ensures { IfOk result (λ part. IsPartPath path.now (string_bytes part)) }
+{
     match path.rsplit_once('/') {
         Some((folder, name)) => format!(in alloc; "{folder}/.{name}.part"),
         None => format!(in alloc; ".{path}.part"),

@@ -1,5 +1,6 @@
 //! What a run tells of itself while it goes on.
-ghost use Rattle.std.specs.Prelude.{◌≡◌, ◌++◌, ◌∷◌, All, Contains, IsSome, List, None, Option, Some};
+ghost use Rattle.std.specs.Prelude.{◌≡◌, ◌≤◌, ◌++◌, ◌∷◌, All, Contains, IsSome, List, None, Option, Some, length};
+ghost use Rattle.ladder_items.specs.Ladder.{IsAllowed, Ladder};
 ghost use Rattle.ladder_items.specs.declared.fault.PackFault.{PackFault};
 
 use pipeline::PackFault;
@@ -7,6 +8,11 @@ use std::sync::{Mutex, Wait};
 
 /// As many renditions as a ladder has at the most.
 pub const RENDITIONS: usize = 32;
+
+/// Each rendition of a ladder has a place of its own.
+pub fn each_has_a_place()
+    ensures { (ladder : Ladder) → IsAllowed ladder → length ladder.renditions ≤ RENDITIONS }
+{}
 
 /// What was told so far.
 #[derive(Clone, Copy, Drop)]

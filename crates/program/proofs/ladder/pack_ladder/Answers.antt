@@ -1,4 +1,4 @@
-use Rattle.std.proofs.Common.{arith, ◌≡◌}
+use Rattle.std.proofs.Common.{arith}
 use Rattle.program.proofs.Ending.{told-well}
 use Rattle.program.proofs.ladder.pack_ladder.Goals as goal
 
