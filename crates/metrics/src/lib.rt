@@ -12,8 +12,6 @@ mod label;
 mod sample;
 mod sampling;
 mod seen;
-#[cfg(test)]
-mod tests;
 mod text;
 
 pub use glance::{Glance, GlanceFault, look};

@@ -1,5 +1,6 @@
 pub mod Filling
 pub mod Lists
+pub mod Rows
 pub mod Streams
 pub mod Telling
 pub mod Turns

@@ -13,8 +13,6 @@ mod reading;
 mod sender;
 mod shares;
 mod starting;
-#[cfg(test)]
-mod tests;
 mod view;
 mod waiting;
 

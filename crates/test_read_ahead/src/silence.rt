@@ -1,9 +1,8 @@
 ghost use Rattle.std.specs.Prelude.{◌≡◌};
 
-use super::fixtures::{Event, Given, Pattern, UNBOUNDED, drain, pattern_of, pop_unread};
-use crate::input::{Contents, Input, OpenInput};
-use crate::{InputFault, Limits, open_all};
+use crate::fixtures::{Event, Given, Pattern, UNBOUNDED, drain, pattern_of, pop_unread};
 use item_io::Source;
+use read_ahead::{Contents, Input, InputFault, Limits, OpenInput, open_all};
 use std::alloc::Global;
 use std::io::Read;
 use std::sync::{Arc, Wait};

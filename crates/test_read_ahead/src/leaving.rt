@@ -1,7 +1,6 @@
-use super::fixtures::{Event, Given, Held, UNBOUNDED, drain, pattern_of, source_of, sources_of};
-use crate::input::OpenInput;
-use crate::open_all;
+use crate::fixtures::{Event, Given, Held, UNBOUNDED, drain, pattern_of, source_of, sources_of};
 use item_io::Source;
+use read_ahead::{OpenInput, open_all};
 use std::alloc::Global;
 use std::sync::{Arc, Wait};
 use std::test::Fail;

@@ -1,4 +1,4 @@
-use super::fixtures::{Given, Pattern, drain, source_of};
+use crate::fixtures::{Given, Pattern, drain, source_of};
 use std::test::Fail;
 
 #[test]

@@ -1,8 +1,7 @@
 ghost use Rattle.std.specs.Prelude.{◌≡◌, All, IfOk, IfSome};
 
-use crate::input::{Contents, OpenInput};
-use crate::{Ahead, Limits, open_all};
 use item_io::Source;
+use read_ahead::{Ahead, Contents, Limits, OpenInput, open_all};
 use std::alloc::{AllocError, Global};
 use std::io;
 use std::io::{ErrorKind, Read};
@@ -11,20 +10,20 @@ use std::thread::Threads;
 use std::time::Clock;
 
 /// Inputs are waited for as long as it takes, and 32 MiB are read ahead of each.
-pub(super) const UNBOUNDED: Limits = Limits {
+pub const UNBOUNDED: Limits = Limits {
     stall: None,
     ahead: None,
 };
 
 /// Something that one thread waits for and another one brings.
 #[derive(Drop)]
-pub(super) struct Event {
+pub struct Event {
     came: Mutex<bool>,
     changed: Condvar,
 }
 
 impl Event {
-    pub(super) fn new(alloc: Global) -> Result<Arc<Event, Global>, AllocError> {
+    pub fn new(alloc: Global) -> Result<Arc<Event, Global>, AllocError> {
         Ok(Arc::new(
             alloc,
             Event {
@@ -34,12 +33,12 @@ impl Event {
         )?)
     }
 
-    pub(super) fn bring<R: Wait>(&self, rt: &R) {
+    pub fn bring<R: Wait>(&self, rt: &R) {
         *self.came.lock(rt) = true;
         self.changed.notify_all();
     }
 
-    pub(super) fn wait<R: Wait>(&self, rt: &R) {
+    pub fn wait<R: Wait>(&self, rt: &R) {
         let _ = self
             .changed
             .wait_while(rt, self.came.lock(rt), |came| !*came);
@@ -48,7 +47,7 @@ impl Event {
 
 /// A reader in memory.
 #[derive(Clone, Copy)]
-pub(super) struct Pattern {
+pub struct Pattern {
     pub at: usize,
     pub len: usize,
     /// How many bytes a read gives.
@@ -61,7 +60,7 @@ pub(super) struct Pattern {
 }
 
 /// So many bytes, in reads of so many.
-pub(super) fn pattern_of(len: usize, piece: usize) -> Pattern {
+pub fn pattern_of(len: usize, piece: usize) -> Pattern {
     Pattern {
         at: 0,
         len,
@@ -73,7 +72,7 @@ pub(super) fn pattern_of(len: usize, piece: usize) -> Pattern {
 }
 
 /// Byte `at` of what it gives.
-pub(super) fn byte_at(at: usize) -> u8 {
+pub fn byte_at(at: usize) -> u8 {
     (at % 251) as u8
 }
 
@@ -102,7 +101,7 @@ impl Read for Pattern {
 }
 
 /// A reader that waits before its first byte, and tells when it came to its end.
-pub(super) struct Held<R: Wait> {
+pub struct Held<R: Wait> {
     pub rt: R,
     pub reader: Pattern,
     pub until: Option<Arc<Event, Global>>,
@@ -134,7 +133,7 @@ impl<R: Wait> Read for Held<R> {
 }
 
 /// The source of one reader.
-pub(super) fn source_of<
+pub fn source_of<
     R: Threads + Wait + Clock + Copy + Send + Drop + 'static,
     Q: Read + Drop + Send + 'static,
 >(rt: R, alloc: Global, reader: Q) -> Result<Option<Ahead<R, OpenInput<Q>>>, AllocError>
@@ -149,7 +148,7 @@ pub(super) fn source_of<
 }
 
 /// The sources of two readers.
-pub(super) fn sources_of<
+pub fn sources_of<
     R: Threads + Wait + Clock + Copy + Send + Drop + 'static,
     Q: Read + Drop + Send + 'static,
 >(
@@ -176,9 +175,7 @@ pub(super) fn sources_of<
 }
 
 /// The last of some sources that weren't read.
-pub(super) fn pop_unread<R: Wait, I: Contents>(
-    sources: &mut Vec<Ahead<R, I>>,
-) -> Option<Ahead<R, I>>
+pub fn pop_unread<R: Wait, I: Contents>(sources: &mut Vec<Ahead<R, I>>) -> Option<Ahead<R, I>>
     requires { All (λ source. (source.reads ≡ 0) × (source.failures ≡ 0)) sources.old.items }
     ensures rest { All (λ source. (source.reads ≡ 0) × (source.failures ≡ 0)) sources.new.items }
     ensures last { IfSome result (λ source. (source.reads ≡ 0) × (source.failures ≡ 0)) }
@@ -188,7 +185,7 @@ pub(super) fn pop_unread<R: Wait, I: Contents>(
 
 /// What a source gave.
 #[derive(Clone, Copy, Debug, PartialEq, Eq)]
-pub(super) struct Given {
+pub struct Given {
     pub count: usize,
     pub wrong: usize,
     pub failed: bool,
@@ -196,11 +193,7 @@ pub(super) struct Given {
 
 /// Reads a source to its end, in reads of so many bytes at most, and counts how many bytes came and how many of them aren't
 /// those of the pattern.
-pub(super) fn drain<S: Source>(
-    alloc: Global,
-    source: &mut S,
-    size: usize,
-) -> Result<Given, AllocError>
+pub fn drain<S: Source>(alloc: Global, source: &mut S, size: usize) -> Result<Given, AllocError>
     requires reads { S.input.reads source.old ≡ 0 }
     requires failures { S.input.failures source.old ≡ 0 }
 {

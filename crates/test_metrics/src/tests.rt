@@ -1,12 +1,10 @@
-//! A board that is looked at, and the text of it.
-
 ghost use Rattle.std.specs.Prelude.{◌≡◌};
 
-use crate::{
+use live_board::{HeldPublisher, Snapshot, Totals, Viewer, board};
+use metrics::{
     Glance, GlanceFault, InputSample, Known, RunSample, Seen, look, metrics_text, samples,
     seen_again, waiting,
 };
-use live_board::{HeldPublisher, Snapshot, Totals, Viewer, board};
 use std::alloc::{AllocError, Global};
 use std::test::Fail;
 

@@ -1,5 +1,5 @@
-use super::fixtures::{UNBOUNDED, drain};
-use crate::{InputFault, open_paths};
+use crate::fixtures::{UNBOUNDED, drain};
+use read_ahead::{InputFault, open_paths};
 use std::fs;
 use std::test::Fail;
 

@@ -1,7 +1,0 @@
-mod ahead;
-mod fixtures;
-mod leaving;
-mod opening;
-mod room;
-mod shares;
-mod silence;

@@ -1,0 +1,5 @@
+//! Tests of `metrics`: a board that is looked at, and the text of it.
+#![tactic(auto)]
+
+#[cfg(test)]
+mod tests;

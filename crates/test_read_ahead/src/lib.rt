@@ -1,0 +1,17 @@
+//! Tests of `read_ahead`: what its sources give, what is read ahead of each, and inputs that are silent, left or can't be opened.
+#![tactic(auto)]
+
+#[cfg(test)]
+mod ahead;
+#[cfg(test)]
+mod fixtures;
+#[cfg(test)]
+mod leaving;
+#[cfg(test)]
+mod opening;
+#[cfg(test)]
+mod room;
+#[cfg(test)]
+mod shares;
+#[cfg(test)]
+mod silence;
