@@ -1,7 +1,8 @@
 //! What a command does that reads in the calling thread alone.
 ghost use Rattle.std.specs.Prelude.{◌≡◌, IfErr, OnOk};
 ghost use Rattle.command_line.specs.declared.fault.Fault.TheVariants.{Checking, Opening, Packing, Sealing};
-ghost use Rattle.program.specs.Streaming.{Checks, DoesStream, IsOfStream, Opens, Packs, Seals};
+ghost use Rattle.program.specs.Streaming.{Checks, DoesStream, FailsChecking, FailsOpening, FailsPacking, FailsSealing};
+ghost use Rattle.program.specs.Streaming.{FileView, IsOfStream, Opens, Packs, Passed, Seals};
 
 use command_line::{Fault, StreamJob};
 use commands::{CheckOptions, CipherOptions, FileReader, check, open, seal};
@@ -11,9 +12,10 @@ use pipeline::Settings;
 use std::alloc::Global;
 use std::io::{Read, Write};
 
-/// What a command wrote to, and how it ended.
+/// What a command read from and wrote to, and how it ended.
 #[derive(Drop)]
-pub struct Streamed<W> {
+pub struct Streamed<R, W> {
+    pub source: ReaderSource<R>,
     pub output: W,
     pub answer: Result<(), Fault>,
 }
@@ -25,15 +27,24 @@ pub fn stream<R: Read + Drop, W: Write + Drop, F: FileReader>(
     input: R,
     output: W,
     job: StreamJob,
-) -> Streamed<W>
+) -> Streamed<R, W>
     ensures ok { OnOk result.answer (DoesStream (F.gives files.now) job (R.remaining input) (W.contents output) (W.contents result.output)) }
-    ensures fault { IfErr result.answer (IsOfStream job) }
+    ensures fault { let files_are : FileView = record { gives = F.gives files.now; refuses = F.refuses files.now; wants = F.wants files.now } in
+        let passed : Passed = record {
+          left = R.remaining input;
+          left_then = R.remaining result.source.reader;
+          reads = result.source.reads;
+          failures = result.source.failures;
+          held = W.contents output;
+          held_then = W.contents result.output;
+        } in
+        IfErr result.answer (IsOfStream files_are job passed) }
 {
     match job {
         StreamJob::Seal(options) => sealed(alloc, options, input, output),
         StreamJob::Open(options) => opened(alloc, options, input, output),
         StreamJob::One(settings) => packed(alloc, settings, input, output),
-        StreamJob::Check(options) => checked(alloc, files, options, output),
+        StreamJob::Check(options) => checked(alloc, files, options, input, output),
     }
 }
 
@@ -43,24 +54,34 @@ fn sealed<R: Read + Drop, W: Write>(
     options: CipherOptions,
     input: R,
     output: W,
-) -> Streamed<W>
+) -> Streamed<R, W>
     ensures ok { OnOk result.answer (Seals options (R.remaining input) (W.contents output) (W.contents result.output)) }
-    ensures fault { IfErr result.answer (λ fault. (why : _) × (fault ≡ Sealing why)) }
+    ensures fault { let passed : Passed = record {
+      left = R.remaining input;
+      left_then = R.remaining result.source.reader;
+      reads = result.source.reads;
+      failures = result.source.failures;
+      held = W.contents output;
+      held_then = W.contents result.output;
+    } in
+        IfErr result.answer (λ fault. (why : _) × (fault ≡ Sealing why) × FailsSealing options passed why) }
 {
-    let mut input = ReaderSource::new(input);
+    let mut source = ReaderSource::new(input);
     let mut output = output;
     match seal(
         alloc,
         &options.key,
         &options.vector,
-        &mut input,
+        &mut source,
         &mut output,
     ) {
         Ok(()) => Streamed {
+            source,
             output,
             answer: Ok(()),
         },
         Err(why) => Streamed {
+            source,
             output,
             answer: Err(Fault::Sealing(why)),
         },
@@ -73,24 +94,34 @@ fn opened<R: Read + Drop, W: Write>(
     options: CipherOptions,
     input: R,
     output: W,
-) -> Streamed<W>
+) -> Streamed<R, W>
     ensures ok { OnOk result.answer (Opens options (R.remaining input) (W.contents output) (W.contents result.output)) }
-    ensures fault { IfErr result.answer (λ fault. (why : _) × (fault ≡ Opening why)) }
+    ensures fault { let passed : Passed = record {
+      left = R.remaining input;
+      left_then = R.remaining result.source.reader;
+      reads = result.source.reads;
+      failures = result.source.failures;
+      held = W.contents output;
+      held_then = W.contents result.output;
+    } in
+        IfErr result.answer (λ fault. (why : _) × (fault ≡ Opening why) × FailsOpening options passed why) }
 {
-    let mut input = ReaderSource::new(input);
+    let mut source = ReaderSource::new(input);
     let mut output = output;
     match open(
         alloc,
         &options.key,
         &options.vector,
-        &mut input,
+        &mut source,
         &mut output,
     ) {
         Ok(()) => Streamed {
+            source,
             output,
             answer: Ok(()),
         },
         Err(why) => Streamed {
+            source,
             output,
             answer: Err(Fault::Opening(why)),
         },
@@ -103,18 +134,32 @@ fn packed<R: Read + Drop, W: Write>(
     settings: Settings,
     input: R,
     output: W,
-) -> Streamed<W>
+) -> Streamed<R, W>
     ensures ok { OnOk result.answer (Packs settings (R.remaining input) (W.contents output) (W.contents result.output)) }
-    ensures fault { IfErr result.answer (λ fault. (why : _) × (fault ≡ Packing why)) }
+    ensures fault { let passed : Passed = record {
+      left = R.remaining input;
+      left_then = R.remaining result.source.reader;
+      reads = result.source.reads;
+      failures = result.source.failures;
+      held = W.contents output;
+      held_then = W.contents result.output;
+    } in
+        IfErr result.answer (λ fault. (why : _) × (fault ≡ Packing why) × FailsPacking settings passed why) }
 {
-    let Packed { outlet, answer, .. } = one(alloc, &settings, input, output);
+    let Packed {
+        source,
+        outlet,
+        answer,
+    } = one(alloc, &settings, input, output);
     let output = outlet.into_writer();
     match answer {
         Ok(()) => Streamed {
+            source,
             output,
             answer: Ok(()),
         },
         Err(why) => Streamed {
+            source,
             output,
             answer: Err(Fault::Packing(why)),
         },
@@ -122,22 +167,35 @@ fn packed<R: Read + Drop, W: Write>(
 }
 
 /// The command `check`.
-fn checked<W: Write, F: FileReader>(
+fn checked<R: Read + Drop, W: Write, F: FileReader>(
     alloc: Global,
     files: &F,
     options: CheckOptions,
+    input: R,
     output: W,
-) -> Streamed<W>
+) -> Streamed<R, W>
     ensures ok { OnOk result.answer (Checks (F.gives files.now) options (W.contents output) (W.contents result.output)) }
-    ensures fault { IfErr result.answer (λ fault. (why : _) × (fault ≡ Checking why)) }
+    ensures fault { let files_are : FileView = record { gives = F.gives files.now; refuses = F.refuses files.now; wants = F.wants files.now } in
+        let passed : Passed = record {
+          left = R.remaining input;
+          left_then = R.remaining result.source.reader;
+          reads = result.source.reads;
+          failures = result.source.failures;
+          held = W.contents output;
+          held_then = W.contents result.output;
+        } in
+        IfErr result.answer (λ fault. (why : _) × (fault ≡ Checking why) × FailsChecking files_are options passed why) }
 {
+    let source = ReaderSource::new(input);
     let mut output = output;
     match check(alloc, files, &options.keys, &options.playlist, &mut output) {
         Ok(()) => Streamed {
+            source,
             output,
             answer: Ok(()),
         },
         Err(why) => Streamed {
+            source,
             output,
             answer: Err(Fault::Checking(why)),
         },
