@@ -1,11 +1,11 @@
-ghost use Rattle.std.specs.Prelude.{◌≡◌, ◌⊎◌, ◌*◌, [], All, IfErr, IfOk, IsErrOf, IsOk, OnOk, false, length, map, option_map, true};
+ghost use Rattle.std.specs.Prelude.{◌≡◌, ◌⊎◌, ◌*◌, ◌<◌, ◌↔◌, [], All, IfErr, IfOk, IsErrOf, IsOk, IsSome, OnOk, false, length, map, option_map, true};
 ghost use Rattle.std.specs.List.{range_with_len};
 ghost use Rattle.std.specs.Duration.{as_nanos};
 ghost use Rattle.folder.specs.FileFolders.{file_moves, folder_path, may_sync};
 ghost use Rattle.channel.specs.Resuming.{IsNotResumed, IsResumed};
 ghost use Rattle.channel.specs.Views.{folder_view};
 ghost use Rattle.channel.specs.declared.fault.ResumingFault.{ResumingFault};
-ghost use Rattle.command_line.specs.declared.fault.Fault.TheVariants.{LadderPacking, NoMemory, Resuming};
+ghost use Rattle.command_line.specs.declared.fault.Fault.TheVariants.{LadderPacking, NoMemory, Resuming, Unopened};
 ghost use Rattle.packing.specs.LadderPacking.{WritesSummary};
 ghost use Rattle.program.specs.Asked.{IsAsAsked};
 ghost use Rattle.program.specs.Channels.{GoesNotOn, GoesOn, IsJobBehind};
@@ -199,14 +199,30 @@ where
     ensures numbers { IfOk result (λ inputs. map (λ source. source.number) inputs.sources.items ≡ range_with_len 0 (length options.now.paths.items)) }
     ensures limits { IfOk result (λ inputs. All (λ source.
         IsAsAsked options.now.pool.stall options.now.pool.ahead (length options.now.paths.items) source.stall source.room) inputs.sources.items) }
+    ensures view { IfOk result (λ inputs. IsSome inputs.view ↔ 0 < length options.now.paths.items) }
+    ensures fault { IfErr result (λ fault. (fault ≡ NoMemory) ⊎ ((why : _) × (fault ≡ Unopened why))) }
 {
     let limits = limits_of(options.pool);
     let sources = open_paths(rt, alloc, rt, options.paths.as_slice(), limits)?;
-    let view = match sources.first() {
-        Some(source) => Some(source.view()?),
-        None => None,
-    };
+    let view = view_of(sources.as_slice())?;
     Ok(Inputs { sources, view })
+}
+
+/// A view of inputs that were opened together, if there are any.
+fn view_of<R: InputFiles + Clock + Threads + Wait + Copy + Send + Drop + 'static>(
+    sources: &[Ahead<R, InputAt<R>>],
+) -> Result<Option<InputsView>, AllocError>
+where
+    R::Reader: Send + 'static,
+    ensures { IfOk result (λ view. IsSome view ↔ 0 < length sources.now) }
+{
+    match sources.first() {
+        Some(source) => {
+            let view = source.view()?;
+            Ok(Some(view))
+        }
+        None => Ok(None),
+    }
 }
 
 /// How the inputs are read ahead.
