@@ -1,5 +1,7 @@
 -- What metrics tell of a fault of the packager.
 use Rattle.std.specs.Prelude.{ℕ, List, codes, Option, None, Some, slice_set}
+use Rattle.commands.specs.declared.packing_fault.LadderPackingFault.{LadderPackingFault}
+use Rattle.commands.specs.declared.packing_fault.LadderPackingFault.TheVariants as packing
 use Rattle.ladder_items.specs.declared.fault.PackFault.{PackFault}
 use Rattle.ladder_items.specs.declared.fault.PackFault.TheVariants.{Settings, Read, ReadLimit, NoProgram, NoStart, LongSegment, BigSegment, Limit, Outlet, NoMemory, Held}
 
@@ -40,3 +42,10 @@ named_at names (Some r) name = slice_set names r (Some name)
 abbrev pub named_in : List (Option (List ℕ)) → Option PackFault → List (Option (List ℕ))
 named_in names None = names
 named_in names (Some fault) = named_at names (rendition_of fault) (name_of fault)
+
+-- the fault of the packager by which a run ended, if it ended by one
+abbrev pub last_fault : Option LadderPackingFault → Option PackFault
+last_fault None = None
+last_fault (Some (packing.Packing fault)) = Some fault
+last_fault (Some packing.Unwritten) = None
+last_fault (Some packing.NoMemory) = None

@@ -1,5 +1,6 @@
 pub mod Asked
 pub mod Channels
 pub mod Faulted
+pub mod Metered
 pub mod PartPaths
 pub mod Streaming

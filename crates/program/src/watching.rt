@@ -1,7 +1,10 @@
 //! Watches a run: a thread with a viewer of its board writes its metrics to a file. The run waits for nothing of it.
-ghost use Rattle.std.specs.Prelude.{◌≡◌, ◌<◌, IfOk, IfSome, IsErr, None, fold, length, map, option_copied, option_map, replicate};
-ghost use Rattle.program.specs.Faulted.{name_of, named_in, rendition_of};
+ghost use Rattle.std.specs.Prelude.{◌≡◌, ◌<◌, ℕ, IfOk, IfSome, IsErr, List, None, false, fold, length, map, option_copied, option_map, replicate};
+ghost use Rattle.std.specs.String.{string_bytes};
+ghost use Rattle.metrics.specs.Seens.{unseen};
 ghost use Rattle.program.specs.Asked.{input_sample};
+ghost use Rattle.program.specs.Faulted.{last_fault, name_of, named_in, rendition_of};
+ghost use Rattle.program.specs.Metered.{IsMetered, seen_then};
 
 use crate::metrics_file::replace;
 use crate::told::{RENDITIONS, Tellings, Told};
@@ -77,15 +80,18 @@ impl Writer {
         path: &str,
         inputs: Option<InputsView>,
         told: Arc<Tellings>,
-    ) -> Result<Writer, AllocError> {
-        let mut names = Vec::new(alloc);
-        let mut seen = Vec::new(alloc);
-        for rendition in renditions {
-            names.push(rendition.name.clone()?)?;
-            seen.push(Seen { count: 0, at: 0 })?;
-        }
+    ) -> Result<Writer, AllocError>
+        ensures names { IfOk result (λ writer. map string_bytes writer.names.items ≡ map (λ r. r.name) renditions.now) }
+        ensures seen { IfOk result (λ writer. writer.seen.items ≡ replicate (length renditions.now) unseen) }
+        ensures path { IfOk result (λ writer. string_bytes writer.path ≡ path.now) }
+        ensures views { IfOk result (λ writer. (writer.inputs ≡ inputs) × (writer.told ≡ told)) }
+        ensures untold { IfOk result (λ writer. writer.has_told ≡ false) }
+    {
+        let path = String::from_str(alloc, path)?;
+        let names = names_of(alloc, renditions)?;
+        let seen = none_seen(alloc, renditions.len())?;
         Ok(Writer {
-            path: String::from_str(alloc, path)?,
+            path,
             names,
             start: since_1970(rt),
             begun: Instant::now(rt).ok(),
@@ -120,10 +126,15 @@ impl Writer {
         alloc: Global,
         glance: &Glance,
         fault: Option<PackFault>,
-    ) -> Result<Vec<u8>, AllocError> {
+    ) -> Result<Vec<u8>, AllocError>
+        ensures { IfOk result (λ text. (now : ℕ) × (told : Told) × (inputs : List InputSample) ×
+            (self.new.seen.items ≡ seen_then self.old.seen.items glance.now.counts.items now) ×
+            IsMetered (map string_bytes self.old.names.items) self.old.start glance.now told self.new.seen.items inputs fault now text.items) }
+    {
         let now = since(rt, self.begun);
         self.seen = seen_again(alloc, &self.seen, &glance.counts, now)?;
-        self.text_at(rt, alloc, glance, fault, now)
+        let text = self.text_at(rt, alloc, glance, fault, now)?;
+        Ok(text)
     }
 
     /// The metrics at a time of the run, in microseconds.
@@ -134,26 +145,24 @@ impl Writer {
         glance: &Glance,
         fault: Option<PackFault>,
         now: u128,
-    ) -> Result<Vec<u8>, AllocError> {
-        let mut names: Vec<&str> = Vec::new(alloc);
-        for name in &self.names {
-            names.push(name.as_str())?;
-        }
+    ) -> Result<Vec<u8>, AllocError>
+        ensures { IfOk result (λ text. (told : Told) × (inputs : List InputSample) ×
+            IsMetered (map string_bytes self.now.names.items) self.now.start glance.now told self.now.seen.items inputs fault now text.items) }
+    {
         let told = self.told.so_far(rt);
-        let faults = faults_of(&told, fault);
         let inputs = self.input_samples(rt, alloc)?;
-        let known = Known {
-            seen: &self.seen,
-            inputs: &inputs,
-            faults: &faults,
-        };
-        let all = samples(alloc, &names, glance, known, now)?;
-        let run = RunSample {
-            start: self.start,
-            waiting: waiting(told.completed, glance),
-            removed: told.removed,
-        };
-        metrics_text(alloc, run, &all)
+        let text = text_of(
+            alloc,
+            &self.names,
+            self.start,
+            glance,
+            &told,
+            &self.seen,
+            &inputs,
+            fault,
+            now,
+        )?;
+        Ok(text)
     }
 
     /// How the inputs stand.
@@ -175,6 +184,72 @@ impl Writer {
             let _ = rt.eprint(UNWRITTEN);
         }
     }
+}
+
+/// The names of renditions.
+fn names_of(alloc: Global, renditions: &[Rendition]) -> Result<Vec<String>, AllocError>
+    ensures { IfOk result (λ names. map string_bytes names.items ≡ map (λ r. r.name) renditions.now) }
+{
+    let mut names = Vec::new(alloc);
+    for rendition in renditions {
+        names.push(rendition.name.clone()?)?;
+    }
+    Ok(names)
+}
+
+/// So many renditions, none of which was seen yet.
+fn none_seen(alloc: Global, count: usize) -> Result<Vec<Seen>, AllocError>
+    ensures { IfOk result (λ seen. seen.items ≡ replicate count unseen) }
+{
+    let mut seen = Vec::new(alloc);
+    for _ in 0..count {
+        seen.push(Seen { count: 0, at: 0 })?;
+    }
+    Ok(seen)
+}
+
+/// Names, as texts that are borrowed.
+fn texts_of<'a>(alloc: Global, names: &'a [String]) -> Result<Vec<&'a str>, AllocError>
+    ensures { IfOk result (λ texts. map (λ t. t.now) texts.items ≡ map string_bytes names.now) }
+{
+    let mut texts: Vec<&str> = Vec::new(alloc);
+    for name in names {
+        texts.push(name.as_str())?;
+    }
+    Ok(texts)
+}
+
+/// The metrics of a run that began so many microseconds after 1970, at a time of it: of renditions of these names as a board
+/// shows them, with what was told, when they were seen first, how their inputs stand, and the fault that ended the run, if any.
+fn text_of(
+    alloc: Global,
+    names: &[String],
+    start: u128,
+    glance: &Glance,
+    told: &Told,
+    seen: &[Seen],
+    inputs: &[InputSample],
+    last: Option<PackFault>,
+    now: u128,
+) -> Result<Vec<u8>, AllocError>
+    ensures { IfOk result (λ text.
+        IsMetered (map string_bytes names.now) start glance.now told.now seen.now inputs.now last now text.items) }
+{
+    let faults = faults_of(told, last);
+    let known = Known {
+        seen,
+        inputs,
+        faults: &faults,
+    };
+    let run = RunSample {
+        start,
+        waiting: waiting(told.completed, glance),
+        removed: told.removed,
+    };
+    let texts = texts_of(alloc, names)?;
+    let all = samples(alloc, &texts, glance, known, now)?;
+    let text = metrics_text(alloc, run, &all)?;
+    Ok(text)
 }
 
 /// What metrics tell of inputs that stand so.
@@ -356,11 +431,17 @@ impl Watching {
         let Watching { stop, thread } = self;
         stop.tell(rt);
         let (viewer, mut writer) = thread.join(rt);
-        let last = match fault {
-            Some(LadderPackingFault::Packing(fault)) => Some(*fault),
-            _ => None,
-        };
-        let _viewer = look_and_write(rt, alloc, viewer, &mut writer, last);
+        let _viewer = look_and_write(rt, alloc, viewer, &mut writer, last_of(fault));
+    }
+}
+
+/// The fault of a rendition, or of the ladder, that the last metrics tell of a run that ended so.
+fn last_of(fault: Option<&LadderPackingFault>) -> Option<PackFault>
+    ensures { result ≡ last_fault (option_map (λ f. f.now) fault.entry) }
+{
+    match fault {
+        Some(LadderPackingFault::Packing(fault)) => Some(*fault),
+        _ => None,
     }
 }
 

@@ -1,0 +1,32 @@
+-- The metrics of a run at one time of it.
+use Rattle.std.specs.Prelude.{◌≡◌, ℕ, ◌-◌, List, Option, None, fold, length, map, option_copied, replicate, sum}
+use Rattle.std.specs.List.{range_with_len}
+use Rattle.ladder_items.specs.declared.fault.PackFault.{PackFault}
+use Rattle.metrics.specs.Metrics.{metrics_text}
+use Rattle.metrics.specs.Seens.{again_at}
+use Rattle.metrics.specs.Told.{told_at}
+use Rattle.metrics.specs.declared.glance.Glance.{Glance}
+use Rattle.metrics.specs.declared.known.InputSample.{InputSample}
+use Rattle.metrics.specs.declared.known.Known.{Known}
+use Rattle.metrics.specs.declared.sample.RunSample.{RunSample}
+use Rattle.metrics.specs.declared.seen.Seen.{Seen}
+use Rattle.program.specs.Faulted.{named_in}
+use Rattle.program.specs.declared.told.Told.{Told}
+use Rattle.program.specs.declared.told.TheConstants.{RENDITIONS}
+
+-- what was seen of each rendition, once they are seen again with these counts
+abbrev pub seen_then : List Seen → List ℕ → ℕ → List Seen
+seen_then seen counts now = map (again_at seen counts now) (range_with_len 0 (length seen))
+
+-- how a run stands: how many of the segments that are complete aren't shown yet, and how many were removed
+abbrev pub run_sample : ℕ → Told → Glance → RunSample
+run_sample start told glance = record { start = start; waiting = told.completed - sum glance.counts.items; removed = told.removed }
+
+-- A text is the metrics at this time of a run that began then: of what a board shows of renditions of these names, when they were
+-- seen first, how their inputs stand, and by which faults they ended, those that were told and the last one.
+pub record IsMetered (names : List (List ℕ)) (start : ℕ) (glance : Glance) (told : Told) (seen : List Seen) (inputs : List InputSample) (last : Option PackFault) (now : ℕ) (text : List ℕ) : Type 0 where
+  pub known : Known
+  pub seen_is : known.seen.now ≡ seen
+  pub inputs_are : known.inputs.now ≡ inputs
+  pub faults_are : map option_copied known.faults.now ≡ named_in (fold named_in (replicate RENDITIONS None) told.faults) last
+  pub text_is : text ≡ metrics_text (run_sample start told glance) (map (told_at names glance known now) (range_with_len 0 (length names)))
