@@ -9,6 +9,7 @@ ghost use Rattle.command_line.specs.declared.fault.Fault.TheVariants.{LadderPack
 ghost use Rattle.packing.specs.LadderPacking.{WritesSummary};
 ghost use Rattle.program.specs.Asked.{IsAsAsked};
 ghost use Rattle.program.specs.Channels.{GoesNotOn, GoesOn, IsJobBehind};
+ghost use Rattle.program.specs.LadderEnds.{FailsLadder};
 
 use crate::told::Tellings;
 use crate::watching::{Watched, Watching};
@@ -122,6 +123,9 @@ where
 
     // It ends well only where all was packed and the summary was written.
     ensures written { OnOk result ((report : _) × WritesSummary job.now.options.settings report (W.contents output.old) (W.contents output.new)) }
+
+    // It ends by a fault of its run, which says what was written, or nothing was begun, nor written.
+    ensures fault { IfErr result (FailsLadder job.now.options.settings (W.contents output.old) (W.contents output.new)) }
 {
     let settings = &job.options.settings;
     let pool = job.options.pool;

@@ -1,0 +1,26 @@
+-- How a ladder ends that wasn't packed to its end.
+use Rattle.std.specs.Prelude.{◌≡◌, ◌⊎◌, ℕ, List, Option}
+use Rattle.std.specs.Io.KnownBytes.{Keeps}
+use Rattle.ladder_items.specs.Ladder.{Ladder}
+use Rattle.ladder_items.specs.declared.report.Report.{Report}
+use Rattle.packing.specs.LadderPacking.{BeginsSummary, IsNeverHeld}
+use Rattle.commands.specs.declared.packing_fault.LadderPackingFault.{LadderPackingFault}
+use Rattle.commands.specs.declared.packing_fault.LadderPackingFault.TheVariants as packing
+use Rattle.command_line.specs.declared.fault.Fault.{Fault}
+use Rattle.command_line.specs.declared.fault.Fault.TheVariants.{LadderPacking, NoMemory, Unopened}
+use Rattle.read_ahead.specs.declared.starting.InputFault.{InputFault}
+
+-- what a writer got of the summary: a prefix of it where it couldn't be written, else nothing
+abbrev pub LacksSummary : Ladder → Option (List ℕ) → Option (List ℕ) → LadderPackingFault → Type 0
+LacksSummary ladder held held_then (packing.Packing fault) = Keeps held held_then
+LacksSummary ladder held held_then packing.Unwritten = (report : Report) × BeginsSummary ladder report held held_then
+LacksSummary ladder held held_then packing.NoMemory = Keeps held held_then
+
+-- why nothing was begun: there was no memory, or a stream can't be opened
+abbrev pub IsUnbegun : Fault → Type 0
+IsUnbegun fault = (fault ≡ NoMemory) ⊎ ((why : InputFault) × (fault ≡ Unopened why))
+
+-- A ladder ends by a fault: nothing was begun and nothing was written, or its run ended so.
+abbrev pub FailsLadder : Ladder → Option (List ℕ) → Option (List ℕ) → Fault → Type 0
+FailsLadder ladder held held_then fault = (IsUnbegun fault × (held_then ≡ held)) ⊎
+    ((why : LadderPackingFault) × (fault ≡ LadderPacking why) × IsNeverHeld why × LacksSummary ladder held held_then why)
