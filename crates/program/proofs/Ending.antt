@@ -1,6 +1,6 @@
 -- How a run ends, well and by a fault.
 use Rattle.std.specs.Prelude.{ℕ, List, Option, Err, IfErr, IfOk, IsErrOf, IsOk, Ok, OnOk, Result}
-use Rattle.std.proofs.Common.{◌≡◌, inr}
+use Rattle.std.proofs.Common.{inr}
 use Rattle.live_board.specs.Snapshots.{SnapshotFacts}
 use Rattle.ladder_items.specs.Ladder.{Ladder}
 use Rattle.ladder_items.specs.Runs.{Run}

@@ -1,7 +1,7 @@
 -- The name behind the last slash of a path.
 use Rattle.std.specs.Prelude.{◌==◌, Err, IfOk, Ok, Result}
 use Rattle.std.specs.Str.{NoCharPasses}
-use Rattle.std.proofs.Common.{◌≡◌, ◌∙◌, refl, sym, ap, ℕ, List, [], ◌∷◌, ◌++◌, codes, drop, take, append_assoc, inr, subst}
+use Rattle.std.proofs.Common.{◌≡◌, ◌∙◌, refl, sym, ℕ, List, ◌++◌, codes, drop, take, append_assoc, inr, subst}
 use Rattle.std.proofs.lemmas.List.{take-append-drop}
 use Rattle.std.specs.Str.Pattern.{RFindsChar, SplitsAroundMatch}
 use Rattle.program.specs.PartPaths.{IsPartPath}
