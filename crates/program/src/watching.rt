@@ -71,6 +71,16 @@ struct Writer {
     has_told: bool,
 }
 
+/// What is known of a run at one moment, besides what its board shows: what it told, how its inputs stand, the fault that ended it,
+/// if one did, and the time, in microseconds.
+#[derive(Drop)]
+struct Moment<'a> {
+    told: &'a Told,
+    inputs: &'a [InputSample],
+    last: Option<PackFault>,
+    time: u128,
+}
+
 impl Writer {
     /// Of a run that begins now.
     fn new<R: Clock>(
@@ -151,17 +161,40 @@ impl Writer {
     {
         let told = self.told.so_far(rt);
         let inputs = self.input_samples(rt, alloc)?;
-        let text = text_of(
-            alloc,
-            &self.names,
-            self.start,
-            glance,
-            &told,
-            &self.seen,
-            &inputs,
-            fault,
-            now,
-        )?;
+        let moment = Moment {
+            told: &told,
+            inputs: &inputs,
+            last: fault,
+            time: now,
+        };
+        let text = self.text_of(alloc, glance, &moment)?;
+        Ok(text)
+    }
+
+    /// The metrics of what a board shows, at such a moment.
+    fn text_of(
+        &self,
+        alloc: Global,
+        glance: &Glance,
+        moment: &Moment<'_>,
+    ) -> Result<Vec<u8>, AllocError>
+        ensures { IfOk result (λ text. IsMetered (map string_bytes self.now.names.items) self.now.start glance.now
+            moment.now.told.now self.now.seen.items moment.now.inputs.now moment.now.last moment.now.time text.items) }
+    {
+        let faults = faults_of(moment.told, moment.last);
+        let known = Known {
+            seen: &self.seen,
+            inputs: moment.inputs,
+            faults: &faults,
+        };
+        let run = RunSample {
+            start: self.start,
+            waiting: waiting(moment.told.completed, glance),
+            removed: moment.told.removed,
+        };
+        let texts = texts_of(alloc, &self.names)?;
+        let all = samples(alloc, &texts, glance, known, moment.time)?;
+        let text = metrics_text(alloc, run, &all)?;
         Ok(text)
     }
 
@@ -217,39 +250,6 @@ fn texts_of<'a>(alloc: Global, names: &'a [String]) -> Result<Vec<&'a str>, Allo
         texts.push(name.as_str())?;
     }
     Ok(texts)
-}
-
-/// The metrics of a run that began so many microseconds after 1970, at a time of it: of renditions of these names as a board
-/// shows them, with what was told, when they were seen first, how their inputs stand, and the fault that ended the run, if any.
-fn text_of(
-    alloc: Global,
-    names: &[String],
-    start: u128,
-    glance: &Glance,
-    told: &Told,
-    seen: &[Seen],
-    inputs: &[InputSample],
-    last: Option<PackFault>,
-    now: u128,
-) -> Result<Vec<u8>, AllocError>
-    ensures { IfOk result (λ text.
-        IsMetered (map string_bytes names.now) start glance.now told.now seen.now inputs.now last now text.items) }
-{
-    let faults = faults_of(told, last);
-    let known = Known {
-        seen,
-        inputs,
-        faults: &faults,
-    };
-    let run = RunSample {
-        start,
-        waiting: waiting(told.completed, glance),
-        removed: told.removed,
-    };
-    let texts = texts_of(alloc, names)?;
-    let all = samples(alloc, &texts, glance, known, now)?;
-    let text = metrics_text(alloc, run, &all)?;
-    Ok(text)
 }
 
 /// What metrics tell of inputs that stand so.
