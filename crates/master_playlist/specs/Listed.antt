@@ -1,5 +1,5 @@
 -- A variant, as it is listed.
-use Rattle.std.specs.Prelude.{ℕ, List}
+use Rattle.std.specs.Prelude.{ℕ, List, []}
 
 -- its name and codecs as bytes, its size in pixels, and rates in bits a second
 pub record Listed : Type 0 where
@@ -11,3 +11,7 @@ pub record Listed : Type 0 where
   pub average : ℕ
   pub frame_peak : ℕ
   pub frame_average : ℕ
+
+-- what stands at a place of an array that isn't used
+abbrev pub blank : Listed
+blank = record { name = []; codecs = []; width = 0; height = 0; peak = 0; average = 0; frame_peak = 0; frame_average = 0 }

@@ -26,6 +26,11 @@ impl<'a> Model for Variant<'a> {
 
 /// A blank, for a place of an array that isn't used.
 impl Default for Variant<'_> {
+    ghost use Rattle.std.specs.Prelude.{◌≡◌};
+    ghost use Rattle.master_playlist.specs.Listed.{blank};
+
+    ghost is_default = { λ v. v ≡ blank };
+
     fn default() -> Self {
         Variant {
             name: "",

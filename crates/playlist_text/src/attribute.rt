@@ -1,4 +1,4 @@
-ghost use Rattle.std.specs.Prelude.{◌≡◌, ◌++◌, map, OnOk};
+ghost use Rattle.std.specs.Prelude.{◌≡◌, ◌++◌, [], map, IsOk, OnOk};
 ghost use Rattle.std.specs.String.{string_bytes};
 ghost use Rattle.playlist_text.specs.Attributes.{quoted, hexadecimal, resolution, attribute_list};
 ghost use Rattle.playlist_text.specs.AttributeValues.{value_text, attribute_text};
@@ -27,8 +27,9 @@ pub struct Attribute<'a> {
 /// Appends an attribute list: each as its name, `=` and its value, with a comma between two of them.
 #[tactic(auto, unfolding(crate::specs::Attributes::attribute_list))]
 pub fn push_attribute_list(out: &mut String, attributes: &[Attribute<'_>]) -> Result<(), AllocError>
-    ensures { OnOk result
+    ensures ok { OnOk result
         (string_bytes out.new ≡ string_bytes out.old ++ attribute_list (map attribute_text attributes.now)) }
+    ensures none { attributes.now ≡ [] → IsOk result }
 {
     let Some((first, others)) = attributes.split_first() else {
         return Ok(());

@@ -1,5 +1,5 @@
-ghost use Rattle.std.specs.Prelude.{◌≡◌, ◌++◌, OnOk};
-ghost use Rattle.std.specs.String.{string_bytes};
+ghost use Rattle.std.specs.Prelude.{◌≡◌, ◌++◌, ◌+◌, ◌<◌, length, OnErr, OnOk};
+ghost use Rattle.std.specs.String.{string_bytes, string_capacity, string_len};
 ghost use Rattle.playlist_text.specs.Uris.{escaped, segment_uri, key_uri, media_uri, frames_uri};
 
 use crate::number::push_decimal;
@@ -14,10 +14,10 @@ const ESCAPED: AsciiSet = ascii_set!(NON_ALPHANUMERIC.remove(b'-').remove(b'_').
 
 /// Appends a name as it stands in URIs: bytes other than letters, digits, `-`, `_` and `~` as `%XX`, in upper case.
 pub fn push_escaped(out: &mut String, name: &str) -> Result<(), AllocError>
-    ensures { OnOk result (string_bytes out.new ≡ string_bytes out.old ++ escaped name.now) }
+    ensures ok { OnOk result (string_bytes out.new ≡ string_bytes out.old ++ escaped name.now) }
+    ensures full { OnErr result (string_capacity out.old < string_len out.old + length (escaped name.now)) }
 {
-    utf8_percent_encode(name, ESCAPED).append_to(out)?;
-    Ok(())
+    utf8_percent_encode(name, ESCAPED).append_to(out)
 }
 
 /// Appends the URI of a segment: `NAME.number.ts`.

@@ -12,14 +12,14 @@ pub returns : goal.returns
 returns c =
     let v : Listed = c.args.variant.now in
     let rates =
-    c.in_ok-push_attribute_list.ensures
+    c.in_ok-push_attribute_list.ensures.ok
     ∙ ap (λ (xs : List (List ℕ)). string_bytes c.push_str.new.self ++ attribute_list xs) c.attributes_of-rates.ensures
     ∙ ap (λ (w : Listed). string_bytes c.push_str.new.self ++ attribute_list (attributes v w.frame_peak w.frame_average)) c.variant.view_is in
     let uri : c.deref.result.now ≡ frames_uri v.name =
     c.deref.ensures ∙ c.in_ok-push_frames_uri.ensures ∙ ap (λ (t : List ℕ). t ++ frames_uri c.variant.inside.name.now) c.new-uri.ensures.bytes
     ∙ ap (λ (w : Listed). frames_uri w.name) c.variant.view_is in
     let last =
-    c.in_ok-push_attribute_list-2.ensures
+    c.in_ok-push_attribute_list-2.ensures.ok
     ∙ ap (λ (t : List ℕ). string_bytes c.push_str-2.new.self ++ attribute_list (attribute (codes "URI") (quoted t) ∷ [])) uri in
     one_line _ _ _ _ _ _ _ _ _ _ _ c.in_ok-push_str.ensures.bytes rates c.in_ok-push_str-2.ensures.bytes last c.in_ok-push_str-3.ensures.bytes
     ∙ ap (λ (t : List ℕ). string_bytes c.args.out.now ++ t) (sym (frames-is v))

@@ -11,7 +11,7 @@ pub returns : goal.returns
 returns c =
     let v : Listed = c.args.variant.now in
     let rates =
-    c.in_ok-push_attribute_list.ensures
+    c.in_ok-push_attribute_list.ensures.ok
     ∙ ap (λ (xs : List (List ℕ)). string_bytes c.push_str.new.self ++ attribute_list xs) c.attributes_of-rates.ensures
     ∙ ap (λ (w : Listed). string_bytes c.push_str.new.self ++ attribute_list (attributes v w.peak w.average)) c.variant.view_is in
     let media = c.in_ok-push_media_uri.ensures ∙ ap (λ (w : Listed). string_bytes c.push_str-2.new.self ++ media_uri w.name) c.variant.view_is in
