@@ -1,6 +1,6 @@
 //! The samples of all renditions.
 
-ghost use Rattle.std.specs.Prelude.{◌≡◌, map, option_map, length, get_or, IfOk};
+ghost use Rattle.std.specs.Prelude.{◌≡◌, [], map, option_map, length, get_or, IfOk, IsOk};
 ghost use Rattle.std.specs.List.{range_with_len};
 ghost use Rattle.std.specs.String.{string_bytes};
 ghost use Rattle.metrics.specs.Told.{told_of, told_at};
@@ -62,8 +62,9 @@ pub fn samples<'a>(
     known: Known<'_>,
     now: u128,
 ) -> Result<Vec<Sample<'a>>, AllocError>
-    ensures { IfOk result (λ samples. map facts_of samples.items ≡
+    ensures ok { IfOk result (λ samples. map facts_of samples.items ≡
         map (told_at (map (λ t. t.now) names.now) glance.now known.entry now) (range_with_len 0 (length names.now))) }
+    ensures none { names.now ≡ [] → IsOk result }
 {
     let mut samples = Vec::new(alloc);
     for r in 0..names.len() {

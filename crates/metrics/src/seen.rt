@@ -1,6 +1,6 @@
 //! When a rendition's last segment was seen first.
 
-ghost use Rattle.std.specs.Prelude.{◌≡◌, map, length, get_or, IfOk};
+ghost use Rattle.std.specs.Prelude.{◌≡◌, [], map, length, get_or, IfOk, IsOk};
 ghost use Rattle.std.specs.List.{range_with_len};
 ghost use Rattle.metrics.specs.Seens;
 ghost use Rattle.metrics.specs.Seens.{again_at};
@@ -34,7 +34,8 @@ pub fn seen_again(
     counts: &[u64],
     now: u128,
 ) -> Result<Vec<Seen>, AllocError>
-    ensures { IfOk result (λ next. next.items ≡ map (again_at seen.now counts.now now) (range_with_len 0 (length seen.now))) }
+    ensures ok { IfOk result (λ next. next.items ≡ map (again_at seen.now counts.now now) (range_with_len 0 (length seen.now))) }
+    ensures none { seen.now ≡ [] → IsOk result }
 {
     let mut next = Vec::new(alloc);
     for r in 0..seen.len() {
