@@ -1,4 +1,4 @@
-ghost use Rattle.std.specs.Prelude.{◌≡◌, ◌++◌, ◌∷◌, [], List, false, true, IsErr, OnErr, OnOk};
+ghost use Rattle.std.specs.Prelude.{◌≡◌, ◌⊎◌, ◌++◌, ◌∷◌, [], List, false, true, IsErr, OnErr, OnOk};
 ghost use Rattle.folder.specs.Kills.{IsFailedWrite};
 ghost use Rattle.folder.specs.Moves.{Move, Remove, Write, is_hidden};
 ghost use Rattle.folder.specs.Pruning.{other_moves, prunings};
@@ -37,6 +37,7 @@ impl<F: Folder> PruningFolder<F> {
         ensures kept { OnErr result (F.made self.new ≡ F.made self.old) }
         ensures others { other_moves (F.made self.new) ≡ other_moves (F.made self.old) }
         ensures hidden { is_hidden name.now ≡ true → IsErr result }
+        ensures failed { OnErr result ((is_hidden name.now ≡ true) ⊎ F.fails self.old self.new) }
     {
         if is_hidden(name) {
             return Err(FolderFault);
@@ -58,11 +59,14 @@ impl<F: Folder> Folder for PruningFolder<F> {
 
     ghost pruned = { λ p. prunings (F.made p) };
 
+    ghost fails = { λ found left. (left ≡ found) ⊎ F.fails found left };
+
     fn write(&mut self, name: &str, bytes: &[u8]) -> Result<(), FolderFault>
         ensures made { OnOk result (other_moves (F.made self.new) ≡ other_moves (F.made self.old) ++ Write name.now bytes.now ∷ []) }
         ensures cut_off { OnErr result ((more : List Move) × (other_moves (F.made self.new) ≡ other_moves (F.made self.old) ++ more) ×
             IsFailedWrite name.now bytes.now more) }
         ensures pruned { prunings (F.made self.new) ≡ prunings (F.made self.old) }
+        ensures failed { OnErr result ((self.new ≡ self.old) ⊎ F.fails self.old self.new) }
         ensures served { is_hidden name.now ≡ false → IsErr result × (self.new ≡ self.old) }
     {
         let is_part = is_hidden(name);
@@ -80,6 +84,7 @@ impl<F: Folder> Folder for PruningFolder<F> {
         ensures made { OnOk result (other_moves (F.made self.new) ≡ other_moves (F.made self.old) ++ Remove name.now ∷ []) }
         ensures kept { OnErr result (other_moves (F.made self.new) ≡ other_moves (F.made self.old)) }
         ensures pruned { prunings (F.made self.new) ≡ prunings (F.made self.old) }
+        ensures failed { OnErr result ((self.new ≡ self.old) ⊎ F.fails self.old self.new) }
         ensures served { is_hidden name.now ≡ false → IsErr result × (self.new ≡ self.old) }
     {
         if !is_hidden(name) {

@@ -11,6 +11,7 @@ use crate::staged_file::StagedFile;
 pub fn roll_forward<F: Folder>(folder: &mut F, block: &[StagedFile]) -> Result<(), FolderFault>
     ensures rolled { OnOk result (IsRolled (F.made folder.old) (F.made folder.new) (staged_names block.now)) }
     ensures stopped { OnErr result (IsRolledInPart (F.made folder.old) (F.made folder.new) (staged_names block.now)) }
+    ensures failed { OnErr result ((found : F) × F.fails found folder.new) }
     ensures pruned { F.pruned folder.new ≡ F.pruned folder.old }
 {
     for file in block {
@@ -27,6 +28,7 @@ fn roll_one<F: Folder>(folder: &mut F, file: &StagedFile) -> Result<bool, Folder
         F.made folder.old ++ rolling_moves (staged_file_names file.now ∷ []) (there ∷ [])) }
     ensures stopped { OnErr result ((looked : List Move) × (F.made folder.new ≡ F.made folder.old ++ looked) ×
         IsLook (staged_file_names file.now) looked) }
+    ensures failed { OnErr result ((found : F) × F.fails found folder.new) }
     ensures pruned { F.pruned folder.new ≡ F.pruned folder.old }
 {
     let Ok(there) = folder.has(file.part.as_str()) else {

@@ -1,7 +1,7 @@
-ghost use Rattle.std.specs.Prelude.{◌≡◌, ◌+◌, ◌<◌, ◌^◌, ◌∷◌, ◌++◌, [], true, false, IsErr, OnOk, OnErr};
+ghost use Rattle.std.specs.Prelude.{◌≡◌, ◌⊎◌, ◌+◌, ◌<◌, ◌^◌, ◌∷◌, ◌++◌, [], true, false, IsErr, OnOk, OnErr};
 ghost use Rattle.std.specs.String.{string_bytes};
 ghost use Rattle.folder.specs.FileFolders.{file_moves, folder_path, may_sync};
-ghost use Rattle.folder.specs.Moves.{Remove};
+ghost use Rattle.folder.specs.Moves.{Remove, is_hidden};
 ghost use Rattle.folder.specs.Pruning.{other_moves};
 ghost use Rattle.item_io.specs.Items.{item_value};
 ghost use Rattle.item_io.specs.FileNames.{is_named};
@@ -116,6 +116,7 @@ impl<F: Folder> FolderOutlet<PruningFolder<F>> {
         ensures made { OnOk result (F.made self.new.folder ≡ F.made self.old.folder ++ Remove name.now ∷ []) }
         ensures kept { OnErr result (F.made self.new.folder ≡ F.made self.old.folder) }
         ensures others { other_moves (F.made self.new.folder) ≡ other_moves (F.made self.old.folder) }
+        ensures failed { OnErr result ((is_hidden name.now ≡ true) ⊎ F.fails self.old.folder self.new.folder) }
         ensures same { self.new ≡ record self.old { folder = self.new.folder } }
     {
         if self.folder.prune(name).is_err() {

@@ -77,6 +77,7 @@ fn place_block<F: Folder>(
 ) -> Result<(), OutletFault>
     ensures ok { OnOk result (F.made folder.new ≡ F.made folder.old ++ renaming_block syncs (staged_names staged.now)) }
     ensures err { OnErr result (IsBegun (F.made folder.old) (F.made folder.new) (renaming_block syncs (staged_names staged.now))) }
+    ensures failed { OnErr result ((found : F) × F.fails found folder.new) }
     ensures pruned { F.pruned folder.new ≡ F.pruned folder.old }
 {
     if sync_if(folder, syncs).is_err() {
@@ -96,6 +97,7 @@ fn place_each<F: Folder>(
 ) -> Result<(), OutletFault>
     ensures ok { OnOk result (F.made folder.new ≡ F.made folder.old ++ renaming_each syncs (staged_names staged.now)) }
     ensures err { OnErr result (IsBegun (F.made folder.old) (F.made folder.new) (renaming_each syncs (staged_names staged.now))) }
+    ensures failed { OnErr result ((found : F) × F.fails found folder.new) }
     ensures pruned { F.pruned folder.new ≡ F.pruned folder.old }
 {
     for file in staged {
@@ -110,6 +112,7 @@ fn place_each<F: Folder>(
 fn place<F: Folder>(folder: &mut F, file: &StagedFile, syncs: bool) -> Result<(), OutletFault>
     ensures ok { OnOk result (F.made folder.new ≡ F.made folder.old ++ renaming (staged_file_names file.now) ∷ syncing syncs) }
     ensures err { OnErr result (IsBegun (F.made folder.old) (F.made folder.new) (renaming (staged_file_names file.now) ∷ syncing syncs)) }
+    ensures failed { OnErr result ((found : F) × F.fails found folder.new) }
     ensures pruned { F.pruned folder.new ≡ F.pruned folder.old }
 {
     if folder
@@ -126,6 +129,7 @@ fn sync_if<F: Folder>(folder: &mut F, syncs: bool) -> Result<(), OutletFault>
     ensures ok { OnOk result (F.made folder.new ≡ F.made folder.old ++ syncing syncs) }
     ensures err { OnErr result (F.made folder.new ≡ F.made folder.old) }
     ensures should { OnErr result (syncs ≡ true) }
+    ensures failed { OnErr result (F.fails folder.old folder.new) }
     ensures pruned { F.pruned folder.new ≡ F.pruned folder.old }
 {
     if !syncs {
