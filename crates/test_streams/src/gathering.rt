@@ -1,5 +1,6 @@
 //! The sections of a PID that packets carry.
 
+use crate::asserts::assert_same;
 use crate::table_fixtures::Sent::{Exactly, Filled};
 use crate::table_fixtures::{PAT, PMT, Sent, bytes_of};
 use psi_tables::{Assembler, Pat};
@@ -450,11 +451,13 @@ fn keeps(
 ) -> Result<(), Fail> {
     for (sent, kept) in &LONGEST {
         show(assembler, *sent, found)?;
-        assert_eq!(rt; assembler.kept(), *kept);
+        assert_same(rt, "kept", assembler.kept(), *kept);
     }
-    assert_eq!(rt;
+    assert_same(
+        rt,
+        "of two sections",
         (assembler.pid(), found.len(), chosen(alloc, found)),
-        (0, 2, Some((1, 0x1000)))
+        (0, 2, Some((1, 0x1000))),
     );
     Ok(())
 }

@@ -1,5 +1,6 @@
 //! The head that brings tables to a segment.
 
+use crate::asserts::assert_same;
 use crate::table_fixtures::Sent::Carrying;
 use crate::table_fixtures::{PAT, PMT, bytes_of, described, filled, first};
 use crate::watching::{in_force, show};
@@ -56,7 +57,12 @@ fn head_of_the_standard_tables(rt: HostRuntime) -> Result<(), Fail> {
         bytes_of(Carrying(0, 0, PAT)),
         bytes_of(Carrying(0x1000, 0, PMT)),
     ];
-    assert_eq!(rt; head.as_slice(), packets.as_flattened());
+    assert_same(
+        &rt,
+        "head of the standard tables",
+        head.as_slice(),
+        packets.as_flattened(),
+    );
     Ok(())
 }
 
@@ -78,14 +84,16 @@ fn fronts(head: &[u8]) -> Option<[[u8; 5]; 4]> {
 fn counters_run_on_modulo_16(rt: HostRuntime) -> Result<(), Fail> {
     let section = described(400, b"\x82\xa3\x31\x4e");
     let (_, head) = head_of(rt.alloc(), first(&section, 400), (17, 15))?;
-    assert_eq!(rt;
+    assert_same(
+        &rt,
+        "counters run on modulo 16",
         fronts(&head),
         Some([
             *b"\x47\x40\x00\x11\x00",
             *b"\x47\x50\x00\x1f\x00",
             *b"\x47\x10\x00\x10\xaa",
-            *b"\x47\x10\x00\x11\xaa"
-        ])
+            *b"\x47\x10\x00\x11\xaa",
+        ]),
     );
     Ok(())
 }
@@ -110,7 +118,7 @@ fn size(alloc: Global, len: u16, crc: &[u8]) -> Result<(usize, usize), Fail> {
 #[test]
 fn sections_of_one_packet_and_more(rt: HostRuntime) -> Result<(), Fail> {
     for (len, crc, sizes) in &SIZES {
-        assert_eq!(rt; size(rt.alloc(), *len, crc)?, *sizes, "{len} bytes");
+        assert_same(&rt, len, size(rt.alloc(), *len, crc)?, *sizes);
     }
     Ok(())
 }

@@ -55,29 +55,22 @@ pub(crate) fn cut(
 /// Whether bytes are those of the packets at these places.
 fn is_body(body: &[u8], packets: &[[u8; 188]], places: &[usize]) -> bool {
     let (bodies, rest) = body.as_chunks::<188>();
-    if !rest.is_empty() || bodies.len() != places.len() {
-        return false;
-    }
-    for at in 0..places.len() {
-        if packets.get(places[at]) != Some(&bodies[at]) {
+    for (packet, place) in bodies.iter().zip(places) {
+        if packets.get(*place) != Some(packet) {
             return false;
         }
     }
-    true
+    rest.is_empty() && bodies.len() == places.len()
 }
 
 /// Whether I-frames are at these offsets, lengths and starts.
 fn are_frames(plan: &Plan, frames: &[(u64, u64, u64)]) -> bool {
-    if plan.frames.len() != frames.len() {
-        return false;
-    }
-    for at in 0..frames.len() {
-        let frame = plan.frames[at];
-        if (frame.offset, frame.len, frame.start) != frames[at] {
+    for (frame, wanted) in plan.frames.iter().zip(frames) {
+        if (frame.offset, frame.len, frame.start) != *wanted {
             return false;
         }
     }
-    true
+    plan.frames.len() == frames.len()
 }
 
 /// Whether a plan is that of a row with this number.

@@ -1,17 +1,10 @@
 ghost use Rattle.std.specs.Prelude.{◌≤◌, ◌+◌, ◌<◌, ◌^◌, length};
 
+use crate::asserts::assert_same;
+use crate::table_fixtures::filled;
 use std::alloc::{AllocError, Global};
 use std::test::Fail;
 use ts_packet::{Packet, PacketFault, Reader, Skipped, Stream, read_pieces};
-
-/// A packet that begins with these bytes and is filled with FF.
-fn packet(front: &[u8]) -> [u8; 188]
-    requires { length front.now ≤ 188 }
-{
-    let mut packet = [0xFF; 188];
-    packet[..front.len()].copy_from_slice(front);
-    packet
-}
 
 /// The first packet of a key frame at 0 ticks.
 const KEY_FRAME: [u8; 20] = [
@@ -39,60 +32,66 @@ fn fields(bytes: &[u8; 188]) -> Option<(u16, u8, usize, [bool; 3])> {
 
 #[test]
 fn fields_of_frames(rt: HostRuntime) -> Result<(), Fail> {
-    assert_eq!(rt;
-        (fields(&packet(&KEY_FRAME)), fields(&packet(&FRAME))),
+    assert_same(
+        &rt,
+        "fields of frames",
+        (
+            fields(&filled(&KEY_FRAME, b"")),
+            fields(&filled(&FRAME, b"")),
+        ),
         (
             Some((0x100, 0, 182, [true, false, true])),
-            Some((0x100, 1, 184, [true, false, false]))
-        )
+            Some((0x100, 1, 184, [true, false, false])),
+        ),
     );
     Ok(())
 }
 
-#[test]
-fn faults_in_their_order(rt: HostRuntime) -> Result<(), Fail> {
-    let table = [
-        ([0x46, 0x80, 0x00, 0x00, 0xFF], Some(PacketFault::NoSync)),
-        ([0x47, 0x80, 0x00, 0x00, 0xFF], Some(PacketFault::Errored)),
-        ([0x47, 0x00, 0x00, 0x00, 0xFF], Some(PacketFault::Reserved)),
-        (
-            [0x47, 0x00, 0x00, 0x30, 183],
-            Some(PacketFault::LongAdaptation),
-        ),
-        (
-            [0x47, 0x00, 0x00, 0x20, 184],
-            Some(PacketFault::LongAdaptation),
-        ),
-        ([0x47, 0x00, 0x00, 0x30, 182], None),
-        ([0x47, 0x00, 0x00, 0x20, 183], None),
-        ([0x47, 0x00, 0x00, 0x10, 0xFF], None),
-    ];
-    for (front, fault) in table {
-        assert_eq!(rt; Packet::parse(&packet(&front)).err(), fault, "at {front:?}");
-    }
-    Ok(())
+/// What packets begin with, and why they are refused, if they are.
+const FAULTS: [([u8; 5], Option<PacketFault>); 8] = [
+    ([0x46, 0x80, 0x00, 0x00, 0xFF], Some(PacketFault::NoSync)),
+    ([0x47, 0x80, 0x00, 0x00, 0xFF], Some(PacketFault::Errored)),
+    ([0x47, 0x00, 0x00, 0x00, 0xFF], Some(PacketFault::Reserved)),
+    (
+        [0x47, 0x00, 0x00, 0x30, 183],
+        Some(PacketFault::LongAdaptation),
+    ),
+    (
+        [0x47, 0x00, 0x00, 0x20, 184],
+        Some(PacketFault::LongAdaptation),
+    ),
+    ([0x47, 0x00, 0x00, 0x30, 182], None),
+    ([0x47, 0x00, 0x00, 0x20, 183], None),
+    ([0x47, 0x00, 0x00, 0x10, 0xFF], None),
+];
+
+/// Why a packet that begins so is refused.
+fn fault(front: &[u8]) -> Option<PacketFault> {
+    Packet::parse(&filled(front, b"")).err()
 }
 
-/// The packets of a PAT, a PMT, a key frame, a frame, a key frame and a frame.
+#[test]
+fn faults_in_their_order(rt: HostRuntime) {
+    for (front, wanted) in FAULTS {
+        assert_same(&rt, front, fault(&front), wanted);
+    }
+}
+
+/// What the packets of a PAT, a PMT, a key frame, a frame, a key frame and a frame begin with.
+const SIX: [&[u8]; 6] = [
+    b"\x47\x40\x00\x10\x00\x00\xb0\x0d\x00\x01\xc1\x00\x00\x00\x01\xf0\x00\x2a\xb1\x04\xb2",
+    b"\x47\x50\x00\x10\x00\x02\xb0\x12\x00\x01\xc1\x00\x00\xe1\x00\xf0\x00\x1b\xe1\x00\xf0\x00\x15\xbd\x4d\x56",
+    &KEY_FRAME,
+    &FRAME,
+    &KEY_FRAME,
+    &FRAME,
+];
+
+/// The packets that begin so.
 fn six_packets(alloc: Global) -> Result<Vec<u8>, AllocError> {
-    let pat = [
-        0x47, 0x40, 0x00, 0x10, 0x00, 0x00, 0xB0, 0x0D, 0x00, 0x01, 0xC1, 0x00, 0x00, 0x00, 0x01,
-        0xF0, 0x00, 0x2A, 0xB1, 0x04, 0xB2,
-    ];
-    let pmt = [
-        0x47, 0x50, 0x00, 0x10, 0x00, 0x02, 0xB0, 0x12, 0x00, 0x01, 0xC1, 0x00, 0x00, 0xE1, 0x00,
-        0xF0, 0x00, 0x1B, 0xE1, 0x00, 0xF0, 0x00, 0x15, 0xBD, 0x4D, 0x56,
-    ];
     let mut bytes = Vec::new(alloc);
-    for packet in [
-        packet(&pat),
-        packet(&pmt),
-        packet(&KEY_FRAME),
-        packet(&FRAME),
-        packet(&KEY_FRAME),
-        packet(&FRAME),
-    ] {
-        bytes.extend_from_slice(&packet)?;
+    for front in SIX {
+        bytes.extend_from_slice(&filled(front, b""))?;
     }
     Ok(bytes)
 }
@@ -174,7 +173,7 @@ fn told_of_cuts(alloc: Global, packets: &[u8]) -> Result<(usize, Option<usize>, 
 fn the_cut_does_not_matter(rt: HostRuntime) -> Result<(), Fail> {
     let packets = six_packets(rt.alloc())?;
     let told = told_of_cuts(rt.alloc(), &packets)?;
-    assert_eq!(rt; told, (1133, None, true));
+    assert_same(&rt, "the cut does not matter", told, (1133, None, true));
     Ok(())
 }
 
@@ -194,7 +193,7 @@ fn a_packet_that_is_cut_off_is_skipped(rt: HostRuntime) -> Result<(), Fail> {
     let stream = six_packets(rt.alloc())?;
     for (len, packets) in [(1127, 940), (187, 0)] {
         let told = told_of(rt.alloc(), stream.get(..len).unwrap_or(&[]))?;
-        assert_eq!(rt; told, (packets, true, 187), "{len} bytes");
+        assert_same(&rt, len, told, (packets, true, 187));
     }
     Ok(())
 }
@@ -229,26 +228,13 @@ fn told_twice(alloc: Global, bytes: &[u8]) -> Result<(bool, (usize, u64, u64)), 
 fn a_finished_reader_stands_as_a_new_one(rt: HostRuntime) -> Result<(), Fail> {
     let bytes = six_packets(rt.alloc())?;
     let told = told_twice(rt.alloc(), &bytes)?;
-    assert_eq!(rt; told, (true, (0, 0, 0)));
+    assert_same(
+        &rt,
+        "a finished reader stands as a new one",
+        told,
+        (true, (0, 0, 0)),
+    );
     Ok(())
-}
-
-/// Seven packets without byte 751, the last of the fourth, and what is read of them: the fourth takes the first byte of the
-/// fifth, which is lost.
-fn with_a_lost_byte(alloc: Global) -> Result<(Vec<u8>, Vec<u8>), AllocError> {
-    let mut bytes = six_packets(alloc)?;
-    bytes.extend_from_slice(&packet(&FRAME))?;
-    let mut lost = Vec::new(alloc);
-    let mut read = Vec::new(alloc);
-    for (at, byte) in bytes.iter().enumerate() {
-        if at != 751 {
-            lost.push(*byte)?;
-        }
-        if at != 751 && (at < 753 || at >= 940) {
-            read.push(*byte)?;
-        }
-    }
-    Ok((lost, read))
 }
 
 /// Whether a stream of few bytes that is cut in two is read as these packets, and so many bytes are in none.
@@ -264,11 +250,38 @@ fn is_read_cut(
     Ok(is_read(&cut(alloc, bytes, 600)?, packets, skipped))
 }
 
+/// Appends seven packets without byte 751, the last of the fourth, and what is read of them: the fourth takes the first byte of
+/// the fifth, which is lost.
+fn lose_a_byte(six: &[u8], lost: &mut Vec<u8>, read: &mut Vec<u8>) -> Result<(), AllocError> {
+    let front = six.get(..751).unwrap_or(&[]);
+    lost.extend_from_slice(front)?;
+    lost.extend_from_slice(six.get(752..).unwrap_or(&[]))?;
+    lost.extend_from_slice(&filled(&FRAME, b""))?;
+    read.extend_from_slice(front)?;
+    read.extend_from_slice(six.get(752..753).unwrap_or(&[]))?;
+    read.extend_from_slice(six.get(940..).unwrap_or(&[]))?;
+    read.extend_from_slice(&filled(&FRAME, b""))?;
+    Ok(())
+}
+
+/// How many bytes seven packets are without one, and whether they are read so.
+fn told_of_a_loss(alloc: Global, six: &[u8]) -> Result<(usize, bool), AllocError> {
+    let (mut lost, mut read) = (Vec::new(alloc), Vec::new(alloc));
+    lose_a_byte(six, &mut lost, &mut read)?;
+    let is = is_read_cut(alloc, &lost, &read, 187);
+    Ok((lost.len(), is?))
+}
+
 #[test]
 fn lock_comes_back_behind_a_lost_byte(rt: HostRuntime) -> Result<(), Fail> {
-    let (bytes, packets) = with_a_lost_byte(rt.alloc())?;
-    let is = is_read_cut(rt.alloc(), &bytes, &packets, 187)?;
-    assert_eq!(rt; (bytes.len(), is), (1315, true));
+    let packets = six_packets(rt.alloc())?;
+    let told = told_of_a_loss(rt.alloc(), &packets)?;
+    assert_same(
+        &rt,
+        "lock comes back behind a lost byte",
+        told,
+        (1315, true),
+    );
     Ok(())
 }
 
@@ -321,6 +334,11 @@ fn told_lent(alloc: Global, stream: &[u8]) -> Result<(([usize; 4], u64), bool), 
 fn packets_are_lent_where_they_stand(rt: HostRuntime) -> Result<(), Fail> {
     let stream = six_packets(rt.alloc())?;
     let told = told_lent(rt.alloc(), &stream)?;
-    assert_eq!(rt; told, (([0, 2, 0, 0], 0), true));
+    assert_same(
+        &rt,
+        "packets are lent where they stand",
+        told,
+        (([0, 2, 0, 0], 0), true),
+    );
     Ok(())
 }

@@ -1,5 +1,6 @@
 //! CRCs, and what is read from the sections of PATs and PMTs.
 
+use crate::asserts::assert_same;
 use crate::table_fixtures::{PAT, PMT, PMT_WITH_SOUND, first, write};
 use psi_tables::{Pat, Pmt, TableFault, crc_32};
 use std::alloc::Global;
@@ -21,7 +22,7 @@ const CRCS: [(&[u8], u32); 6] = [
 #[test]
 fn computes_crcs(rt: HostRuntime) {
     for (bytes, crc) in &CRCS {
-        assert_eq!(rt; crc_32(bytes), *crc, "of {bytes:?}");
+        assert_same(&rt, bytes, crc_32(bytes), *crc);
     }
 }
 
@@ -171,10 +172,11 @@ const PATS: [(&[u8], [Option<u16>; 4], Choices); 3] = [
 #[test]
 fn reads_a_pat(rt: HostRuntime) {
     for (section, programs, chosen) in &PATS {
-        assert_eq!(rt;
+        assert_same(
+            &rt,
+            section,
             choices(rt.alloc(), section, *programs),
             Ok(*chosen),
-            "in {section:?}"
         );
     }
 }
@@ -216,10 +218,11 @@ const PMTS: [(&[u8], [u16; 5], Carried); 3] = [
 #[test]
 fn reads_a_pmt(rt: HostRuntime) {
     for (section, pids, there) in &PMTS {
-        assert_eq!(rt;
+        assert_same(
+            &rt,
+            section,
             carried(rt.alloc(), section, *pids),
             Ok(*there),
-            "in {section:?}"
         );
     }
 }
@@ -227,10 +230,11 @@ fn reads_a_pmt(rt: HostRuntime) {
 #[test]
 fn tells_each_fault_of_a_pat(rt: HostRuntime) {
     for (section, fault) in &FAULTY_PATS {
-        assert_eq!(rt;
+        assert_same(
+            &rt,
+            section,
             Pat::read(rt.alloc(), section).err(),
             Some(*fault),
-            "in {section:?}"
         );
     }
 }
@@ -238,10 +242,11 @@ fn tells_each_fault_of_a_pat(rt: HostRuntime) {
 #[test]
 fn tells_each_fault_of_a_pmt(rt: HostRuntime) {
     for (section, fault) in &FAULTY_PMTS {
-        assert_eq!(rt;
+        assert_same(
+            &rt,
+            section,
             Pmt::read(rt.alloc(), section).err(),
             Some(*fault),
-            "in {section:?}"
         );
     }
 }
@@ -275,8 +280,10 @@ fn reads_the_longest_section(rt: HostRuntime) {
         1025,
         b"\x1b\x80\x35\x9f",
     );
-    assert_eq!(rt;
+    assert_same(
+        &rt,
+        "reads the longest section",
         [longest, longer],
-        [Ok(Some(0x100)), Err(TableFault::BadLengths)]
+        [Ok(Some(0x100)), Err(TableFault::BadLengths)],
     );
 }

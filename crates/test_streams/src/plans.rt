@@ -1,6 +1,7 @@
 //! The tables of plans, plans that are the same, and the end of a cutter.
 ghost use Rattle.std.specs.Prelude.{◌≡◌, ◌≤◌, [], length};
 
+use crate::asserts::assert_same;
 use crate::outcomes::{FOUR, cut};
 use crate::stream_fixtures::Step::{Key, LongPmt, LongPmtEnd, Pat, Pmt, PmtWithSound};
 use crate::stream_fixtures::{SETTINGS, Step, is_section, stream};
@@ -77,11 +78,11 @@ fn first_wrong(
 #[test]
 fn tables_of_plans(rt: HostRuntime) -> Result<(), Fail> {
     for (steps, tables) in &TABLES {
-        assert_eq!(rt;
+        assert_same(
+            &rt,
+            steps.len(),
             first_wrong(rt.alloc(), steps, tables)?,
             None,
-            "of {} packets",
-            steps.len()
         );
     }
     Ok(())
@@ -109,7 +110,7 @@ fn equal_plans(rt: HostRuntime) -> Result<(), Fail> {
     cut(rt.alloc(), SETTINGS, &packets, &mut plans);
     let same = same_as_first(&plans);
     drop(plans);
-    assert_eq!(rt; same, Some([true, false, true, false]));
+    assert_same(&rt, "equal plans", same, Some([true, false, true, false]));
     Ok(())
 }
 
@@ -158,28 +159,32 @@ fn cutter_ended(alloc: Global, steps: &[Step]) -> Result<Told, Fail> {
 
 #[test]
 fn a_cutter_ends_at_a_fault(rt: HostRuntime) -> Result<(), Fail> {
-    assert_eq!(rt;
+    assert_same(
+        &rt,
+        "a cutter ends at a fault",
         cutter_ended(rt.alloc(), &[Pat, Pmt, Key(0), Key(720_000)])?,
         (
             Some(CutFault::LongSegment(0)),
             Err(CutFault::Ended),
             Some(CutFault::Ended),
-            Err(CutFault::Ended)
-        )
+            Err(CutFault::Ended),
+        ),
     );
     Ok(())
 }
 
 #[test]
 fn a_cutter_ends_at_the_end(rt: HostRuntime) -> Result<(), Fail> {
-    assert_eq!(rt;
+    assert_same(
+        &rt,
+        "a cutter ends at the end",
         cutter_ended(rt.alloc(), &[Pat, Pmt, Key(0)])?,
         (
             None,
             Ok(Some(7)),
             Some(CutFault::Ended),
-            Err(CutFault::Ended)
-        )
+            Err(CutFault::Ended),
+        ),
     );
     Ok(())
 }

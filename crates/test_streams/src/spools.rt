@@ -1,6 +1,7 @@
 //! Plans that are closed in spools are those of the stream, wherever the spools are turned out.
 ghost use Rattle.std.specs.Prelude.{◌≡◌, []};
 
+use crate::asserts::assert_same;
 use crate::stream_fixtures::Step::{Key, Pat, Pmt, Sound, Video};
 use crate::stream_fixtures::{SETTINGS, Step, is_allowed, stream};
 use cutter::{CutFault, CutSettings, Plan, Spool, SpoolCutter};
@@ -38,7 +39,7 @@ fn is_turn(turns: Turns, packets: usize, closed: bool) -> bool {
     match turns {
         Turns::Never => false,
         Turns::Plans => closed,
-        Turns::Packets(every) => every != 0 && packets % every == 0,
+        Turns::Packets(every) => packets.checked_rem(every) == Some(0),
     }
 }
 
@@ -162,7 +163,11 @@ fn told(spool: &Spool) -> Option<Told> {
         (second.offset, second.len, second.start),
     ];
     let plans = spool.plans();
-    Some((plans, frames, spool.plan(plans).map(|plan| plan.number)))
+    let next = match spool.plan(plans) {
+        Some(plan) => Some(plan.number),
+        None => None,
+    };
+    Some((plans, frames, next))
 }
 
 /// What the spool that is turned out tells.
@@ -199,14 +204,16 @@ fn a_turn_within_an_iframe(rt: HostRuntime) -> Result<(), Fail> {
     let mut cutter = SpoolCutter::new(rt.alloc(), 7, SETTINGS);
     let end = end_in_spools(&mut cutter, Spool::new(rt.alloc()), &packets);
     drop(cutter);
-    assert_eq!(rt;
+    assert_same(
+        &rt,
+        "a turn within an iframe",
         end,
         (
             Ok(true),
             Some(0),
             2,
-            Some((2, [(0, 188, 0), (188, 376, 180_000)], None))
-        )
+            Some((2, [(0, 188, 0), (188, 376, 180_000)], None)),
+        ),
     );
     Ok(())
 }
@@ -229,14 +236,16 @@ fn a_spool_cutter_ends(rt: HostRuntime) {
     let told = ended(&mut cutter);
     let plans = cutter.plans();
     drop(cutter);
-    assert_eq!(rt;
+    assert_same(
+        &rt,
+        "a spool cutter ends",
         told,
         [
             Ok(false),
             Err(CutFault::NoProgram),
             Err(CutFault::Ended),
-            Err(CutFault::Ended)
-        ]
+            Err(CutFault::Ended),
+        ],
     );
-    assert_eq!(rt; plans, 0);
+    assert_same(&rt, "a spool cutter ends", plans, 0);
 }

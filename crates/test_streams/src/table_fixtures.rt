@@ -47,7 +47,8 @@ pub(crate) fn filled(header: &[u8], behind: &[u8]) -> [u8; 188] {
 /// A packet of a header, an adaptation field, and this payload at its end.
 fn exactly(header: &[u8], payload: &[u8]) -> [u8; 188] {
     let at = 188usize.saturating_sub(payload.len());
-    let mut bytes = filled(header, &[(at.saturating_sub(5) & 0xFF) as u8, 0]);
+    let [.., len] = at.saturating_sub(5).to_be_bytes();
+    let mut bytes = filled(header, &[len, 0]);
     write(&mut bytes, at, payload);
     bytes
 }

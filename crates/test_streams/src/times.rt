@@ -1,5 +1,6 @@
 //! The PTS that a packet brings, and the times of a clock.
 
+use crate::asserts::assert_same;
 use crate::table_fixtures::{filled, write};
 use pes_time::{Clock, ClockFault, Stamp, pts};
 use std::test::Fail;
@@ -28,9 +29,11 @@ fn pts_of_key_frames(rt: HostRuntime) {
         brought(&key_frame_with(0, b"")),
         brought(&key_frame_with(15, b"\x2f\xff\xff\xff\xff")),
     ];
-    assert_eq!(rt;
+    assert_same(
+        &rt,
+        "pts of key frames",
         frames,
-        [Ok((182, Some(540_000))), Ok((182, Some(8_589_934_591)))]
+        [Ok((182, Some(540_000))), Ok((182, Some(8_589_934_591)))],
     );
 }
 
@@ -109,7 +112,12 @@ fn payload_of_thirteen_bytes(rt: HostRuntime) {
         brought(&with_adaptation(170)),
         brought(&with_adaptation(169)),
     ];
-    assert_eq!(rt; short, [Ok((13, None)), Ok((14, Some(540_000)))]);
+    assert_same(
+        &rt,
+        "payload of thirteen bytes",
+        short,
+        [Ok((13, None)), Ok((14, Some(540_000)))],
+    );
 }
 
 /// A time and its epoch, or why there is none.
@@ -149,26 +157,30 @@ const PAIRS: [([u64; 2], [Told; 2]); 5] = [
 fn times_and_epochs_of_two(rt: HostRuntime) {
     for ([first, second], told) in &PAIRS {
         let [one, two, _] = times([*first, *second, *second]);
-        assert_eq!(rt; [one, two], *told, "{second} behind {first}");
+        assert_same(&rt, (second, first), [one, two], *told);
     }
 }
 
 #[test]
 fn a_jump_of_more_than_the_gap(rt: HostRuntime) {
-    assert_eq!(rt;
+    assert_same(
+        &rt,
+        "a jump of more than the gap",
         times([0, 900_000, 1_800_001]),
-        [Ok((0, 0)), Ok((900_000, 0)), Ok((1_800_001, 1))]
+        [Ok((0, 0)), Ok((900_000, 0)), Ok((1_800_001, 1))],
     );
 }
 
 #[test]
 fn a_refused_value_leaves_the_clock(rt: HostRuntime) {
-    assert_eq!(rt;
+    assert_same(
+        &rt,
+        "a refused value leaves the clock",
         times([8_589_934_000, 8_589_934_592, 539_408]),
         [
             Ok((8_589_934_000, 0)),
             Err(ClockFault::Range),
-            Ok((8_590_474_000, 0))
-        ]
+            Ok((8_590_474_000, 0)),
+        ],
     );
 }

@@ -1,5 +1,6 @@
 //! The tables in force behind packets.
 
+use crate::asserts::assert_same;
 use crate::table_fixtures::Sent::{Carrying, Exactly, Filled};
 use crate::table_fixtures::{PAT, PMT, PMT_WITH_SOUND, Sent, bytes_of};
 use psi_tables::{Tables, Watch};
@@ -385,7 +386,12 @@ const TWO_PMTS: Sent = Carrying(
 
 fn has_the_last(rt: &impl Abort, watch: &mut Watch) -> Result<(), Fail> {
     show_all(watch, &[PAT_PACKET, TWO_PMTS])?;
-    assert_eq!(rt; watch.tables().map(Tables::section), Some(PMT));
+    assert_same(
+        rt,
+        "has the last",
+        watch.tables().map(Tables::section),
+        Some(PMT),
+    );
     Ok(())
 }
 
@@ -439,9 +445,11 @@ fn change(rt: &impl Abort, watch: &mut Watch, first: &Tables) -> Result<(), Fail
     show_all(watch, &[Carrying(0x1000, 1, PMT_WITH_SOUND)])?;
     let second = in_force(watch)?;
     let same = (first.same(first), first.same(second));
-    assert_eq!(rt;
+    assert_same(
+        rt,
+        "change",
         (has(first, PMT), has(second, PMT_WITH_SOUND), same),
-        ((true, true, false), (true, true, true), (true, false))
+        ((true, true, false), (true, true, true), (true, false)),
     );
     Ok(())
 }
