@@ -1,4 +1,5 @@
 //! Which segments stand behind which block.
+use crate::asserts::assert_same;
 use crate::stream::{Put, folder_of, outlet, push_block, push_end, push_lists, put_all, standing};
 use item_io::Item;
 use std::alloc::{AllocError, Global};
@@ -51,7 +52,7 @@ const BLOCKS: [(u64, u64, &str); 7] = [
 fn segments_go_once_no_player_can_want_them(rt: HostRuntime) -> Result<(), Fail> {
     for (base, blocks, standing) in BLOCKS {
         let found = left(rt.alloc(), LIVE, base, blocks, 0)?;
-        assert_eq!(rt; found.as_str(), standing, "{blocks} blocks from {base}");
+        assert_same(&rt, (blocks, base), found.as_str(), standing);
     }
     Ok(())
 }
@@ -59,7 +60,12 @@ fn segments_go_once_no_player_can_want_them(rt: HostRuntime) -> Result<(), Fail>
 #[test]
 fn an_event_keeps_all(rt: HostRuntime) -> Result<(), Fail> {
     let found = left(rt.alloc(), EVENT, 0, 12, 0)?;
-    assert_eq!(rt; found.as_str(), "0 1 2 3 4 5 6 7 8 9 10 11 ");
+    assert_same(
+        &rt,
+        "an event keeps all",
+        found.as_str(),
+        "0 1 2 3 4 5 6 7 8 9 10 11 ",
+    );
     Ok(())
 }
 
@@ -67,9 +73,9 @@ fn an_event_keeps_all(rt: HostRuntime) -> Result<(), Fail> {
 #[test]
 fn what_cant_be_removed_goes_behind_the_next_block(rt: HostRuntime) -> Result<(), Fail> {
     let failed = left(rt.alloc(), LIVE, 0, 6, 37)?;
-    assert_eq!(rt; failed.as_str(), "0 1 2 3 4 5 ");
+    assert_same(&rt, "six blocks", failed.as_str(), "0 1 2 3 4 5 ");
     let later = left(rt.alloc(), LIVE, 0, 7, 37)?;
-    assert_eq!(rt; later.as_str(), "2 3 4 5 6 ");
+    assert_same(&rt, "seven blocks", later.as_str(), "2 3 4 5 6 ");
     Ok(())
 }
 
@@ -105,11 +111,16 @@ const STANDING: [(&str, &str); 3] = [
 fn a_rendition_goes_by_its_own_playlists(rt: HostRuntime) -> Result<(), Fail> {
     let items = blocks_of_three(rt.alloc())?;
     let mut files = outlet(rt.alloc(), &["v", "w"], 0, 0)?;
-    assert_eq!(rt; put_all(&mut files, &items), 0);
+    assert_same(
+        &rt,
+        "a rendition goes by its own playlists",
+        put_all(&mut files, &items),
+        0,
+    );
     let folder = folder_of(files);
     for (name, wanted) in STANDING {
         let found = standing(&folder, rt.alloc(), name, 8)?;
-        assert_eq!(rt; found.as_str(), wanted, "{name}");
+        assert_same(&rt, name, found.as_str(), wanted);
     }
     Ok(())
 }
@@ -132,7 +143,7 @@ fn begun_by(alloc: Global, text: &str) -> Result<Vec<Item>, AllocError> {
 fn what_is_no_playlist_is_refused(rt: HostRuntime) -> Result<(), Fail> {
     for text in ["", "#EXTM3U\n", "none"] {
         let items = begun_by(rt.alloc(), text)?;
-        assert_eq!(rt; failures(rt.alloc(), &items)?, 5, "{text}");
+        assert_same(&rt, text, failures(rt.alloc(), &items)?, 5);
     }
     Ok(())
 }
@@ -149,7 +160,12 @@ fn going_back(alloc: Global) -> Result<Vec<Item>, AllocError> {
 #[test]
 fn a_playlist_that_goes_back_is_refused(rt: HostRuntime) -> Result<(), Fail> {
     let items = going_back(rt.alloc())?;
-    assert_eq!(rt; failures(rt.alloc(), &items)?, 5);
+    assert_same(
+        &rt,
+        "a playlist that goes back is refused",
+        failures(rt.alloc(), &items)?,
+        5,
+    );
     Ok(())
 }
 
@@ -164,7 +180,7 @@ fn ended_from(alloc: Global, first: u64) -> Result<Vec<Item>, AllocError> {
 fn an_end_that_goes_back_is_refused(rt: HostRuntime) -> Result<(), Fail> {
     for (first, wanted) in [(0, 2), (1, 0), (2, 0), (3, 2)] {
         let items = ended_from(rt.alloc(), first)?;
-        assert_eq!(rt; failures(rt.alloc(), &items)?, wanted, "{first}");
+        assert_same(&rt, first, failures(rt.alloc(), &items)?, wanted);
     }
     Ok(())
 }
@@ -190,7 +206,7 @@ fn a_playlist_of_another_name_is_refused(rt: HostRuntime) -> Result<(), Fail> {
         };
         let items = blocks(rt.alloc(), put, 0, 1)?;
         let mut files = outlet(rt.alloc(), &["v", "w"], 0, 0)?;
-        assert_eq!(rt; put_all(&mut files, &items), wanted, "{rendition} {name}");
+        assert_same(&rt, (rendition, name), put_all(&mut files, &items), wanted);
     }
     Ok(())
 }

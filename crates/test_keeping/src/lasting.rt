@@ -1,4 +1,5 @@
 //! How long segments of an earlier run are kept at least.
+use crate::asserts::assert_same;
 use media_playlist::least_behind;
 use std::test::Fail;
 
@@ -16,10 +17,11 @@ const LEAST: [(u64, u64, u64, u64); 6] = [
 #[test]
 fn the_longest_playlist_and_a_row(rt: HostRuntime) -> Result<(), Fail> {
     for (target, window, listed, wanted) in LEAST {
-        assert_eq!(rt;
+        assert_same(
+            &rt,
+            (target, window, listed),
             least_behind(target, window, listed),
             wanted,
-            "{target} {window} {listed}"
         );
     }
     Ok(())

@@ -1,6 +1,7 @@
 //! Which segments stand behind which block of a rendition that goes on behind an earlier run.
 ghost use Rattle.std.specs.Prelude.{◌≡◌, IfOk};
 
+use crate::asserts::assert_same;
 use crate::stream::{Files, Put, folder_of, push_block, put_all, standing};
 use folder::{Folder, MemoryFolder, PruningFolder};
 use item_io::{FolderOutlet, Item};
@@ -40,33 +41,43 @@ fn stand(folder: &mut MemoryFolder, alloc: Global, number: u64) -> Result<(), Fa
     Ok(())
 }
 
-/// The outlet that goes on behind it.
-fn outlet_behind(alloc: Global, earlier: Earlier) -> Result<Files, Fail>
-    ensures { IfOk result (λ outlet. outlet.files.failures ≡ 0) }
-{
-    let Earlier {
-        base,
-        oldest,
-        older,
-        fails,
-    } = earlier;
-    let mut folder = MemoryFolder::new(alloc, fails);
-    let mut numbers = Vec::new(alloc);
-    for place in 0..older {
-        let number = oldest.saturating_add(place);
-        stand(&mut folder, alloc, number)?;
-        numbers.push(number)?;
+/// Puts the files of the earlier run into the folder, and appends the numbers of the older ones.
+fn stand_all(
+    folder: &mut MemoryFolder,
+    alloc: Global,
+    earlier: Earlier,
+    older: &mut Vec<u64>,
+) -> Result<(), Fail> {
+    for place in 0..earlier.older {
+        let number = earlier.oldest.saturating_add(place);
+        stand(folder, alloc, number)?;
+        older.push(number)?;
     }
-    stand(&mut folder, alloc, base)?;
-    stand(&mut folder, alloc, base.saturating_add(1))?;
+    stand(folder, alloc, earlier.base)?;
+    stand(folder, alloc, earlier.base.saturating_add(1))
+}
+
+/// The rendition that goes on behind it.
+fn rendition(alloc: Global, base: u64, older: Vec<u64>) -> Result<Keeping, Fail> {
+    let name = String::from_str(alloc, "v")?;
     let behind = Behind {
         base,
         least: 0,
         earlier: &ROWS,
-        older: numbers,
+        older,
     };
+    Ok(Keeping::behind(alloc, name, behind)?)
+}
+
+/// The outlet that goes on behind it.
+fn outlet_behind(alloc: Global, earlier: Earlier) -> Result<Files, Fail>
+    ensures { IfOk result (λ outlet. outlet.files.failures ≡ 0) }
+{
+    let mut folder = MemoryFolder::new(alloc, earlier.fails);
+    let mut older = Vec::new(alloc);
+    stand_all(&mut folder, alloc, earlier, &mut older)?;
     let mut renditions = Vec::new(alloc);
-    renditions.push(Keeping::behind(alloc, String::from_str(alloc, "v")?, behind)?)?;
+    renditions.push(rendition(alloc, earlier.base, older)?)?;
     let files = FolderOutlet::with_folder(PruningFolder::new(folder), alloc);
     Ok(KeepingOutlet::new(files, alloc, renditions))
 }
@@ -116,12 +127,8 @@ const BLOCKS: [(u64, u64, u128, &str); 8] = [
 fn older_segments_go_with_the_first_one(rt: HostRuntime) -> Result<(), Fail> {
     for (fails, blocks, wanted, standing) in BLOCKS {
         let (removed, found) = left(rt.alloc(), LIVE, Earlier { fails, ..FEW }, blocks)?;
-        assert_eq!(rt;
-            found.as_str(),
-            standing,
-            "{blocks} blocks, move {fails} fails"
-        );
-        assert_eq!(rt; removed, wanted, "{blocks} blocks, move {fails} fails");
+        assert_same(&rt, (blocks, fails), found.as_str(), standing);
+        assert_same(&rt, (blocks, fails), removed, wanted);
     }
     Ok(())
 }
@@ -144,7 +151,7 @@ fn sixty_four_older_ones_go_behind_a_block(rt: HostRuntime) -> Result<(), Fail> 
             .split(' ')
             .filter(|number| number.len() > 0 && number.len() < 3 || number.starts_with('1'))
             .count();
-        assert_eq!(rt; older, wanted, "{blocks} blocks");
+        assert_same(&rt, blocks, older, wanted);
     }
     Ok(())
 }
@@ -153,8 +160,18 @@ fn sixty_four_older_ones_go_behind_a_block(rt: HostRuntime) -> Result<(), Fail> 
 fn numbers_that_are_not_older_are_passed_over(rt: HostRuntime) -> Result<(), Fail> {
     let earlier = Earlier { older: 7, ..FEW };
     let (removed, found) = left(rt.alloc(), LIVE, earlier, 4)?;
-    assert_eq!(rt; found.as_str(), "8 9 10 11 12 ");
-    assert_eq!(rt; removed, 5);
+    assert_same(
+        &rt,
+        "numbers that are not older are passed over",
+        found.as_str(),
+        "8 9 10 11 12 ",
+    );
+    assert_same(
+        &rt,
+        "numbers that are not older are passed over",
+        removed,
+        5,
+    );
     Ok(())
 }
 
@@ -167,7 +184,12 @@ fn an_event_that_goes_on_keeps_all(rt: HostRuntime) -> Result<(), Fail> {
         fails: 0,
     };
     let (removed, found) = left(rt.alloc(), EVENT, earlier, 9)?;
-    assert_eq!(rt; found.as_str(), "0 1 2 3 4 5 6 7 8 9 10 ");
-    assert_eq!(rt; removed, 0);
+    assert_same(
+        &rt,
+        "an event that goes on keeps all",
+        found.as_str(),
+        "0 1 2 3 4 5 6 7 8 9 10 ",
+    );
+    assert_same(&rt, "an event that goes on keeps all", removed, 0);
     Ok(())
 }
