@@ -96,7 +96,7 @@ stays-on k l m first further = record {
   swept = omega (arith, first.swept, further.swept);
 }
 
-stay-on : (old mid new : List KeepingValue) → Stay old mid → Stay mid new → Stay old new
+pub stay-on : (old mid new : List KeepingValue) → Stay old mid → Stay mid new → Stay old new
 stay-on old mid new first further = record {
   len = further.len ∙ first.len;
   each = λ r. stays-on (keeping_at old r) (keeping_at mid r) (keeping_at new r) (first.each r) (further.each r);

@@ -1,6 +1,6 @@
 -- Renditions with which an outlet began, told of what it holds.
 use Rattle.std.specs.Prelude.{Err, IfErr, IfOk, Ok, OnErr, OnOk, Option, Result}
-use Rattle.std.proofs.Common.{arith, ◌≡◌, refl, sym, ap, subst, ◌∙◌, ℕ, List, [], ◌∷◌, ◌++◌, append_assoc, map}
+use Rattle.std.proofs.Common.{arith, ◌≡◌, refl, sym, ap, subst, ◌∙◌, ℕ, List, [], ◌∷◌, ◌++◌, map}
 use Rattle.folder.specs.Moves.{Move}
 use Rattle.item_io.specs.Items.{ItemValue}
 use Rattle.item_io.specs.Outlets.{BreaksOff, Grows, Held}
@@ -15,9 +15,9 @@ use Rattle.ladder_items.specs.Runs.{Run, run_of}
 use Rattle.ladder_items.proofs.Endings.{says-as}
 use Rattle.rounds.specs.Courses.{IsCutShown}
 use Rattle.rounds.specs.Shown.{IsHaltedShown, IsPackedShown, IsUnfit, of_shown}
-use Rattle.keeping.specs.Keepings.{KeepingValue, Stay, Stays, keeping_at}
+use Rattle.keeping.specs.Keepings.{KeepingValue, Stay}
 use Rattle.keeping.specs.Holding.{KeepingState, KeptBy, KeptUpTo}
-use Rattle.keeping.proofs.Telling.{same-all}
+use Rattle.keeping.proofs.Telling.{same-all, stay-on}
 use Rattle.packing.specs.LadderPacking.{LadderSays, TurnsAway}
 use Rattle.packing.proofs.FolderRuns.{says-any}
 use Rattle.commands.specs.declared.packing_fault.LadderPackingFault.{LadderPackingFault}
@@ -83,25 +83,6 @@ same-marked (k ∷ ks) (l ∷ ls) r s e =
     let one = same-one k l (mark_all ks r) (mark_all ls s) rest in
     let more = same-marked ks ls r s one.1 in
     (λ i. one.0 i ∷ more.0 i, more.1)
-
-stays-on : (k l m : KeepingValue) → Stays k l → Stays l m → Stays k m
-stays-on k l m first further = record {
-  name = further.name ∙ first.name;
-  base = further.base ∙ first.base;
-  least = further.least ∙ first.least;
-  told = first.told ++ further.told;
-  steps = further.steps ∙ ap (λ steps. steps ++ further.told) first.steps ∙ append_assoc k.kept.steps first.told further.told;
-  before = further.before ∙ first.before;
-  older = further.older ∙ first.older;
-  gone = omega (arith, first.gone, further.gone);
-  swept = omega (arith, first.swept, further.swept);
-}
-
-stay-on : (old mid new : List KeepingValue) → Stay old mid → Stay mid new → Stay old new
-stay-on old mid new first further = record {
-  len = further.len ∙ first.len;
-  each = λ r. stays-on (keeping_at old r) (keeping_at mid r) (keeping_at new r) (first.each r) (further.each r);
-}
 
 -- What a put does to the outlet it does to the one that tells with which renditions it began.
 module _ {F : Type 0} (made : F → List Move) (x y : KeepingState F) (stay : Stay x.renditions y.renditions) where
