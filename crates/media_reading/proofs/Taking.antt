@@ -1,24 +1,24 @@
 -- What lines tell that are taken one after another.
-use Rattle.std.proofs.Common.{rules, inl, inr, Bool, false, drop, ◌≤◌, ◌≡◌, ◌≢◌, ℕ, ◌+◌, ◌<◌, true, List, [], ◌∷◌, ◌++◌, length, Option, Some, None, refl, sym, ap, ◌∙◌, subst, arith, append_assoc, append-nil}
+use Rattle.std.proofs.Common.{rules, inl, inr, Bool, false, drop, ◌≤◌, ◌≡◌, ◌≢◌, ◌⊎◌, ℕ, ◌+◌, ◌<◌, true, List, [], ◌∷◌, ◌++◌, length, Option, Some, None, refl, sym, ap, ◌∙◌, subst, arith, append_assoc, append-nil}
 use Rattle.std.specs.Prelude.{All, codes, unwrap_or, option_map, nat_lt, if◌then◌else◌}
 use Rattle.std.specs.Option.{option_and_then}
 use Rattle.std.specs.Str.{IsUtf8}
 use Rattle.std.proofs.lemmas.Option.{same_Some, none-some}
 use Rattle.std.proofs.lemmas.Str.{IsUtf8-from_ascii}
 use Rattle.playlist_text.specs.Names.{is_name}
-use Rattle.playlist_text.specs.MediaLines.{Listing, head_lines, listing_lines, entries_lines, end_lines}
+use Rattle.playlist_text.specs.MediaLines.{Listing, discontinuity_lines, duration_line, head_lines, listing_lines, entries_lines, end_lines}
 use Rattle.std.proofs.lemmas.List.{take_all, length-append, take-append-drop}
-use Rattle.std.proofs.lemmas.Bool.{false≢true, ltb-true}
+use Rattle.std.proofs.lemmas.Bool.{false≢true, ltb-true, and_parts}
 use Rattle.media_reading.specs.declared.reading.Stage.{Stage}
 use Rattle.media_reading.specs.declared.reading.Stage.TheVariants.{Fresh, Tagged, Versioned, Targeted, Sequenced, Headed, Between, Broken, Keyed, Timed, Ended}
-use Rattle.media_reading.specs.State.{Tells, may_want, Progress, fresh, step, steps, listing_at, listing_of}
+use Rattle.media_reading.specs.State.{Tells, begins_key, has_number, may_want, Progress, fresh, step, steps, listing_at, listing_of}
 use Rattle.std.proofs.lemmas.List.Elements.{All-cons, All-append, All-nil}
 use Rattle.std.proofs.Math.Seq.{take-append_seam, take-append-add}
 use Rattle.playlist_text.specs.Lines.{text_of}
 use Rattle.playlist_text.proofs.TextLines.{text_of-append}
-use Rattle.media_reading.specs.MediaTexts.{IsListing, AreFirst, IsLine, IsFirstWrong, MayWantMemory, Splits, listing_text}
+use Rattle.media_reading.specs.MediaTexts.{IsListing, AreFirst, IsLine, IsFirstWrong, MayWantMemory, WantsMemory, EndsTimed, Splits, listing_text}
 use Rattle.media_reading.proofs.Splitting.{steps-stop, steps-more, text-more, split-of, lines-same}
-use Rattle.media_reading.proofs.Going.{IsSound, lines_at, listed_lines, front_of, name_of}
+use Rattle.media_reading.proofs.Going.{IsSound, lines_at, listed_lines, front_of, keys_of, name_of}
 use Rattle.media_reading.proofs.Stepping.{step-lines}
 use Rattle.media_reading.proofs.Completing.{sound-first}
 use Rattle.media_reading.proofs.Running.{listing-steps}
@@ -259,4 +259,37 @@ wants-memory text rest line behind lines p whole each taken is split may =
       head = subst (λ (l : List (List ℕ)). 5 ≤ length l) told.1 (head-there p.stage p line may);
       within = omega (arith, length-append lines (line ∷ more.lines));
       before = subst AreFirst (sym begun) (taken-first lines p taken);
+    }
+
+-- the line is one that is compared or kept
+line-wanted : (stage : Stage) (p : Progress) (line : List ℕ) → may_want stage p line ≡ true → (begins_key line ≡ true) ⊎ EndsTimed (lines_at stage p)
+line-wanted Fresh p line may = absurd (false≢true may)
+line-wanted Tagged p line may = absurd (false≢true may)
+line-wanted Versioned p line may = absurd (false≢true may)
+line-wanted Targeted p line may = absurd (false≢true may)
+line-wanted Sequenced p line may = absurd (false≢true may)
+line-wanted Headed p line may = inl (and_parts (has_number p) (begins_key line) may).1
+line-wanted Between p line may = inl (and_parts (has_number p) (begins_key line) may).1
+line-wanted Broken p line may = inl (and_parts (has_number p) (begins_key line) may).1
+line-wanted Keyed p line may = absurd (false≢true may)
+line-wanted Timed p line may = inr (record {
+  front = listed_lines p ++ discontinuity_lines p.discontinuity ++ keys_of p;
+  micros = p.micros;
+  is = refl;
+})
+line-wanted Ended p line may = absurd (false≢true may)
+
+pub wants-line : (text rest line behind : List ℕ) (lines : List (List ℕ)) (p : Progress) → text_of lines ++ rest ≡ text → All IsLine lines
+    → steps fresh lines ≡ Some p → IsLine line → rest ≡ line ++ 10 ∷ behind → may_want p.stage p line ≡ true → WantsMemory text
+wants-line text rest line behind lines p whole each taken is split may =
+    let more = split-of behind in
+    let told = steps-sound fresh p lines fresh-sound taken in
+    record {
+      before = lines;
+      line = line;
+      behind = more.lines;
+      last = more.last;
+      splits = whole-split text rest line behind lines whole each is split;
+      begins = subst AreFirst told.1 (sound-first p told.0);
+      wants = subst (λ (l : List (List ℕ)). (begins_key line ≡ true) ⊎ EndsTimed l) told.1 (line-wanted p.stage p line may);
     }

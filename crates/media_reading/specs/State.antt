@@ -3,7 +3,7 @@ use Rattle.std.specs.Prelude.{◌≡◌, Bool, true, false, Option, Some, None, 
 use Rattle.std.specs.String.{string_bytes}
 use Rattle.media_reading.specs.declared.reading.Reading.{Reading}
 use Rattle.std.specs.Fmt.{decimal}
-use Rattle.std.specs.List.{before_first, ends_with}
+use Rattle.std.specs.List.{before_first, starts_with, ends_with}
 use Rattle.std.specs.Str.{bytes_eq, is_utf8}
 use Rattle.std.specs.Option.{option_and_then, option_or}
 use Rattle.std.specs.Result.{result_ok}
@@ -257,15 +257,18 @@ Tells false next new = next ≡ None
 abbrev pub has_number : Progress → Bool
 has_number p = is_some (number_left p)
 
--- A line behind which memory may be wanted, to keep what it tells or to compare it: one of a key, of a duration or of a segment, and
--- none of the others.
-abbrev pub first_may_want : Progress → List ℕ → Bool
-first_may_want p line =
-    not (bytes_eq line (codes "#EXT-X-ENDLIST")) && has_number p && not (bytes_eq line (codes "#EXT-X-DISCONTINUITY"))
+-- the line begins as that of a key does
+abbrev pub begins_key : List ℕ → Bool
+begins_key line = starts_with nat_eq line key_begin
+
+-- A line for which memory may be wanted, to compare it or to keep what it tells: one that begins as that of a key does, where an entry
+-- may begin, and one that may be that of a segment; none of the others.
+abbrev pub key_may_want : Progress → List ℕ → Bool
+key_may_want p line = has_number p && begins_key line
 
 abbrev pub may_want : Stage → Progress → List ℕ → Bool
-may_want Headed p line = not (bytes_eq line (codes "#EXT-X-PLAYLIST-TYPE:EVENT")) && first_may_want p line
-may_want Between p line = first_may_want p line
-may_want Broken p line = has_number p
+may_want Headed p line = key_may_want p line
+may_want Between p line = key_may_want p line
+may_want Broken p line = key_may_want p line
 may_want Timed p line = has_number p && is_some p.name
 may_want _ p line = false

@@ -1,9 +1,9 @@
 //! Media playlists, read back (RFC 8216, 4.3).
 
-ghost use Rattle.std.specs.Prelude.{◌≡◌, ◌∷◌, ◌++◌, IfOk, IfErr, MatchResult, MatchOption};
+ghost use Rattle.std.specs.Prelude.{◌≡◌, ◌∷◌, ◌++◌, IfOk, IfErr, IsErrOf, MatchResult, MatchOption};
 ghost use Rattle.playlist_text.specs.MediaLines;
 ghost use Rattle.media_reading.specs.declared.list_fault.ListFault.TheVariants.{NoMemory};
-ghost use Rattle.media_reading.specs.MediaTexts.{IsListing, listing_text, IsUnread, IsLine};
+ghost use Rattle.media_reading.specs.MediaTexts.{IsListing, listing_text, IsUnread, WantsMemory, IsLine};
 
 use crate::list_fault::ListFault;
 use crate::listing::Listing;
@@ -27,6 +27,7 @@ pub fn read_media(alloc: Global, text: &str) -> Result<Listing, ListFault>
     ensures reads { (l : MediaLines.Listing) → IsListing l → text.now ≡ listing_text l
         → MatchResult result (λ found. found ≡ l) (λ fault. fault ≡ NoMemory) }
     ensures err { IfErr result (IsUnread text.now) }
+    ensures scarce { IsErrOf result NoMemory → WantsMemory text.now }
 {
     let mut reading = Reading::new(alloc);
     let mut number = 1;

@@ -7,8 +7,7 @@ ghost use Rattle.playlist_text.specs.Uris.{escaped};
 ghost use Rattle.media_reading.specs.State;
 ghost use Rattle.media_reading.specs.State.{step, step_at, fresh, expect, begun, headed, key_in, salt_in, keyed, keyed_or_timed, timed};
 ghost use Rattle.media_reading.specs.State.{listed, listing_at, name_in, number_in, number_left, entered, key_begin, listing_at};
-ghost use Rattle.media_reading.specs.State.{progress_of, Moves, Tells, has_number, first_may_want, may_want};
-ghost use Rattle.std.specs.Str.{bytes_eq};
+ghost use Rattle.media_reading.specs.State.{progress_of, Moves, Tells, has_number, key_may_want, may_want};
 ghost use Rattle.media_reading.specs.declared.reading.Stage.TheVariants.{Versioned, Targeted, Sequenced, Headed, Timed};
 
 use crate::listing::{Entry, LAST_LISTED, Listing};
@@ -192,7 +191,7 @@ impl Reading {
     #[tactic(auto, unfolding(crate::specs::State::begun))]
     fn take_first(&mut self, line: &[u8]) -> Result<bool, AllocError>
         ensures taken { IfOk result (λ taken. Tells taken (begun (progress_of self.old) line.now) (progress_of self.new)) }
-        ensures scarce { OnErr result (first_may_want (progress_of self.old) line.now ≡ true) }
+        ensures scarce { OnErr result (key_may_want (progress_of self.old) line.now ≡ true) }
     {
         if line == b"#EXT-X-ENDLIST".as_slice() {
             if self.entries.is_empty() {
@@ -209,8 +208,7 @@ impl Reading {
 
     fn take_entry(&mut self, line: &[u8]) -> Result<bool, AllocError>
         ensures taken { IfOk result (λ taken. Tells taken (entered (progress_of self.old) line.now) (progress_of self.new)) }
-        ensures number { OnErr result (has_number (progress_of self.old) ≡ true) }
-        ensures scarce { OnErr result (bytes_eq line.now (codes "#EXT-X-DISCONTINUITY") ≡ false) }
+        ensures scarce { OnErr result (key_may_want (progress_of self.old) line.now ≡ true) }
     {
         if line == b"#EXT-X-DISCONTINUITY".as_slice() {
             self.discontinuity = true;
@@ -223,7 +221,7 @@ impl Reading {
 
     fn take_key_or_duration(&mut self, line: &[u8]) -> Result<bool, AllocError>
         ensures taken { IfOk result (λ taken. Tells taken (keyed_or_timed (progress_of self.old) line.now) (progress_of self.new)) }
-        ensures scarce { OnErr result (has_number (progress_of self.old) ≡ true) }
+        ensures scarce { OnErr result (key_may_want (progress_of self.old) line.now ≡ true) }
     {
         if self.take_key(line)? {
             return Ok(true);
@@ -234,8 +232,18 @@ impl Reading {
         Ok(self.take_duration(line))
     }
 
-    #[tactic(auto, unfolding(crate::specs::State::keyed))]
     fn take_key(&mut self, line: &[u8]) -> Result<bool, AllocError>
+        ensures scarce { OnErr result (key_may_want (progress_of self.old) line.now ≡ true) }
+        ensures taken { IfOk result (λ taken. Moves taken (keyed (progress_of self.old) line.now) (progress_of self.old) (progress_of self.new)) }
+    {
+        if !line.starts_with(KEY_BEGIN.as_bytes()) {
+            return Ok(false);
+        }
+        self.take_begun_key(line)
+    }
+
+    #[tactic(auto, unfolding(crate::specs::State::keyed))]
+    fn take_begun_key(&mut self, line: &[u8]) -> Result<bool, AllocError>
         ensures scarce { OnErr result (has_number (progress_of self.old) ≡ true) }
         ensures taken { IfOk result (λ taken. Moves taken (keyed (progress_of self.old) line.now) (progress_of self.old) (progress_of self.new)) }
     {

@@ -12,7 +12,7 @@ use Rattle.media_reading.specs.MediaTexts.{IsLine, IsUnread, MayWantMemory}
 use Rattle.media_reading.specs.State.{fresh, steps, progress_of}
 use Rattle.media_reading.proofs.Found.{MatchOption-none}
 use Rattle.media_reading.proofs.Splitting.{text-more, steps-more}
-use Rattle.media_reading.proofs.Taking.{wrong-line, wrong-end, wants-memory, text-lines, told-listing, wrong-not-listing, Tells-false, Tells-true, length-text, steps-listing}
+use Rattle.media_reading.proofs.Taking.{wrong-line, wrong-end, wants-memory, wants-line, text-lines, told-listing, wrong-not-listing, Tells-false, Tells-true, length-text, steps-listing}
 use Rattle.media_reading.proofs.media_text.read_media.Goals as goal
 
 pub line-init : goal.line-init
@@ -108,3 +108,10 @@ returns-in_err-take-clause-err c =
     scarce-told c.args.text.now c.from_residual.result c.from_residual.ensures.1
     (wants-memory c.args.text.now c.line.rest.now c.in-Some.line.now c.in-Some.behind.now held.lines (progress_of c.line.reading) held.whole held.each held.taken
     parts.0 parts.1 c.in_err-take.ensures.scarce)
+
+pub returns-in_err-take-clause-scarce : goal.returns-in_err-take-clause-scarce
+returns-in_err-take-clause-scarce c = λ _.
+    let held = c.line.invariant in
+    let parts = MatchOption-at_some _ _ _ c.in-Some.is c.split_line.ensures in
+    wants-line c.args.text.now c.line.rest.now c.in-Some.line.now c.in-Some.behind.now held.lines (progress_of c.line.reading) held.whole held.each held.taken
+    parts.0 parts.1 c.in_err-take.ensures.scarce
