@@ -1,5 +1,5 @@
 -- What a cutter keeps, behind each of its calls.
-use Rattle.std.proofs.Common.{◌≡◌, ◌∙◌, ◌⊎◌, inl, inr, ℕ, ◌<◌, ◌^◌, Bool, true, false, List, [], ◌∷◌, ◌++◌, length, Option, None, refl, ap, sym, subst, All, arith}
+use Rattle.std.proofs.Common.{◌≡◌, ◌≢◌, ◌∙◌, ◌⊎◌, inl, inr, ℕ, ◌<◌, ◌^◌, Bool, true, false, List, [], ◌∷◌, ◌++◌, length, Option, None, refl, ap, sym, subst, All, arith}
 use Rattle.psi_tables.specs.InForce.{InForce, tables_behind}
 use Rattle.psi_tables.specs.State.{Watched}
 use Rattle.pes_time.specs.Times.{Pushed as Timed}
@@ -13,11 +13,11 @@ use Rattle.cutter.specs.Spooled.{Spooling, joined, Closes}
 use Rattle.cutter.specs.Plans.{SegmentPlan}
 use Rattle.cutter.specs.Stream.{packet_list, packets_of, pts_from, pts_list, pts_at, with_pts, in_force, look_by, is_lost, facts_from, Fact, fact_behind}
 use Rattle.cutter.specs.Points.{mark, counted, top_after}
-use Rattle.cutter.specs.Cuts.{cut_from, cuts, closed, made, Ends}
-use Rattle.cutter.specs.SegmentState.{Gathered, Opened, taken, gives, held_in, Places, Refuses}
+use Rattle.cutter.specs.Cuts.{cut_from, cuts, closed, made, Ends, HasSegment}
+use Rattle.cutter.specs.SegmentState.{Gathered, Opened, Out, taken, gives, held_in, Places, Refuses}
 use Rattle.cutter.specs.Reels.{Filled, unfilled}
 use Rattle.cutter.specs.Ordered.{IsPacketLong}
-use Rattle.cutter.specs.State.{spooled, Keeps}
+use Rattle.cutter.specs.State.{spooled, held, Keeps}
 use Rattle.cutter.proofs.Facts.{packets_of-more, pts_list-more, pts_list-length}
 use Rattle.cutter.proofs.Running.{Placed, placed-more, placed-fault, placed-told, lost-fault}
 use Rattle.cutter.proofs.Ordering.{push-order}
@@ -95,6 +95,15 @@ pub push-sound : (c : Inside) (v : Spooling) (p : List ℕ) (look : Look) (now a
     → spooled c ≡ v → Keeps c → Read c p look now t c' → taken c.rendition c.settings now t c' (mark p look c') ≡ gives after plan
     → (cuts v.rendition v.settings (v.list ++ p ∷ [])).fault ≡ None
 push-sound c v p look now after t c' plan is k r gave = rw (← is) (placed-by c p look now after t c' plan k r gave).at.sound
+
+-- a segment goes on behind a packet, where what it made of what was held goes on
+pub push-goes : (c : Inside) (v : Spooling) (p : List ℕ) (look : Look) (now : Option Gathered) (t : Option InForce) (c' : Option Stamp) (out : Out)
+    → spooled c ≡ v → Keeps c → Read c p look now t c' → taken c.rendition c.settings now t c' (mark p look c') ≡ out → out.fault ≡ None → out.going ≢ None
+    → HasSegment v.rendition v.settings (v.list ++ p ∷ [])
+push-goes c v p look now t c' out is k r made sound goes =
+    let gave = made ∙ ap (λ (f : Option CutFault). record out { fault = f }) sound in
+    let at = (placed-by c p look now out.going t c' out.plan k r gave).at in
+    subst (λ (x : Spooling). HasSegment x.rendition x.settings (x.list ++ p ∷ [])) is (λ none. goes (sym at.going ∙ ap held none))
 
 -- the plan that a packet closes, as it stands in the spool
 pub push-closes : (c : Inside) (v : Spooling) (p : List ℕ) (look : Look) (now : Option Gathered) (t : Option InForce) (c' : Option Stamp) (after : Filled) (opened : Option Opened) (told : Bool)

@@ -1,6 +1,7 @@
 -- Where there is nothing to do.
-use Rattle.std.proofs.Common.{◌≡◌, ◌≢◌, ◌∙◌, ℕ, ◌*◌, ◌&&◌, Bool, true, false, is_some, nat_lt, nat_le, List, [], ◌∷◌, ◌++◌, take, drop, length, Option, Some, None, if◌then◌else◌, inl, inr, refl, sym, ap, subst, arith}
+use Rattle.std.proofs.Common.{◌≡◌, ◌≢◌, ◌∙◌, ◌⊎◌, ℕ, ◌*◌, ◌&&◌, Bool, true, false, is_some, nat_lt, nat_le, List, [], ◌∷◌, ◌++◌, take, drop, length, Option, Some, None, if◌then◌else◌, inl, inr, refl, sym, ap, subst, arith}
 use Rattle.std.proofs.lemmas.List.{append-nil, length-take}
+use Rattle.std.proofs.lemmas.Option.{none-some}
 use Rattle.std.proofs.lemmas.Bool.{cases_Bool, false≢true}
 use Rattle.ts_packet.specs.Fields.{random_access_indicator}
 use Rattle.psi_tables.specs.InForce.{InForce}
@@ -8,7 +9,7 @@ use Rattle.psi_tables.specs.State.{Watched, CarriesTables}
 use Rattle.pes_time.specs.declared.clock.Stamp.{Stamp}
 use Rattle.cutter.specs.declared.look.Look.{Look}
 use Rattle.cutter.specs.declared.fault.CutFault.{CutFault}
-use Rattle.cutter.specs.declared.fault.CutFault.TheVariants.{NoMemory}
+use Rattle.cutter.specs.declared.fault.CutFault.TheVariants.{BigSegment, Limit, LongSegment, NoMemory}
 use Rattle.cutter.specs.declared.settings.CutSettings.{CutSettings}
 use Rattle.cutter.specs.declared.spool_cutter.SpoolCutter.TheInside.{Inside}
 use Rattle.cutter.specs.Plans.{SegmentPlan}
@@ -17,14 +18,15 @@ use Rattle.cutter.specs.Points.{Mark, mark, counted, top_after}
 use Rattle.cutter.specs.Segments.{Point, Segment, bytes_of, AddsNothing, is_cut, is_long, is_big, plan_of}
 use Rattle.cutter.specs.Framing.{Framing}
 use Rattle.cutter.specs.Reels.{Filled}
-use Rattle.cutter.specs.Cuts.{Cuts, uncut, going_on, with_mark, first_segment, next_segment, carried_on, pointed, placed, step, cut_from, cuts}
+use Rattle.cutter.specs.Cuts.{Cuts, HasSegment, uncut, going_on, with_mark, first_segment, next_segment, carried_on, pointed, placed, step, cut_from, cuts}
 use Rattle.cutter.specs.Spooled.{Spooling}
-use Rattle.cutter.specs.SegmentState.{Gathered, Opened, Out, IsIdle, LeavesAll, LeavesBody, Refuses, faults, gives, gathered, held_in, carried, taken}
+use Rattle.cutter.specs.SegmentState.{Gathered, Opened, Out, IsIdle, LeavesAll, LeavesBody, Places, Refuses, added, cut, empty, faults, gives, gathered, held_in, carried, next_of, over, plan_from, renewed, sized, taken}
 use Rattle.cutter.specs.State.{spooled, Keeps, held}
 use Rattle.ts_packet.specs.declared.lengths.TheConstants.{PACKET}
 use Rattle.limits.specs.declared.TheConstants.{LAST_SEGMENT}
 use Rattle.cutter.proofs.Facts.{dropped}
-use Rattle.cutter.proofs.Keeping.{Read, tables_in, tables-are}
+use Rattle.cutter.proofs.Keeping.{Read, tables_in, tables-are, push-goes}
+use Rattle.cutter.proofs.Telling.{taken-never, hides-none}
 
 -- a packet that isn't accepted has no bytes for a body
 pub no-bytes : (m : Mark) → AddsNothing m → length (bytes_of m) ≡ 0
@@ -224,3 +226,70 @@ keeps-none c v is k none =
 -- no part of what is no more
 pub no-part : {A : Type 0} (xs : List A) (at n : ℕ) → drop at xs ≡ [] → length (take n (drop at xs)) ≡ 0
 no-part xs at n none = omega (arith, length-take n (drop at xs), ap length none)
+
+-- a segment goes on behind what brings no fault
+abbrev Goes : Out → Type 0
+Goes out = out.fault ≡ None → out.going ≢ None
+
+faults-goes : (e : CutFault) → Goes (faults e)
+faults-goes e sound none = none-some e (sym sound)
+
+gives-goes : (g : Gathered) (plan : Option SegmentPlan) → Goes (gives (Some g) plan)
+gives-goes g plan sound none = none-some g (sym none)
+
+either-goes : (test : Bool) (a b : Out) → Goes a → Goes b → Goes (if test then a else b)
+either-goes true a b first second = first
+either-goes false a b first second = second
+
+sized-goes : (s : CutSettings) (g : Gathered) (plan : Option SegmentPlan) → Goes (sized s g plan)
+sized-goes s g plan =
+    either-goes (nat_lt (PACKET * s.most) (length g.body)) (faults (BigSegment g.number)) (gives (Some g) plan) (faults-goes (BigSegment g.number)) (gives-goes g plan)
+
+cut-goes : (r : ℕ) (s : CutSettings) (g : Gathered) (p : Point) (m : Mark) → Goes (cut r s g p m)
+cut-goes r s g p m =
+    either-goes (is_long s (plan_from r s g (Some p.stamp))) (faults (LongSegment g.number)) (if nat_le LAST_SEGMENT g.number then faults Limit else renewed r s g p m)
+    (faults-goes (LongSegment g.number))
+    (either-goes (nat_le LAST_SEGMENT g.number) (faults Limit) (renewed r s g p m) (faults-goes Limit)
+    (sized-goes s (added (next_of g p) m) (Some (plan_from r s g (Some p.stamp)))))
+
+-- a packet of which nothing is taken closes no plan
+abbrev Leaves : ℕ → CutSettings → Option Opened → Filled → Option InForce → Option Stamp → Mark → Type 0
+Leaves r s going f t c m = LeavesAll going t c m × ((taken r s (held_in going f) t c m).plan ≡ None)
+
+taken-goes : (r : ℕ) (s : CutSettings) (going : Option Opened) (f : Filled) (t : Option InForce) (c : Option Stamp) (m : Mark)
+    → Leaves r s going f t c m ⊎ Goes (taken r s (held_in going f) t c m)
+taken-goes r s None f None c m = inl (tt, refl)
+taken-goes r s None f (Some t) None m = inl (tt, refl)
+taken-goes r s None f (Some t) (Some c) m = inr (sized-goes s (added (empty 0 false 0 (record { stamp = c; tables = t })) m) None)
+taken-goes r s (Some g) f None c m = inr (sized-goes s (added (over g f) m) None)
+taken-goes r s (Some g) f (Some t) None m = inr (sized-goes s (added (over g f) m) None)
+taken-goes r s (Some g) f (Some t) (Some c) m =
+    let p : Point = record { stamp = c; tables = t } in
+    inr (either-goes (is_cut s g.head p) (cut r s (over g f) p m) (sized s (added (over g f) m) None) (cut-goes r s (over g f) p m) (sized-goes s (added (over g f) m) None))
+
+-- a segment goes on behind a packet that wants memory where it is placed
+pub placed-goes : (c : Inside) (v : Spooling) (p : List ℕ) (look : Look) (now : Option Gathered) (t : Option InForce) (c' : Option Stamp) (e : CutFault)
+    → spooled c ≡ v → Keeps c → Read c p look now t c' → (LeavesAll c.going t c' (mark p look c') → e ≢ NoMemory)
+    → Refuses (taken c.rendition c.settings now t c' (mark p look c')) e → e ≡ NoMemory → HasSegment v.rendition v.settings (v.list ++ p ∷ [])
+placed-goes c v p look now t c' e is k r spared told memory =
+    let out = taken c.rendition c.settings (held_in c.going c.reel) t c' (mark p look c') in
+    let same : taken c.rendition c.settings now t c' (mark p look c') ≡ out = ap (λ (g : Option Gathered). taken c.rendition c.settings g t c' (mark p look c')) r.going in
+    let sound = hides-none _ e (taken-never c.rendition c.settings now t c' (mark p look c')) told memory in
+    elim (taken-goes c.rendition c.settings c.going c.reel t c' (mark p look c')) [
+      | inl left ↦ absurd (spared left.0 memory)
+      | inr goes ↦ let none = ap (λ (o : Out). o.fault) (sym same) ∙ sound in push-goes c v p look now t c' out is k r same none (goes none)
+    ]
+
+-- and behind one that closes a plan
+pub closes-goes : (c : Inside) (v : Spooling) (p : List ℕ) (look : Look) (now : Option Gathered) (t : Option InForce) (c' : Option Stamp) (after : Filled) (opened : Option Opened) (closed : Bool)
+    → spooled c ≡ v → Keeps c → Read c p look now t c' → Places (taken c.rendition c.settings now t c' (mark p look c')) c.reel after opened closed
+    → closed ≡ true → HasSegment v.rendition v.settings (v.list ++ p ∷ [])
+closes-goes c v p look now t c' after opened closed is k r placed one =
+    let out = taken c.rendition c.settings (held_in c.going c.reel) t c' (mark p look c') in
+    let same : taken c.rendition c.settings now t c' (mark p look c') ≡ out = ap (λ (g : Option Gathered). taken c.rendition c.settings g t c' (mark p look c')) r.going in
+    elim (taken-goes c.rendition c.settings c.going c.reel t c' (mark p look c')) [
+      | inl left ↦ absurd (false≢true (sym (placed.told ∙ ap (λ (o : Out). is_some o.plan) same ∙ ap is_some left.1) ∙ one))
+      | inr goes ↦
+          let none = ap (λ (o : Out). o.fault) (sym same) ∙ ap (λ (o : Out). o.fault) placed.going in
+          push-goes c v p look now t c' out is k r same none (goes none)
+    ]

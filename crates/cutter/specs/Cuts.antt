@@ -1,5 +1,5 @@
 -- The segments of a stream: where it is cut, which plans come of it, and what fault it has.
-use Rattle.std.specs.Prelude.{◌≡◌, ◌⊎◌, ℕ, ◌+◌, nat_le, List, [], ◌∷◌, ◌++◌, Option, Some, None, is_none, if◌then◌else◌}
+use Rattle.std.specs.Prelude.{◌≡◌, ◌≢◌, ◌⊎◌, ℕ, ◌+◌, nat_le, List, [], ◌∷◌, ◌++◌, Option, Some, None, is_none, if◌then◌else◌}
 use Rattle.ghost_list.specs.Lists.{IsBeginning}
 use Rattle.psi_tables.specs.InForce.{InForce}
 use Rattle.psi_tables.specs.Head.{packet_count}
@@ -92,6 +92,10 @@ cut_from r s a (f ∷ fs) = cut_from r s (step r s a.fault a f) fs
 -- how far a stream of these packets is cut
 abbrev pub cuts : ℕ → CutSettings → List (List ℕ) → Cuts
 cuts r s ps = cut_from r s uncut (facts s ps)
+
+-- a segment goes on behind these packets
+abbrev pub HasSegment : ℕ → CutSettings → List (List ℕ) → Type 0
+HasSegment r s ps = (cuts r s ps).going ≢ None
 
 -- the plans whose next cut has come
 unfoldable pub closed : ℕ → CutSettings → List (List ℕ) → List SegmentPlan

@@ -1,10 +1,11 @@
 ghost use Rattle.std.specs.Prelude.{◌≡◌, ◌<◌, ◌^◌, ◌⊎◌, [], ◌∷◌, ◌++◌, ℕ, List, Ok, Err, true, false, None, length, IfSome, IfOk, IfErr, OnOk, OnErr};
 ghost use Rattle.cutter.specs.declared.fault.CutFault.TheVariants.{NoMemory, Ended};
-ghost use Rattle.cutter.specs.Cuts.{cuts, closed, fault, plans, made, Ends};
+ghost use Rattle.cutter.specs.Cuts.{cuts, closed, fault, plans, made, Ends, HasSegment};
 ghost use Rattle.cutter.specs.Ordered.{IsPlan};
 ghost use Rattle.cutter.specs.Settings.{IsAllowed};
 ghost use Rattle.cutter.specs.Spooled.{IsOne};
-ghost use Rattle.cutter.specs.Stream.{is_packet, MayWantMemory};
+ghost use Rattle.cutter.specs.Stream.{is_packet, packets_of, MayWantMemory};
+ghost use Rattle.psi_tables.specs.State.{CarriesTables};
 
 use crate::fault::CutFault;
 use crate::plan::Plan;
@@ -84,6 +85,10 @@ impl Cutter {
 
         // Only a packet that a body takes, or that may carry parts of the tables, wants memory.
         ensures memory { IfErr result (λ e. e ≡ NoMemory → MayWantMemory self.old.settings self.old.list packet.now) }
+
+        // And so does only a packet behind which a segment goes on, or one that may carry parts of the tables.
+        ensures body { IfErr result (λ e. e ≡ NoMemory → HasSegment self.old.rendition self.old.settings (self.old.list ++ packet.now ∷ [])
+            ⊎ CarriesTables (record { program = self.old.settings.program; packets = packets_of self.old.list }) packet.now) }
     {
         if self.ended {
             return Err(CutFault::Ended);

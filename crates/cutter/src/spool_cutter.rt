@@ -2,8 +2,8 @@ ghost use Rattle.std.specs.Prelude.{◌≡◌, ◌<◌, ◌^◌, ◌⊎◌, [], 
 ghost use Rattle.std.specs.Prelude.{IfOk, IfErr, IsOk, OnOk, OnErr};
 ghost use Rattle.cutter.specs.declared.fault.CutFault.TheVariants.{NoMemory, Ended};
 ghost use Rattle.cutter.specs.Plans.{SegmentPlan};
-ghost use Rattle.cutter.specs.Cuts.{cuts, closed, fault, plans, made, Ends};
-ghost use Rattle.cutter.specs.Stream.{in_force, is_accepted, is_packet, packet_list, MayWantMemory};
+ghost use Rattle.cutter.specs.Cuts.{cuts, closed, fault, plans, made, Ends, HasSegment};
+ghost use Rattle.cutter.specs.Stream.{in_force, is_accepted, is_packet, packet_list, packets_of, MayWantMemory};
 ghost use Rattle.psi_tables.specs.State.{CarriesTables};
 ghost use Rattle.cutter.specs.Settings.{IsAllowed};
 ghost use Rattle.cutter.specs.Spooled.{Closes, all_plans};
@@ -111,6 +111,11 @@ impl SpoolCutter {
         // Only a packet that a body takes closes a plan. Only such a one, or one that may carry parts of the tables, wants memory.
         ensures accepted { IfOk result (λ closed. closed ≡ true → is_accepted (in_force self.old.settings self.old.list) packet.now ≡ true) }
         ensures memory { IfErr result (λ e. e ≡ NoMemory → MayWantMemory self.old.settings self.old.list packet.now) }
+
+        // Behind a packet that closes a plan a segment goes on, and so it does behind one that wants memory, but for the tables'.
+        ensures next { IfOk result (λ closed. closed ≡ true → HasSegment self.old.rendition self.old.settings (self.old.list ++ packet.now ∷ [])) }
+        ensures body { IfErr result (λ e. e ≡ NoMemory → HasSegment self.old.rendition self.old.settings (self.old.list ++ packet.now ∷ [])
+            ⊎ CarriesTables (record { program = self.old.settings.program; packets = packets_of self.old.list }) packet.now) }
     {
         if self.ended {
             return Err(CutFault::Ended);

@@ -15,3 +15,16 @@ returns-in_err-plan-clause-memory c =
       | inl closed ↦ c.in_ok-closed.ensures.accepted closed
       | inr not_closed ↦ absurd (false≢true (ap is_ok (c.in_err-plan.ensures.none not_closed)))
     ]))
+
+pub returns-in_err-closed-clause-body : goal.returns-in_err-closed-clause-body
+returns-in_err-closed-clause-body c =
+    let told = err_from_is_err_and c.from_residual.result c.from_residual.ensures.1 in
+    rw (told.1, told.2, ← c.self.view_is, ← (c.self.invariant c.if-self.false).list) c.in_err-closed.ensures.body
+
+pub returns-in_err-plan-clause-body : goal.returns-in_err-plan-clause-body
+returns-in_err-plan-clause-body c =
+    let told = err_from_is_err_and c.from_residual-in_err-plan.result c.from_residual-in_err-plan.ensures.1 in
+    rw (told.1, told.2, ← c.self.view_is, ← (c.self.invariant c.if-self.false).list) (λ _. inl (elim (cases_Bool c.in_ok-closed.closed) [
+      | inl closed ↦ c.in_ok-closed.ensures.next closed
+      | inr not_closed ↦ absurd (false≢true (ap is_ok (c.in_err-plan.ensures.none not_closed)))
+    ]))

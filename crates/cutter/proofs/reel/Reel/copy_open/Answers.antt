@@ -1,5 +1,4 @@
-use Rattle.std.proofs.Common.{refl, rules, ◌≡◌, ◌∙◌, ◌++◌, ap}
-use Rattle.std.specs.Prelude.{slice_range}
+use Rattle.std.proofs.Common.{refl, rules, ◌∙◌}
 use Rattle.cutter.specs.declared.reel.Reel.TheInside.{Inside}
 use Rattle.cutter.proofs.Reeling.{Copies, copied_is, copied_laid}
 use Rattle.cutter.proofs.Rows.{in_front}

@@ -11,7 +11,7 @@ use Rattle.cutter.specs.Spooled.{Spooling, joined}
 use Rattle.cutter.specs.SegmentState.{held_in, taken, Places}
 use Rattle.cutter.proofs.Ending.{one-short}
 use Rattle.cutter.proofs.Keeping.{few, push-lost, push-fault, push-scarce, push-closes, push-all, push-sound, push-keeps, read-of}
-use Rattle.cutter.proofs.Sparing.{read-dropped, leaves-all, closes-none, closes-accepted, placed-accepted, carried-tables, dropped-sound, never-lost}
+use Rattle.cutter.proofs.Sparing.{read-dropped, leaves-all, closes-none, closes-accepted, closes-goes, placed-accepted, placed-goes, carried-tables, dropped-sound, never-lost}
 use Rattle.cutter.proofs.spool_cutter.SpoolCutter.push.Goals as goal
 
 pub look_behind-requires : goal.look_behind-requires
@@ -125,6 +125,32 @@ returns-in_err-watch_or_reopen-clause-memory c =
     let told = err_from_is_err_and c.from_residual-in_err-watch_or_reopen.result c.from_residual-in_err-watch_or_reopen.ensures.1 in
     rw (told.1, told.2) (λ memory. inr (carried-tables c.self.inside c.args.self.now c.args.packet.now c.new-arrival.result c.self.view_is (c.self.invariant.keeps c.if-self.false) c.new-arrival.ensures
     c.in_err-watch_or_reopen.ensures.tables))
+
+pub returns-in_err-look-clause-body : goal.returns-in_err-look-clause-body
+returns-in_err-look-clause-body c =
+    let told = err_from_is_err_and c.from_residual.result c.from_residual.ensures.1 in
+    let limit = c.in_err-look.ensures.lost.0 in
+    rw (told.1, told.2) (λ memory. absurd (cc))
+
+pub returns-in_err-closed-clause-body : goal.returns-in_err-closed-clause-body
+returns-in_err-closed-clause-body c =
+    let told = err_from_is_err_and c.from_residual-in_err-closed.result c.from_residual-in_err-closed.ensures.1 in
+    let read = read-of c.self.inside c.args.packet.now c.new-arrival.result c.in_ok-look.look (held_in c.self.inside.going c.self.inside.reel) (option_copied c.tables.result) c.counted-counted.result
+    c.new-arrival.ensures c.in_ok-look.ensures.look c.in_ok-look.ensures.kept refl c.tables.ensures c.counted-counted.ensures.is in
+    rw (told.1, told.2) (λ memory. inl (placed-goes c.self.inside c.args.self.now c.args.packet.now c.in_ok-look.look _ _ c.counted-counted.result c.in_err-closed.field-0.0 c.self.view_is
+    (c.self.invariant.keeps c.if-self.false) read c.in_err-closed.ensures.none c.in_err-closed.ensures.err memory))
+
+pub returns-in_err-watch_or_reopen-clause-body : goal.returns-in_err-watch_or_reopen-clause-body
+returns-in_err-watch_or_reopen-clause-body c =
+    let told = err_from_is_err_and c.from_residual-in_err-watch_or_reopen.result c.from_residual-in_err-watch_or_reopen.ensures.1 in
+    rw (told.1, told.2) (λ memory. inr (carried-tables c.self.inside c.args.self.now c.args.packet.now c.new-arrival.result c.self.view_is (c.self.invariant.keeps c.if-self.false) c.new-arrival.ensures
+    c.in_err-watch_or_reopen.ensures.tables))
+
+pub returns-clause-next : goal.returns-clause-next
+returns-clause-next c =
+    let read = read-of c.self.inside c.args.packet.now c.new-arrival.result c.in_ok-look.look (held_in c.self.inside.going c.self.inside.reel) (option_copied c.tables.result) c.counted-counted.result
+    c.new-arrival.ensures c.in_ok-look.ensures.look c.in_ok-look.ensures.kept refl c.tables.ensures c.counted-counted.ensures.is in
+    closes-goes c.self.inside c.args.self.now c.args.packet.now c.in_ok-look.look _ _ c.counted-counted.result _ _ _ c.self.view_is (c.self.invariant.keeps c.if-self.false) read c.in_ok-closed.ensures.ok
 
 pub returns-clause-accepted : goal.returns-clause-accepted
 returns-clause-accepted c =
