@@ -1,11 +1,12 @@
 -- The packets that stand one behind another at the front of a piece.
-use Rattle.std.proofs.Common.{◌≡◌, ℕ, suc, ◌+◌, ◌-◌, ◌*◌, ◌/◌, ◌<◌, ◌≤◌, leb, Bool, true, false, List, [], ◌∷◌, ◌++◌, length, take, drop, get_or, refl, sym, ◌∙◌, ap, arith, append_assoc, length-append, length-drop}
+use Rattle.std.proofs.Common.{inl, inr, ◌≡◌, ◌≢◌, ℕ, suc, ◌+◌, ◌-◌, ◌*◌, ◌/◌, ◌<◌, ◌≤◌, leb, Bool, true, false, List, [], ◌∷◌, ◌++◌, length, take, drop, get_or, refl, sym, ◌∙◌, ap, arith, append_assoc, length-append, length-drop}
 use Rattle.ghost_list.proofs.Chunks.{chunk_at}
 use Rattle.std.proofs.Math.Seq.{take-suc}
-use Rattle.std.proofs.lemmas.Bool.{le-leb}
-use Rattle.std.proofs.lemmas.List.{get_or-take}
+use Rattle.std.proofs.lemmas.Bool.{le-leb, lt-leb, and_left, and_right}
+use Rattle.std.proofs.lemmas.Bool.Decides.{eqb_tells}
+use Rattle.std.proofs.lemmas.List.{get_or-take, get_or-drop}
 use Rattle.std.specs.Simd.{first_chunks}
-use Rattle.ts_packet.specs.Packets.{begins, decided, packets_from}
+use Rattle.ts_packet.specs.Packets.{begins, decided, fits, packets_from}
 use Rattle.ts_packet.specs.State.{needed, Scans, Keeps, GrowsAlike}
 use Rattle.ts_packet.proofs.Feeding.{Keeps-piece}
 use Rattle.ts_packet.proofs.Scanning.{Scans-packet}
@@ -41,6 +42,7 @@ Scans-both locked locked_then bytes lent old new behind rest passed ahead scan =
             ∙ ap (λ (xs : List (List ℕ)). xs ++ packets_from locked 0 (behind ++ more)) (sym given)
             ∙ ap (λ (xs : List (List ℕ)). lent ++ xs) (scan.finds.goes_on more last)
             ∙ sym (append_assoc lent scan.found _);
+        leaves = λ going more. ahead.finds.leaves going more ∙ scan.finds.leaves going more;
       };
       all_counted = omega (arith, ahead.all_counted, scan.all_counted, ap length given, length-append lent scan.found);
     }
@@ -63,3 +65,17 @@ Keeps-lending fed piece locked rest passed lent old new behind locked_then rest_
       };
       keeps = feeds.keeps;
     }
+
+-- none more fits behind the last
+pub ahead-past : (bytes : List ℕ) (count n : ℕ) → n ≡ count → length bytes / 188 ≤ count → fits bytes (188 * n) ≡ false
+ahead-past bytes count n same past = and_left _ _ (lt-leb (188 * n + 188) (length bytes) (omega (arith, same, past)))
+
+-- or none begins there
+pub ahead-other : (bytes : List ℕ) (chunks : List (List ℕ)) (count n : ℕ) → n ≡ count → chunks ≡ first_chunks 188 (length bytes / 188) bytes
+    → count < length bytes / 188 → get_or (get_or chunks count []) 0 0 ≢ 71 → fits bytes (188 * n) ≡ false
+ahead-other bytes chunks count n same all within other =
+    let is : get_or chunks count [] ≡ take 188 (drop (188 * count) bytes) = ap (λ list. get_or list count []) all ∙ chunk_at 188 (length bytes / 188) count bytes [] within in
+    let first : get_or (get_or chunks count []) 0 0 ≡ get_or bytes (188 * count) 0 =
+    ap (λ list. get_or list 0 0) is ∙ get_or-take 188 (drop (188 * count) bytes) 0 0 (omega arith) ∙ get_or-drop (188 * count) bytes 0 0 ∙ ap (λ k. get_or bytes k 0) (omega arith) in
+    let there : get_or bytes (188 * n) 0 ≢ 71 = λ sync. other (first ∙ ap (λ k. get_or bytes (188 * k) 0) (sym same) ∙ sync) in
+    elim (eqb_tells (get_or bytes (188 * n) 0) 71) [ inl sync ↦ absurd (there sync.1) | inr unlike ↦ and_right _ _ unlike.0 ]

@@ -1,17 +1,19 @@
 -- What a reader keeps after a piece, and what it gives at the end.
-use Rattle.std.proofs.Common.{◌≡◌, ℕ, ◌+◌, ◌<◌, ◌≤◌, Bool, true, false, cond, List, [], ◌++◌, length, refl, sym, ◌∙◌, ap, append_assoc, arith, length-append}
+use Rattle.std.proofs.Common.{◌≡◌, ℕ, ◌+◌, ◌<◌, ◌≤◌, Bool, true, false, cond, List, [], ◌++◌, length, Result, Ok, Err, refl, sym, ◌∙◌, ap, append_assoc, arith, length-append}
+use Rattle.std.specs.Prelude.{OnErr}
 use Rattle.std.proofs.lemmas.List.{append-nil}
-use Rattle.std.proofs.lemmas.Bool.{false≢true}
-use Rattle.ts_packet.specs.Packets.{packets, packets_from, decided, decided_from, skipped}
+use Rattle.std.proofs.lemmas.Bool.{false≢true, le-leb}
+use Rattle.ts_packet.specs.Packets.{packets, packets_from, decided, decided_from, is_open, Rest, rest_from, rest_of, skipped}
 use Rattle.ts_packet.specs.State.{needed, Keeps, Scans, GrowsAlike}
-use Rattle.ts_packet.proofs.Front.{packets_from-short}
+use Rattle.ts_packet.proofs.Front.{packets_from-short, rest_from-short}
 use Rattle.ts_packet.proofs.Decided.{Splits-IsDecided, IsDecided-once, decided-IsDecided}
 
 pub Keeps-none : (rest : List ℕ) → rest ≡ [] → Keeps [] false rest 0
-unfolding packets decided decided_from
+unfolding packets decided decided_from rest_of
 Keeps-none rest none = record {
   short = omega (arith, ap length none);
   goes_on = λ more. ap (λ (xs : List ℕ). packets_from false 0 (xs ++ more)) (sym none);
+  leaves = λ more. ap (λ (xs : List ℕ). rest_from false 0 (xs ++ more)) (sym none);
   all_counted = omega (arith, ap length none);
 }
 
@@ -41,6 +43,11 @@ Keeps-piece fed piece locked rest passed old new locked_then rest_then more_pass
       keeps = record {
         short = short;
         goes_on = λ more. rw same (on more);
+        leaves = λ more.
+            ap rest_of (append_assoc fed piece more)
+            ∙ kept.leaves (piece ++ more)
+            ∙ ap (rest_from locked 0) (sym (append_assoc rest piece more))
+            ∙ scan.finds.leaves refl more;
         all_counted = omega (arith, lengths, kept.all_counted, scan.all_counted, length-append rest piece, length-append fed piece);
       };
     }
@@ -70,3 +77,22 @@ Keeps-end fed locked rest passed old new locked_then rest_then more_passed kept 
       grows = record { more = scan.found; grown = same; given = scan.given };
       skips = omega (arith, lengths, kept.all_counted, scan.all_counted);
     }
+
+-- so few bytes tell nothing
+few-open : (locked : Bool) (s : List ℕ) → length s < needed false locked → is_open locked s ≡ true
+few-open true s few = le-leb _ 187 (omega (arith, few))
+few-open false s few = le-leb _ 376 (omega (arith, few))
+
+-- what is kept is the rest
+pub Keeps-rest : (fed : List ℕ) (locked : Bool) (rest : List ℕ) (passed : ℕ) → Keeps fed locked rest passed → rest_of fed ≡ record { locked = locked; bytes = rest }
+Keeps-rest fed locked rest passed kept =
+    ap rest_of (sym (append-nil fed)) ∙ kept.leaves [] ∙ ap (rest_from locked 0) (append-nil rest) ∙ rest_from-short locked rest (few-open locked rest kept.short)
+
+-- so many bytes are kept
+pub kept-long : (fed now : List ℕ) (locked : Bool) (rest : List ℕ) (passed : ℕ) → Keeps fed locked rest passed → fed ≡ now → length (rest_of now).bytes ≡ length rest
+kept-long fed now locked rest passed kept same = ap (λ (r : Rest). length r.bytes) (ap rest_of (sym same) ∙ Keeps-rest fed locked rest passed kept)
+
+-- what an error says
+pub on-err : {T E P : Type 0} (r : Result T E) → P → OnErr r P
+on-err (Ok x) holds = _
+on-err (Err e) holds = holds

@@ -2,7 +2,7 @@
 use Rattle.std.proofs.Common.{◌≡◌, ℕ, zero, suc, ◌+◌, ◌-◌, ◌*◌, ◌<◌, ◌≤◌, Bool, true, false, cond, ◌==◌, leb, List, [], ◌∷◌, ◌++◌, length, take, drop, get_or, replicate, refl, sym, ◌∙◌, ap, arith, length-append, length-drop, inl, inr}
 use Rattle.std.proofs.lemmas.Bool.{cond-true, cond-false, cases_Bool, cases_order, both_ways, and_left, and_right, or_from, lt-leb, le-leb}
 use Rattle.std.proofs.lemmas.List.{take-append-le, drop-append-le, get_or_append_left, get_or-append_right, get_or-replicate, length-replicate}
-use Rattle.ts_packet.specs.Packets.{begins, packets_from, packets, skipped}
+use Rattle.ts_packet.specs.Packets.{begins, is_open, packets_from, packets, rest_from, rest_of, skipped}
 
 -- the bytes left of a packet are passed over
 pub packets_from-left : (locked : Bool) (n : ℕ) (s : List ℕ) → packets_from locked n s ≡ packets_from locked 0 (drop n s)
@@ -98,3 +98,54 @@ length-packets_from (suc n) locked s few = elim (cases_Bool (begins locked s)) [
 pub skipped-packets : (s : List ℕ) → skipped s + 188 * length (packets s) ≡ length s
 unfolding skipped packets
 skipped-packets s = let few = length-packets_from (length s) false s (omega arith) in omega arith
+
+-- the rest behind the bytes that are left of a packet
+pub rest_from-left : (locked : Bool) (n : ℕ) (s : List ℕ) → rest_from locked n s ≡ rest_from locked 0 (drop n s)
+unfolding rest_from
+rest_from-left locked zero s = refl
+rest_from-left locked (suc n) [] = refl
+rest_from-left locked (suc n) (b ∷ s) = rest_from-left locked n s
+
+-- too few bytes tell at the front
+pub rest_from-short : (locked : Bool) (s : List ℕ) → is_open locked s ≡ true → rest_from locked 0 s ≡ record { locked = locked; bytes = s }
+unfolding rest_from
+rest_from-short locked [] few = refl
+rest_from-short locked (b ∷ s) few = cond-true _ _ _ few
+
+-- a packet begins at the front
+pub rest_from-packet : (locked : Bool) (s more : List ℕ) → 188 ≤ length s → is_open locked (s ++ more) ≡ false → begins locked (s ++ more) ≡ true
+    → rest_from locked 0 (s ++ more) ≡ rest_from true 0 (drop 188 s ++ more)
+unfolding rest_from
+rest_from-packet locked [] more long enough begun = absurd (omega (arith, long))
+rest_from-packet locked (b ∷ s) more long enough begun =
+    cond-false _ _ _ enough ∙ cond-true _ _ _ begun ∙ rest_from-left true 187 (s ++ more) ∙ ap (rest_from true 0) (drop-append-le 187 s more (omega (arith, long)))
+
+-- none begins there
+pub rest_from-other : (locked : Bool) (s more : List ℕ) → 0 < length s → is_open locked (s ++ more) ≡ false → begins locked (s ++ more) ≡ false
+    → rest_from locked 0 (s ++ more) ≡ rest_from false 0 (drop 1 s ++ more)
+unfolding rest_from
+rest_from-other locked [] more some enough unbegun = absurd (omega (arith, some))
+rest_from-other locked (b ∷ s) more some enough unbegun = cond-false _ _ _ enough ∙ cond-false _ _ _ unbegun
+
+-- enough bytes tell, whatever follows
+pub open-not-append : (locked : Bool) (s more : List ℕ) → cond locked 188 377 ≤ length s → is_open locked (s ++ more) ≡ false
+open-not-append true s more enough = lt-leb _ 187 (omega (arith, length-append s more, enough))
+open-not-append false s more enough = lt-leb _ 376 (omega (arith, length-append s more, enough))
+
+-- no more are left than there were
+rest_from-least : (n : ℕ) (locked : Bool) (left : ℕ) (s : List ℕ) → length s ≤ n → length (rest_from locked left s).bytes ≤ length s
+unfolding rest_from
+rest_from-least n locked left [] few = omega arith
+rest_from-least zero locked left (b ∷ s) few = absurd (omega (arith, few))
+rest_from-least (suc n) locked (suc left) (b ∷ s) few = let rest = rest_from-least n locked left s (omega (arith, few)) in omega (arith, rest)
+rest_from-least (suc n) locked zero (b ∷ s) few = elim (cases_Bool (is_open locked (b ∷ s))) [
+  | inl o ↦ rw (cond-true _ _ _ o) (omega arith)
+  | inr o ↦ elim (cases_Bool (begins locked (b ∷ s))) [
+    | inl begun ↦ let rest = rest_from-least n true 187 s (omega (arith, few)) in rw (cond-false _ _ _ o, cond-true _ _ _ begun) (omega (arith, rest))
+    | inr unbegun ↦ let rest = rest_from-least n false 0 s (omega (arith, few)) in rw (cond-false _ _ _ o, cond-false _ _ _ unbegun) (omega (arith, rest))
+  ]
+]
+
+pub rest_of-least : (s : List ℕ) → length (rest_of s).bytes ≤ length s
+unfolding rest_of
+rest_of-least s = rest_from-least (length s) false 0 s (omega arith)

@@ -92,3 +92,17 @@ decided_from locked zero (b ∷ s) = if is_open locked (b ∷ s) then [] else (i
 -- the packets that are decided by these bytes, whatever comes behind them
 unfoldable pub decided : List ℕ → List (List ℕ)
 decided s = decided_from false 0 s
+
+-- the bytes behind which nothing is decided, and whether a packet ends where they begin
+pub record Rest : Type 0 where
+  pub locked : Bool
+  pub bytes : List ℕ
+
+-- those behind the bytes that are left of a packet, or behind none: from the first place on where too few bytes tell
+unfoldable pub rest_from : Bool → ℕ → List ℕ → Rest
+rest_from locked left [] = record { locked = locked; bytes = [] }
+rest_from locked (suc left) (b ∷ s) = rest_from locked left s
+rest_from locked zero (b ∷ s) = if is_open locked (b ∷ s) then record { locked = locked; bytes = b ∷ s } else (if begins locked (b ∷ s) then rest_from true (PACKET - 1) s else rest_from false 0 s)
+
+unfoldable pub rest_of : List ℕ → Rest
+rest_of s = rest_from false 0 s

@@ -1,6 +1,7 @@
-ghost use Rattle.std.specs.Prelude.{◌≡◌, ◌<◌, ◌^◌, length, IfOk, flat_map};
+ghost use Rattle.std.specs.Prelude.{◌≡◌, ◌<◌, ◌≤◌, ◌^◌, length, IfOk, OnErr, flat_map};
 ghost use Rattle.ts_packet.specs.Packets.{packets, skipped};
 
+use crate::lengths::PACKET;
 use crate::reader::{Reader, Skipped};
 use std::alloc::{AllocError, Global};
 
@@ -17,6 +18,7 @@ pub fn read_pieces(alloc: Global, pieces: &[Vec<u8>]) -> Result<Stream, AllocErr
     requires { length (flat_map (λ piece. piece.items) pieces.now) < 2 ^ 63 }
     ensures packets { IfOk result (λ all. all.packets.items ≡ packets (flat_map (λ piece. piece.items) pieces.now)) }
     ensures skipped { IfOk result (λ all. all.skipped.bytes ≡ skipped (flat_map (λ piece. piece.items) pieces.now)) }
+    ensures scarce { OnErr result (PACKET ≤ length (flat_map (λ piece. piece.items) pieces.now)) }
 {
     let mut reader = Reader::new();
     let mut packets = Vec::new(alloc);

@@ -1,6 +1,6 @@
 ghost use Rattle.std.specs.Prelude.{◌≡◌, ◌+◌, ◌/◌, ◌<◌, ◌≤◌, ◌^◌, ◌++◌, [], length, vec_len, vec_capacity, IfOk, OnOk, OnErr};
-ghost use Rattle.ts_packet.specs.Packets.{decided, packets, skipped};
-ghost use Rattle.ts_packet.specs.State.{GrowsAlike, IsKept};
+ghost use Rattle.ts_packet.specs.Packets.{decided, packets, rest_of, skipped};
+ghost use Rattle.ts_packet.specs.State.{AreAllAhead, GrowsAlike, IsKept};
 
 use crate::joined::Joined;
 use crate::lengths::{PACKET, UNDECIDED};
@@ -62,6 +62,7 @@ impl Reader {
         ensures packets { OnOk result (GrowsAlike (decided self.old) (decided self.new) out.old.items out.new.items) }
         ensures err { OnErr result ((self.new ≡ self.old) × (out.new.items ≡ out.old.items)) }
         ensures scarce { OnErr result (vec_capacity out.old < vec_len out.old + (UNDECIDED + length piece.now) / PACKET) }
+        ensures room { OnErr result (vec_capacity out.old < vec_len out.old + (length (rest_of self.old).bytes + length piece.now) / PACKET) }
     {
         let left = scan_piece(&self.rest, self.locked, piece, out)?;
         self.rest = left.rest;
@@ -83,8 +84,10 @@ impl Reader {
         requires { length self.old + length piece.now < 2 ^ 63 }
         ensures fed { OnOk result (self.new ≡ self.old ++ piece.now) }
         ensures packets { IfOk result (λ lent. GrowsAlike (decided self.old ++ lent.now) (decided self.new) out.old.items out.new.items) }
+        ensures lent { IfOk result (λ lent. AreAllAhead self.old piece.now lent.now) }
         ensures err { OnErr result ((self.new ≡ self.old) × (out.new.items ≡ out.old.items)) }
         ensures scarce { OnErr result (vec_capacity out.old < vec_len out.old + (UNDECIDED + length piece.now) / PACKET) }
+        ensures room { OnErr result (vec_capacity out.old < vec_len out.old + (length (rest_of self.old).bytes + length piece.now) / PACKET) }
     {
         let lent = ahead(&self.rest, self.locked, piece);
         let behind = &piece[PACKET * lent.len()..];
@@ -104,6 +107,7 @@ impl Reader {
         ensures fresh { OnOk result (self.new ≡ []) }
         ensures err { OnErr result ((self.new ≡ self.old) × (out.new.items ≡ out.old.items)) }
         ensures scarce { OnErr result (vec_capacity out.old < vec_len out.old + UNDECIDED / PACKET) }
+        ensures room { OnErr result (vec_capacity out.old < vec_len out.old + length (rest_of self.old).bytes / PACKET) }
     {
         let bytes = Joined::new(&self.rest, &[]);
         out.reserve(bytes.len() / PACKET)?;
@@ -117,6 +121,7 @@ impl Reader {
     /// How many bytes are kept until more of the stream has come: those behind which nothing is decided yet.
     pub fn kept(&self) -> usize
         ensures rest { IsKept self.now result }
+        ensures exact { result ≡ length (rest_of self.now).bytes }
         ensures most { result ≤ UNDECIDED }
     {
         self.rest.len()

@@ -1,5 +1,5 @@
 ghost use Rattle.std.specs.Prelude.{◌≡◌, ◌+◌, ◌-◌, ◌/◌, ◌<◌, ◌≤◌, ◌^◌, ◌*◌, ◌++◌, [], false, true, IfOk, OnErr, length, drop, vec_len, vec_capacity};
-ghost use Rattle.ts_packet.specs.Packets.{begins, is_sync_or_beyond};
+ghost use Rattle.ts_packet.specs.Packets.{begins, fits, is_sync_or_beyond};
 ghost use Rattle.ts_packet.specs.State.{needed, Scans};
 
 use crate::joined::Joined;
@@ -52,6 +52,7 @@ pub(crate) fn ahead<'a>(
 ) -> &'a [[u8; 188]]
     ensures within { PACKET * length result.now ≤ length piece.now }
     ensures scans { Scans false locked (rest.now.items ++ piece.now) [] result.now locked (rest.now.items ++ drop (PACKET * length result.now) piece.now) 0 }
+    ensures all { locked ≡ true → rest.now.items ≡ [] → fits piece.now (PACKET * length result.now) ≡ false }
 {
     if locked && rest.is_empty() {
         return packets_ahead(piece);
@@ -63,6 +64,7 @@ pub(crate) fn ahead<'a>(
 fn packets_ahead(bytes: &[u8]) -> &[[u8; 188]]
     ensures within { PACKET * length result.now ≤ length bytes.now }
     ensures scans { Scans false true bytes.now [] result.now true (drop (PACKET * length result.now) bytes.now) 0 }
+    ensures all { fits bytes.now (PACKET * length result.now) ≡ false }
 {
     let (packets, _) = bytes.as_chunks::<188>();
     let mut count = 0;

@@ -1,5 +1,5 @@
 use Rattle.std.proofs.Common.{◌+◌, length, ap, arith, length-append}
-use Rattle.ts_packet.proofs.Feeding.{Feeds, Keeps-piece}
+use Rattle.ts_packet.proofs.Feeding.{Feeds, Keeps-piece, kept-long, on-err}
 use Rattle.ts_packet.proofs.reader.Reader.feed.Goals as goal
 use Rattle.ts_packet.proofs.reader.Reader.feed.Goals.{After-append}
 
@@ -16,3 +16,7 @@ invariant_of-self c = (
 
 pub returns-clause-packets : goal.returns-clause-packets
 returns-clause-packets c = rw (c.append.ensures, ← c.self.view_is) (feeds c).grows
+
+pub returns-in_err-left-clause-room : goal.returns-in_err-left-clause-room
+returns-in_err-left-clause-room c =
+    on-err c.from_residual.result (rw (kept-long _ _ _ _ _ c.self.invariant.0 c.self.view_is) c.in_err-left.ensures.scarce)
