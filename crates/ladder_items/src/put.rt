@@ -4,6 +4,7 @@ ghost use Rattle.item_io.specs.Items.{item_value, MasterItem};
 ghost use Rattle.master_playlist.specs.Faults.{fault_of};
 ghost use Rattle.ladder_items.specs.Ladder.{unmeasured};
 ghost use Rattle.ladder_items.specs.Masters.{master_of};
+ghost use Rattle.ladder_items.specs.declared.fault.PackFault.TheVariants.{Outlet};
 ghost use Rattle.ladder_items.specs.Putting.{PutAll, PutSome, SaysFailures};
 ghost use Rattle.ladder_items.specs.Items.{segment_of, media_of, frames_of};
 ghost use Rattle.segment_job.specs.Rotation.{number_of};
@@ -22,6 +23,7 @@ fn put<O: Outlet>(outlet: &mut O, item: &Item) -> Result<(), PackFault>
     ensures ok { OnOk result (PutAll O.output outlet.old outlet.new (item_value item.now ∷ [])) }
     ensures err { OnErr result (PutSome O.output outlet.old outlet.new (item_value item.now ∷ [])) }
     ensures fault { IfErr result (λ fault. SaysFailures fault (O.output.failures outlet.old) (O.output.failures outlet.new)) }
+    ensures told { IfErr result (λ fault. fault ≡ Outlet) }
 {
     match outlet.put(item) {
         Ok(()) => Ok(()),
