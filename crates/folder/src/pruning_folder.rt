@@ -1,6 +1,6 @@
-ghost use Rattle.std.specs.Prelude.{◌≡◌, ◌⊎◌, ◌++◌, ◌∷◌, [], List, false, true, IsErr, OnErr, OnOk};
+ghost use Rattle.std.specs.Prelude.{◌≡◌, ◌⊎◌, ◌++◌, ◌∷◌, [], List, false, true, IfOk, IsErr, OnErr, OnOk};
 ghost use Rattle.folder.specs.Kills.{IsFailedWrite};
-ghost use Rattle.folder.specs.Moves.{Move, Remove, Write, is_hidden};
+ghost use Rattle.folder.specs.Moves.{Looked, Move, Remove, Rename, Sync, Write, is_hidden};
 ghost use Rattle.folder.specs.Pruning.{other_moves, prunings};
 
 use crate::fault::FolderFault;
@@ -67,6 +67,7 @@ impl<F: Folder> Folder for PruningFolder<F> {
             IsFailedWrite name.now bytes.now more) }
         ensures pruned { prunings (F.made self.new) ≡ prunings (F.made self.old) }
         ensures failed { OnErr result ((self.new ≡ self.old) ⊎ F.fails self.old self.new) }
+        ensures asked { OnErr result ((is_hidden name.now ≡ false) ⊎ F.fails self.old self.new) }
         ensures served { is_hidden name.now ≡ false → IsErr result × (self.new ≡ self.old) }
     {
         let is_part = is_hidden(name);
@@ -76,7 +77,13 @@ impl<F: Folder> Folder for PruningFolder<F> {
         self.folder.write(name, bytes)
     }
 
-    fn rename(&mut self, old: &str, new: &str) -> Result<(), FolderFault> {
+    fn rename(&mut self, old: &str, new: &str) -> Result<(), FolderFault>
+        ensures made { OnOk result (other_moves (F.made self.new) ≡ other_moves (F.made self.old) ++ Rename old.now new.now ∷ []) }
+        ensures kept { OnErr result (other_moves (F.made self.new) ≡ other_moves (F.made self.old)) }
+        ensures failed { OnErr result ((self.new ≡ self.old) ⊎ F.fails self.old self.new) }
+        ensures asked { OnErr result (F.fails self.old self.new) }
+        ensures pruned { prunings (F.made self.new) ≡ prunings (F.made self.old) }
+    {
         self.folder.rename(old, new)
     }
 
@@ -85,6 +92,7 @@ impl<F: Folder> Folder for PruningFolder<F> {
         ensures kept { OnErr result (other_moves (F.made self.new) ≡ other_moves (F.made self.old)) }
         ensures pruned { prunings (F.made self.new) ≡ prunings (F.made self.old) }
         ensures failed { OnErr result ((self.new ≡ self.old) ⊎ F.fails self.old self.new) }
+        ensures asked { OnErr result ((is_hidden name.now ≡ false) ⊎ F.fails self.old self.new) }
         ensures served { is_hidden name.now ≡ false → IsErr result × (self.new ≡ self.old) }
     {
         if !is_hidden(name) {
@@ -93,11 +101,23 @@ impl<F: Folder> Folder for PruningFolder<F> {
         self.folder.remove(name)
     }
 
-    fn has(&mut self, name: &str) -> Result<bool, FolderFault> {
+    fn has(&mut self, name: &str) -> Result<bool, FolderFault>
+        ensures made { IfOk result (λ there. other_moves (F.made self.new) ≡ other_moves (F.made self.old) ++ Looked name.now there ∷ []) }
+        ensures kept { OnErr result (other_moves (F.made self.new) ≡ other_moves (F.made self.old)) }
+        ensures failed { OnErr result ((self.new ≡ self.old) ⊎ F.fails self.old self.new) }
+        ensures asked { OnErr result (F.fails self.old self.new) }
+        ensures pruned { prunings (F.made self.new) ≡ prunings (F.made self.old) }
+    {
         self.folder.has(name)
     }
 
-    fn sync(&mut self) -> Result<(), FolderFault> {
+    fn sync(&mut self) -> Result<(), FolderFault>
+        ensures made { OnOk result (other_moves (F.made self.new) ≡ other_moves (F.made self.old) ++ Sync ∷ []) }
+        ensures kept { OnErr result (other_moves (F.made self.new) ≡ other_moves (F.made self.old)) }
+        ensures failed { OnErr result ((self.new ≡ self.old) ⊎ F.fails self.old self.new) }
+        ensures asked { OnErr result (F.fails self.old self.new) }
+        ensures pruned { prunings (F.made self.new) ≡ prunings (F.made self.old) }
+    {
         self.folder.sync()
     }
 }

@@ -149,6 +149,7 @@ impl<F: Folder> Outlet for FolderOutlet<F> {
         ensures failed { OnErr result (self.new.failures ≡ self.old.failures + 1) }
         ensures named { OnOk result (is_named (item_value item.now) ≡ true) }
         ensures unnamed { is_named (item_value item.now) ≡ false → self.new.folder ≡ self.old.folder }
+        ensures fault { OnErr result ((self.new.folder ≡ self.old.folder) ⊎ ((found : F) × F.fails found self.new.folder)) }
         ensures stays { 0 < self.old.failures → IsErr result }
         ensures syncs { self.new.syncs ≡ self.old.syncs }
         ensures untouched { 0 < self.old.failures → self.new.folder ≡ self.old.folder }

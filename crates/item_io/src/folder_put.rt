@@ -1,5 +1,5 @@
 //! One item is put into a folder as a file.
-ghost use Rattle.std.specs.Prelude.{◌≡◌, ◌∷◌, ◌++◌, [], true, false, IfOk, OnOk, OnErr};
+ghost use Rattle.std.specs.Prelude.{◌≡◌, ◌⊎◌, ◌∷◌, ◌++◌, [], true, false, IfOk, OnOk, OnErr};
 ghost use Rattle.folder.specs.Puts.{put_names};
 ghost use Rattle.folder.specs.StagedFiles.{staged_file_names, staged_names};
 ghost use Rattle.item_io.specs.Items.{item_value};
@@ -29,6 +29,7 @@ pub(crate) fn put_file<F: Folder>(
         (staged_names staged.old.items) (put_of (item_value item.now))) }
     ensures named { OnOk result (is_named (item_value item.now) ≡ true) }
     ensures unnamed { is_named (item_value item.now) ≡ false → folder.new ≡ folder.old }
+    ensures failed { OnErr result ((folder.new ≡ folder.old) ⊎ ((found : F) × F.fails found folder.new)) }
     ensures pruned { F.pruned folder.new ≡ F.pruned folder.old }
 {
     if !is_named(item) {

@@ -87,6 +87,9 @@ impl<F: Folder> Outlet for KeepingOutlet<F> {
             BreaksOff (KeptBy F.made self.old) (KeptUpTo F.made self.new) [] (item_value item.now)) }
         ensures failed { OnErr result (self.new.files.failures ≡ self.old.files.failures + 1) }
 
+        // Behind a put that failed nothing is done to the folder.
+        ensures untouched { 0 < self.old.files.failures → self.new.files.folder ≡ self.old.files.folder }
+
         // An item that wasn't put says nothing of what could be removed.
         ensures still { OnErr result (self.new.lags ≡ self.old.lags) }
 
