@@ -1,5 +1,5 @@
 //! What comes of an input: the bytes that its thread told, in the order in which it told them.
-ghost use Rattle.std.specs.Prelude.{◌≡◌, ◌≢◌, ◌+◌, ◌-◌, ◌≤◌, ◌<◌, [], ◌∷◌, ◌++◌, ◌⊎◌, true, false};
+ghost use Rattle.std.specs.Prelude.{◌≡◌, ◌≢◌, ◌+◌, ◌-◌, ◌≤◌, ◌<◌, [], ◌∷◌, ◌++◌, ◌⊎◌, ◌&&◌, if◌then◌else◌, true, false};
 ghost use Rattle.std.specs.Prelude.{length, take, drop, min, Some, None, IfOk, IfSome, IsOk, IsSome, OnErr};
 ghost use Rattle.std.specs.Arc.{arc_value};
 ghost use Rattle.std.specs.Io.KnownBytes.{Consumes, IsAtEnd, Keeps};
@@ -82,6 +82,7 @@ impl<I: Contents> Incoming<I> {
         ensures stands { self.old.phase ≡ Opening → ((received self.new.consumer ≡ received self.old.consumer) × (self.new.phase ≡ Opening))
             ⊎ StandsBy opened_by (received self.old.consumer) (received self.new.consumer) self.new.phase }
         ensures failed { self.new.phase ≡ Failed → result ≡ Some false }
+        ensures waits { self.new.phase ≡ Opening → result ≡ (if was_awaited && self.old.may_wait then Some true else None) }
         ensures open { self.new.phase ≢ Opening → self.new.phase ≢ Failed → result ≡ Some true }
         ensures patient { (arc_value self.old.backlogs).stall ≡ None → self.new.phase ≡ Failed →
             (self.old.phase ≡ Failed) ⊎ (length (received self.old.consumer) < length (received self.new.consumer)) }
@@ -253,6 +254,7 @@ impl<I: Contents> Incoming<I> {
         ensures end { IfOk result (λ count. count ≡ 0 → 0 < length buffer.new → IsAtEnd (rest_of I.holds self.new)) }
         ensures kept { OnErr result (Keeps (rest_of I.holds self.old) (rest_of I.holds self.new)) }
         ensures failed { OnErr result (self.new.phase ≡ Failed) }
+        ensures drained { OnErr result (self.new.at ≡ length self.new.front.items) }
         ensures ended { self.old.phase ≡ Ended → IsOk result }
     {
         self.go_on(rt);

@@ -1,5 +1,5 @@
 //! Inputs before they are open.
-ghost use Rattle.std.specs.Prelude.{◌≡◌, ℕ, List, Option, IfSome};
+ghost use Rattle.std.specs.Prelude.{◌≡◌, ℕ, List, Option, Some, IfSome};
 
 use std::io::Read;
 
@@ -37,7 +37,9 @@ impl<I: Read> Contents for OpenInput<I> {
 impl<I: Read + Drop> Input for OpenInput<I> {
     type Reader = I;
 
-    fn open(self) -> Option<I> {
+    fn open(self) -> Option<I>
+        ensures { result ≡ Some self.reader }
+    {
         let OpenInput { reader } = self;
         Some(reader)
     }
