@@ -1,6 +1,6 @@
 //! A ladder goes on in its folder.
 
-ghost use Rattle.std.specs.Prelude.{◌≡◌, IfOk, IfErr, map};
+ghost use Rattle.std.specs.Prelude.{length, ◌<◌, OnErr, ◌≡◌, IfOk, IfErr, map};
 ghost use Rattle.channel_folder.specs.Scans.{IsScan};
 ghost use Rattle.channel.specs.Reading;
 ghost use Rattle.channel.specs.Reading.{AsksFor, IsReadBack, IsReadFault, IsScanFault};
@@ -69,7 +69,8 @@ fn scan_names<F: FolderReader>(
 
 /// The names of renditions.
 fn names_of(alloc: Global, settings: &Settings) -> Result<Vec<&str>, AllocError>
-    ensures { IfOk result (λ names. map (λ n. n.now) names.items ≡ Reading.names_of settings.now.renditions) }
+    ensures ok { IfOk result (λ names. map (λ n. n.now) names.items ≡ Reading.names_of settings.now.renditions) }
+    ensures scarce { OnErr result (0 < length settings.now.renditions) }
 {
     let mut names = Vec::new(alloc);
     for rendition in &settings.renditions {
@@ -98,7 +99,8 @@ fn read_back<F: Folder + FolderReader>(
 
 /// What a ladder asks for.
 fn asked_of(alloc: Global, settings: &Settings) -> Result<Vec<Asked<'_>>, AllocError>
-    ensures { IfOk result (λ asked. AsksFor settings.now asked.items) }
+    ensures ok { IfOk result (λ asked. AsksFor settings.now asked.items) }
+    ensures scarce { OnErr result (0 < length settings.now.renditions) }
 {
     let mut asked = Vec::new(alloc);
     for rendition in &settings.renditions {
@@ -137,7 +139,8 @@ fn older_of_each(
     scan: &Scan,
     found: &[Option<Restored>],
 ) -> Result<Vec<Vec<u64>>, AllocError>
-    ensures { IfOk result (λ older. map (λ n. n.items) older.items ≡ older_from scan.now 0 found.now) }
+    ensures ok { IfOk result (λ older. map (λ n. n.items) older.items ≡ older_from scan.now 0 found.now) }
+    ensures scarce { OnErr result (0 < length found.now) }
 {
     let mut older = Vec::new(alloc);
     for r in 0..found.len() {

@@ -1,5 +1,5 @@
 //! A folder is looked at once.
-ghost use Rattle.std.specs.Prelude.{◌≡◌, ◌^◌, ◌++◌, Bool, IfOk, IsErrOf, codes, map, filter, filter_map, ◌||◌};
+ghost use Rattle.std.specs.Prelude.{length, ◌<◌, OnErr, ◌≡◌, ◌^◌, ◌++◌, Bool, IfOk, IsErrOf, codes, map, filter, filter_map, ◌||◌};
 ghost use Rattle.std.specs.List.{list_any};
 ghost use Rattle.std.specs.Str.{bytes_eq};
 ghost use Rattle.std.specs.Fmt.{decimal};
@@ -39,7 +39,8 @@ fn numbers_of_each(
     files: &[String],
     names: &[&str],
 ) -> Result<Vec<Vec<u64>>, AllocError>
-    ensures { IfOk result (λ v. map (λ n. n.items) v.items ≡ map (numbers_in (map string_bytes files.now)) (map (λ n. n.now) names.now)) }
+    ensures ok { IfOk result (λ v. map (λ n. n.items) v.items ≡ map (numbers_in (map string_bytes files.now)) (map (λ n. n.now) names.now)) }
+    ensures scarce { OnErr result (0 < length names.now) }
 {
     let mut each = Vec::new(alloc);
     for name in names {
@@ -79,7 +80,8 @@ fn unfinished_of(alloc: Global, files: &[String], names: &[&str]) -> Result<Vec<
 
 /// What the names of each rendition's unfinished files are made of.
 fn parts_of_each(alloc: Global, names: &[&str]) -> Result<Vec<UnfinishedNames>, AllocError>
-    ensures { IfOk result (λ v. v.items ≡ map unfinished_names (map (λ n. n.now) names.now)) }
+    ensures ok { IfOk result (λ v. v.items ≡ map unfinished_names (map (λ n. n.now) names.now)) }
+    ensures scarce { OnErr result (0 < length names.now) }
 {
     let mut each = Vec::new(alloc);
     for name in names {

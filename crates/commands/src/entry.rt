@@ -1,5 +1,5 @@
 //! One rendition of a ladder, as one word tells it.
-ghost use Rattle.std.specs.Prelude.{◌≡◌, None, Decides, IfOk, IfSome, All, map};
+ghost use Rattle.std.specs.Prelude.{length, ◌<◌, OnErr, ◌≡◌, None, Decides, IfOk, IfSome, All, map};
 ghost use Rattle.commands.specs.Entries.{before_colon, behind_colon, HasColon, entry_of, HasFourColons, IsGood, IsFirstBad};
 ghost use Rattle.commands.specs.Entries.{entry_value};
 
@@ -80,7 +80,8 @@ pub fn first_bad(texts: &[&str]) -> Option<usize>
 /// The parts of each entry.
 pub fn entries<'a>(alloc: Global, texts: &[&'a str]) -> Result<Vec<EntryWords<'a>>, AllocError>
     requires good { All IsGood (map (λ t. t.now) texts.now) }
-    ensures { IfOk result (λ entries. map entry_value entries.items ≡ map entry_of (map (λ t. t.now) texts.now)) }
+    ensures ok { IfOk result (λ entries. map entry_value entries.items ≡ map entry_of (map (λ t. t.now) texts.now)) }
+    ensures scarce { OnErr result (0 < length texts.now) }
 {
     let mut entries = Vec::new(alloc);
     for text in texts {

@@ -1,5 +1,5 @@
 //! The words of a ladder's keys, those of all entries one behind another.
-ghost use Rattle.std.specs.Prelude.{◌≡◌, ◌++◌, map, IfOk, OnOk};
+ghost use Rattle.std.specs.Prelude.{length, ◌<◌, OnErr, ◌≡◌, ◌++◌, map, IfOk, OnOk};
 ghost use Rattle.commands.specs.Entries.{entry_value};
 ghost use Rattle.commands.specs.KeyFiles.{told};
 ghost use Rattle.commands.specs.KeyLists.{key_texts};
@@ -42,7 +42,8 @@ pub(crate) fn ladder_words<'a>(
     alloc: Global,
     entries: &[EntryWords<'a>],
 ) -> Result<Vec<KeyWord<'a>>, AllocError>
-    ensures { IfOk result (λ words. map told words.items ≡ key_words 1 (map entry_value entries.now)) }
+    ensures ok { IfOk result (λ words. map told words.items ≡ key_words 1 (map entry_value entries.now)) }
+    ensures scarce { OnErr result (0 < length entries.now) }
 {
     let mut words = Vec::new(alloc);
     for place in 0..entries.len() {

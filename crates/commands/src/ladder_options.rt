@@ -1,5 +1,5 @@
 //! The settings of a ladder, as words tell them.
-ghost use Rattle.std.specs.Prelude.{◌≡◌, ◌≢◌, ◌↔◌, ◌⊎◌, ℕ, map, IfOk, IfErr, IsErrOf, OnOk};
+ghost use Rattle.std.specs.Prelude.{length, ◌<◌, OnErr, ◌≡◌, ◌≢◌, ◌↔◌, ◌⊎◌, ℕ, map, IfOk, IfErr, IsErrOf, OnOk};
 ghost use Rattle.commands.specs.Defaults.{numbers_of};
 ghost use Rattle.commands.specs.Pools.{pool_of, IsPool};
 ghost use Rattle.commands.specs.Settings.{FitsCut};
@@ -65,7 +65,8 @@ fn look(words: LadderWords<'_, '_>, numbers: Numbers, pool: Pool) -> Result<(), 
 
 /// The path of each entry.
 fn paths<'a>(alloc: Global, entries: &[EntryWords<'a>]) -> Result<Vec<&'a str>, AllocError>
-    ensures { IfOk result (λ paths. map (λ t. t.now) paths.items ≡ map (λ entry. (entry_value entry).path) entries.now) }
+    ensures ok { IfOk result (λ paths. map (λ t. t.now) paths.items ≡ map (λ entry. (entry_value entry).path) entries.now) }
+    ensures scarce { OnErr result (0 < length entries.now) }
 {
     let mut paths = Vec::new(alloc);
     for entry in entries {

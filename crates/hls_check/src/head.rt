@@ -103,6 +103,7 @@ fn payloads(alloc: Global, count: usize, packets: &[u8]) -> Result<Vec<u8>, Allo
     requires there { PACKET * count ≤ length packets.now }
     ensures items { IfOk result (λ carried. carried.items ≡ Heads.payloads count packets.now) }
     ensures len { IfOk result (λ carried. length carried.items ≡ PAYLOAD * count) }
+    ensures scarce { OnErr result (0 < count) }
 {
     let mut carried = Vec::new(alloc);
     let mut rest = packets;

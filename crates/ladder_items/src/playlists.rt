@@ -336,7 +336,8 @@ fn empty_window(
 fn push_frames(meter: &mut Meter, frames: &[FrameRow]) -> Result<(), AllocError>
     requires few { length meter.old.spans + length frames.now ≤ 2 ^ 52 }
     requires small { All IsSmallFrame frames.now }
-    ensures { OnOk result (meter.new ≡ record meter.old { spans = meter.old.spans ++ map frame_rate frames.now }) }
+    ensures ok { OnOk result (meter.new ≡ record meter.old { spans = meter.old.spans ++ map frame_rate frames.now }) }
+    ensures scarce { OnErr result (0 < length frames.now) }
 {
     for frame in frames {
         meter.push(frame.len, frame.micros)?;

@@ -1,4 +1,4 @@
-ghost use Rattle.std.specs.Prelude.{◌≡◌, ◌+◌, ◌*◌, ◌<◌, ◌≤◌, ◌^◌, All, length, drop, IfOk};
+ghost use Rattle.std.specs.Prelude.{OnErr, ◌≡◌, ◌+◌, ◌*◌, ◌<◌, ◌≤◌, ◌^◌, All, length, drop, IfOk};
 ghost use Rattle.cutter.specs.Ordered.{IsInside, end_before};
 ghost use Rattle.playlist_text.specs.Numbers;
 ghost use Rattle.segment_job.specs.Rotation.{number_of};
@@ -39,7 +39,8 @@ fn frame_rows(alloc: Global, head: u64, plan: PlanRef<'_>) -> Result<Vec<FrameRo
     requires short { plan.ticks < 2 ^ 45 }
     requires small { length plan.body.now < 2 ^ 32 }
     requires inside { All (IsInside (length plan.body.now) plan.ticks) plan.frames.now }
-    ensures { IfOk result (λ rows. rows.items ≡ Rows.frame_rows head plan.entry.ticks plan.entry.frames.now) }
+    ensures ok { IfOk result (λ rows. rows.items ≡ Rows.frame_rows head plan.entry.ticks plan.entry.frames.now) }
+    ensures scarce { OnErr result (0 < length plan.entry.frames.now) }
 {
     let frames = plan.frames;
     let mut rows = Vec::new(alloc);

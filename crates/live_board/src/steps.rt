@@ -1,6 +1,6 @@
 //! The steps of a publisher: a moment is made, appended, shown; copies and viewers are made.
 
-ghost use Rattle.std.specs.Prelude.{◌≡◌, ◌≤◌, ◌++◌, ◌∷◌, [], length, drop, All, vec_len, vec_capacity, IfSome, IfNone, IfOk, OnErr, Err};
+ghost use Rattle.std.specs.Prelude.{◌<◌, ◌≡◌, ◌≤◌, ◌++◌, ◌∷◌, [], length, drop, All, vec_len, vec_capacity, IfSome, IfNone, IfOk, OnErr, Err};
 ghost use Rattle.std.specs.Arc.{arc_value};
 ghost use Rattle.left_right.specs.Sides.{view as known_by};
 ghost use Rattle.live_board.specs.declared.fault.BoardFault.TheVariants.{NoPlace};
@@ -129,6 +129,7 @@ pub fn new_viewers(
     ensures count { IfOk result (λ all. length all.items ≡ viewers) }
     ensures viewers { IfOk result (λ all. All (λ v. v ≡ history.now) all.items) }
     ensures fault { OnErr result (result ≡ Err NoPlace) }
+    ensures scarce { OnErr result (0 < viewers) }
 {
     let mut all = room;
     for _ in 0..viewers {

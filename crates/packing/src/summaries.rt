@@ -1,5 +1,5 @@
 //! What a ladder's run gave, as a text.
-ghost use Rattle.std.specs.Prelude.{◌≡◌, map, IfOk};
+ghost use Rattle.std.specs.Prelude.{length, ◌<◌, OnErr, ◌≡◌, map, IfOk};
 ghost use Rattle.std.specs.String.{string_bytes};
 ghost use Rattle.packing.specs.SummaryLines.{told_value};
 ghost use Rattle.packing.specs.Summaries.{told_of, tolds_of, IsSummaryOf};
@@ -27,7 +27,8 @@ fn summary_rows<'a>(
     renditions: &'a [Rendition],
     report: &Report,
 ) -> Result<Vec<SummaryRow<'a>>, AllocError>
-    ensures { IfOk result (λ rows. map told_value rows.items ≡ tolds_of renditions.now report.now) }
+    ensures ok { IfOk result (λ rows. map told_value rows.items ≡ tolds_of renditions.now report.now) }
+    ensures scarce { OnErr result (0 < length renditions.now) }
 {
     let mut rows = Vec::new(alloc);
     for r in 0..renditions.len() {

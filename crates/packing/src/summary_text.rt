@@ -1,5 +1,5 @@
 //! The lines that tell what a ladder's run gave.
-ghost use Rattle.std.specs.Prelude.{◌≡◌, ◌∷◌, ◌++◌, map, OnOk, IfOk};
+ghost use Rattle.std.specs.Prelude.{length, ◌<◌, OnErr, ◌≡◌, ◌∷◌, ◌++◌, map, OnOk, IfOk};
 ghost use Rattle.std.specs.List.{flat_map};
 ghost use Rattle.std.specs.List.Sorted.{IsPermutation};
 ghost use Rattle.std.specs.String.{string_bytes};
@@ -55,7 +55,8 @@ fn sort_by_name(rows: &mut Vec<SummaryRow<'_>>) -> Result<(), AllocError>
 
 /// The lines of rows, one behind another.
 fn lines(alloc: Global, rows: &[SummaryRow<'_>]) -> Result<String, AllocError>
-    ensures { IfOk result (λ text. string_bytes text ≡ flat_map line_of (map told_value rows.now)) }
+    ensures ok { IfOk result (λ text. string_bytes text ≡ flat_map line_of (map told_value rows.now)) }
+    ensures scarce { OnErr result (0 < length rows.now) }
 {
     let mut text = String::new(alloc);
     for row in rows {

@@ -1,4 +1,4 @@
-ghost use Rattle.std.specs.Prelude.{◌≡◌, ◌⊎◌, ◌*◌, ◌<◌, ◌↔◌, [], All, IfErr, IfOk, IsErrOf, IsOk, IsSome, OnOk, false, length, map, option_map, true};
+ghost use Rattle.std.specs.Prelude.{OnErr, ◌≡◌, ◌⊎◌, ◌*◌, ◌<◌, ◌↔◌, [], All, IfErr, IfOk, IsErrOf, IsOk, IsSome, OnOk, false, length, map, option_map, true};
 ghost use Rattle.std.specs.List.{range_with_len};
 ghost use Rattle.std.specs.Duration.{as_nanos};
 ghost use Rattle.folder.specs.FileFolders.{file_moves, folder_path, may_sync};
@@ -218,7 +218,8 @@ fn view_of<R: InputFiles + Clock + Threads + Wait + Copy + Send + Drop + 'static
 ) -> Result<Option<InputsView>, AllocError>
 where
     R::Reader: Send + 'static,
-    ensures { IfOk result (λ view. IsSome view ↔ 0 < length sources.now) }
+    ensures ok { IfOk result (λ view. IsSome view ↔ 0 < length sources.now) }
+    ensures scarce { OnErr result (0 < length sources.now) }
 {
     match sources.first() {
         Some(source) => {

@@ -42,7 +42,9 @@ impl<'w, R: Wait> Teller<'w, R> {
         words: &'w [String],
         settings: &'w Settings,
         told: Arc<Tellings>,
-    ) -> Teller<'w, R> {
+    ) -> Teller<'w, R>
+        ensures { (result.words ≡ words.entry) × (result.settings ≡ settings.entry) × (result.told ≡ told) }
+    {
         Teller {
             rt,
             host,

@@ -1,5 +1,5 @@
 //! Watches a run: a thread with a viewer of its board writes its metrics to a file. The run waits for nothing of it.
-ghost use Rattle.std.specs.Prelude.{◌≡◌, ◌<◌, ℕ, IfOk, IfSome, IsErr, List, None, false, fold, length, map, option_copied, option_map, replicate};
+ghost use Rattle.std.specs.Prelude.{true, OnErr, ◌≡◌, ◌<◌, ℕ, IfOk, IfSome, IsErr, List, None, false, fold, length, map, option_copied, option_map, replicate};
 ghost use Rattle.std.specs.String.{string_bytes};
 ghost use Rattle.metrics.specs.Seens.{unseen};
 ghost use Rattle.program.specs.Asked.{input_sample};
@@ -211,7 +211,9 @@ impl Writer {
     }
 
     /// Tells that the metrics can't be written, the first time.
-    fn tell_once<R: Eprint>(&mut self, rt: &R) {
+    fn tell_once<R: Eprint>(&mut self, rt: &R)
+        ensures { self.new ≡ record self.old { has_told = true } }
+    {
         if !self.has_told {
             self.has_told = true;
             let _ = rt.eprint(UNWRITTEN);
@@ -221,7 +223,8 @@ impl Writer {
 
 /// The names of renditions.
 fn names_of(alloc: Global, renditions: &[Rendition]) -> Result<Vec<String>, AllocError>
-    ensures { IfOk result (λ names. map string_bytes names.items ≡ map (λ r. r.name) renditions.now) }
+    ensures ok { IfOk result (λ names. map string_bytes names.items ≡ map (λ r. r.name) renditions.now) }
+    ensures scarce { OnErr result (0 < length renditions.now) }
 {
     let mut names = Vec::new(alloc);
     for rendition in renditions {
@@ -232,7 +235,8 @@ fn names_of(alloc: Global, renditions: &[Rendition]) -> Result<Vec<String>, Allo
 
 /// So many renditions, none of which was seen yet.
 fn none_seen(alloc: Global, count: usize) -> Result<Vec<Seen>, AllocError>
-    ensures { IfOk result (λ seen. seen.items ≡ replicate count unseen) }
+    ensures ok { IfOk result (λ seen. seen.items ≡ replicate count unseen) }
+    ensures scarce { OnErr result (0 < count) }
 {
     let mut seen = Vec::new(alloc);
     for _ in 0..count {

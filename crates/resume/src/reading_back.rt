@@ -1,6 +1,6 @@
 //! The rows of what a media playlist lists.
 
-ghost use Rattle.std.specs.Prelude.{◌≡◌, ◌⊎◌, ◌+◌, ◌≤◌, ℕ, List, All, length, IfOk, IfSome, IsSomeAnd, OnErr, Decides};
+ghost use Rattle.std.specs.Prelude.{◌<◌, ◌≡◌, ◌⊎◌, ◌+◌, ◌≤◌, ℕ, List, All, length, IfOk, IfSome, IsSomeAnd, OnErr, Decides};
 ghost use Rattle.media_playlist.specs.Rows.{SegmentRow};
 ghost use Rattle.media_reading.specs.MediaTexts.{IsListing};
 ghost use Rattle.resume.specs.declared.restored.Wanted as TheWanted;
@@ -67,6 +67,7 @@ fn read_rows(
     ensures whole { (first : ℕ) (rows : List SegmentRow) → AreRowsOf listing.now sizes.now rows →
         ArePicked (picks_of picked.now) first rows → IfOk result (λ found. IsSomeAnd found (λ it. it.items ≡ rows)) }
     ensures scarce { OnErr result (length sizes.now ≡ length listing.now.entries) }
+    ensures some { OnErr result (0 < length listing.now.entries) }
 {
     if sizes.len() != listing.entries.len() {
         return Ok(None);

@@ -1,6 +1,6 @@
 //! The board on which a run publishes, before anything has been given.
 
-ghost use Rattle.std.specs.Prelude.{◌≡◌, ◌≤◌, ◌∷◌, IfOk, OnErr, [], Err, length, map, false, replicate, ◌⊎◌, All};
+ghost use Rattle.std.specs.Prelude.{◌<◌, ◌≡◌, ◌≤◌, ◌∷◌, IfOk, OnErr, [], Err, length, map, false, replicate, ◌⊎◌, All};
 ghost use Rattle.std.specs.Arc.{arc_value};
 ghost use Rattle.std.specs.String.{string_bytes};
 ghost use Rattle.live_board.specs.Counts.{counts_shown};
@@ -44,7 +44,8 @@ pub fn opening_board<R: Wait>(
 
 /// The snapshot of renditions that have no segment yet: their playlists have no text.
 fn nothing_shown(alloc: Global, renditions: usize) -> Result<Snapshot, AllocError>
-    ensures { IfOk result (λ first. first ≡ none_shown renditions) }
+    ensures ok { IfOk result (λ first. first ≡ none_shown renditions) }
+    ensures scarce { OnErr result (0 < renditions) }
 {
     let mut counts = Vec::new(alloc);
     let mut ended = Vec::new(alloc);
@@ -66,7 +67,8 @@ fn nothing_shown(alloc: Global, renditions: usize) -> Result<Snapshot, AllocErro
 
 /// `count` empty texts.
 fn no_texts(alloc: Global, count: usize) -> Result<Vec<Arc<String>>, AllocError>
-    ensures { IfOk result (λ texts. map (λ t. string_bytes (arc_value t)) texts.items ≡ replicate count []) }
+    ensures ok { IfOk result (λ texts. map (λ t. string_bytes (arc_value t)) texts.items ≡ replicate count []) }
+    ensures scarce { OnErr result (0 < count) }
 {
     let mut texts = Vec::new(alloc);
     for _ in 0..count {

@@ -1,6 +1,6 @@
 //! A desk: a queue under a lock.
 
-ghost use Rattle.std.specs.Prelude.{◌≡◌, ◌+◌, ◌<◌, ℕ, Some, IfOk, OnOk, IfErr, IfSome, IfNone, vec_len, slice_get};
+ghost use Rattle.std.specs.Prelude.{OnErr, ◌≡◌, ◌+◌, ◌<◌, ℕ, Some, IfOk, OnOk, IfErr, IfSome, IfNone, vec_len, slice_get};
 ghost use Rattle.cutter.specs.Lent.{lent};
 ghost use Rattle.flow_core.specs.Queues.{IsOwnOutcome};
 ghost use Rattle.work_desk.specs.Waiting.{GivesBack};
@@ -47,6 +47,7 @@ fn new_passes<L: Ledger>(
     ensures rest { OnOk result ((rest.new.parts ≡ 0) × (rest.new.amount ≡ 0)) }
     ensures passes { IfOk result (λ passes. vec_len passes ≡ workers) }
     ensures numbers { IfOk result (λ passes. (i : ℕ) (pass : Pass L) → slice_get passes.items i ≡ Some pass → (pass.number ≡ i) × (pass.count ≡ 0)) }
+    ensures scarce { OnErr result (0 < workers) }
 {
     let mut passes = Vec::with_capacity(alloc, workers)?;
     for number in 0..workers {

@@ -1,6 +1,6 @@
 //! The snapshot of what has been given: each rendition's count of segments, their totals and playlists, and the master playlist.
 
-ghost use Rattle.std.specs.Prelude.{◌≡◌, ◌++◌, ◌∷◌, [], List, Bool, All, None, false, length, map, IfOk, IfErr, OnOk, OnErr};
+ghost use Rattle.std.specs.Prelude.{◌<◌, ◌≡◌, ◌++◌, ◌∷◌, [], List, Bool, All, None, false, length, map, IfOk, IfErr, OnOk, OnErr};
 ghost use Rattle.std.specs.Arc.{arc_value};
 ghost use Rattle.std.specs.String.{string_bytes};
 ghost use Rattle.std.specs.List.{zip};
@@ -47,7 +47,8 @@ fn snapshot(
 
 /// How many segments each rendition has.
 pub fn counts(alloc: Global, playlists: &[Playlists]) -> Result<Vec<u64>, AllocError>
-    ensures { IfOk result (λ counts. counts.items ≡ counts_of playlists.now) }
+    ensures ok { IfOk result (λ counts. counts.items ≡ counts_of playlists.now) }
+    ensures scarce { OnErr result (0 < length playlists.now) }
 {
     let mut counts = Vec::new(alloc);
     for rendition in playlists {
@@ -59,7 +60,8 @@ pub fn counts(alloc: Global, playlists: &[Playlists]) -> Result<Vec<u64>, AllocE
 /// What the segments of each rendition are together.
 fn totals(alloc: Global, playlists: &[Playlists]) -> Result<Vec<Totals>, AllocError>
     requires going { All (λ shown. shown.ended ≡ false) playlists.now }
-    ensures { IfOk result (λ totals. totals.items ≡ map totals_of playlists.now) }
+    ensures ok { IfOk result (λ totals. totals.items ≡ map totals_of playlists.now) }
+    ensures scarce { OnErr result (0 < length playlists.now) }
 {
     let mut totals = Vec::new(alloc);
     for i in 0..playlists.len() {
@@ -91,6 +93,7 @@ fn texts(
     requires { length ended.now ≡ length playlists.now }
     ensures media { IfOk result (λ texts. map (λ t. string_bytes (arc_value t)) texts.0.items ≡ map (λ x. media_text x.0 x.1) (zip playlists.now ended.now)) }
     ensures frames { IfOk result (λ texts. map (λ t. string_bytes (arc_value t)) texts.1.items ≡ map (λ x. frames_text x.0 x.1) (zip playlists.now ended.now)) }
+    ensures scarce { OnErr result (0 < length playlists.now) }
 {
     let mut media = Vec::new(alloc);
     let mut frames = Vec::new(alloc);

@@ -1,6 +1,6 @@
 //! The books of a run: how many segments the workers claimed, and what became of them.
 
-ghost use Rattle.std.specs.Prelude.{sum, ◌≡◌, ◌≤◌, ◌<◌, ◌+◌, ◌*◌, ◌^◌, ℕ, length, slice_index_or, IfOk};
+ghost use Rattle.std.specs.Prelude.{OnErr, sum, ◌≡◌, ◌≤◌, ◌<◌, ◌+◌, ◌*◌, ◌^◌, ℕ, length, slice_index_or, IfOk};
 
 use std::alloc::{AllocError, Global};
 
@@ -65,6 +65,7 @@ impl Books {
 pub fn no_counts(alloc: Global, count: usize) -> Result<Vec<u128>, AllocError>
     ensures none { IfOk result (λ counts. sum counts.items ≡ 0) }
     ensures each { IfOk result (λ counts. length counts.items ≡ count) }
+    ensures scarce { OnErr result (0 < count) }
 {
     let mut counts = Vec::new(alloc);
     for _ in 0..count {

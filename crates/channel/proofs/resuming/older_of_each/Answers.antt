@@ -17,6 +17,6 @@ loop-r-preserved c =
     older-on c.args.scan.now c.args.found.now c.loop-r.r one (map (λ n. n.items) c.loop-r.older.items) (map (λ n. n.items) c.push.new.self.items) c.in_ok-older.field-0.items c.found_at-one.ensures
     c.loop-r.invariant made is
 
-pub returns : goal.returns
-returns c =
+pub returns-clause-ok : goal.returns-clause-ok
+returns-clause-ok c =
     c.loop-r.invariant ∙ ap (λ (l : List (Option RestoredValue)). older_from c.args.scan.now 0 l) (take_all c.loop-r.r c.args.found.now (omega (arith, c.loop-r-test.false)))

@@ -25,7 +25,7 @@ returns-in_err-reopened-clause-err g c =
     subst (λ (k : Kind). IsNotReopened Refuses Gives Lacks c.args.scan.now k c.in_ok-asked.asked.items fault) kind
     (subst (λ (l : List Asked). IsNotReopened Refuses Gives Lacks c.args.scan.now c.settings.inside.kind l fault) c.deref.ensures.value c.in_err-reopened.ensures.err) in
     let told = err_from_is_err_and c.from_residual-in_err-reopened.result c.from_residual-in_err-reopened.ensures.1 in
-    rw (told.1, told.2) (not-reopened view ladder c.args.folder.now c.args.scan.now c.in_ok-asked.asked.items fault c.in_ok-asked.ensures is)
+    rw (told.1, told.2) (not-reopened view ladder c.args.folder.now c.args.scan.now c.in_ok-asked.asked.items fault c.in_ok-asked.ensures.ok is)
 
 pub look_at_keys-requires-clause-each : goal.look_at_keys-requires-clause-each
 look_at_keys-requires-clause-each g c =
@@ -39,7 +39,7 @@ look_at_keys-requires-clause-each g c =
     let are : AreReopened Gives Lacks c.args.scan.now ladder.kind c.in_ok-asked.asked.items reopened =
     subst (λ (k : Kind). AreReopened Gives Lacks c.args.scan.now k c.in_ok-asked.asked.items reopened) kind
     (subst (λ (l : List Asked). AreReopened Gives Lacks c.args.scan.now c.settings.inside.kind l reopened) c.deref.ensures.value c.in_ok-reopened.ensures.ok) in
-    let all : IsReopenedFor view c.args.folder.now ladder c.args.scan.now reopened = record { asked = c.in_ok-asked.asked.items; asks = c.in_ok-asked.ensures; are = are } in
+    let all : IsReopenedFor view c.args.folder.now ladder c.args.scan.now reopened = record { asked = c.in_ok-asked.asked.items; asks = c.in_ok-asked.ensures.ok; are = are } in
     let renditions : c.deref-2.result.now ≡ ladder.renditions = c.deref-2.ensures.value ∙ ap (λ (l : Ladder). l.renditions) c.settings.view_is in
     let found : c.deref-3.result.now ≡ reopened.found = c.deref-3.ensures.value ∙ ap (λ (r : ReopenedValue). r.found) c.reopened.view_is in
     ap (λ (l : List (Option RestoredValue)). length l) found ∙ reopened-count view ladder c.args.folder.now c.args.scan.now reopened all
@@ -57,7 +57,7 @@ look_at_keys-requires-clause-turns g c =
     let are : AreReopened Gives Lacks c.args.scan.now ladder.kind c.in_ok-asked.asked.items reopened =
     subst (λ (k : Kind). AreReopened Gives Lacks c.args.scan.now k c.in_ok-asked.asked.items reopened) kind
     (subst (λ (l : List Asked). AreReopened Gives Lacks c.args.scan.now c.settings.inside.kind l reopened) c.deref.ensures.value c.in_ok-reopened.ensures.ok) in
-    let all : IsReopenedFor view c.args.folder.now ladder c.args.scan.now reopened = record { asked = c.in_ok-asked.asked.items; asks = c.in_ok-asked.ensures; are = are } in
+    let all : IsReopenedFor view c.args.folder.now ladder c.args.scan.now reopened = record { asked = c.in_ok-asked.asked.items; asks = c.in_ok-asked.ensures.ok; are = are } in
     let renditions : c.deref-2.result.now ≡ ladder.renditions = c.deref-2.ensures.value ∙ ap (λ (l : Ladder). l.renditions) c.settings.view_is in
     let found : c.deref-3.result.now ≡ reopened.found = c.deref-3.ensures.value ∙ ap (λ (r : ReopenedValue). r.found) c.reopened.view_is in
     subst (λ (l : List (Option RestoredValue)). TakeTurns l) (sym found) (reopened-turns view ladder c.args.folder.now c.args.scan.now reopened all)
@@ -74,7 +74,7 @@ returns-in_err-look_at_keys-clause-err g c =
     let are : AreReopened Gives Lacks c.args.scan.now ladder.kind c.in_ok-asked.asked.items reopened =
     subst (λ (k : Kind). AreReopened Gives Lacks c.args.scan.now k c.in_ok-asked.asked.items reopened) kind
     (subst (λ (l : List Asked). AreReopened Gives Lacks c.args.scan.now c.settings.inside.kind l reopened) c.deref.ensures.value c.in_ok-reopened.ensures.ok) in
-    let all : IsReopenedFor view c.args.folder.now ladder c.args.scan.now reopened = record { asked = c.in_ok-asked.asked.items; asks = c.in_ok-asked.ensures; are = are } in
+    let all : IsReopenedFor view c.args.folder.now ladder c.args.scan.now reopened = record { asked = c.in_ok-asked.asked.items; asks = c.in_ok-asked.ensures.ok; are = are } in
     let renditions : c.deref-2.result.now ≡ ladder.renditions = c.deref-2.ensures.value ∙ ap (λ (l : Ladder). l.renditions) c.settings.view_is in
     let found : c.deref-3.result.now ≡ reopened.found = c.deref-3.ensures.value ∙ ap (λ (r : ReopenedValue). r.found) c.reopened.view_is in
     let fault = c.in_err-look_at_keys.field-0.0 in
@@ -96,7 +96,7 @@ returns-clause-ok g c =
     let are : AreReopened Gives Lacks c.args.scan.now ladder.kind c.in_ok-asked.asked.items reopened =
     subst (λ (k : Kind). AreReopened Gives Lacks c.args.scan.now k c.in_ok-asked.asked.items reopened) kind
     (subst (λ (l : List Asked). AreReopened Gives Lacks c.args.scan.now c.settings.inside.kind l reopened) c.deref.ensures.value c.in_ok-reopened.ensures.ok) in
-    let all : IsReopenedFor view c.args.folder.now ladder c.args.scan.now reopened = record { asked = c.in_ok-asked.asked.items; asks = c.in_ok-asked.ensures; are = are } in
+    let all : IsReopenedFor view c.args.folder.now ladder c.args.scan.now reopened = record { asked = c.in_ok-asked.asked.items; asks = c.in_ok-asked.ensures.ok; are = are } in
     let renditions : c.deref-2.result.now ≡ ladder.renditions = c.deref-2.ensures.value ∙ ap (λ (l : Ladder). l.renditions) c.settings.view_is in
     let found : c.deref-3.result.now ≡ reopened.found = c.deref-3.ensures.value ∙ ap (λ (r : ReopenedValue). r.found) c.reopened.view_is in
     let keys : AllKeysOpen Gives ladder.renditions reopened.found =

@@ -7,7 +7,7 @@ use Rattle.channel.proofs.resuming.scan_names.Goals as goal
 
 pub returns-clause-ok : goal.returns-clause-ok
 returns-clause-ok g c =
-    let names : map (λ n. n.now) c.deref.result.now ≡ names_of c.args.settings.now.renditions = ap (λ l. map (λ n. n.now) l) c.deref.ensures.value ∙ c.in_ok-names.ensures in
+    let names : map (λ n. n.now) c.deref.result.now ≡ names_of c.args.settings.now.renditions = ap (λ l. map (λ n. n.now) l) c.deref.ensures.value ∙ c.in_ok-names.ensures.ok in
     subst (λ (l : List (List ℕ)). IsScan (g.F.FolderReader.lists c.args.folder.now) l c.in_ok-scan_files.field-0) names c.in_ok-scan_files.ensures.ok
 
 pub returns-in_err-scan_files-clause-err : goal.returns-in_err-scan_files-clause-err

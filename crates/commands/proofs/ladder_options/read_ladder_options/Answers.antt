@@ -33,8 +33,8 @@ returns-clause-ok g c = record {
   turns = rw (c.numbers-numbers.ensures, c.pool-pool.ensures) at c.in_ok-look.ensures.ok;
   ladder_is = rw (c.numbers-numbers.ensures, c.pool-pool.ensures) at c.in_ok-settings.ensures.ok;
   pool_is = c.pool-pool.ensures;
-  paths_are = c.in_ok-paths.ensures ∙ ap (map (λ (entry : EntryWords). entry.path.now)) c.deref-2.ensures.value
-      ∙ sym (map-map (λ (entry : Entry). entry.path) entry_value c.in_ok-entries.entries.items) ∙ ap (map (λ (entry : Entry). entry.path)) c.in_ok-entries.ensures
+  paths_are = c.in_ok-paths.ensures.ok ∙ ap (map (λ (entry : EntryWords). entry.path.now)) c.deref-2.ensures.value
+      ∙ sym (map-map (λ (entry : Entry). entry.path) entry_value c.in_ok-entries.entries.items) ∙ ap (map (λ (entry : Entry). entry.path)) c.in_ok-entries.ensures.ok
       ∙ map-map (λ (entry : Entry). entry.path) entry_of _;
 }
 

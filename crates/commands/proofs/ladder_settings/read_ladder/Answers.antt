@@ -13,12 +13,12 @@ use Rattle.commands.proofs.ladder_settings.read_ladder.Goals as goal
 pub ladder_under-requires-clause-keys : goal.ladder_under-requires-clause-keys
 ladder_under-requires-clause-keys g c =
     let many : length c.deref.result.now ≡ length c.in_ok-key_words.key_words.items = search rules in
-    many ∙ sym (length-map c.in_ok-key_words.key_words.items told) ∙ ap length c.in_ok-key_words.ensures ∙ words-length 1 (map entry_value c.args.entries.now)
+    many ∙ sym (length-map c.in_ok-key_words.key_words.items told) ∙ ap length c.in_ok-key_words.ensures.ok ∙ words-length 1 (map entry_value c.args.entries.now)
 
 pub filled-requires-clause-words : goal.filled-requires-clause-words
 filled-requires-clause-words g c =
     let items : c.deref-2.result.now ≡ c.in_ok-key_words.key_words.items = search rules in
-    ap (λ ws. list_all (λ (w : ToldWord). is_key_word w.text) (map told ws)) items ∙ ap (list_all (λ (w : ToldWord). is_key_word w.text)) c.in_ok-key_words.ensures
+    ap (λ ws. list_all (λ (w : ToldWord). is_key_word w.text) (map told ws)) items ∙ ap (list_all (λ (w : ToldWord). is_key_word w.text)) c.in_ok-key_words.ensures.ok
     ∙ all-good 1 (map entry_value c.args.entries.now) (subst (All IsWhole) (sym c.requires.each) (whole-entries (asked_of c.args.words c.args.numbers c.args.pool) c.requires.turns))
 
 pub renditions-requires-clause-whole : goal.renditions-requires-clause-whole
@@ -30,7 +30,7 @@ renditions-requires-clause-keys g c =
     let items : c.deref-2.result.now ≡ c.in_ok-key_words.key_words.items = search rules in
     ap length c.deref-3.ensures.value
     ∙ tell-length (g.F.FileReader.gives c.args.files.now) (texts_of (map told c.deref-2.result.now)) c.in_ok-keys.keys.items c.in_ok-keys.ensures.ok
-    ∙ length-map (map told c.deref-2.result.now) (λ (w : ToldWord). w.text) ∙ ap (λ ws. length (map told ws)) items ∙ ap length c.in_ok-key_words.ensures
+    ∙ length-map (map told c.deref-2.result.now) (λ (w : ToldWord). w.text) ∙ ap (λ ws. length (map told ws)) items ∙ ap length c.in_ok-key_words.ensures.ok
     ∙ words-length 1 (map entry_value c.args.entries.now)
 
 pub returns-clause-ok : goal.returns-clause-ok
@@ -39,7 +39,7 @@ returns-clause-ok g c =
     let keys = c.in_ok-keys.keys.items in
     let items : c.deref-2.result.now ≡ c.in_ok-key_words.key_words.items = search rules in
     let words : map told c.deref-2.result.now ≡ key_words 1 (map entry_of asked.entries)
-    = ap (map told) items ∙ c.in_ok-key_words.ensures ∙ ap (key_words 1) c.requires.each in
+    = ap (map told) items ∙ c.in_ok-key_words.ensures.ok ∙ ap (key_words 1) c.requires.each in
     let made : Ladder = record {
       renditions = c.in_ok-renditions.renditions.items;
       cut = c.settings.inside.cut;

@@ -11,4 +11,4 @@ returns c = IfOk-weaker c.lines.result _ _ (λ text is. record {
   same = IsPermutation-map told_value _ _ c.sort_by_name.ensures.same;
   ascending = c.in_ok-sort_by_name.ensures.ascending;
   is = is ∙ ap (λ rows. flat_map line_of (map told_value rows)) c.deref.ensures.value;
-}) c.lines.ensures
+}) c.lines.ensures.ok
