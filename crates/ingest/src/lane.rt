@@ -66,6 +66,7 @@ impl Lane {
         ensures unread { OnOk result (self.new.stop ≡ Some Read → self.new.intake ≡ self.old.intake) }
         ensures err { OnErr result ((piece : List ℕ) × IsRead S.input source.old source.new piece) }
         ensures no_read_failed { OnErr result (S.input.failures source.new ≡ S.input.failures source.old) }
+        ensures stop { OnErr result (self.new.stop ≡ self.old.stop) }
     {
         self.read(source, buffer)?;
         if self.stop.is_some() {
@@ -87,6 +88,7 @@ impl Lane {
         ensures unread { OnOk result (self.new.stop ≡ Some Read → self.new.intake ≡ self.old.intake) }
         ensures err { OnErr result ((piece : List ℕ) × IsRead S.input source.old source.new piece) }
         ensures no_read_failed { OnErr result (S.input.failures source.new ≡ S.input.failures source.old) }
+        ensures stop { OnErr result (self.new.stop ≡ self.old.stop) }
     {
         match source.read(buffer) {
             Err(_) => self.stop = Some(Stop::Read),
@@ -107,6 +109,7 @@ impl Lane {
         requires going { self.old.intake.ended ≡ false }
         ensures takes { OnOk result (Takes self.old self.new (self.old.intake.stream ++ piece.now)) }
         ensures stays { OnOk result (IsOfPiece self.new.stop self.old.intake.rendition self.old.intake.settings (self.old.intake.stream ++ piece.now)) }
+        ensures stop { OnErr result (self.new.stop ≡ self.old.stop) }
     {
         if let Err(fault) = self.intake.take(piece) {
             self.stop = Some(Stop::Cut(of_stream(fault)?));
@@ -121,6 +124,7 @@ impl Lane {
         requires going { self.old.intake.ended ≡ false }
         ensures takes { OnOk result (Takes self.old self.new self.old.intake.stream) }
         ensures ends { OnOk result (IsOfEnd self.new.stop) }
+        ensures stop { OnErr result (self.new.stop ≡ self.old.stop) }
     {
         self.stop = match self.intake.finish() {
             Ok(skipped) => Some(Stop::Good(skipped.bytes)),
