@@ -1,28 +1,29 @@
 -- When there is enough for the next round.
-use Rattle.std.specs.Prelude.{◌⊎◌, ℕ, ◌<◌, ◌≤◌, ◌==◌, if◌then◌else◌, nat_lt, List, length, sum_by}
+use Rattle.std.specs.Prelude.{◌⊎◌, ℕ, ◌-◌, ◌<◌, ◌≤◌, ◌==◌, if◌then◌else◌, nat_le, List, length, sum_by}
 use Rattle.ingest.specs.declared.lane.Lane.{Lane}
 use Rattle.item_io.specs.Views.{OutletView, SourceView}
 use Rattle.rounds.specs.declared.run.course.Course.{Course}
 use Rattle.rounds.specs.declared.run.pace.Pace.{Pace}
-use Rattle.rounds.specs.Courses.{HadOneAtMost, ReadsMore, ReadsOn, Rests}
+use Rattle.rounds.specs.Courses.{HadOneAtMost, ReadsMore, ReadsOn, Rests, turns_in}
 
 -- how many plans are closed and not swapped out, over all renditions
 abbrev pub closed_in : List Lane → ℕ
 closed_in lanes = sum_by (λ (lane : Lane). length lane.intake.filled) lanes
+
+-- How many closed plans begin the next round: one, once so many turns were had that what was read in them shouldn't grow; before that
+-- the lesser number where all of the round before is given, and else the greater.
+abbrev pub wanted : Pace → ℕ → ℕ → ℕ
+wanted pace awaited turns = if nat_le pace.turns turns then 1 else (if awaited == 0 then pace.least else pace.most)
 
 -- nothing is left to read, or a plan is closed, and so many are
 abbrev pub HasEnough : {X Y : Type 0} → ℕ → Course X Y → Type 0
 HasEnough least course = Rests course ⊎ ((0 < closed_in course.lanes.items) × (least ≤ closed_in course.lanes.items))
 
 -- What is read stops with the turns that make it enough: before them, one of each rendition at the most, there wasn't enough.
-pub record StopsSoon {X Y : Type 0} (input : SourceView X) (out : OutletView Y) (least : ℕ) (old new : Course X Y) : Type 0 where
+pub record StopsSoon {X Y : Type 0} (input : SourceView X) (out : OutletView Y) (pace : Pace) (old new : Course X Y) : Type 0 where
   pub before : Course X Y
   pub reads_on : ReadsOn input out old before
   pub further : ReadsMore old before
-  pub few : HasEnough least before → ⊥
+  pub few : HasEnough (wanted pace 0 (turns_in before - turns_in old)) before → ⊥
   pub last : (k : ℕ) → HadOneAtMost input k before new
 
--- How many closed plans begin the next round: the lesser number once all of the round before is given, or once so many turns were
--- had since it began that what was read meanwhile shouldn't grow.
-abbrev pub wanted : Pace → ℕ → ℕ → ℕ
-wanted pace awaited turns = if awaited == 0 then pace.least else (if nat_lt turns pace.turns then pace.most else pace.least)

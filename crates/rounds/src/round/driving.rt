@@ -83,8 +83,7 @@ impl<'d, 's, 'r, S: Source, O: Outlet, L: Ledger, M: Ledger, R: Wait> Round<
         pace: Pace,
         buffer: &mut [u8],
     ) -> Result<(), PackFault>
-        requires some { 0 < length buffer.old }
-        requires short { length buffer.old ≤ PIECE }
+        requires whole { length buffer.old ≡ PIECE }
         requires somewhere { IsSomewhere S.input O.output settings.now self.old }
         ensures ok { OnOk result (Moves S.input O.output settings.now self.old self.new) }
         ensures err { IfErr result (Breaks S.input O.output settings.now self.old self.new) }

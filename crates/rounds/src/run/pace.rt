@@ -4,19 +4,18 @@ ghost use Rattle.std.specs.Prelude.{◌≡◌, min};
 ghost use Rattle.std.specs.Option.{unwrap_or};
 ghost use Rattle.rounds.specs.Paces.{wanted};
 
-/// How many turns are had during a round before the next one is begun with fewer segments: what is read in them, at most 18,800 bytes
-/// in each, is 94 MB. So what is held is bounded by bytes too, and not by the number of segments alone.
-const TURNS: u128 = 5000;
+/// How many turns are had for a round before one segment is enough: what is read in them, at most 18,800 bytes in each, is 47 MB. So
+/// what is held is bounded by bytes too, and not by the number of segments alone.
+const TURNS: u128 = 2500;
 
 /// How many closed segments, over all renditions, begin the next round.
 #[derive(Clone, Copy)]
 pub struct Pace {
-    /// How many are enough once all of the round before has been given, or once `turns` turns were had since it began. One is,
-    /// where no source is ready.
+    /// How many are enough once all of the round before has been given.
     pub least: usize,
-    /// How many are enough at any time.
+    /// How many are enough while segments of the round before are still to be given.
     pub most: usize,
-    /// After how many turns in a round the lesser number is enough.
+    /// After how many turns one is enough. It is at any time where no source is ready.
     pub turns: u128,
 }
 
@@ -35,17 +34,16 @@ impl Pace {
         }
     }
 
-    /// How many closed segments begin the next round, while so many of the round before are still to be given, and so many turns were
-    /// had since it began.
+    /// How many closed segments begin the next round, while so many of the round before are still to be given, and after so many turns.
     pub fn wanted(&self, awaited: usize, turns: u128) -> usize
         ensures { result ≡ wanted self.now awaited turns }
     {
+        if turns >= self.turns {
+            return 1;
+        }
         if awaited == 0 {
             return self.least;
         }
-        if turns < self.turns {
-            return self.most;
-        }
-        self.least
+        self.most
     }
 }

@@ -73,6 +73,8 @@ impl<S: Source, O: Outlet> Course<S, O> {
         ensures had { OnOk result (HadOne S.input r self.old self.new) }
         ensures unfailed { OnErr result ((source now : S) → slice_get self.old.sources.items r ≡ Some source
             → slice_get self.new.sources.items r ≡ Some now → S.input.failures now ≡ S.input.failures source) }
+        ensures unstopped { OnErr result ((lane now : Lane) → slice_get self.old.lanes.items r ≡ Some lane
+            → slice_get self.new.lanes.items r ≡ Some now → now.stop ≡ lane.stop) }
     {
         self.lanes[r].turn(&mut self.sources[r], buffer)?;
         self.count_turn(r);
@@ -128,29 +130,30 @@ impl<S: Source, O: Outlet> Course<S, O> {
         Ok(any)
     }
 
-    /// Reads until `least` plans are closed, or one and no source is ready, or nothing is left to read: nothing where that is so
-    /// already. Waits for sources meanwhile, and tells the faults that stand by then.
+    /// Reads until there is enough for a round by its pace, where nothing is awaited, or a plan is closed and no source is ready, or
+    /// nothing is left to read: nothing where that is so already. Waits for sources meanwhile, and tells the faults that stand by then.
     pub fn read_more<R: Wait, H: Herald>(
         &mut self,
         rt: &R,
-        least: usize,
+        pace: Pace,
         buffer: &mut [u8],
         telling: &mut Telling<'_, H>,
     ) -> Result<(), AllocError>
-        requires some { 0 < length buffer.old }
-        requires short { length buffer.old ≤ PIECE }
+        requires whole { length buffer.old ≡ PIECE }
         requires on { IsRun S.input O.output self.old }
         ensures ok { OnOk result (ReadsOn S.input O.output self.old self.new) }
         ensures err { OnErr result (ReadsShort S.input O.output self.old self.new) }
         ensures playlists { OnOk result (self.new.playlists ≡ self.old.playlists) }
         ensures further { OnOk result (ReadsMore self.old self.new) }
-        ensures idle { OnOk result (HasEnough least self.old → self.new ≡ self.old) }
+        ensures idle { OnOk result (HasEnough (wanted pace 0 0) self.old → self.new ≡ self.old) }
         ensures some { OnOk result (HasEnough 1 self.new) }
-        ensures soon { OnOk result (turns_in self.old < turns_in self.new → StopsSoon S.input O.output least self.old self.new) }
-        ensures none { OnErr result (HasEnough least self.old → ⊥) }
+        ensures soon { OnOk result (turns_in self.old < turns_in self.new → StopsSoon S.input O.output pace self.old self.new) }
+        ensures none { OnErr result (HasEnough (wanted pace 0 0) self.old → ⊥) }
     {
+        let before = self.turns_had();
         for _ in rt.forever() {
-            if self.has_closed(least) {
+            let turns = self.turns_had() - before;
+            if self.is_enough(pace, 0, turns) {
                 return Ok(());
             }
             if self.read_ready(buffer)? {
@@ -201,8 +204,8 @@ impl<S: Source, O: Outlet> Course<S, O> {
         true
     }
 
-    /// Whether enough is read for the next round, while `awaited` segments of the round before are still to be given, and so many turns
-    /// were had since it began.
+    /// Whether enough is read for the next round, while `awaited` segments of the round before are still to be given, and after so many
+    /// turns.
     pub fn is_enough(&self, pace: Pace, awaited: usize, turns: u128) -> bool
         requires each { length self.now.turns.items ≡ length self.now.lanes.items }
         ensures { Decides result (HasEnough (wanted pace awaited turns) self.now) }

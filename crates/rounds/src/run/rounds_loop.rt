@@ -5,7 +5,7 @@ ghost use Rattle.rounds.specs.Begun.{keys_of};
 ghost use Rattle.rounds.specs.Courses.{HasGoodEnds, IsAllGiven, IsSomeBetween, NoneClosed, ReadsNone, StaysBetween, StopsBetween};
 ghost use Rattle.rounds.specs.Courses.{HasEndDue, IsRun, ReadsMore, ReadsOn, ReadsShort, turns_in};
 ghost use Rattle.rounds.specs.Gated.{IsGatesWord, IsUnheld};
-ghost use Rattle.rounds.specs.Paces.{HasEnough, StopsSoon};
+ghost use Rattle.rounds.specs.Paces.{HasEnough, StopsSoon, wanted};
 ghost use Rattle.rounds.specs.Rounds.{SwapsOut, SwapsShort, TakesClosed};
 ghost use Rattle.rounds.specs.Showing.{counts_of};
 
@@ -87,8 +87,8 @@ fn read_between<'r, S: Source, O: Outlet, R: Wait, H: Herald>(
     ensures further { OnOk result.1 (ReadsMore between.entry.broadcast.course result.0.broadcast.course) }
     ensures some { OnOk result.1 (HasEnough 1 result.0.broadcast.course) }
     ensures soon { OnOk result.1 (turns_in between.entry.broadcast.course < turns_in result.0.broadcast.course
-        → StopsSoon S.input O.output pace.least between.entry.broadcast.course result.0.broadcast.course) }
-    ensures none { OnErr result.1 (HasEnough pace.least between.entry.broadcast.course → ⊥) }
+        → StopsSoon S.input O.output pace between.entry.broadcast.course result.0.broadcast.course) }
+    ensures none { OnErr result.1 (HasEnough (wanted pace 0 0) between.entry.broadcast.course → ⊥) }
     ensures held { result.0.broadcast.held.publisher ≡ between.entry.broadcast.held.publisher }
     ensures books { result.0.books ≡ between.entry.books }
 {
@@ -99,7 +99,7 @@ fn read_between<'r, S: Source, O: Outlet, R: Wait, H: Herald>(
     let mut buffer = [0; PIECE];
     let read = broadcast
         .course
-        .read_more(rt, pace.least, &mut buffer, telling);
+        .read_more(rt, pace, &mut buffer, telling);
     (BetweenRounds { broadcast, books }, read)
 }
 

@@ -2,14 +2,13 @@ use Rattle.std.proofs.Common.{◌∙◌, refl, ap, sym, subst, rules}
 use Rattle.std.proofs.lemmas.Bool.{false≢true}
 use Rattle.std.proofs.lemmas.Result.{err_from_is_err_and}
 use Rattle.rounds.specs.declared.run.course.Course.{Course}
-use Rattle.rounds.specs.Paces.{HasEnough}
-use Rattle.rounds.proofs.Pacing.{enough-one}
+use Rattle.rounds.proofs.Pacing.{enough-one, enough-since, still-here}
 use Rattle.rounds.proofs.Soon.{most-before, none-looked}
 use Rattle.rounds.proofs.Turning.{more-then, more-looked, on-looked}
 use Rattle.rounds.proofs.run.course.Course.read_more.Goals as goal
 
-pub has_closed-requires : goal.has_closed-requires
-has_closed-requires g c =
+pub is_enough-requires : goal.is_enough-requires
+is_enough-requires g c =
     let some = c.requires.on in
     let on = c.loop.invariant.ok some.0 some.1 some.2 some.3 some.4 in
     record { each = on.counted ∙ sym on.world.same_lanes }
@@ -27,31 +26,31 @@ loop-preserved-then-branch g c = record {
   ok = λ ladder start shows waiting on. c.in_ok-read_ready.ensures.ok ladder start shows waiting (c.loop.invariant.ok ladder start shows waiting on);
   playlists = ap (λ (d : Course _ _). d.playlists) c.in_ok-read_ready.ensures.same ∙ c.loop.invariant.playlists;
   further = more-then _ _ _ c.loop.invariant.further c.in_ok-read_ready.ensures.further;
-  idle = λ enough. absurd (false≢true (c.if-has_closed.ensures.1 (subst (HasEnough c.args.least) (sym (c.loop.invariant.idle enough)) enough)));
+  idle = λ enough. absurd (false≢true (c.if-is_enough.ensures.1 (still-here c.args.pace _ _ _ _ (c.loop.invariant.idle enough) c.turns_had.ensures.is c.turns_had-before.ensures.is enough)));
   soon = λ more. record {
     before = c.loop.self;
     reads_on = c.loop.invariant.ok;
     further = c.loop.invariant.further;
-    few = λ enough. false≢true (c.if-has_closed.ensures.1 enough);
+    few = λ enough. false≢true (c.if-is_enough.ensures.1 (enough-since c.args.pace c.loop.self c.args.self.now _ _ c.turns_had.ensures.is c.turns_had-before.ensures.is enough));
     last = c.in_ok-read_ready.ensures.each;
   };
   buffer = search rules;
 }
 
-pub has_closed-requires-in-loop : goal.has_closed-requires-in-loop
-has_closed-requires-in-loop g c =
+pub has_closed-requires : goal.has_closed-requires
+has_closed-requires g c =
     let some = c.requires.on in
     let on = c.in_ok-read_ready.ensures.ok some.0 some.1 some.2 some.3 (c.loop.invariant.ok some.0 some.1 some.2 some.3 some.4) in
     record { each = on.counted ∙ sym on.world.same_lanes }
 
-pub returns-then-has_closed-2-clause-ok : goal.returns-then-has_closed-2-clause-ok
-returns-then-has_closed-2-clause-ok g c ladder start shows waiting on = c.in_ok-read_ready.ensures.ok ladder start shows waiting (c.loop.invariant.ok ladder start shows waiting on)
+pub returns-then-has_closed-clause-ok : goal.returns-then-has_closed-clause-ok
+returns-then-has_closed-clause-ok g c ladder start shows waiting on = c.in_ok-read_ready.ensures.ok ladder start shows waiting (c.loop.invariant.ok ladder start shows waiting on)
 
-pub returns-then-has_closed-2-clause-playlists : goal.returns-then-has_closed-2-clause-playlists
-returns-then-has_closed-2-clause-playlists g c = ap (λ (d : Course _ _). d.playlists) c.in_ok-read_ready.ensures.same ∙ c.loop.invariant.playlists
+pub returns-then-has_closed-clause-playlists : goal.returns-then-has_closed-clause-playlists
+returns-then-has_closed-clause-playlists g c = ap (λ (d : Course _ _). d.playlists) c.in_ok-read_ready.ensures.same ∙ c.loop.invariant.playlists
 
-pub returns-then-has_closed-2-clause-further : goal.returns-then-has_closed-2-clause-further
-returns-then-has_closed-2-clause-further g c = more-then _ _ _ c.loop.invariant.further c.in_ok-read_ready.ensures.further
+pub returns-then-has_closed-clause-further : goal.returns-then-has_closed-clause-further
+returns-then-has_closed-clause-further g c = more-then _ _ _ c.loop.invariant.further c.in_ok-read_ready.ensures.further
 
 pub loop-preserved : goal.loop-preserved
 loop-preserved g c = record {
@@ -59,34 +58,34 @@ loop-preserved g c = record {
       on-looked _ _ _ _ _ start _ _ shows waiting c.wait.ensures.sources c.wait.ensures.same (c.in_ok-read_ready.ensures.ok ladder start shows waiting (c.loop.invariant.ok ladder start shows waiting on));
   playlists = ap (λ (d : Course _ _). d.playlists) c.wait.ensures.same ∙ (ap (λ (d : Course _ _). d.playlists) c.in_ok-read_ready.ensures.same ∙ c.loop.invariant.playlists);
   further = more-then _ _ _ (more-then _ _ _ c.loop.invariant.further c.in_ok-read_ready.ensures.further) (more-looked _ _ c.wait.ensures.same);
-  idle = λ enough. absurd (false≢true (c.if-has_closed.ensures.1 (subst (HasEnough c.args.least) (sym (c.loop.invariant.idle enough)) enough)));
+  idle = λ enough. absurd (false≢true (c.if-is_enough.ensures.1 (still-here c.args.pace _ _ _ _ (c.loop.invariant.idle enough) c.turns_had.ensures.is c.turns_had-before.ensures.is enough)));
   soon = λ more. record {
     before = c.loop.self;
     reads_on = c.loop.invariant.ok;
     further = c.loop.invariant.further;
-    few = λ enough. false≢true (c.if-has_closed.ensures.1 enough);
+    few = λ enough. false≢true (c.if-is_enough.ensures.1 (enough-since c.args.pace c.loop.self c.args.self.now _ _ c.turns_had.ensures.is c.turns_had-before.ensures.is enough));
     last = λ k. most-before _ k _ _ _ (c.in_ok-read_ready.ensures.each k) (none-looked k _ _ c.wait.ensures.sources c.wait.ensures.same);
   };
   buffer = search rules;
 }
 
-pub returns-then-has_closed-2-clause-idle : goal.returns-then-has_closed-2-clause-idle
-returns-then-has_closed-2-clause-idle g c enough =
-    absurd (false≢true (c.if-has_closed.ensures.1 (subst (HasEnough c.args.least) (sym (c.loop.invariant.idle enough)) enough)))
+pub returns-then-has_closed-clause-idle : goal.returns-then-has_closed-clause-idle
+returns-then-has_closed-clause-idle g c enough =
+    absurd (false≢true (c.if-is_enough.ensures.1 (still-here c.args.pace _ _ _ _ (c.loop.invariant.idle enough) c.turns_had.ensures.is c.turns_had-before.ensures.is enough)))
 
-pub returns-then-has_closed-clause-some : goal.returns-then-has_closed-clause-some
-returns-then-has_closed-clause-some g c = enough-one c.args.least c.loop.self (c.if-has_closed.ensures.0 refl)
+pub returns-then-is_enough-clause-some : goal.returns-then-is_enough-clause-some
+returns-then-is_enough-clause-some g c = enough-one _ c.loop.self (c.if-is_enough.ensures.0 refl)
 
 pub returns-in_err-read_ready-clause-none : goal.returns-in_err-read_ready-clause-none
 returns-in_err-read_ready-clause-none g c =
     let told = err_from_is_err_and c.from_residual.result c.from_residual.ensures.1 in
-    rw told.1 (λ enough. false≢true (c.if-has_closed.ensures.1 (subst (HasEnough c.args.least) (sym (c.loop.invariant.idle enough)) enough)))
+    rw told.1 (λ enough. false≢true (c.if-is_enough.ensures.1 (still-here c.args.pace _ _ _ _ (c.loop.invariant.idle enough) c.turns_had.ensures.is c.turns_had-before.ensures.is enough)))
 
-pub returns-then-has_closed-2-clause-soon : goal.returns-then-has_closed-2-clause-soon
-returns-then-has_closed-2-clause-soon g c more = record {
+pub returns-then-has_closed-clause-soon : goal.returns-then-has_closed-clause-soon
+returns-then-has_closed-clause-soon g c more = record {
   before = c.loop.self;
   reads_on = c.loop.invariant.ok;
   further = c.loop.invariant.further;
-  few = λ enough. false≢true (c.if-has_closed.ensures.1 enough);
+  few = λ enough. false≢true (c.if-is_enough.ensures.1 (enough-since c.args.pace c.loop.self c.args.self.now _ _ c.turns_had.ensures.is c.turns_had-before.ensures.is enough));
   last = c.in_ok-read_ready.ensures.each;
 }

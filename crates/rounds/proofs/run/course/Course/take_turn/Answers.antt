@@ -4,6 +4,7 @@ use Rattle.std.specs.List.{slice_index_or}
 use Rattle.std.proofs.lemmas.Option.{slice_get_read, same_Some}
 use Rattle.std.proofs.lemmas.Result.{err_from_is_err_and}
 use Rattle.ingest.proofs.Ordered.{closed_of-grow}
+use Rattle.ingest.specs.declared.lane.Lane.{Lane}
 use Rattle.ladder_items.proofs.Elsewhere.{set-here}
 use Rattle.ladder_items.proofs.Worlds.{stage-at, reads-fit}
 use Rattle.rounds.proofs.Soon.{had-one}
@@ -114,3 +115,12 @@ returns-in_err-turn-clause-unfailed g c =
     let old = same_Some _ _ (sym there ∙ was) in
     let new = set-here c.args.self.now.sources.items c.args.r c.turn.new.source now is in
     ap g.S.Source.input.failures (sym new) ∙ (c.in_err-turn.ensures.no_read_failed ∙ ap g.S.Source.input.failures old))
+
+pub returns-in_err-turn-clause-unstopped : goal.returns-in_err-turn-clause-unstopped
+returns-in_err-turn-clause-unstopped g c =
+    let told = err_from_is_err_and c.from_residual.result c.from_residual.ensures.1 in
+    let at = slice_get_read c.args.self.now.lanes.items _ c.args.r c.index_mut.result.now refl c.requires.within c.index_mut.ensures.value in
+    rw told.1 (λ lane now was is.
+    let old = same_Some _ _ (sym at ∙ was) in
+    let new = set-here c.args.self.now.lanes.items c.args.r c.turn.new.self now is in
+    ap (λ (l : Lane). l.stop) (sym new) ∙ (c.in_err-turn.ensures.stop ∙ ap (λ (l : Lane). l.stop) old))
