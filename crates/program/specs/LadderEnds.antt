@@ -20,7 +20,7 @@ LacksSummary ladder held held_then packing.NoMemory = Keeps held held_then
 abbrev pub IsUnbegun : Fault → Type 0
 IsUnbegun fault = (fault ≡ NoMemory) ⊎ ((why : InputFault) × (fault ≡ Unopened why))
 
--- A ladder ends by a fault: nothing was begun and nothing was written, or its run ended so.
+-- A ladder ends by a fault of its run.
 abbrev pub FailsLadder : Ladder → Option (List ℕ) → Option (List ℕ) → Fault → Type 0
-FailsLadder ladder held held_then fault = (IsUnbegun fault × (held_then ≡ held)) ⊎
-    ((why : LadderPackingFault) × (fault ≡ LadderPacking why) × IsNeverHeld why × LacksSummary ladder held held_then why)
+FailsLadder ladder held held_then fault =
+    (why : LadderPackingFault) × (fault ≡ LadderPacking why) × IsNeverHeld why × LacksSummary ladder held held_then why

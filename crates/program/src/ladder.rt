@@ -9,7 +9,8 @@ ghost use Rattle.command_line.specs.declared.fault.Fault.TheVariants.{LadderPack
 ghost use Rattle.packing.specs.LadderPacking.{WritesSummary};
 ghost use Rattle.program.specs.Asked.{IsAsAsked};
 ghost use Rattle.program.specs.Channels.{GoesNotOn, GoesOn, IsJobBehind};
-ghost use Rattle.program.specs.LadderEnds.{FailsLadder};
+ghost use Rattle.program.specs.LadderEnds.{FailsLadder, IsUnbegun};
+ghost use Rattle.program.specs.LadderRuns.{IsPrunedRun, IsWholeRun};
 
 use crate::told::Tellings;
 use crate::watching::{Watched, Watching};
@@ -17,6 +18,8 @@ use channel::{Resumed, resume};
 use command_line::{Fault, LadderJob};
 use commands::{LadderOptions, LadderPackingFault, Pool};
 use folder::{FileFolder, Folder, FolderReader};
+use item_io::FolderOutlet;
+use keeping::KeepingOutlet;
 use live_board::Publisher;
 use packing::{Destination, PackedLadder, pack_into_folder};
 use pipeline::{Herald, Report, opening_board};
@@ -100,9 +103,25 @@ fn go_on<'a, F: Folder + FolderReader>(
     Ok(Channel { job, older })
 }
 
+/// Where the files of a ladder go.
+#[derive(Drop)]
+pub enum LadderOutlet<F> {
+    /// All of them stay.
+    Whole(FolderOutlet<F>),
+    /// Segments go once no player can want them any more.
+    Pruned(KeepingOutlet<F>),
+}
+
+/// A ladder that was packed: its inputs and its outlet, and how that ended.
+pub struct LadderRun<S, F> {
+    pub sources: Vec<S>,
+    pub outlet: LadderOutlet<F>,
+    pub answer: Result<(), Fault>,
+}
+
 /// Packs a ladder of files into a folder. All paths but those of FIFOs that have no writer are open before anything is
 /// written. The herald is told of a rendition's fault as soon as it stands; what the run tells of itself is kept where its
-/// metrics find it.
+/// metrics find it. An Err is why it wasn't begun.
 pub fn pack_ladder<
     R: InputFiles + Files + Clock + Eprint + Threads + Wait + Copy + Send + Sync + Drop + 'static,
     W: Write,
@@ -115,17 +134,30 @@ pub fn pack_ladder<
     output: &mut W,
     herald: &H,
     told: Arc<Tellings>,
-) -> Result<(), Fault>
+) -> Result<LadderRun<Ahead<R, InputAt<R>>, FileFolder<R>>, Fault>
 where
     R::Reader: Send + 'static,
     R::File: Send + 'static,
     R::Dir: Send + 'static,
 
     // It ends well only where all was packed and the summary was written.
-    ensures written { OnOk result ((report : _) × WritesSummary job.now.options.settings report (W.contents output.old) (W.contents output.new)) }
+    ensures written { IfOk result (λ run. OnOk run.answer ((report : _) ×
+        WritesSummary job.now.options.settings report (W.contents output.old) (W.contents output.new))) }
 
-    // It ends by a fault of its run, which says what was written, or nothing was begun, nor written.
-    ensures fault { IfErr result (FailsLadder job.now.options.settings (W.contents output.old) (W.contents output.new)) }
+    // It ends by a fault of its run, which says what was written.
+    ensures fault { IfOk result (λ run. IfErr run.answer (FailsLadder job.now.options.settings (W.contents output.old) (W.contents output.new))) }
+
+    // Where it wasn't begun, nothing was written.
+    ensures unbegun { IfErr result (λ fault. IsUnbegun fault × (W.contents output.new ≡ W.contents output.old)) }
+
+    // Each rendition is read from its own path, and its files go to the folder that was asked for.
+    ensures whole { job.now.removes ≡ false → IfOk result (IsWholeRun
+        (map (λ path. R.holds rt path.now) job.now.options.paths.items) job.now (W.contents output.old) (W.contents output.new)) }
+
+    // Segments go if that was asked for, and no others do than may by what the run before left.
+    ensures pruned { job.now.removes ≡ true → IfOk result (IsPrunedRun
+        (map (λ path. R.holds rt path.now) job.now.options.paths.items) job.now (map (λ n. n.items) older.items)
+        (W.contents output.old) (W.contents output.new)) }
 {
     let settings = &job.options.settings;
     let pool = job.options.pool;
@@ -141,26 +173,34 @@ where
     let watching = Watching::begin(rt, alloc, &settings.renditions, job.metrics, watched);
     if job.removes {
         let PackedLadder {
-            sources: _,
+            sources,
             publisher,
-            outlet: _,
+            outlet,
             answer,
         } = pack_and_remove(
             &rt, alloc, sources, settings, pool, publisher, into, kept, output, herald,
         );
         let ended = end_run(&rt, alloc, watching, publisher, answer);
-        return ended;
+        return Ok(LadderRun {
+            sources,
+            outlet: LadderOutlet::Pruned(outlet),
+            answer: ended,
+        });
     }
     let PackedLadder {
-        sources: _,
+        sources,
         publisher,
-        outlet: _,
+        outlet,
         answer,
     } = pack_into_folder(
         &rt, alloc, sources, settings, pool, publisher, into, output, herald,
     );
     let ended = end_run(&rt, alloc, watching, publisher, answer);
-    ended
+    Ok(LadderRun {
+        sources,
+        outlet: LadderOutlet::Whole(outlet),
+        answer: ended,
+    })
 }
 
 /// Ends what watches a run, and its board, and tells how the run ended.

@@ -16,7 +16,7 @@ mod telling;
 mod told;
 mod watching;
 
-use crate::ladder::{Channel, begin_channel, pack_ladder};
+use crate::ladder::{Channel, LadderRun, begin_channel, pack_ladder};
 use crate::streaming::{Streamed, stream};
 use crate::telling::{Teller, tell};
 use crate::told::Tellings;
@@ -82,7 +82,14 @@ where
     };
     let teller = Teller::new(rt, *host, words, &job.options.settings, theirs);
     let into = &mut host.stdout();
-    let answer = pack_ladder(rt, host.alloc(), &job, older, into, &teller, told);
+    let answer = match pack_ladder(rt, host.alloc(), &job, older, into, &teller, told) {
+        Ok(LadderRun {
+            sources: _,
+            outlet: _,
+            answer,
+        }) => answer,
+        Err(fault) => Err(fault),
+    };
     end_of(host, words, &teller, answer)
 }
 

@@ -1,5 +1,5 @@
 //! Watches a run: a thread with a viewer of its board writes its metrics to a file. The run waits for nothing of it.
-ghost use Rattle.std.specs.Prelude.{true, OnErr, ◌≡◌, ◌<◌, ℕ, IfOk, IfSome, IsErr, List, None, false, fold, length, map, option_copied, option_map, replicate};
+ghost use Rattle.std.specs.Prelude.{true, OnErr, ◌≡◌, ◌<◌, ℕ, [], IfOk, IfSome, IsErr, IsSome, List, None, false, fold, length, map, option_copied, option_map, replicate};
 ghost use Rattle.std.specs.String.{string_bytes};
 ghost use Rattle.metrics.specs.Seens.{unseen};
 ghost use Rattle.program.specs.Asked.{input_sample};
@@ -203,7 +203,10 @@ impl Writer {
         &self,
         rt: &R,
         alloc: Global,
-    ) -> Result<Vec<InputSample>, AllocError> {
+    ) -> Result<Vec<InputSample>, AllocError>
+        ensures none { self.now.inputs ≡ None → IfOk result (λ all. all.items ≡ []) }
+        ensures scarce { OnErr result (IsSome self.now.inputs) }
+    {
         match &self.inputs {
             Some(inputs) => samples_of(alloc, &inputs.look(rt, alloc)?),
             None => Ok(Vec::new(alloc)),

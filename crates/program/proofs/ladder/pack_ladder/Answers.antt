@@ -1,21 +1,66 @@
-use Rattle.std.proofs.Common.{arith}
-use Rattle.program.proofs.Ending.{told-fault, told-well}
+use Rattle.std.proofs.Common.{refl, arith}
+use Rattle.program.proofs.Ending.{told-fault, told-on, told-well, told-why}
 use Rattle.program.proofs.ladder.pack_ladder.Goals as goal
 
 pub returns-then-job : goal.returns-then-job
-returns-then-job g c = record {
-  written = told-well _ c.pack_and_remove-publisher.result.answer c.end_run-ended.result c.end_run-ended.ensures.fault c.pack_and_remove-publisher.ensures.written;
-  fault = told-fault _ _ _ _ _ _ _ c.pack_and_remove-publisher.result.answer c.end_run-ended.result c.end_run-ended.ensures.well c.end_run-ended.ensures.fault c.pack_and_remove-publisher.ensures.never_held c.pack_and_remove-publisher.ensures.fault;
-}
+returns-then-job g c =
+    let p = c.pack_and_remove-sources.ensures in
+    let e = c.end_run-ended in
+    record {
+      written = told-well _ c.pack_and_remove-sources.result.answer e.result e.ensures.fault p.written;
+      fault = told-fault _ _ _ _ _ _ _ c.pack_and_remove-sources.result.answer e.result e.ensures.well e.ensures.fault p.never_held p.fault;
+      unbegun = tt;
+      whole = λ stays. absurd (cc stays);
+      pruned = λ goes. record {
+        inputs = c.in_ok-sources.field-0.sources.items;
+        opened = record { left_is = c.in_ok-sources.ensures.left; unread = c.in_ok-sources.ensures.unread };
+        into = c.in_ok-into.into;
+        asked = record { fresh = c.in_ok-into.ensures.fresh; path = c.in_ok-into.ensures.folder.0; may = c.in_ok-into.ensures.folder.1; syncs = c.in_ok-into.ensures.syncs };
+        kept = c.in_ok-kept.kept.items;
+        live = rw c.deref.ensures.value at c.in_ok-kept.ensures.kept;
+        event = c.in_ok-kept.ensures.event;
+        outlet = c.pack_and_remove-sources.result.outlet;
+        is = refl;
+        same = p.same;
+        leaves = p.killed;
+        unlisted = told-on _ c.pack_and_remove-sources.result.answer e.result e.ensures.fault p.unlisted;
+        ends = record {
+          old = _;
+          new = _;
+          ok = told-well _ c.pack_and_remove-sources.result.answer e.result e.ensures.fault p.ok;
+          fault = told-why _ c.pack_and_remove-sources.result.answer e.result e.ensures.well e.ensures.fault p.fault;
+        };
+      };
+    }
 
-pub pack_into_folder-publisher-requires-clause-room :
-    goal.pack_into_folder-publisher-requires-clause-room
-pack_into_folder-publisher-requires-clause-room g c κs within = λ k d lt.
+pub pack_into_folder-sources-requires-clause-room :
+    goal.pack_into_folder-sources-requires-clause-room
+pack_into_folder-sources-requires-clause-room g c κs within = λ k d lt.
     let none = c.in_ok-sources.ensures.unread k d lt in
     record { for_reads = omega (arith, none.0); for_a_failure = omega (arith, none.1) }
 
 pub returns : goal.returns
-returns g c = record {
-  written = told-well _ c.pack_into_folder-publisher.result.answer c.end_run-ended-2.result c.end_run-ended-2.ensures.fault c.pack_into_folder-publisher.ensures.written;
-  fault = told-fault _ _ _ _ _ _ _ c.pack_into_folder-publisher.result.answer c.end_run-ended-2.result c.end_run-ended-2.ensures.well c.end_run-ended-2.ensures.fault c.pack_into_folder-publisher.ensures.never_held c.pack_into_folder-publisher.ensures.fault;
-}
+returns g c =
+    let p = c.pack_into_folder-sources.ensures in
+    let e = c.end_run-ended-2 in
+    record {
+      written = told-well _ c.pack_into_folder-sources.result.answer e.result e.ensures.fault p.written;
+      fault = told-fault _ _ _ _ _ _ _ c.pack_into_folder-sources.result.answer e.result e.ensures.well e.ensures.fault p.never_held p.fault;
+      unbegun = tt;
+      whole = λ stays. record {
+        inputs = c.in_ok-sources.field-0.sources.items;
+        opened = record { left_is = c.in_ok-sources.ensures.left; unread = c.in_ok-sources.ensures.unread };
+        into = c.in_ok-into.into;
+        asked = record { fresh = c.in_ok-into.ensures.fresh; path = c.in_ok-into.ensures.folder.0; may = c.in_ok-into.ensures.folder.1; syncs = c.in_ok-into.ensures.syncs };
+        outlet = c.pack_into_folder-sources.result.outlet;
+        is = refl;
+        leaves = p.playable;
+        ends = record {
+          old = _;
+          new = _;
+          ok = told-well _ c.pack_into_folder-sources.result.answer e.result e.ensures.fault p.ok;
+          fault = told-why _ c.pack_into_folder-sources.result.answer e.result e.ensures.well e.ensures.fault p.fault;
+        };
+      };
+      pruned = λ goes. absurd (cc goes);
+    }

@@ -1,0 +1,80 @@
+-- What a ladder was packed from, and into what.
+use Rattle.std.specs.Prelude.{◌≡◌, ℕ, All, IfErr, IfOk, List, [], OnOk, Option, Result, map}
+use Rattle.folder.specs.FileFolders.{file_moves, folder_path, may_sync}
+use Rattle.folder.specs.declared.file_folder.FileFolder.{FileFolder}
+use Rattle.item_io.specs.FolderMoves.{FolderState}
+use Rattle.item_io.specs.Views.{SourceView, source_view}
+use Rattle.item_io.specs.declared.limits.TheConstants.{READS}
+use Rattle.keeping.specs.Holding.{KeepingState}
+use Rattle.keeping.specs.InPlace.{NoneIsListed}
+use Rattle.keeping.specs.Keepings.{KeepingValue, Stay}
+use Rattle.ladder_items.specs.Ladder.{Ladder}
+use Rattle.ladder_items.specs.Runs.{Run}
+use Rattle.ladder_items.specs.declared.report.Report.{Report}
+use Rattle.ladder_items.specs.declared.settings.Kind.TheVariants.{Live, Event}
+use Rattle.live_board.specs.Snapshots.{SnapshotFacts}
+use Rattle.rounds.specs.Shown.{IsPackedShown}
+use Rattle.read_ahead.specs.Sources.{Seen}
+use Rattle.commands.specs.declared.packing_fault.LadderPackingFault.{LadderPackingFault}
+use Rattle.command_line.specs.declared.fault.Fault.{Fault}
+use Rattle.command_line.specs.declared.fault.Fault.TheVariants.{LadderPacking}
+use Rattle.command_line.specs.declared.job.LadderJob.{LadderJob}
+use Rattle.packing.specs.FolderPacking.{LeavesPlayable, folder_run}
+use Rattle.packing.specs.LadderPacking.{LadderSays}
+use Rattle.packing.specs.declared.destination.Destination.{Destination}
+use Rattle.removal.specs.Removing.{LeavesKept, kept_run, new_keeping}
+use Rattle.removal.specs.Retaining.{AreKeptFor}
+use Rattle.program.specs.declared.ladder.LadderOutlet.{LadderOutlet}
+use Rattle.program.specs.declared.ladder.LadderOutlet.TheVariants.{Pruned, Whole}
+use Rattle.program.specs.declared.ladder.LadderRun.{LadderRun}
+
+-- an input that is read ahead, as a run sees it
+abbrev pub ahead_input : SourceView Seen
+ahead_input = source_view (λ s. s.left) (λ s. s.reads) (λ s. s.failures)
+
+-- inputs that were just opened, of which these bytes are left, in this order
+pub record AreOpened (left : List (Option (List ℕ))) (inputs : List Seen) : Type 0 where
+  pub left_is : map (λ (s : Seen). s.left) inputs ≡ left
+  pub unread : All (λ (s : Seen). (s.reads ≡ 0) × (s.failures ≡ 0)) inputs
+
+-- the folder that was asked for, to which nothing was done yet
+pub record IsAskedFor {R : Type 0} (job : LadderJob) (into : Destination (FileFolder R)) : Type 0 where
+  pub fresh : file_moves into.folder ≡ []
+  pub path : folder_path into.folder ≡ job.folder.now
+  pub may : may_sync into.folder ≡ job.syncs
+  pub syncs : into.syncs ≡ job.syncs
+
+-- A run ended so: all was packed and shown, or its fault says what was.
+pub record EndsSo {Y V : Type 0} (run : Run Seen Y) (job : LadderJob) (held held_then : Option (List ℕ)) (answer : Result V Fault) : Type 0 where
+  pub old : List SnapshotFacts
+  pub new : List SnapshotFacts
+  pub ok : OnOk answer ((report : Report) × IsPackedShown run job.options.settings job.options.pool.workers old new report)
+  pub fault : IfErr answer (λ fault. (why : LadderPackingFault) × (fault ≡ LadderPacking why)
+      × LadderSays run job.options.settings job.options.pool.workers old new held held_then why)
+
+-- each rendition was read from its own input, and put into the folder
+pub record IsWholeRun {R : Type 0} (left : List (Option (List ℕ))) (job : LadderJob) (held held_then : Option (List ℕ)) (run : LadderRun Seen (FileFolder R)) : Type 0 where
+  pub inputs : List Seen
+  pub opened : AreOpened left inputs
+  pub into : Destination (FileFolder R)
+  pub asked : IsAskedFor job into
+  pub outlet : FolderState (FileFolder R)
+  pub is : run.outlet ≡ Whole outlet
+  pub leaves : LeavesPlayable job.options.settings into.syncs (file_moves outlet.folder)
+  pub ends : EndsSo (folder_run ahead_input file_moves READS inputs run.sources.items into outlet) job held held_then run.answer
+
+-- the same, and its segments are kept for as long as the settings, and what earlier runs left, ask for
+pub record IsPrunedRun {R : Type 0} (left : List (Option (List ℕ))) (job : LadderJob) (older : List (List ℕ)) (held held_then : Option (List ℕ)) (run : LadderRun Seen (FileFolder R)) : Type 0 where
+  pub inputs : List Seen
+  pub opened : AreOpened left inputs
+  pub into : Destination (FileFolder R)
+  pub asked : IsAskedFor job into
+  pub kept : List KeepingValue
+  pub live : job.options.settings.kind ≡ Live → AreKeptFor job.options.settings older kept
+  pub event : job.options.settings.kind ≡ Event → kept ≡ []
+  pub outlet : KeepingState (FileFolder R)
+  pub is : run.outlet ≡ Pruned outlet
+  pub same : Stay kept outlet.renditions
+  pub leaves : LeavesKept job.options.settings into.syncs (file_moves outlet.files.folder) outlet.renditions
+  pub unlisted : OnOk run.answer (NoneIsListed (file_moves outlet.files.folder) outlet.renditions)
+  pub ends : EndsSo (kept_run ahead_input file_moves READS inputs run.sources.items (new_keeping into kept) outlet) job held held_then run.answer
