@@ -1,7 +1,7 @@
 -- Lists with a comma between two of them.
-use Rattle.std.proofs.Common.{◌≡◌, ℕ, List, [], ◌∷◌, ◌++◌, sym, ap, ◌∙◌}
+use Rattle.std.proofs.Common.{◌≡◌, ℕ, ◌+◌, ◌<◌, ◌≤◌, List, [], ◌∷◌, ◌++◌, length, get_or, drop, map, sym, ap, ◌∙◌, arith, length-append}
 use Rattle.std.specs.List.{join_with_byte}
-use Rattle.std.proofs.lemmas.List.{append-nil, append_assoc}
+use Rattle.std.proofs.lemmas.List.{append-nil, append_assoc, at_drop_more}
 
 -- each with a comma before it
 abbrev pub separated : List (List ℕ) → List ℕ
@@ -19,3 +19,19 @@ pub joined : (old begun all x : List ℕ) (xs : List (List ℕ)) → begun ≡ o
 joined old begun all x xs first others =
     sym (append-nil all) ∙ others ∙ ap (λ (ys : List ℕ). ys ++ separated xs) first ∙ append_assoc old x (separated xs)
     ∙ ap (λ (ys : List ℕ). old ++ ys) (sym (join-separated x xs))
+
+-- how long all of it is, where some of it is left to write
+pub all-long : (old begun now x : List ℕ) (xs left : List (List ℕ)) → begun ≡ old ++ x → now ++ separated left ≡ begun ++ separated xs →
+    length now + length (separated left) ≡ length old + length (join_with_byte 44 (x ∷ xs))
+all-long old begun now x xs left first others =
+    let whole = simp length-append at (ap length (join-separated x xs)) in
+    let begins = simp length-append at (ap length first) in
+    let both = simp length-append at (ap length others) in
+    omega arith
+
+-- the next one is as long as that, with its comma
+pub item-long : {A : Type 0} (f : A → List ℕ) (xs : List A) (i : ℕ) (d : A) → i < length xs →
+    1 + length (f (get_or xs i d)) ≤ length (separated (map f (drop i xs)))
+item-long f xs i d below =
+    let more = at_drop_more (λ ys. length (separated (map f ys))) xs i d below in
+    omega (arith, more, length-append (f (get_or xs i d)) (separated (map f (drop (i + 1) xs))))

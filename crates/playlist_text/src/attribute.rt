@@ -1,7 +1,7 @@
-ghost use Rattle.std.specs.Prelude.{◌≡◌, ◌++◌, [], map, IsOk, OnOk};
-ghost use Rattle.std.specs.String.{string_bytes};
+ghost use Rattle.std.specs.Prelude.{◌≡◌, ◌+◌, ◌<◌, ◌≤◌, ◌++◌, [], false, length, map, IsOk, OnErr, OnOk};
+ghost use Rattle.std.specs.String.{string_bytes, string_capacity, string_len};
 ghost use Rattle.playlist_text.specs.Attributes.{quoted, hexadecimal, resolution, attribute_list};
-ghost use Rattle.playlist_text.specs.AttributeValues.{value_text, attribute_text};
+ghost use Rattle.playlist_text.specs.AttributeValues.{value_text, attribute_text, is_hexadecimal, HaveNoHexadecimal};
 
 use crate::number::push_decimal;
 use std::alloc::AllocError;
@@ -30,6 +30,9 @@ pub fn push_attribute_list(out: &mut String, attributes: &[Attribute<'_>]) -> Re
     ensures ok { OnOk result
         (string_bytes out.new ≡ string_bytes out.old ++ attribute_list (map attribute_text attributes.now)) }
     ensures none { attributes.now ≡ [] → IsOk result }
+    ensures full { HaveNoHexadecimal attributes.now → OnErr result
+        (string_capacity out.old < string_len out.old + length (attribute_list (map attribute_text attributes.now))) }
+    ensures capacity { string_capacity out.old ≤ string_capacity out.new }
 {
     let Some((first, others)) = attributes.split_first() else {
         return Ok(());
@@ -43,7 +46,10 @@ pub fn push_attribute_list(out: &mut String, attributes: &[Attribute<'_>]) -> Re
 }
 
 fn push_attribute(out: &mut String, attribute: &Attribute<'_>) -> Result<(), AllocError>
-    ensures { OnOk result (string_bytes out.new ≡ string_bytes out.old ++ attribute_text attribute.now) }
+    ensures ok { OnOk result (string_bytes out.new ≡ string_bytes out.old ++ attribute_text attribute.now) }
+    ensures full { is_hexadecimal attribute.now.value ≡ false → OnErr result
+        (string_capacity out.old < string_len out.old + length (attribute_text attribute.now)) }
+    ensures capacity { string_capacity out.old ≤ string_capacity out.new }
 {
     out.push_str(attribute.name)?;
     out.push_str("=")?;
@@ -51,7 +57,10 @@ fn push_attribute(out: &mut String, attribute: &Attribute<'_>) -> Result<(), All
 }
 
 fn push_value(out: &mut String, value: Value<'_>) -> Result<(), AllocError>
-    ensures { OnOk result (string_bytes out.new ≡ string_bytes out.old ++ value_text value.entry) }
+    ensures ok { OnOk result (string_bytes out.new ≡ string_bytes out.old ++ value_text value.entry) }
+    ensures full { is_hexadecimal value.entry ≡ false → OnErr result
+        (string_capacity out.old < string_len out.old + length (value_text value.entry)) }
+    ensures capacity { string_capacity out.old ≤ string_capacity out.new }
 {
     match value {
         Value::Decimal(number) => push_decimal(out, u128::from(number)),
@@ -65,7 +74,8 @@ fn push_value(out: &mut String, value: Value<'_>) -> Result<(), AllocError>
 /// Appends bytes as a hexadecimal sequence, in upper case (RFC 8216, 4.2).
 #[tactic(auto, unfolding(crate::specs::Attributes::hexadecimal))]
 pub fn push_hexadecimal(out: &mut String, bytes: &[u8; 16]) -> Result<(), AllocError>
-    ensures { OnOk result (string_bytes out.new ≡ string_bytes out.old ++ hexadecimal bytes.now) }
+    ensures ok { OnOk result (string_bytes out.new ≡ string_bytes out.old ++ hexadecimal bytes.now) }
+    ensures capacity { string_capacity out.old ≤ string_capacity out.new }
 {
     let digits = hex::encode_upper(*out.allocator(), *bytes)?;
     out.push_str("0x")?;
@@ -75,7 +85,9 @@ pub fn push_hexadecimal(out: &mut String, bytes: &[u8; 16]) -> Result<(), AllocE
 /// Appends a quoted string (RFC 8216, 4.2). The text has no quotes and no ends of lines: the caller's care.
 #[tactic(auto, unfolding(crate::specs::Attributes::quoted))]
 pub fn push_quoted(out: &mut String, text: &str) -> Result<(), AllocError>
-    ensures { OnOk result (string_bytes out.new ≡ string_bytes out.old ++ quoted text.now) }
+    ensures ok { OnOk result (string_bytes out.new ≡ string_bytes out.old ++ quoted text.now) }
+    ensures full { OnErr result (string_capacity out.old < string_len out.old + length (quoted text.now)) }
+    ensures capacity { string_capacity out.old ≤ string_capacity out.new }
 {
     out.push_str("\"")?;
     out.push_str(text)?;
@@ -85,7 +97,9 @@ pub fn push_quoted(out: &mut String, text: &str) -> Result<(), AllocError>
 /// Appends a width and a height (RFC 8216, 4.2).
 #[tactic(auto, unfolding(crate::specs::Attributes::resolution))]
 pub fn push_resolution(out: &mut String, width: u64, height: u64) -> Result<(), AllocError>
-    ensures { OnOk result (string_bytes out.new ≡ string_bytes out.old ++ resolution width height) }
+    ensures ok { OnOk result (string_bytes out.new ≡ string_bytes out.old ++ resolution width height) }
+    ensures full { OnErr result (string_capacity out.old < string_len out.old + length (resolution width height)) }
+    ensures capacity { string_capacity out.old ≤ string_capacity out.new }
 {
     push_decimal(out, u128::from(width))?;
     out.push_str("x")?;

@@ -1,5 +1,5 @@
-ghost use Rattle.std.specs.Prelude.{◌≡◌, [], ◌∷◌, ◌++◌, OnOk};
-ghost use Rattle.std.specs.String.{string_bytes};
+ghost use Rattle.std.specs.Prelude.{◌≡◌, ◌+◌, ◌<◌, ◌≤◌, [], ◌∷◌, ◌++◌, length, OnErr, OnOk};
+ghost use Rattle.std.specs.String.{string_bytes, string_capacity, string_len};
 ghost use Rattle.playlist_text.specs.Lines.{text_of};
 
 use std::alloc::AllocError;
@@ -7,7 +7,9 @@ use std::alloc::AllocError;
 /// Appends a line with its LF (RFC 8216, 4.1).
 #[tactic(auto, unfolding(crate::specs::Lines::text_of))]
 pub fn push_line(out: &mut String, line: &str) -> Result<(), AllocError>
-    ensures { OnOk result (string_bytes out.new ≡ string_bytes out.old ++ text_of (line.now ∷ [])) }
+    ensures ok { OnOk result (string_bytes out.new ≡ string_bytes out.old ++ text_of (line.now ∷ [])) }
+    ensures full { OnErr result (string_capacity out.old < string_len out.old + (length line.now + 1)) }
+    ensures capacity { string_capacity out.old ≤ string_capacity out.new }
 {
     out.push_str(line)?;
     out.push_str("\n")

@@ -1,4 +1,4 @@
-ghost use Rattle.std.specs.Prelude.{◌≡◌, ◌++◌, ◌+◌, ◌<◌, length, OnErr, OnOk};
+ghost use Rattle.std.specs.Prelude.{◌≡◌, ◌++◌, ◌+◌, ◌<◌, ◌≤◌, length, OnErr, OnOk};
 ghost use Rattle.std.specs.String.{string_bytes, string_capacity, string_len};
 ghost use Rattle.playlist_text.specs.Uris.{escaped, segment_uri, key_uri, media_uri, frames_uri};
 
@@ -16,14 +16,20 @@ const ESCAPED: AsciiSet = ascii_set!(NON_ALPHANUMERIC.remove(b'-').remove(b'_').
 pub fn push_escaped(out: &mut String, name: &str) -> Result<(), AllocError>
     ensures ok { OnOk result (string_bytes out.new ≡ string_bytes out.old ++ escaped name.now) }
     ensures full { OnErr result (string_capacity out.old < string_len out.old + length (escaped name.now)) }
+    ensures capacity { string_capacity out.old ≤ string_capacity out.new }
 {
-    utf8_percent_encode(name, ESCAPED).append_to(out)
+    for piece in utf8_percent_encode(name, ESCAPED) {
+        out.push_str(piece)?;
+    }
+    Ok(())
 }
 
 /// Appends the URI of a segment: `NAME.number.ts`.
 #[tactic(auto, unfolding(crate::specs::Uris::segment_uri))]
 pub fn push_segment_uri(out: &mut String, name: &str, number: u64) -> Result<(), AllocError>
-    ensures { OnOk result (string_bytes out.new ≡ string_bytes out.old ++ segment_uri name.now number) }
+    ensures ok { OnOk result (string_bytes out.new ≡ string_bytes out.old ++ segment_uri name.now number) }
+    ensures full { OnErr result (string_capacity out.old < string_len out.old + length (segment_uri name.now number)) }
+    ensures capacity { string_capacity out.old ≤ string_capacity out.new }
 {
     push_escaped(out, name)?;
     out.push_str(".")?;
@@ -34,7 +40,9 @@ pub fn push_segment_uri(out: &mut String, name: &str, number: u64) -> Result<(),
 /// Appends the URI of a key: `NAME.index.key`.
 #[tactic(auto, unfolding(crate::specs::Uris::key_uri))]
 pub fn push_key_uri(out: &mut String, name: &str, index: u64) -> Result<(), AllocError>
-    ensures { OnOk result (string_bytes out.new ≡ string_bytes out.old ++ key_uri name.now index) }
+    ensures ok { OnOk result (string_bytes out.new ≡ string_bytes out.old ++ key_uri name.now index) }
+    ensures full { OnErr result (string_capacity out.old < string_len out.old + length (key_uri name.now index)) }
+    ensures capacity { string_capacity out.old ≤ string_capacity out.new }
 {
     push_escaped(out, name)?;
     out.push_str(".")?;
@@ -45,7 +53,9 @@ pub fn push_key_uri(out: &mut String, name: &str, index: u64) -> Result<(), Allo
 /// Appends the URI of a media playlist: `NAME.m3u8`.
 #[tactic(auto, unfolding(crate::specs::Uris::media_uri))]
 pub fn push_media_uri(out: &mut String, name: &str) -> Result<(), AllocError>
-    ensures { OnOk result (string_bytes out.new ≡ string_bytes out.old ++ media_uri name.now) }
+    ensures ok { OnOk result (string_bytes out.new ≡ string_bytes out.old ++ media_uri name.now) }
+    ensures full { OnErr result (string_capacity out.old < string_len out.old + length (media_uri name.now)) }
+    ensures capacity { string_capacity out.old ≤ string_capacity out.new }
 {
     push_escaped(out, name)?;
     out.push_str(".m3u8")
@@ -54,7 +64,9 @@ pub fn push_media_uri(out: &mut String, name: &str) -> Result<(), AllocError>
 /// Appends the URI of a playlist of I-frames: `NAME.iframes.m3u8`.
 #[tactic(auto, unfolding(crate::specs::Uris::frames_uri))]
 pub fn push_frames_uri(out: &mut String, name: &str) -> Result<(), AllocError>
-    ensures { OnOk result (string_bytes out.new ≡ string_bytes out.old ++ frames_uri name.now) }
+    ensures ok { OnOk result (string_bytes out.new ≡ string_bytes out.old ++ frames_uri name.now) }
+    ensures full { OnErr result (string_capacity out.old < string_len out.old + length (frames_uri name.now)) }
+    ensures capacity { string_capacity out.old ≤ string_capacity out.new }
 {
     push_escaped(out, name)?;
     out.push_str(".iframes.m3u8")
