@@ -63,6 +63,7 @@ impl Reader {
         ensures err { OnErr result ((self.new ≡ self.old) × (out.new.items ≡ out.old.items)) }
         ensures scarce { OnErr result (vec_capacity out.old < vec_len out.old + (UNDECIDED + length piece.now) / PACKET) }
         ensures room { OnErr result (vec_capacity out.old < vec_len out.old + (length (rest_of self.old).bytes + length piece.now) / PACKET) }
+        ensures capacity { vec_capacity out.old ≤ vec_capacity out.new }
     {
         let left = scan_piece(&self.rest, self.locked, piece, out)?;
         self.rest = left.rest;
@@ -88,6 +89,7 @@ impl Reader {
         ensures err { OnErr result ((self.new ≡ self.old) × (out.new.items ≡ out.old.items)) }
         ensures scarce { OnErr result (vec_capacity out.old < vec_len out.old + (UNDECIDED + length piece.now) / PACKET) }
         ensures room { OnErr result (vec_capacity out.old < vec_len out.old + (length (rest_of self.old).bytes + length piece.now) / PACKET) }
+        ensures capacity { vec_capacity out.old ≤ vec_capacity out.new }
     {
         let lent = ahead(&self.rest, self.locked, piece);
         let behind = &piece[PACKET * lent.len()..];
@@ -108,6 +110,7 @@ impl Reader {
         ensures err { OnErr result ((self.new ≡ self.old) × (out.new.items ≡ out.old.items)) }
         ensures scarce { OnErr result (vec_capacity out.old < vec_len out.old + UNDECIDED / PACKET) }
         ensures room { OnErr result (vec_capacity out.old < vec_len out.old + length (rest_of self.old).bytes / PACKET) }
+        ensures capacity { vec_capacity out.old ≤ vec_capacity out.new }
     {
         let bytes = Joined::new(&self.rest, &[]);
         out.reserve(bytes.len() / PACKET)?;

@@ -95,6 +95,7 @@ pub(crate) fn scan_piece(
     ensures few { IfOk result (λ left. length left.rest.items < needed false left.locked) }
     ensures err { OnErr result (out.new.items ≡ out.old.items) }
     ensures scarce { OnErr result (vec_capacity out.old < vec_len out.old + (length rest.now.items + length piece.now) / PACKET) }
+    ensures capacity { vec_capacity out.old ≤ vec_capacity out.new }
 {
     let bytes = Joined::new(rest, piece);
     out.reserve(bytes.len() / PACKET)?;
@@ -118,6 +119,7 @@ pub(crate) fn scan(
     ensures within { result.at ≤ length bytes.now }
     ensures few { length bytes.now - result.at < needed at_end result.locked }
     ensures scans { Scans at_end was_locked bytes.now out.old.items out.new.items result.locked (drop result.at bytes.now) result.passed }
+    ensures capacity { vec_capacity out.old ≤ vec_capacity out.new }
 {
     let mut at = 0;
     let mut locked = was_locked;

@@ -11,6 +11,7 @@ loop-at-preserved-then-begins c =
       within = omega arith;
       counted = omega arith;
       room = omega (arith, c.push_reserved.ensures.len, c.push_reserved.ensures.capacity);
+      kept = omega (arith, c.push_reserved.ensures.capacity);
       scans = rw c.push_reserved.ensures.items
           (Scans-packet _ _ _ _ _ _ _ _ _ c.loop-at.invariant.scans long (sym c.if-begins.ensures) c.packet.ensures);
     }
@@ -23,5 +24,6 @@ loop-at-preserved c =
       within = omega arith;
       counted = omega arith;
       room = omega arith;
+      kept = omega arith;
       scans = Scans-other _ _ _ _ _ _ _ _ c.loop-at.invariant.scans long (sym c.if-begins.ensures);
     }
