@@ -1,20 +1,31 @@
 -- What an assembler keeps, one packet further on.
-use Rattle.std.proofs.Common.{◌≡◌, ℕ, ◌<◌, true, false, List, [], ◌∷◌, ◌++◌, refl, sym, ◌∙◌, ap, arith, append_assoc, inl, inr, Option, Some, None}
-use Rattle.std.proofs.lemmas.Bool.{cases_Bool}
+use Rattle.std.proofs.Common.{◌≡◌, ℕ, ◌<◌, true, false, cond, List, [], ◌∷◌, ◌++◌, refl, sym, ◌∙◌, ap, arith, append_assoc, inl, inr, Option, Some, None}
+use Rattle.std.proofs.lemmas.Bool.{cases_Bool, cond-true, cond-false}
 use Rattle.std.proofs.lemmas.List.{append-nil}
 use Rattle.ts_packet.specs.Fields.{continuity_counter}
-use Rattle.psi_tables.specs.Sections.{carrier, carriers, is_taken, unfinished, sections_in, sections}
-use Rattle.psi_tables.specs.State.{Gathered, gathered_sections, with_packet, to_come, Keeps, completed, left_behind, continued, IsLeftOut}
+use Rattle.psi_tables.specs.Sections.{carrier, carriers, is_taken, last_counter, unfinished, sections_in, sections}
+use Rattle.psi_tables.specs.State.{Gathered, gathered_sections, with_packet, to_come, Keeps, completed, left_behind, continued, IsCarried, IsLeftOut}
 use Rattle.psi_tables.proofs.Flow.{IsFront, front_from, front_only, front_few}
 use Rattle.psi_tables.proofs.Carrying.{taken_step, left_out_step, none_to_come, continued-is_front, left_behind-is_front}
 
 -- nothing was pushed
 kept_none : (on : ℕ) → Keeps (record { pid = on; packets = [] }) None []
-unfolding sections to_come carriers sections_in unfinished
-kept_none on = record { goes_on = λ more. refl; only_a_front = refl; short = omega arith; four_bits = tt; none = λ _. refl }
+unfolding sections to_come carriers sections_in unfinished last_counter
+kept_none on = record { goes_on = λ more. refl; only_a_front = refl; short = omega arith; four_bits = tt; none = λ _. refl; counted = refl }
 
 pub Keeps-none : (on : ℕ) (packets : List (List ℕ)) (begun : List ℕ) → packets ≡ [] → begun ≡ [] → Keeps (record { pid = on; packets = packets }) None begun
 Keeps-none on packets begun none empty = rw (none, empty) (kept_none on)
+
+-- the counter of the last packet that was taken, one packet further on
+last_counter-push : (on : ℕ) (before : Option ℕ) (ps : List (List ℕ)) (p : List ℕ) →
+    last_counter on before (ps ++ p ∷ []) ≡ cond (is_taken on (last_counter on before ps) p) (Some (continuity_counter p)) (last_counter on before ps)
+unfolding last_counter
+last_counter-push on before [] p = refl
+last_counter-push on before (q ∷ ps) p = last_counter-push on (cond (is_taken on before q) (Some (continuity_counter q)) before) ps p
+
+-- a packet that is taken behind the last counter carries parts of sections
+pub taken-carried : (g : Gathered) (p : List ℕ) (last : Option ℕ) (begun : List ℕ) → Keeps g last begun → is_taken g.pid last p ≡ true → IsCarried g p
+taken-carried g p last begun kept taken = ap (λ (b : Option ℕ). is_taken g.pid b p) (sym kept.counted) ∙ taken
 
 pub four_bits : (p : List ℕ) → continuity_counter p < 16
 four_bits p = omega arith
@@ -24,9 +35,9 @@ pub record Takes (g : Gathered) (p : List ℕ) (last : Option ℕ) (begun : List
   pub grown : gathered_sections (with_packet g p) ≡ gathered_sections g ++ found
   pub keeps : Keeps (with_packet g p) last begun
 
-Takes-step : (g : Gathered) (p : List ℕ) (last : Option ℕ) (counter : ℕ) (begun begun_then : List ℕ) (found : List (List ℕ)) → Keeps g last begun → IsFront begun_then → counter < 16 →
+Takes-step : (g : Gathered) (p : List ℕ) (last : Option ℕ) (counter : ℕ) (begun begun_then : List ℕ) (found : List (List ℕ)) → Keeps g last begun → IsFront begun_then → counter < 16 → Some counter ≡ last_counter g.pid None (g.packets ++ p ∷ []) →
     ((more : List (List ℕ)) → to_come g.pid last begun (p ∷ more) ≡ found ++ to_come g.pid (Some counter) begun_then more) → Takes g p (Some counter) begun_then found
-Takes-step g p last counter begun begun_then found kept front few step =
+Takes-step g p last counter begun begun_then found kept front few counted step =
     let on = g.pid in
     let grown : sections on (g.packets ++ p ∷ []) ≡ sections on g.packets ++ found
     = kept.goes_on (p ∷ []) ∙ ap (λ (x : List (List ℕ)). sections on g.packets ++ x)
@@ -42,6 +53,7 @@ Takes-step g p last counter begun begun_then found kept front few step =
         short = front_few begun_then front;
         four_bits = few;
         none = λ is_none. cc;
+        counted = counted;
       };
     }
 
@@ -50,7 +62,8 @@ pub Keeps-taken : (g : Gathered) (p : List ℕ) (last : Option ℕ) (begun : Lis
 Keeps-taken g p last begun kept taken =
     let front = front_from begun kept.only_a_front in
     let going = continued-is_front last begun (carrier p) front in
-    Takes-step g p last (continuity_counter p) begun _ _ kept (left_behind-is_front _ (carrier p) going) (four_bits p) (λ more. taken_step g.pid last begun p more front taken)
+    let counted = last_counter-push g.pid None g.packets p ∙ cond-true _ _ _ (taken-carried g p last begun kept taken) in
+    Takes-step g p last (continuity_counter p) begun _ _ kept (left_behind-is_front _ (carrier p) going) (four_bits p) (sym counted) (λ more. taken_step g.pid last begun p more front taken)
 
 -- a packet that is left out
 pub record LeavesOut (g : Gathered) (p : List ℕ) : Type 0 where
@@ -63,7 +76,10 @@ Keeps-left_out g p last begun kept not_taken =
     = λ more. kept.goes_on (p ∷ more) ∙ ap (λ (x : List (List ℕ)). gathered_sections g ++ x) (left_out_step g.pid last begun p more not_taken) ∙ sym (kept.goes_on more) in
     record {
       grown = same [] ∙ ap (sections g.pid) (append-nil g.packets) ∙ sym (append-nil (gathered_sections g));
-      left_out = record { same = same };
+      left_out = record {
+        same = same;
+        counted = last_counter-push g.pid None g.packets p ∙ cond-false _ _ _ (ap (λ (b : Option ℕ). is_taken g.pid b p) (sym kept.counted) ∙ not_taken);
+      };
     }
 
 pub Keeps-stays : (g : Gathered) (p : List ℕ) (last : Option ℕ) (begun : List ℕ) → Keeps g last begun → IsLeftOut g p → Keeps (with_packet g p) last begun
@@ -77,6 +93,7 @@ Keeps-stays g p last begun kept left_out =
       short = kept.short;
       four_bits = kept.four_bits;
       none = kept.none;
+      counted = kept.counted ∙ sym left_out.counted;
     }
 
 -- what is kept depends on no more than what stands there

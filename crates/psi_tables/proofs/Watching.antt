@@ -1,28 +1,16 @@
 -- The tables in force, one packet further on.
-use Rattle.std.proofs.Common.{◌≡◌, ℕ, zero, suc, ◌<◌, ◌≤◌, Bool, true, false, not, ◌==◌, ◌&&◌, cond, List, [], ◌∷◌, ◌++◌, length, take, drop, refl, sym, ◌∙◌, ap, arith, length-append, append-nil, Option, Some, None}
-use Rattle.std.specs.Prelude.{nat_lt}
+use Rattle.std.proofs.Common.{◌≡◌, ℕ, zero, suc, ◌<◌, ◌≤◌, true, false, cond, List, [], ◌∷◌, ◌++◌, length, take, drop, refl, sym, ◌∙◌, ap, arith, length-append, append-nil, Option, Some, None}
 use Rattle.std.specs.Option.{option_or}
 use Rattle.std.specs.List.{filter_map}
 use Rattle.std.proofs.lemmas.Bool.{cond-true, cond-false, eqb-true}
 use Rattle.std.proofs.lemmas.List.{take-append-le, take-append-drop, length-take-le, take_all}
 use Rattle.std.proofs.lemmas.List.Elements.{filter_map-append}
-use Rattle.ts_packet.specs.Fields.{pid, is_scrambled, payload}
-use Rattle.psi_tables.specs.Sections.{carriers, is_taken, sections_in, sections}
-use Rattle.psi_tables.specs.State.{Gathered, gathered_sections, with_packet, pid_of, tables_among, IsCarried, Watches}
+use Rattle.psi_tables.specs.Sections.{carriers, sections_in, sections}
+use Rattle.psi_tables.specs.State.{Gathered, gathered_sections, with_packet, pid_of, tables_among, Watches}
 use Rattle.psi_tables.specs.InForce.{InForce, last_or, choice_of, choice, same_pid, since_change, tables_of, put_in_force, tables_before, tables_behind}
 use Rattle.psi_tables.specs.declared.choice.Choice.{Choice}
 use Rattle.psi_tables.proofs.Changes.{same_pid-refl}
 use Rattle.psi_tables.proofs.Choosing.{last_or-append, last_or-or}
-
--- a packet that is taken may carry parts of sections
-first_three : (a b c d : Bool) → (a && (b && (c && d))) ≡ true → (a && (b && (c && true))) ≡ true
-first_three true true true d is = refl
-first_three true true false d is = is
-first_three true false c d is = is
-first_three false b c d is = is
-
-pub taken-carried : (on : ℕ) (before : Option ℕ) (p : List ℕ) → is_taken on before p ≡ true → IsCarried on p
-taken-carried on before p taken = first_three (pid p == on) (not (is_scrambled p)) (nat_lt 0 (length (payload p))) _ taken
 
 -- what stands in a longer list at a place of the shorter one
 one_there : (ps more : List (List ℕ)) (i : ℕ) → i < length ps → take 1 (drop i (ps ++ more)) ≡ take 1 (drop i ps)

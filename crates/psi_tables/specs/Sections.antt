@@ -29,6 +29,11 @@ unfoldable pub carriers : ℕ → Option ℕ → List (List ℕ) → List Carrie
 carriers on before [] = []
 carriers on before (p ∷ ps) = if is_taken on before p then carrier p ∷ carriers on (Some (continuity_counter p)) ps else carriers on before ps
 
+-- the continuity_counter of the last of these packets that carries sections of this PID, behind one with this counter or behind none
+unfoldable pub last_counter : ℕ → Option ℕ → List (List ℕ) → Option ℕ
+last_counter on before [] = before
+last_counter on before (p ∷ ps) = last_counter on (if is_taken on before p then Some (continuity_counter p) else before) ps
+
 -- no packet is missing between one with this counter and this one (2.4.3.3)
 abbrev pub follows : ℕ → Carrier → Bool
 follows counter c = c.counter == (counter + 1) % 16

@@ -1,6 +1,6 @@
 -- What assemblers and watches stand for, and what they keep.
 use Rattle.std.specs.Prelude.{◌≡◌, ◌⊎◌, ℕ, ◌<◌, ◌≤◌, Bool, false, true, ◌&&◌, nat_lt, if◌then◌else◌, List, [], ◌∷◌, ◌++◌, length, Option, Some, None}
-use Rattle.psi_tables.specs.Sections.{Carrier, carriers, follows, pointed, is_whole, is_open, first_section, begun_in, flow_behind, unfinished, bring_too_long, is_given_up, is_taken, opening, sections_in, sections}
+use Rattle.psi_tables.specs.Sections.{Carrier, carriers, follows, pointed, is_whole, is_open, first_section, begun_in, flow_behind, unfinished, bring_too_long, is_given_up, is_taken, last_counter, opening, sections_in, sections}
 use Rattle.psi_tables.specs.declared.next.Begun.{Begun}
 use Rattle.std.specs.List.{filter_map}
 use Rattle.psi_tables.specs.InForce.{InForce, choice, since_change, tables_of, tables_behind}
@@ -38,6 +38,7 @@ pub record Keeps (g : Gathered) (last : Option ℕ) (begun : List ℕ) : Type 0 
   pub short : length begun ≤ 1024
   pub four_bits : IsCounter last
   pub none : last ≡ None → begun ≡ []
+  pub counted : last ≡ last_counter g.pid None g.packets
 
 -- so many bytes are kept: a front of the section that was begun
 pub record IsKept (g : Gathered) (count : ℕ) : Type 0 where
@@ -82,18 +83,19 @@ abbrev pub continued : Option ℕ → List ℕ → Carrier → List ℕ
 continued None begun c = []
 continued (Some counter) begun c = if follows counter c then begun else []
 
--- the packet changes no section, whichever packets come next
+-- the packet changes no section, whichever packets come next, and isn't counted
 pub record IsLeftOut (g : Gathered) (p : List ℕ) : Type 0 where
   pub same : (more : List (List ℕ)) → sections g.pid (g.packets ++ p ∷ more) ≡ sections g.pid (g.packets ++ more)
+  pub counted : last_counter g.pid None (g.packets ++ p ∷ []) ≡ last_counter g.pid None g.packets
 
 -- this is kept behind the packet; or the packet is left out, and what was kept stays
 abbrev pub Follows : Gathered → List ℕ → Option Begun → Type 0
 Follows g p None = IsLeftOut g p
 Follows g p (Some begun) = Keeps (with_packet g p) begun.counter begun.bytes.items
 
--- the packet may carry parts of this PID's sections: it is no repeat where none came before it
-abbrev pub IsCarried : ℕ → List ℕ → Type 0
-IsCarried on p = is_taken on None p ≡ true
+-- the packet carries parts of this PID's sections behind those that came: it is no repeat of the last that did
+abbrev pub IsCarried : Gathered → List ℕ → Type 0
+IsCarried g p = is_taken g.pid (last_counter g.pid None g.packets) p ≡ true
 
 -- the program that was asked for, if one was, and the packets that came
 pub record Watched : Type 0 where
@@ -105,9 +107,13 @@ abbrev pub pid_of : Option Choice → ℕ
 pid_of None = 0
 pid_of (Some c) = c.pmt_pid
 
--- the packet may carry parts of sections of the PAT, or of the PMT that is chosen before it
+-- the packets of which the sections of PMTs are gathered, and their PID
+abbrev pub gathered_behind : Watched → Gathered
+gathered_behind w = record { pid = pid_of (choice w.program w.packets); packets = since_change w.program w.packets (length w.packets) }
+
+-- the packet carries parts of sections of the PAT, or of the PMT that is chosen before it
 abbrev pub CarriesTables : Watched → List ℕ → Type 0
-CarriesTables w p = IsCarried 0 p ⊎ IsCarried (pid_of (choice w.program w.packets)) p
+CarriesTables w p = IsCarried (record { pid = 0; packets = w.packets }) p ⊎ IsCarried (gathered_behind w) p
 
 -- the tables among the sections that were found on the chosen PID
 abbrev pub tables_among : Option Choice → List (List ℕ) → List InForce

@@ -1,6 +1,6 @@
-ghost use Rattle.std.specs.Prelude.{◌≡◌, None, map, Any, IfOk, OnErr};
+ghost use Rattle.std.specs.Prelude.{◌≡◌, ◌≢◌, [], None, map, Any, IfOk, OnErr};
 ghost use Rattle.std.specs.List.{filter_map};
-ghost use Rattle.psi_tables.specs.Association.{pat_fault};
+ghost use Rattle.psi_tables.specs.Association.{association, pat_fault};
 ghost use Rattle.psi_tables.specs.InForce.{choice_of, last_or, same_pid};
 ghost use Rattle.psi_tables.specs.State.{pid_of};
 
@@ -16,7 +16,8 @@ pub(crate) struct Choice {
     pub pmt_pid: u16,
 }
 
-/// What a section chooses, where it is a good PAT with an entry that is wanted. Only a good PAT wants memory.
+/// What a section chooses, where it is a good PAT with an entry that is wanted. Only a good PAT with
+/// entries wants memory.
 #[tactic(auto, unfolding(crate::specs::InForce::choice_of))]
 fn read_choice(
     alloc: Global,
@@ -25,6 +26,7 @@ fn read_choice(
 ) -> Result<Option<Choice>, AllocError>
     ensures value { IfOk result (λ choice. choice ≡ choice_of program section.now) }
     ensures scarce { OnErr result (pat_fault section.now ≡ None) }
+    ensures some { OnErr result ((association section.now).entries ≢ []) }
 {
     let pat = match Pat::read(alloc, section) {
         Ok(pat) => pat,
@@ -42,7 +44,8 @@ fn read_choice(
     }
 }
 
-/// The last choice of these sections, or the one before. Only good PATs want memory.
+/// The last choice of these sections, or the one before. Only good PATs with entries want
+/// memory.
 pub(crate) fn choose(
     alloc: Global,
     program: Option<u16>,
@@ -50,7 +53,8 @@ pub(crate) fn choose(
     found: &[Vec<u8>],
 ) -> Result<Option<Choice>, AllocError>
     ensures value { IfOk result (λ choice. choice ≡ last_or before (filter_map (choice_of program) (map (λ section. section.items) found.now))) }
-    ensures scarce { OnErr result (Any (λ section. pat_fault section.items ≡ None) found.now) }
+    ensures scarce { OnErr result (Any (λ section. (pat_fault section.items ≡ None)
+        × ((association section.items).entries ≢ [])) found.now) }
 {
     let mut choice = before;
     for section in found {

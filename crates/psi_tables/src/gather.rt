@@ -1,4 +1,5 @@
-ghost use Rattle.std.specs.Prelude.{◌≡◌, ◌≢◌, ◌≤◌, [], length, map, IfOk, IsOk};
+ghost use Rattle.std.specs.Prelude.{◌≡◌, ◌≢◌, ◌≤◌, [], false, length, map, IfOk, IsOk};
+ghost use Rattle.ts_packet.specs.Fields.{payload_unit_start_indicator};
 ghost use Rattle.psi_tables.specs.Sections.{carrier, begun_in, unfinished, pointed, behind_pointer};
 ghost use Rattle.psi_tables.specs.State.{whole_front, open_rest, left_open, completed, left_behind};
 
@@ -142,6 +143,7 @@ pub(crate) fn gather(alloc: Global, begun: &[u8], packet: &Packet) -> Result<Bro
     requires { unfinished 0 begun.now ≡ begun.now }
     ensures found { IfOk result (λ brought. map (λ section. section.items) brought.found.items ≡ completed begun.now (carrier packet.now)) }
     ensures begun { IfOk result (λ brought. brought.begun.items ≡ left_behind begun.now (carrier packet.now)) }
+    ensures idle { payload_unit_start_indicator packet.now ≡ false → begun.now ≡ [] → IsOk result }
 {
     if !packet.starts() {
         return bring(alloc, begun, packet.payload());

@@ -1,4 +1,4 @@
-ghost use Rattle.std.specs.Prelude.{◌≡◌, ◌≢◌, ◌==◌, ◌+◌, ◌<◌, ◌^◌, ◌⊎◌, [], length, Some, None, IfOk, OnOk, IfErr, IsSome};
+ghost use Rattle.std.specs.Prelude.{◌≡◌, ◌≢◌, ◌==◌, ◌+◌, ◌<◌, ◌^◌, ◌⊎◌, [], length, Some, None, IfOk, OnOk, IfErr, IsOk, IsSome};
 ghost use Rattle.std.specs.List.{list_any};
 ghost use Rattle.psi_tables.specs.ProgramMap.{program_map, streams, pmt_fault, video_pid, carries};
 
@@ -75,11 +75,13 @@ impl Pmt {
         lists(&self.entries, pid) || pid == self.pcr_pid
     }
 
-    /// The same table once more.
+    /// The same table once more. One without entries takes no memory.
     pub(crate) fn copy(&self) -> Result<Pmt, AllocError>
-        ensures { IfOk result (λ copy. copy ≡ self.now) }
+        ensures ok { IfOk result (λ copy. copy ≡ self.now) }
+        ensures none { self.now.entries ≡ [] → IsOk result }
     {
-        let entries = Vec::from_slice(*self.entries.allocator(), &self.entries)?;
+        let mut entries = Vec::new(*self.entries.allocator());
+        entries.extend_from_slice(&self.entries)?;
         Ok(Pmt {
             program: self.program,
             pcr_pid: self.pcr_pid,

@@ -72,6 +72,7 @@ pub fn append_section(
     ensures packets { OnOk result (bytes.new.items ≡ bytes.old.items ++ section_packets pid counter section.now) }
     ensures err { OnErr result (bytes.new.items ≡ bytes.old.items) }
     ensures room { OnErr result (vec_capacity bytes.old < vec_len bytes.old + PACKET * packet_count section.now) }
+    ensures capacity { vec_capacity bytes.old ≤ vec_capacity bytes.new }
 {
     bytes.reserve(PACKET * packet_count(section))?;
     let (front, rest) = section.split_at(usize::min(PAYLOAD - 1, section.len()));
@@ -85,7 +86,8 @@ pub fn append_section(
 fn append_packets(bytes: &mut Vec<u8>, pid: u16, counter: usize, carried: &[u8])
     requires room { vec_len bytes.old + PACKET * ((length carried.now + 183) / 184) ≤ vec_capacity bytes.old }
     requires small { counter ≤ 256 }
-    ensures { bytes.new.items ≡ bytes.old.items ++ packets ((length carried.now + 183) / 184) false pid counter carried.now }
+    ensures ok { bytes.new.items ≡ bytes.old.items ++ packets ((length carried.now + 183) / 184) false pid counter carried.now }
+    ensures capacity { vec_capacity bytes.old ≤ vec_capacity bytes.new }
 {
     let mut counter = counter;
     let mut rest = carried;

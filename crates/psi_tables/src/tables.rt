@@ -1,4 +1,4 @@
-ghost use Rattle.std.specs.Prelude.{◌≡◌, ◌≢◌, ◌<◌, ◌^◌, None, map, Any, IfOk, OnErr, Decides};
+ghost use Rattle.std.specs.Prelude.{◌≡◌, ◌≢◌, ◌<◌, ◌^◌, ◌⊎◌, [], None, map, Any, IfOk, OnErr, Decides};
 ghost use Rattle.psi_tables.specs.ProgramMap.{program_map, pmt_fault, video_pid};
 ghost use Rattle.psi_tables.specs.InForce.{IsGood, HasPid, is_same, tables_of, last_or};
 ghost use Rattle.psi_tables.specs.State.{tables_among};
@@ -110,12 +110,13 @@ impl Tables {
 }
 
 /// The tables that a section on the chosen PID puts in force, where it is a good PMT of the chosen program. Only a good PMT
-/// wants memory.
+/// wants memory, and one of another program only for its entries.
 #[tactic(auto, unfolding(crate::specs::InForce::tables_of))]
 fn read_tables(alloc: Global, choice: Choice, section: &[u8]) -> Result<Option<Tables>, AllocError>
     requires { choice.pmt_pid < 2 ^ 13 }
     ensures value { IfOk result (λ tables. tables ≡ tables_of choice section.now) }
     ensures scarce { OnErr result (pmt_fault section.now ≡ None) }
+    ensures some { OnErr result (((program_map section.now).entries ≢ []) ⊎ ((program_map section.now).program ≡ choice.program)) }
 {
     let pmt = match Pmt::read(alloc, section) {
         Ok(pmt) => pmt,

@@ -1,8 +1,8 @@
-use Rattle.std.proofs.Common.{◌≡◌, None, [], ◌∷◌, ◌++◌, map, take, sym, ◌∙◌, ap}
+use Rattle.std.proofs.Common.{◌≡◌, ◌≢◌, None, [], ◌∷◌, ◌++◌, map, take, sym, ◌∙◌, ap, subst}
 use Rattle.std.proofs.lemmas.List.{take_more, map-append}
 use Rattle.std.proofs.lemmas.Result.{err_from_is_err_and}
 use Rattle.std.specs.Option.{option_or}
-use Rattle.psi_tables.specs.Association.{pat_fault}
+use Rattle.psi_tables.specs.Association.{association, pat_fault}
 use Rattle.psi_tables.specs.InForce.{choice_of}
 use Rattle.psi_tables.proofs.Choosing.{last_or-none, last_or-next}
 use Rattle.psi_tables.proofs.choice.choose.Goals as goal
@@ -24,4 +24,5 @@ returns-in_err-read_choice-clause-scarce c =
     let told = err_from_is_err_and c.from_residual.result c.from_residual.ensures.1 in
     let i = c.loop-section.section-index in
     let good : pat_fault c.section-item.result.items ≡ None = ap pat_fault (sym c.deref.ensures.value) ∙ c.in_err-read_choice.ensures.scarce in
-    rw told.1 (i, c.section-item.result, c.loop-section-test.true, sym c.section-item.is, good)
+    let some = subst (λ section. (association section).entries ≢ []) c.deref.ensures.value c.in_err-read_choice.ensures.some in
+    rw told.1 (i, c.section-item.result, c.loop-section-test.true, sym c.section-item.is, (good, some))

@@ -21,10 +21,11 @@ packet-preserved c =
     record {
       written = rw (later, appended) (packet_between c.packet.bytes.items begin (stuffed rest) _ ∙ ap (λ list. c.packet.bytes.items ++ list) (sym next) ∙ c.packet.invariant.written);
       below = rw (later, length-drop 184 rest) (omega (arith, some));
+      kept = omega (arith, c.append_packet.ensures.kept, c.packet.invariant.kept);
       room = rw (later, length-drop 184 rest) (omega (arith, some, c.packet.invariant.room, c.append_packet.ensures.len, c.append_packet.ensures.kept));
     }
 
-pub returns : goal.returns
-returns c =
+pub returns-clause-ok : goal.returns-clause-ok
+returns-clause-ok c =
     let none : length c.packet.rest.now ≡ 0 = search rules in
     sym (append-nil _) ∙ ap (λ list. c.packet.bytes.items ++ list) (sym (packets_none false c.args.pid c.packet.counter c.packet.rest.now none)) ∙ c.packet.invariant.written

@@ -17,5 +17,5 @@ returns-clause-packets c =
     = rw (c.header.ensures, c.from.ensures, c.in_ok-reserve.ensures.items) at c.append_packet.ensures.items
     ∙ payload_behind bytes begin 0 payload (replicate (188 - (5 + length payload)) 255)
     ∙ ap (λ packet. bytes ++ begin ++ packet) (stuffed_first section payload front) in
-    rw (later, appended, c.from-2.ensures) at c.append_packets.ensures
+    rw (later, appended, c.from-2.ensures) at c.append_packets.ensures.ok
     ∙ packet_between bytes begin (stuffed (0 ∷ section)) _ ∙ ap (λ list. bytes ++ list) (sym (section_next c.args.pid c.args.counter section))

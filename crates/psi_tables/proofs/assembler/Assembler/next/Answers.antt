@@ -3,8 +3,7 @@ use Rattle.std.proofs.lemmas.Result.{err_from_is_err_and}
 use Rattle.psi_tables.specs.Sections.{carrier}
 use Rattle.psi_tables.proofs.Flow.{front_from, front_only}
 use Rattle.psi_tables.proofs.Carrying.{continued-is_front}
-use Rattle.psi_tables.proofs.Keeping.{Keeps-taken, Keeps-left_out}
-use Rattle.psi_tables.proofs.Watching.{taken-carried}
+use Rattle.psi_tables.proofs.Keeping.{Keeps-taken, Keeps-left_out, taken-carried}
 use Rattle.psi_tables.proofs.assembler.Assembler.next.Goals as goal
 use Rattle.psi_tables.proofs.assembler.Assembler.next.Goals.{After-is_taken}
 
@@ -33,10 +32,10 @@ returns-clause-found c =
 pub returns-in_err-brought-clause-carried : goal.returns-in_err-brought-clause-carried
 returns-in_err-brought-clause-carried c =
     let told = err_from_is_err_and c.from_residual.result c.from_residual.ensures.1 in
-    rw (told.1, ← c.self.view_is) (taken-carried _ _ c.args.packet.now (sym c.is_taken.ensures ∙ c.if-not-is_taken.false))
+    rw (told.1, ← c.self.view_is) (taken-carried _ c.args.packet.now _ _ c.self.invariant (sym c.is_taken.ensures ∙ c.if-not-is_taken.false))
 
 pub returns-then-not-is_taken-clause-some : goal.returns-then-not-is_taken-clause-some
 returns-then-not-is_taken-clause-some c = inl c.new.ensures.items
 
 pub returns-clause-some : goal.returns-clause-some
-returns-clause-some c = inr (rw (← c.self.view_is) (taken-carried _ _ c.args.packet.now (sym c.is_taken.ensures ∙ c.if-not-is_taken.false)))
+returns-clause-some c = inr (rw (← c.self.view_is) (taken-carried _ c.args.packet.now _ _ c.self.invariant (sym c.is_taken.ensures ∙ c.if-not-is_taken.false)))

@@ -1,6 +1,5 @@
 use Rattle.std.proofs.Common.{◌∙◌, sym, append-nil}
-use Rattle.psi_tables.proofs.Keeping.{Keeps-left_out}
-use Rattle.psi_tables.proofs.Watching.{taken-carried}
+use Rattle.psi_tables.proofs.Keeping.{Keeps-left_out, taken-carried}
 use Rattle.psi_tables.proofs.assembler.Assembler.takes.Goals as goal
 
 pub returns-clause-follows : goal.returns-clause-follows
@@ -12,4 +11,4 @@ returns-clause-none c = λ left.
     rw (← c.self.view_is) ((Keeps-left_out _ c.args.packet.now _ _ c.self.invariant (sym c.is_taken.ensures ∙ left)).grown ∙ append-nil _)
 
 pub returns-clause-carried : goal.returns-clause-carried
-returns-clause-carried c = λ taken. rw (← c.self.view_is) (taken-carried _ _ c.args.packet.now (sym c.is_taken.ensures ∙ taken))
+returns-clause-carried c = λ taken. rw (← c.self.view_is) (taken-carried _ c.args.packet.now _ _ c.self.invariant (sym c.is_taken.ensures ∙ taken))
