@@ -11,7 +11,7 @@ use Rattle.cutter.specs.declared.reel.Row.{Row}
 use Rattle.cutter.specs.declared.reel.Reel.TheInside.{Inside}
 use Rattle.cutter.specs.Framing.{framed, end_of, pending_at, IsWithin}
 use Rattle.cutter.specs.Reels.{Filled, labelled, plan_in, plans_in, AreWithin, AreJoined, filled_by, unfilled, IsLaid}
-use Rattle.cutter.proofs.Rows.{within_more, within_last, within_less, alone_in_front, joined_last, joined_less, front_same, pending_more, part_more, rows_more, rows_last, past_is, past_more, rest_is}
+use Rattle.cutter.proofs.Rows.{within_more, within_last, within_less, alone_in_front, joined_last, joined_less, joined_end, front_same, last_same, part_rest, within_last_one, pending_more, part_more, rows_more, rows_last, past_is, past_more, rest_is}
 
 -- there are these bytes and I-frames more
 pub record Grows (s t : Inside) (more : List ℕ) (others : List Frame) : Type 0 where
@@ -157,12 +157,40 @@ reopens_laid s t row laid r =
       joined = rw (r.at, r.frames_at) (joined_less 0 0 s.body_at s.frames_at t.rows.items row (subst (AreJoined 0 0 s.body_at s.frames_at) r.rows laid.joined));
     }
 
+-- the last plan lies where the last row says
+reopened : (s : Inside) (v : Filled) (row : Row) (rows : List Row) (plans : List SegmentPlan) (last : SegmentPlan) → filled_by s ≡ v
+    → s.rows.items ≡ rows ++ row ∷ [] → v.plans ≡ plans ++ last ∷ [] → plan_in s.bytes.items s.frames.items row ≡ last
+reopened s v row rows plans last is behind whole =
+    last_same (plans_in s.bytes.items s.frames.items rows) plans (plan_in s.bytes.items s.frames.items row) last
+    (sym (rows_last s.bytes.items s.frames.items rows row) ∙ ap (plans_in s.bytes.items s.frames.items) (sym behind) ∙ ap (λ (f : Filled). f.plans) is ∙ whole)
+
 pub reopens_is : (s t : Inside) (v : Filled) (row : Row) (plans : List SegmentPlan) (last : SegmentPlan) → filled_by s ≡ v → Reopens s t row → v.plans ≡ plans ++ last ∷ []
     → plans_in t.bytes.items t.frames.items t.rows.items ≡ plans
 reopens_is s t v row plans last is r whole =
     let same : plans_in t.bytes.items t.frames.items t.rows.items ≡ plans_in s.bytes.items s.frames.items t.rows.items = λ i. plans_in (r.bytes i).items (r.frames i).items t.rows.items in
     same ∙ front_same _ plans (plan_in s.bytes.items s.frames.items row) last
     (sym (rows_last s.bytes.items s.frames.items t.rows.items row) ∙ ap (plans_in s.bytes.items s.frames.items) (sym r.rows) ∙ ap (λ (f : Filled). f.plans) is ∙ whole)
+
+-- the last plan's body goes on, with that behind it
+pub reopens_body : (s t : Inside) (v : Filled) (row : Row) (plans : List SegmentPlan) (last : SegmentPlan) → IsLaid s → filled_by s ≡ v → Reopens s t row
+    → v.plans ≡ plans ++ last ∷ [] → drop t.body_at t.bytes.items ≡ last.body ++ v.body
+reopens_body s t v row plans last laid is r whole =
+    let own = reopened s v row t.rows.items plans last is r.rows whole in
+    let lies = within_last_one _ _ t.rows.items row (subst (AreWithin (length s.bytes.items) (length s.frames.items)) r.rows laid.within) in
+    let end = joined_end 0 0 s.body_at s.frames_at t.rows.items row (subst (AreJoined 0 0 s.body_at s.frames_at) r.rows laid.joined) in
+    (λ i. drop (r.at i) (r.bytes i).items) ∙ part_rest s.bytes.items row.body_at row.body_end lies.0
+    ∙ ap (λ n. slice_range s.bytes.items row.body_at row.body_end ++ drop n s.bytes.items) (sym end.0)
+    ∙ (λ i. (own i).body ++ (is i).body)
+
+pub reopens_frames : (s t : Inside) (v : Filled) (row : Row) (plans : List SegmentPlan) (last : SegmentPlan) → IsLaid s → filled_by s ≡ v → Reopens s t row
+    → v.plans ≡ plans ++ last ∷ [] → drop t.frames_at t.frames.items ≡ last.frames ++ v.framing.ended
+reopens_frames s t v row plans last laid is r whole =
+    let own = reopened s v row t.rows.items plans last is r.rows whole in
+    let lies = within_last_one _ _ t.rows.items row (subst (AreWithin (length s.bytes.items) (length s.frames.items)) r.rows laid.within) in
+    let end = joined_end 0 0 s.body_at s.frames_at t.rows.items row (subst (AreJoined 0 0 s.body_at s.frames_at) r.rows laid.joined) in
+    (λ i. drop (r.frames_at i) (r.frames i).items) ∙ part_rest s.frames.items row.frames_at row.frames_end lies.1
+    ∙ ap (λ n. slice_range s.frames.items row.frames_at row.frames_end ++ drop n s.frames.items) (sym end.1)
+    ∙ (λ i. (own i).frames ++ (is i).framing.ended)
 
 -- an emptied one into which the body that goes on in another was copied
 pub record Copies (s o t : Inside) : Type 0 where

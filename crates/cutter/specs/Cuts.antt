@@ -8,7 +8,7 @@ use Rattle.cutter.specs.declared.settings.CutSettings.{CutSettings}
 use Rattle.cutter.specs.declared.fault.CutFault.{CutFault}
 use Rattle.cutter.specs.declared.fault.CutFault.TheVariants.{NoProgram, NoStart, LongSegment, BigSegment, Limit}
 use Rattle.cutter.specs.Plans.{SegmentPlan}
-use Rattle.cutter.specs.Stream.{Fact, facts, in_force}
+use Rattle.cutter.specs.Stream.{Fact, facts, in_force, MayWantMemory}
 use Rattle.cutter.specs.Points.{Mark, mark, counted, top_after}
 use Rattle.cutter.specs.Segments.{Point, Segment, is_cut, plan_of, is_long, is_big}
 use Rattle.limits.specs.declared.TheConstants.{LAST_SEGMENT}
@@ -139,14 +139,15 @@ pub record GivesFront (r : ℕ) (s : CutSettings) (ps : List (List ℕ)) (old ne
   pub grown : new ≡ old ++ given
   pub front : IsBeginning given (plans r s ps)
 
--- memory is wanting at a packet, and neither it nor those before it bring a fault; behind the plans that were there stand
--- those that were closed before it
+-- memory is wanting at a packet that may want it, and neither it nor those before it bring a fault; behind the plans that
+-- were there stand those that were closed before it
 pub record StopsAtPacket (r : ℕ) (s : CutSettings) (ps : List (List ℕ)) (old new : List SegmentPlan) : Type 0 where
   pub before : List (List ℕ)
   pub packet : List ℕ
   pub behind : List (List ℕ)
   pub split : ps ≡ before ++ packet ∷ behind
   pub sound : (cuts r s (before ++ packet ∷ [])).fault ≡ None
+  pub wants : MayWantMemory s before packet
   pub plans : new ≡ old ++ closed r s before
 
 -- memory is wanting at the end of a stream without a fault

@@ -1,10 +1,10 @@
-ghost use Rattle.std.specs.Prelude.{◌≡◌, ◌<◌, ◌^◌, ◌⊎◌, [], ◌∷◌, ◌++◌, ℕ, List, Ok, Err, true, false, None, length, IfSome, IfOk, IfErr, OnOk, OnErr};
+ghost use Rattle.std.specs.Prelude.{◌≡◌, ◌≢◌, ◌<◌, ◌^◌, ◌⊎◌, [], ◌∷◌, ◌++◌, ℕ, List, Ok, Err, true, false, None, length, IfSome, IfOk, IfErr, OnOk, OnErr};
 ghost use Rattle.cutter.specs.declared.fault.CutFault.TheVariants.{NoMemory, Ended};
 ghost use Rattle.cutter.specs.Cuts.{cuts, closed, fault, plans, made, Ends, HasSegment};
 ghost use Rattle.cutter.specs.Ordered.{IsPlan};
 ghost use Rattle.cutter.specs.Settings.{IsAllowed};
 ghost use Rattle.cutter.specs.Spooled.{IsOne};
-ghost use Rattle.cutter.specs.Stream.{is_packet, packets_of, MayWantMemory};
+ghost use Rattle.cutter.specs.Stream.{in_force, is_accepted, is_packet, packets_of, MayWantMemory};
 ghost use Rattle.psi_tables.specs.State.{CarriesTables};
 
 use crate::fault::CutFault;
@@ -83,7 +83,8 @@ impl Cutter {
         ensures err { OnErr result (self.new ≡ record self.old { ended = true }) }
         ensures dropped { is_packet packet.now ≡ false → self.old.ended ≡ false → result ≡ Ok None }
 
-        // Only a packet that a body takes, or that may carry parts of the tables, wants memory.
+        // Only a packet that a body takes closes a segment. Only such a one, or one that may carry parts of the tables, wants memory.
+        ensures accepted { IfOk result (λ plan. plan ≢ None → is_accepted (in_force self.old.settings self.old.list) packet.now ≡ true) }
         ensures memory { IfErr result (λ e. e ≡ NoMemory → MayWantMemory self.old.settings self.old.list packet.now) }
 
         // And so does only a packet behind which a segment goes on, or one that may carry parts of the tables.

@@ -182,9 +182,13 @@ impl Reel {
         Ok(())
     }
 
-    /// Lets go of the last plan: its body goes on.
+    /// Lets go of the last plan: its body goes on, with that behind it.
     pub(crate) fn reopen(&mut self)
-        ensures { (plans : List SegmentPlan) (last : SegmentPlan) → self.old.plans ≡ plans ++ last ∷ [] → self.new.plans ≡ plans }
+        ensures plans { (plans : List SegmentPlan) (last : SegmentPlan) → self.old.plans ≡ plans ++ last ∷ [] → self.new.plans ≡ plans }
+        ensures body { (plans : List SegmentPlan) (last : SegmentPlan) → self.old.plans ≡ plans ++ last ∷ []
+            → self.new.body ≡ last.body ++ self.old.body }
+        ensures frames { (plans : List SegmentPlan) (last : SegmentPlan) → self.old.plans ≡ plans ++ last ∷ []
+            → self.new.framing.ended ≡ last.frames ++ self.old.framing.ended }
     {
         let Some(row) = self.rows.pop() else {
             return;

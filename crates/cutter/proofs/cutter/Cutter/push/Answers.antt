@@ -28,3 +28,10 @@ returns-in_err-plan-clause-body c =
       | inl closed ↦ c.in_ok-closed.ensures.next closed
       | inr not_closed ↦ absurd (false≢true (ap is_ok (c.in_err-plan.ensures.none not_closed)))
     ]))
+
+pub returns-clause-accepted : goal.returns-clause-accepted
+returns-clause-accepted c = λ some.
+    rw (← c.self.view_is, ← (c.self.invariant c.if-self.false).list) (elim (cases_Bool c.in_ok-closed.closed) [
+      | inl closed ↦ c.in_ok-closed.ensures.accepted closed
+      | inr not_closed ↦ absurd (some (let is = c.in_ok-plan.ensures.none not_closed in cc))
+    ])
