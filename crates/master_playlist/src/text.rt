@@ -1,6 +1,6 @@
-ghost use Rattle.std.specs.Prelude.{◌≡◌, [], ◌∷◌, ◌++◌, map, Some, None, IfOk, IsOk, OnOk, MatchOption, IsOkUnless};
+ghost use Rattle.std.specs.Prelude.{◌≡◌, ◌≤◌, [], ◌∷◌, ◌++◌, map, Some, None, IfOk, IsOk, OnOk, MatchOption, IsOkUnless};
 ghost use Rattle.std.specs.List.{flat_map};
-ghost use Rattle.std.specs.String.{string_bytes};
+ghost use Rattle.std.specs.String.{string_bytes, string_capacity};
 ghost use Rattle.playlist_text.specs.Lines.{text_of};
 ghost use Rattle.playlist_text.specs.AttributeValues.{attribute_text};
 ghost use Rattle.master_playlist.specs.MasterLines;
@@ -45,8 +45,9 @@ fn text_of_lines(alloc: Global, variants: &[Variant<'_>]) -> Result<String, Allo
 }
 
 fn push_streams(out: &mut String, variants: &[Variant<'_>]) -> Result<(), AllocError>
-    ensures { OnOk result
+    ensures ok { OnOk result
         (string_bytes out.new ≡ string_bytes out.old ++ text_of (flat_map stream_lines variants.now)) }
+    ensures capacity { string_capacity out.old ≤ string_capacity out.new }
 {
     for variant in variants {
         push_stream(out, variant)?;
@@ -55,8 +56,9 @@ fn push_streams(out: &mut String, variants: &[Variant<'_>]) -> Result<(), AllocE
 }
 
 fn push_frames(out: &mut String, variants: &[Variant<'_>]) -> Result<(), AllocError>
-    ensures { OnOk result
+    ensures ok { OnOk result
         (string_bytes out.new ≡ string_bytes out.old ++ text_of (map frames_line variants.now)) }
+    ensures capacity { string_capacity out.old ≤ string_capacity out.new }
 {
     for variant in variants {
         push_frame(out, variant)?;
@@ -66,7 +68,8 @@ fn push_frames(out: &mut String, variants: &[Variant<'_>]) -> Result<(), AllocEr
 
 /// Appends the line of a variant and the URI of its media playlist (RFC 8216, 4.3.4.2).
 fn push_stream(out: &mut String, variant: &Variant<'_>) -> Result<(), AllocError>
-    ensures { OnOk result (string_bytes out.new ≡ string_bytes out.old ++ text_of (stream_lines variant.now)) }
+    ensures ok { OnOk result (string_bytes out.new ≡ string_bytes out.old ++ text_of (stream_lines variant.now)) }
+    ensures capacity { string_capacity out.old ≤ string_capacity out.new }
 {
     let rates = attributes_of(variant, variant.peak, variant.average);
     out.push_str("#EXT-X-STREAM-INF:")?;
@@ -79,7 +82,8 @@ fn push_stream(out: &mut String, variant: &Variant<'_>) -> Result<(), AllocError
 
 /// Appends the line of its I-frame playlist (RFC 8216, 4.3.4.3).
 fn push_frame(out: &mut String, variant: &Variant<'_>) -> Result<(), AllocError>
-    ensures { OnOk result (string_bytes out.new ≡ string_bytes out.old ++ text_of (frames_line variant.now ∷ [])) }
+    ensures ok { OnOk result (string_bytes out.new ≡ string_bytes out.old ++ text_of (frames_line variant.now ∷ [])) }
+    ensures capacity { string_capacity out.old ≤ string_capacity out.new }
 {
     let mut uri = String::new(*out.allocator());
     push_frames_uri(&mut uri, variant.name)?;

@@ -8,8 +8,8 @@ use Rattle.master_playlist.specs.MasterLines.{attributes}
 use Rattle.master_playlist.proofs.Texts.{one_line, frames-is}
 use Rattle.master_playlist.proofs.text.push_frame.Goals as goal
 
-pub returns : goal.returns
-returns c =
+pub returns-clause-ok : goal.returns-clause-ok
+returns-clause-ok c =
     let v : Listed = c.args.variant.now in
     let rates =
     c.in_ok-push_attribute_list.ensures.ok

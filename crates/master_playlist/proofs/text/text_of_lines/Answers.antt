@@ -10,5 +10,5 @@ returns-then-is_empty-clause-text c =
 pub returns-clause-text : goal.returns-clause-text
 returns-clause-text c =
     let some = eqb-false (length c.args.variants.now) 0 (sym c.is_empty.ensures ∙ c.if-is_empty.false) in
-    four_texts _ _ _ _ _ _ _ _ _ c.new-text.ensures.bytes c.in_ok-push_line.ensures.ok c.in_ok-push_line-2.ensures.ok c.in_ok-push_streams.ensures c.in_ok-push_frames.ensures
+    four_texts _ _ _ _ _ _ _ _ _ c.new-text.ensures.bytes c.in_ok-push_line.ensures.ok c.in_ok-push_line-2.ensures.ok c.in_ok-push_streams.ensures.ok c.in_ok-push_frames.ensures.ok
     ∙ sym (master_text-some c.args.variants.now (omega (arith, some)))
