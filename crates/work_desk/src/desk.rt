@@ -74,6 +74,7 @@ impl<'s, L: Ledger, M: Ledger> Desk<'s, L, M> {
         ensures numbers { IfOk result (λ opened. (i : ℕ) (pass : Pass L) → slice_get opened.workers.items i ≡ Some pass →
             (pass.number ≡ i) × (pass.count ≡ 0)) }
         ensures taker { IfOk result (λ opened. opened.taker.number ≡ workers) }
+        ensures scarce { OnErr result (0 < workers) }
     {
         let (claims, mut rest) = claims.open::<L>();
         let (takes, share) = takes.open::<M>();
