@@ -1,5 +1,6 @@
 //! What the two copies hold.
 
+ghost use Rattle.std.specs.Prelude.{◌≡◌, IsOk, MatchResult};
 ghost use Rattle.std.specs.Arc.{arc_value};
 
 use crate::history::History;
@@ -33,7 +34,12 @@ impl Absorb<Arc<Moment>> for Shown {
         Ok(())
     }
 
-    fn absorb_second(&mut self, operation: Arc<Moment>, _other: &Shown) -> Result<(), Arc<Moment>> {
+    fn absorb_second(&mut self, operation: Arc<Moment>, _other: &Shown) -> Result<(), Arc<Moment>>
+        ensures absorbed { MatchResult result (λ _. arc_value self.new.moment ≡ arc_value operation)
+            (λ back. (back ≡ operation) × (arc_value self.new.moment ≡ arc_value self.old.moment)) }
+        ensures succeeds { ⊥ → IsOk result }
+        ensures never { IsOk result }
+    {
         self.moment = operation;
         Ok(())
     }
