@@ -5,7 +5,9 @@ use Rattle.std.specs.declared.time.Duration.{Duration}
 use Rattle.std.specs.declared.time.Instant.{Instant}
 use Rattle.std.specs.Io.KnownBytes.{IsAtEnd, prepend_known}
 use Rattle.rtrb.specs.Ring.{received}
+use Rattle.std.specs.Arc.{arc_value}
 use Rattle.read_ahead.specs.Messages.{untold}
+use Rattle.read_ahead.specs.declared.view.InputsView.{InputsView}
 use Rattle.read_ahead.specs.declared.incoming.Incoming.{Incoming}
 use Rattle.read_ahead.specs.declared.incoming.Phase.{Phase}
 use Rattle.read_ahead.specs.declared.incoming.Phase.TheVariants.{Opening, Going, Ended, Failed}
@@ -25,7 +27,8 @@ pub record IsSound {I : Type 0} (holds : I → Option (List ℕ)) (i : Incoming 
   pub ended : i.phase ≡ Ended → IsAtEnd (untold holds (received i.consumer))
 
 -- a source, as its callers see it: the bytes that are left, where the input tells them, how many reads gave a byte, and how many
--- failed; its input's number, for how long that may be silent, and how many bytes of it may lie ready
+-- failed; its input's number, for how long that may be silent, and how many bytes of it may lie ready; how many inputs were opened
+-- together
 pub record Seen : Type 0 where
   pub left : Option (List ℕ)
   pub reads : ℕ
@@ -33,6 +36,7 @@ pub record Seen : Type 0 where
   pub number : ℕ
   pub stall : Option Duration
   pub room : ℕ
+  pub inputs : ℕ
 
 -- how an input stands that was being opened, by what was told next
 abbrev pub opened_by : {I : Type 0} → Message I → Phase
@@ -66,3 +70,7 @@ silence_of true since now = 0
 silence_of false None now = 0
 silence_of false (Some since) None = 0
 silence_of false (Some since) (Some now) = instant_nanos now - instant_nanos since
+
+-- how many inputs a view shows
+abbrev pub inputs_of : InputsView → ℕ
+inputs_of view = length (arc_value view.backlogs).taken.items

@@ -1,7 +1,7 @@
-ghost use Rattle.std.specs.Prelude.{◌≡◌};
+ghost use Rattle.std.specs.Prelude.{◌≡◌, IfOk, length};
 ghost use Rattle.std.specs.Arc.{arc_value};
 ghost use Rattle.item_io.specs.Views.{source_view};
-ghost use Rattle.read_ahead.specs.Sources.{IsSound, rest_of};
+ghost use Rattle.read_ahead.specs.Sources.{IsSound, inputs_of, rest_of};
 
 use crate::incoming::Incoming;
 use crate::input::Contents;
@@ -23,6 +23,7 @@ pub struct Ahead<R: Wait, I: Contents> {
 }
 
 impl<R: Wait, I: Contents> Model for Ahead<R, I> {
+    ghost use Rattle.std.specs.Prelude.{length};
     ghost use Rattle.std.specs.Arc.{arc_value};
     ghost use Rattle.read_ahead.specs.Sources.{IsSound, Seen, rest_of};
 
@@ -35,6 +36,7 @@ impl<R: Wait, I: Contents> Model for Ahead<R, I> {
       number = s.incoming.number;
       stall = (arc_value s.incoming.backlogs).stall;
       room = (arc_value s.incoming.backlogs).room;
+      inputs = length (arc_value s.incoming.backlogs).taken.items;
     } };
 
     ghost invariant = { λ s. IsSound I.holds s.incoming };
@@ -50,6 +52,7 @@ impl<R: Wait + Clock, I: Contents> Ahead<R, I> {
         ensures number { result.number ≡ incoming.number }
         ensures stall { result.stall ≡ (arc_value incoming.backlogs).stall }
         ensures room { result.room ≡ (arc_value incoming.backlogs).room }
+        ensures inputs { result.inputs ≡ length (arc_value incoming.backlogs).taken.items }
     {
         Ahead {
             rt,
@@ -68,7 +71,9 @@ impl<R: Wait + Clock, I: Contents> Ahead<R, I> {
     }
 
     /// A view of this input and all those that were opened with it.
-    pub fn view(&self) -> Result<InputsView, AllocError> {
+    pub fn view(&self) -> Result<InputsView, AllocError>
+        ensures { IfOk result (λ view. inputs_of view ≡ self.now.inputs) }
+    {
         Ok(InputsView {
             backlogs: Arc::try_clone(&self.incoming.backlogs)?,
         })

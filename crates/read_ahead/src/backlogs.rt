@@ -1,5 +1,5 @@
 //! The backlogs of all inputs under one lock, and who waits for them. No claim on bytes rests on it.
-ghost use Rattle.std.specs.Prelude.{◌≡◌, ◌<◌, None, IfOk, false, length};
+ghost use Rattle.std.specs.Prelude.{◌≡◌, ◌<◌, None, IfOk, OnErr, false, length};
 ghost use Rattle.std.specs.Arc.{arc_value};
 ghost use Rattle.read_ahead.specs.Shares.{room_for};
 
@@ -131,7 +131,9 @@ impl Backlogs {
     }
 
     /// How long no input falls silent that is given. None where none ever does.
-    fn patience<R: Clock>(&self, rt: &R, counts: &Counts) -> Option<Duration> {
+    fn patience<R: Clock>(&self, rt: &R, counts: &Counts) -> Option<Duration>
+        ensures never { self.now.stall ≡ None → result ≡ None }
+    {
         let stall = self.stall?;
         let now = Instant::now(rt).ok()?;
         let mut least = stall;
@@ -183,13 +185,19 @@ impl Backlogs {
         &self,
         rt: &R,
         alloc: Global,
-    ) -> Result<Vec<InputState>, AllocError> {
+    ) -> Result<Vec<InputState>, AllocError>
+        ensures each { IfOk result (λ states. length states.items ≡ length self.now.taken.items) }
+        ensures scarce { OnErr result (0 < length self.now.taken.items) }
+    {
         let now = Instant::now(rt).ok();
         let mut states = Vec::with_capacity(alloc, self.taken.len())?;
         let counts = self.counts.lock(rt);
-        for number in 0..counts.backlogs.len() {
+        for number in 0..self.taken.len() {
             let since = counts.since.get(number).copied().unwrap_or(None);
-            states.push(state_of(&counts.backlogs[number], since, now))?;
+            states.push(match counts.backlogs.get(number) {
+                Some(backlog) => state_of(backlog, since, now),
+                None => state_of(&Backlog::new(), since, now),
+            })?;
         }
         Ok(states)
     }

@@ -64,6 +64,9 @@ impl<I: Contents> Incoming<I> {
         ensures same { rest_of I.holds self.new ≡ rest_of I.holds self.old }
         ensures phase { self.new.phase ≡ self.old.phase }
         ensures ready { (self.old.at < length self.old.front.items) ⊎ (self.old.phase ≡ Ended) ⊎ (self.old.phase ≡ Failed) → result ≡ true }
+        ensures exact { result ≡ true → (self.old.at < length self.old.front.items) ⊎ (self.old.phase ≡ Ended) ⊎ (self.old.phase ≡ Failed)
+            ⊎ (0 < length (known_items self.new.consumer)) }
+        ensures empty { result ≡ false → known_items self.new.consumer ≡ [] }
     {
         self.at < self.front.len()
             || matches!(self.phase, Phase::Ended | Phase::Failed)

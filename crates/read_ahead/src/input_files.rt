@@ -1,5 +1,5 @@
 //! Inputs by their paths.
-ghost use Rattle.std.specs.Prelude.{◌≡◌, ℕ, List, Option, None, IfSome, IfOk, map};
+ghost use Rattle.std.specs.Prelude.{◌≡◌, ◌<◌, ℕ, List, Option, None, IfSome, IfOk, OnErr, length, map};
 ghost use Rattle.std.specs.String.{string_bytes};
 
 use crate::input::{Contents, Input};
@@ -75,8 +75,9 @@ pub fn inputs_at<F: InputFiles + Copy>(
     files: F,
     paths: &[&str],
 ) -> Result<Vec<InputAt<F>>, AllocError>
-    ensures { IfOk result (λ inputs. map (λ input. F.holds input.files (string_bytes input.path)) inputs.items ≡ map
+    ensures ok { IfOk result (λ inputs. map (λ input. F.holds input.files (string_bytes input.path)) inputs.items ≡ map
         (λ path. F.holds files path.now) paths.now) }
+    ensures scarce { OnErr result (0 < length paths.now) }
 {
     let mut inputs = Vec::with_capacity(alloc, paths.len())?;
     for path in paths {

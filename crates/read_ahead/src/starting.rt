@@ -1,5 +1,5 @@
 //! A thread for each input, and the sources of what they read.
-ghost use Rattle.std.specs.Prelude.{◌≡◌, [], All, Err, Ok, false, map, length, true, IfOk};
+ghost use Rattle.std.specs.Prelude.{◌≡◌, ◌<◌, [], All, Err, Ok, false, map, length, true, IfOk, IsErrOf, IsOk};
 ghost use Rattle.std.specs.Arc.{arc_value};
 ghost use Rattle.std.specs.List.{range_with_len};
 ghost use Rattle.std.specs.String.{string_bytes};
@@ -65,6 +65,8 @@ where
     ensures numbers { IfOk result (λ sources. map (λ source. source.number) sources.items ≡ range_with_len 0 (length paths.now)) }
     ensures limits { IfOk result (λ sources.
         All (λ source. (source.stall ≡ limits.stall) × (source.room ≡ room_for limits.ahead (length paths.now))) sources.items) }
+    ensures inputs { IfOk result (λ sources. All (λ source. source.inputs ≡ length paths.now) sources.items) }
+    ensures none { IsErrOf result InputFault.Unread → 0 < length paths.now }
 {
     open_all(rt, alloc, inputs_at(alloc, files, paths)?, limits)
 }
@@ -81,6 +83,8 @@ where
     ensures numbers { IfOk result (λ sources. map (λ source. source.number) sources.items ≡ range_with_len 0 (length inputs.items)) }
     ensures limits { IfOk result (λ sources.
         All (λ source. (source.stall ≡ limits.stall) × (source.room ≡ room_for limits.ahead (length inputs.items))) sources.items) }
+    ensures inputs { IfOk result (λ sources. All (λ source. source.inputs ≡ length inputs.items) sources.items) }
+    ensures none { IsErrOf result InputFault.Unread → 0 < length inputs.items }
 {
     let backlogs = Backlogs::new(&rt, alloc, inputs.len(), limits)?;
     let mut sources = start_all(rt, alloc, &backlogs, inputs)?;
@@ -116,6 +120,8 @@ where
     ensures numbers { IfOk result (λ sources. map (λ source. source.number) sources.items ≡ range_with_len 0 (length inputs.items)) }
     ensures limits { IfOk result (λ sources.
         All (λ source. (source.stall ≡ (arc_value backlogs.now).stall) × (source.room ≡ (arc_value backlogs.now).room)) sources.items) }
+    ensures inputs { IfOk result (λ sources. All (λ source. source.inputs ≡ length (arc_value backlogs.now).taken.items) sources.items) }
+    ensures none { inputs.items ≡ [] → IsOk result }
 {
     let mut sources = Vec::with_capacity(alloc, inputs.len())?;
     for input in inputs {
@@ -141,6 +147,7 @@ where
     ensures number { IfOk result (λ source. source.number ≡ number) }
     ensures stall { IfOk result (λ source. source.stall ≡ (arc_value backlogs.now).stall) }
     ensures room { IfOk result (λ source. source.room ≡ (arc_value backlogs.now).room) }
+    ensures inputs { IfOk result (λ source. source.inputs ≡ length (arc_value backlogs.now).taken.items) }
 {
     let may_wait = input.may_wait();
     let (mut producer, mut consumer) = RingBuffer::with_protocol::<Global, InOrder<I>>(

@@ -1,7 +1,7 @@
 //! How inputs stand, for whoever watches a run. No claim on bytes rests on it.
-ghost use Rattle.std.specs.Prelude.{◌≡◌};
+ghost use Rattle.std.specs.Prelude.{◌≡◌, ◌<◌, IfOk, OnErr, length};
 ghost use Rattle.std.specs.Duration.{as_nanos};
-ghost use Rattle.read_ahead.specs.Sources.{silence_of};
+ghost use Rattle.read_ahead.specs.Sources.{inputs_of, silence_of};
 
 use crate::backlog::Backlog;
 use crate::backlogs::Backlogs;
@@ -30,7 +30,10 @@ impl InputsView {
         &self,
         rt: &R,
         alloc: Global,
-    ) -> Result<Vec<InputState>, AllocError> {
+    ) -> Result<Vec<InputState>, AllocError>
+        ensures each { IfOk result (λ states. length states.items ≡ inputs_of self.now) }
+        ensures scarce { OnErr result (0 < inputs_of self.now) }
+    {
         self.backlogs.states(rt, alloc)
     }
 }

@@ -1,5 +1,5 @@
 //! Waiting for several inputs at once.
-ghost use Rattle.std.specs.Prelude.{◌≡◌, ◌<◌, length};
+ghost use Rattle.std.specs.Prelude.{◌≡◌, ◌<◌, [], Some, length, true};
 
 use crate::ahead::Ahead;
 use crate::backlogs::Backlogs;
@@ -17,7 +17,8 @@ pub fn wait_open<R: Wait + Clock, I: Contents>(
     backlogs: &Backlogs,
     sources: &mut [Ahead<R, I>],
 ) -> bool
-    ensures { sources.new ≡ sources.old }
+    ensures ok { sources.new ≡ sources.old }
+    ensures none { sources.old ≡ [] → result ≡ true }
 {
     let begun = Instant::now(rt);
     for _ in rt.forever() {
@@ -46,7 +47,8 @@ fn are_open<R: Wait + Clock, I: Contents>(
     sources: &mut [Ahead<R, I>],
     were_awaited: bool,
 ) -> Option<bool>
-    ensures { sources.new ≡ sources.old }
+    ensures ok { sources.new ≡ sources.old }
+    ensures none { sources.old ≡ [] → result ≡ Some true }
 {
     let mut answer = Some(true);
     for number in 0..sources.len() {
