@@ -8,7 +8,7 @@ ghost use Rattle.ladder_items.specs.Ladder.{rendition_at, unmeasured, IsAllowed}
 ghost use Rattle.ladder_items.specs.Items.{Part, shown_all};
 ghost use Rattle.ladder_items.specs.Weave.{Row, End, after, after_all, block, blocks};
 ghost use Rattle.ladder_items.specs.Giving.{IsGoing, IsNext, AreNextPlans, rows, block_of};
-ghost use Rattle.ladder_items.specs.Putting.{PutAll, PutSome, SaysFailures};
+ghost use Rattle.ladder_items.specs.Putting.{PutAll, PutFewer, PutSome, SaysFailures};
 
 use crate::fault::PackFault;
 use crate::playlists::Playlists;
@@ -37,6 +37,8 @@ pub fn give_segments<O: Outlet>(
         × (playlists.new.items ≡ shown_all settings.now (after_all parts (rows r spool.now)))) }
     ensures err { OnErr result ((parts : List Part) → AreNextPlans settings.now r parts playlists.old.items spool.now →
         PutSome O.output outlet.old outlet.new (blocks settings.now parts (rows r spool.now))) }
+    ensures left { OnErr result ((parts : List Part) → AreNextPlans settings.now r parts playlists.old.items spool.now →
+        PutFewer O.output outlet.old outlet.new (blocks settings.now parts (rows r spool.now))) }
     ensures failures { OnOk result (O.output.failures outlet.new ≡ O.output.failures outlet.old) }
     ensures fault { IfErr result (λ fault. SaysFailures fault (O.output.failures outlet.old) (O.output.failures outlet.new)) }
     ensures none { spool.now ≡ [] → IsOk result }
@@ -64,6 +66,8 @@ pub fn give_end<O: Outlet>(
         PutAll O.output outlet.old outlet.new (block settings.now parts (End r))) }
     ensures err { OnErr result ((parts : List Part) → IsGoing settings.now r parts playlists.now →
         PutSome O.output outlet.old outlet.new (block settings.now parts (End r))) }
+    ensures left { OnErr result ((parts : List Part) → IsGoing settings.now r parts playlists.now →
+        PutFewer O.output outlet.old outlet.new (block settings.now parts (End r))) }
     ensures failures { OnOk result (O.output.failures outlet.new ≡ O.output.failures outlet.old) }
     ensures fault { IfErr result (λ fault. SaysFailures fault (O.output.failures outlet.old) (O.output.failures outlet.new)) }
 {
@@ -89,6 +93,8 @@ fn give_segment<O: Outlet>(
         × (playlists.new.items ≡ shown_all settings.now (after parts (Row r (lent plan.entry))))) }
     ensures err { OnErr result ((parts : List Part) → IsNext settings.now r parts playlists.old.items (lent plan.entry) →
         PutSome O.output outlet.old outlet.new (block settings.now parts (Row r (lent plan.entry)))) }
+    ensures left { OnErr result ((parts : List Part) → IsNext settings.now r parts playlists.old.items (lent plan.entry) →
+        PutFewer O.output outlet.old outlet.new (block settings.now parts (Row r (lent plan.entry)))) }
     ensures failures { OnOk result (O.output.failures outlet.new ≡ O.output.failures outlet.old) }
     ensures fault { IfErr result (λ fault. SaysFailures fault (O.output.failures outlet.old) (O.output.failures outlet.new)) }
 {
@@ -129,6 +135,8 @@ pub fn give_sealed<O: Outlet>(
         × (playlists.new.items ≡ shown_all settings.now (after parts (Row r sealed.entry.plan)))) }
     ensures err { OnErr result ((parts : List Part) → IsNext settings.now r parts playlists.old.items sealed.entry.plan →
         PutSome O.output outlet.old outlet.new (block settings.now parts (Row r sealed.entry.plan))) }
+    ensures left { OnErr result ((parts : List Part) → IsNext settings.now r parts playlists.old.items sealed.entry.plan →
+        PutFewer O.output outlet.old outlet.new (block settings.now parts (Row r sealed.entry.plan))) }
     ensures failures { OnOk result (O.output.failures outlet.new ≡ O.output.failures outlet.old) }
     ensures fault { IfErr result (λ fault. SaysFailures fault (O.output.failures outlet.old) (O.output.failures outlet.new)) }
 {
@@ -154,6 +162,7 @@ fn put_block<O: Outlet>(
     requires number { number_of (rendition_at settings.now r).keys sealed.plan.number < 2 ^ 64 }
     ensures ok { OnOk result (PutAll O.output outlet.old outlet.new (block_of settings.now r sealed.entry playlists.now)) }
     ensures err { OnErr result (PutSome O.output outlet.old outlet.new (block_of settings.now r sealed.entry playlists.now)) }
+    ensures left { OnErr result (PutFewer O.output outlet.old outlet.new (block_of settings.now r sealed.entry playlists.now)) }
     ensures fault { IfErr result (λ fault. SaysFailures fault (O.output.failures outlet.old) (O.output.failures outlet.new)) }
 {
     let rendition = rendition_of(settings, r);

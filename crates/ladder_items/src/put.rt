@@ -5,7 +5,7 @@ ghost use Rattle.master_playlist.specs.Faults.{fault_of};
 ghost use Rattle.ladder_items.specs.Ladder.{unmeasured};
 ghost use Rattle.ladder_items.specs.Masters.{master_of};
 ghost use Rattle.ladder_items.specs.declared.fault.PackFault.TheVariants.{Outlet};
-ghost use Rattle.ladder_items.specs.Putting.{PutAll, PutSome, SaysFailures};
+ghost use Rattle.ladder_items.specs.Putting.{PutAll, PutFewer, PutSome, SaysFailures};
 ghost use Rattle.ladder_items.specs.Items.{segment_of, media_of, frames_of};
 ghost use Rattle.segment_job.specs.Rotation.{number_of};
 
@@ -22,6 +22,7 @@ fn put<O: Outlet>(outlet: &mut O, item: &Item) -> Result<(), PackFault>
     requires { O.output.failures outlet.old < 2 ^ 63 }
     ensures ok { OnOk result (PutAll O.output outlet.old outlet.new (item_value item.now ∷ [])) }
     ensures err { OnErr result (PutSome O.output outlet.old outlet.new (item_value item.now ∷ [])) }
+    ensures left { OnErr result (PutFewer O.output outlet.old outlet.new (item_value item.now ∷ [])) }
     ensures fault { IfErr result (λ fault. SaysFailures fault (O.output.failures outlet.old) (O.output.failures outlet.new)) }
     ensures told { IfErr result (λ fault. fault ≡ Outlet) }
 {
@@ -42,6 +43,7 @@ pub fn put_segment<O: Outlet>(
     requires number { number_of rendition.now.keys sealed.plan.number < 2 ^ 64 }
     ensures ok { OnOk result (PutAll O.output outlet.old outlet.new (segment_of r rendition.now sealed.entry ∷ [])) }
     ensures err { OnErr result (PutSome O.output outlet.old outlet.new (segment_of r rendition.now sealed.entry ∷ [])) }
+    ensures left { OnErr result (PutFewer O.output outlet.old outlet.new (segment_of r rendition.now sealed.entry ∷ [])) }
     ensures fault { IfErr result (λ fault. SaysFailures fault (O.output.failures outlet.old) (O.output.failures outlet.new)) }
 {
     let name = rendition.name.clone()?;
@@ -105,6 +107,8 @@ pub fn put_playlists<O: Outlet>(
         (media_of r rendition.now playlists.now ended ∷ frames_of r rendition.now playlists.now ended ∷ [])) }
     ensures err { OnErr result (PutSome O.output outlet.old outlet.new
         (media_of r rendition.now playlists.now ended ∷ frames_of r rendition.now playlists.now ended ∷ [])) }
+    ensures left { OnErr result (PutFewer O.output outlet.old outlet.new
+        (media_of r rendition.now playlists.now ended ∷ frames_of r rendition.now playlists.now ended ∷ [])) }
     ensures fault { IfErr result (λ fault. SaysFailures fault (O.output.failures outlet.old) (O.output.failures outlet.new)) }
 {
     put(outlet, &media(r, rendition, playlists, ended)?)?;
@@ -125,6 +129,7 @@ pub fn put_master<O: Outlet>(
     requires listable { fault_of (map unmeasured renditions.now) ≡ None }
     ensures ok { OnOk result (PutAll O.output outlet.old outlet.new (MasterItem (master_of renditions.now playlists.now) ∷ [])) }
     ensures err { OnErr result (PutSome O.output outlet.old outlet.new (MasterItem (master_of renditions.now playlists.now) ∷ [])) }
+    ensures left { OnErr result (PutFewer O.output outlet.old outlet.new (MasterItem (master_of renditions.now playlists.now) ∷ [])) }
     ensures fault { IfErr result (λ fault. SaysFailures fault (O.output.failures outlet.old) (O.output.failures outlet.new)) }
 {
     let item = Item::Master {

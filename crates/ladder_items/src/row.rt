@@ -20,6 +20,7 @@ pub fn row_of(alloc: Global, sealed: &Sealed<'_>, keys: &Keys) -> Result<Row, Al
     requires inside { All (IsInside (length sealed.now.plan.body) sealed.now.plan.ticks) sealed.now.plan.frames }
     ensures row { IfOk result (λ row. row ≡ Rows.row_of keys.now sealed.now) }
     ensures size { length sealed.now.bytes < 2 ^ 32 }
+    ensures scarce { OnErr result (0 < length sealed.now.plan.frames) }
 {
     segment_job::key_and_vector_make_one_segment();
     let plan = sealed.plan();
