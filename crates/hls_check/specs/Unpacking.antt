@@ -86,6 +86,14 @@ pub record IsReached (p : Packed) : Type 0 where
   pub opens : IsOpen p place
   pub before : (j : ℕ) → j < place → IsOpen p j
 
+-- an entry opens to a text with bytes, and each before it opens: where no text is kept, only such a one wants memory
+pub record HasBytes (p : Packed) : Type 0 where
+  pub place : ℕ
+  pub entry : place < length p.entries
+  pub opens : IsOpen p place
+  pub some : ¬ Opens p place []
+  pub before : (j : ℕ) → j < place → IsOpen p j
+
 -- the fault is the one to tell: all that is missing comes first, then all that doesn't open, then all without a head. Lack of
 -- memory is told only where a text was reached that wants it
 abbrev pub IsTold : Packed → UnpackFault → Type 0

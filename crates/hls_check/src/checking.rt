@@ -4,7 +4,7 @@ ghost use Rattle.std.specs.Prelude.{◌≡◌, ◌↔◌, ℕ, map, IfOk, IfErr,
 ghost use Rattle.hls_check.specs.declared.checking.Checked as TheChecked;
 ghost use Rattle.hls_check.specs.declared.checking.CheckFault.TheVariants.{Text, Segments};
 ghost use Rattle.hls_check.specs.declared.fault.UnpackFault.TheVariants.{NoMemory};
-ghost use Rattle.hls_check.specs.Unpacking.{packed, IsTold};
+ghost use Rattle.hls_check.specs.Unpacking.{packed, HasBytes, IsTold};
 ghost use Rattle.hls_check.specs.Checks.{AreUnpacked, AreWhole, IsFaulty, IsMemory};
 
 use crate::counting::count_bytes;
@@ -88,6 +88,10 @@ pub fn check_listing(
         IfErr result (IsTold p) }
     ensures missing { let p = packed listing.now.salt listing.now.entries (map (λ s. s.items) segments.now) keys.now in
         (i : ℕ) → IsErrOf result (UnpackFault.Missing i) ↔ IsTold p (UnpackFault.Missing i) }
+
+    // Memory is wanted only for a segment with bytes.
+    ensures scarce { let p = packed listing.now.salt listing.now.entries (map (λ s. s.items) segments.now) keys.now in
+        IsErrOf result UnpackFault.NoMemory → HasBytes p }
 {
     let bytes = count_bytes(alloc, listing.salt, &listing.entries, segments, keys)?;
     Ok(Checked {

@@ -3,7 +3,7 @@
 ghost use Rattle.std.specs.Prelude.{◌≡◌, ℕ, ◌↔◌, List, Option, None, map, length, IfOk, IfErr, IsErrOf, MatchResult};
 ghost use Rattle.std.specs.List.{concat};
 ghost use Rattle.hls_check.specs.declared.fault.UnpackFault.TheVariants.{NoMemory};
-ghost use Rattle.hls_check.specs.Unpacking.{packed, AllUnpack, IsThere, OfAll, IsTold};
+ghost use Rattle.hls_check.specs.Unpacking.{packed, AllUnpack, HasBytes, IsThere, OfAll, IsTold};
 ghost use Rattle.hls_check.specs.Texts.{AreTexts, HaveBytes, IsNotCounted};
 
 use crate::fault::UnpackFault;
@@ -30,6 +30,8 @@ pub fn count_bytes(
         IfErr result (IsTold p) }
     ensures missing { let p = packed salt entries.now (map (λ s. s.items) segments.now) keys.now in
         (i : ℕ) → IsErrOf result (UnpackFault.Missing i) ↔ IsTold p (UnpackFault.Missing i) }
+    ensures scarce { let p = packed salt entries.now (map (λ s. s.items) segments.now) keys.now in
+        IsErrOf result UnpackFault.NoMemory → HasBytes p }
 {
     if let Some(i) = first_missing(entries, segments, keys, salt) {
         return Err(UnpackFault::Missing(i));
@@ -52,6 +54,8 @@ fn count_opened(
         IfOk result (λ bytes. (texts : List (List ℕ)) × AreTexts p texts × HaveBytes texts None bytes) }
     ensures err { let p = packed salt entries.now (map (λ s. s.items) segments.now) keys.now in
         IfErr result (IsNotCounted p) }
+    ensures scarce { let p = packed salt entries.now (map (λ s. s.items) segments.now) keys.now in
+        IsErrOf result UnpackFault.NoMemory → HasBytes p }
 {
     let mut bytes: usize = 0;
     let mut headless = None;

@@ -1,8 +1,9 @@
-use Rattle.std.proofs.Common.{◌∙◌, sym, subst, inl, rules}
+use Rattle.std.proofs.Common.{◌∙◌, [], length, ap, arith, sym, subst, inl, rules}
 use Rattle.std.proofs.lemmas.Option.{MatchOption-at_some}
 use Rattle.hls_check.specs.Unpacking.{BeginsWithHead}
 use Rattle.hls_check.proofs.Wanting.{memory-told}
 use Rattle.media_reading.proofs.Found.{MatchOption-none}
+use Rattle.hls_check.proofs.TheHead.{begins-long}
 use Rattle.hls_check.proofs.Counted.{past, headless-here, counted-here}
 use Rattle.hls_check.proofs.counting.count_opened.Goals as goal
 
@@ -51,3 +52,35 @@ returns-in_default-checked_add-clause-err c = inl (record {
   opens = (_, (MatchOption-at_some _ _ _ c.in-Some.is c.in_ok-text.ensures.found).seals);
   before = λ j lt. (_, (c.loop-i.invariant.opens j lt).seals);
 })
+
+pub returns-in_err-text-clause-scarce : goal.returns-in_err-text-clause-scarce
+returns-in_err-text-clause-scarce c = λ _. record {
+  place = c.loop-i.i;
+  entry = c.loop-i-test.true;
+  opens = c.in_err-text.ensures.memory;
+  some = c.in_err-text.ensures.some;
+  before = λ j lt. (_, (c.loop-i.invariant.opens j lt).seals);
+}
+
+pub returns-in_err-rest-clause-scarce : goal.returns-in_err-rest-clause-scarce
+returns-in_err-rest-clause-scarce c = λ _.
+    let opened = MatchOption-at_some _ _ _ c.in-Some.is c.in_ok-text.ensures.found in
+    record {
+      place = c.loop-i.i;
+      entry = c.loop-i-test.true;
+      opens = (_, opened.seals);
+      some = λ none. absurd (omega (arith, ap length (opened.only [] none), ap length c.deref.ensures.value, c.in_err-rest.ensures.memory));
+      before = λ j lt. (_, (c.loop-i.invariant.opens j lt).seals);
+    }
+
+pub returns-in_default-checked_add-clause-scarce : goal.returns-in_default-checked_add-clause-scarce
+returns-in_default-checked_add-clause-scarce c = λ _.
+    let opened = MatchOption-at_some _ _ _ c.in-Some.is c.in_ok-text.ensures.found in
+    let long = begins-long _ c.in-Some-2.rest.now (MatchOption-at_some _ _ _ c.in-Some-2.is c.in_ok-rest.ensures.found) in
+    record {
+      place = c.loop-i.i;
+      entry = c.loop-i-test.true;
+      opens = (_, opened.seals);
+      some = λ none. absurd (omega (arith, ap length (opened.only [] none), ap length c.deref.ensures.value, long));
+      before = λ j lt. (_, (c.loop-i.invariant.opens j lt).seals);
+    }
