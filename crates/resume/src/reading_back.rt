@@ -37,6 +37,7 @@ pub fn read_back(
 
     // Memory is wanted for a line of the text that adds to what is picked, and for rows only where they may be had.
     ensures scarce { OnErr result (MayWantMemory frames.now ⊎ MayBeOf listing.now frames.now sizes.now) }
+    ensures some { OnErr result (MayWantMemory frames.now ⊎ (0 < length listing.now.entries)) }
 {
     let picked = pick(alloc, frames)?;
     if picked.first >= 1 << 63 {
