@@ -1,5 +1,5 @@
 -- What one look at a folder finds of a ladder.
-use Rattle.std.specs.Prelude.{◌≡◌, ℕ, ◌^◌, Bool, ◌||◌, ◌++◌, codes, List, [], map, filter, filter_map, is_some, slice_index_or}
+use Rattle.std.specs.Prelude.{◌≡◌, ℕ, ◌^◌, Bool, true, Any, ◌||◌, ◌++◌, codes, List, [], map, filter, filter_map, is_some, slice_index_or}
 use Rattle.std.specs.Fmt.{decimal}
 use Rattle.std.specs.List.{list_any}
 use Rattle.std.specs.Str.{bytes_eq}
@@ -38,3 +38,9 @@ pub record IsScan (Lists : List (List ℕ) → Type 0) (names : List (List ℕ))
   pub files : List (List ℕ)
   pub listed : Lists files
   pub found : scan ≡ scan_of names files
+
+-- one of the files that may be those of the folder is an unfinished one
+pub record MayHoldUnfinished (Lists : List (List ℕ) → Type 0) (names : List (List ℕ)) : Type 0 where
+  pub files : List (List ℕ)
+  pub listed : Lists files
+  pub some : Any (λ file. is_unfinished names file ≡ true) files

@@ -1,5 +1,5 @@
 //! One rendition's playlists are read back, by its name and the files of its segments.
-ghost use Rattle.std.specs.Prelude.{◌≡◌, ◌≢◌, ◌<◌, ℕ, List, IfOk, IfErr, IsErr, IsErrOf, Contains, length};
+ghost use Rattle.std.specs.Prelude.{◌≡◌, ◌≢◌, ◌<◌, ◌⊎◌, ℕ, List, IfOk, IfErr, IsErr, IsErrOf, Contains, length};
 ghost use Rattle.std.specs.Str.{IsUtf8};
 ghost use Rattle.media_reading.specs.MediaTexts.{IsListing, MayWantMemory, listing_text};
 ghost use Rattle.playlist_text.specs.MediaLines;
@@ -72,6 +72,7 @@ fn go_on_from<F: FolderReader>(
 
     // Memory is wanted only once the run goes on from what is listed.
     ensures scarce { IsErrOf result Stop.NoMemory → IsAsWanted asked.now.wanted listing.now }
+    ensures some { IsErrOf result Stop.NoMemory → (0 < length listing.now.entries) ⊎ (listing.now.name ≡ asked.now.name.now) }
 {
     if let Err(fault) = look(asked.wanted, listing) {
         return Err(stop_of(fault));

@@ -1,5 +1,5 @@
 //! A folder is looked at once.
-ghost use Rattle.std.specs.Prelude.{length, ◌<◌, OnErr, ◌≡◌, ◌^◌, ◌++◌, Bool, IfOk, IsErrOf, codes, map, filter, filter_map, ◌||◌};
+ghost use Rattle.std.specs.Prelude.{length, ◌<◌, ◌⊎◌, Any, OnErr, true, ◌≡◌, ◌^◌, ◌++◌, Bool, IfOk, IsErrOf, codes, map, filter, filter_map, ◌||◌};
 ghost use Rattle.std.specs.List.{list_any};
 ghost use Rattle.std.specs.Str.{bytes_eq};
 ghost use Rattle.std.specs.Fmt.{decimal};
@@ -8,7 +8,7 @@ ghost use Rattle.folder.specs.declared.read_fault.FolderReadFault as TheFault;
 ghost use Rattle.media_reading.specs.State.{number_in};
 ghost use Rattle.playlist_text.specs.Uris.{master_uri};
 ghost use Rattle.channel_folder.specs.Files.{part_of, unfinished_names};
-ghost use Rattle.channel_folder.specs.Scans.{IsScan, numbers_in, is_unfinished};
+ghost use Rattle.channel_folder.specs.Scans.{IsScan, MayHoldUnfinished, numbers_in, is_unfinished};
 ghost use Rattle.channel_folder.specs.Scans;
 
 use crate::file_names::{UNFINISHED_MASTER, UnfinishedNames, segment_front, unfinished_names};
@@ -25,6 +25,10 @@ pub fn scan_files<F: FolderReader>(
 ) -> Result<Scan, FolderReadFault>
     ensures ok { IfOk result (IsScan (F.lists folder.now) (map (λ n. n.now) names.now)) }
     ensures unread { IsErrOf result FolderReadFault.Unread → F.refuses folder.now }
+
+    // Memory is wanted for the folder's files, for a rendition, or for an unfinished file.
+    ensures scarce { IsErrOf result FolderReadFault.NoMemory →
+        F.wants folder.now ⊎ (0 < length names.now) ⊎ MayHoldUnfinished (F.lists folder.now) (map (λ n. n.now) names.now) }
 {
     let files = folder.names(alloc)?;
     Ok(Scan {
@@ -66,7 +70,9 @@ fn numbers_of(alloc: Global, files: &[String], name: &str) -> Result<Vec<u64>, A
 
 /// The names of unfinished files.
 fn unfinished_of(alloc: Global, files: &[String], names: &[&str]) -> Result<Vec<String>, AllocError>
-    ensures { IfOk result (λ v. map string_bytes v.items ≡ filter (is_unfinished (map (λ n. n.now) names.now)) (map string_bytes files.now)) }
+    ensures ok { IfOk result (λ v. map string_bytes v.items ≡ filter (is_unfinished (map (λ n. n.now) names.now)) (map string_bytes files.now)) }
+    ensures scarce { OnErr result ((0 < length names.now)
+        ⊎ Any (λ file. is_unfinished (map (λ n. n.now) names.now) file ≡ true) (map string_bytes files.now)) }
 {
     let parts = parts_of_each(alloc, names)?;
     let mut unfinished = Vec::new(alloc);

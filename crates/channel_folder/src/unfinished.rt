@@ -10,6 +10,7 @@ use folder::{Folder, FolderFault};
 pub fn let_unfinished_go<F: Folder>(folder: &mut F, scan: &Scan) -> Result<(), FolderFault>
     ensures ok { OnOk result (F.made folder.new ≡ F.made folder.old ++ removing scan.now.unfinished) }
     ensures err { OnErr result (IsRemovedInPart (F.made folder.old) (F.made folder.new) scan.now.unfinished) }
+    ensures failed { OnErr result ((found : F) × F.fails found folder.new) }
     ensures pruned { F.pruned folder.new ≡ F.pruned folder.old }
 {
     remove_each(folder, scan.unfinished())
@@ -19,6 +20,7 @@ pub fn let_unfinished_go<F: Folder>(folder: &mut F, scan: &Scan) -> Result<(), F
 fn remove_each<F: Folder>(folder: &mut F, names: &[String]) -> Result<(), FolderFault>
     ensures ok { OnOk result (F.made folder.new ≡ F.made folder.old ++ removing (map string_bytes names.now)) }
     ensures err { OnErr result (IsRemovedInPart (F.made folder.old) (F.made folder.new) (map string_bytes names.now)) }
+    ensures failed { OnErr result ((found : F) × F.fails found folder.new) }
     ensures pruned { F.pruned folder.new ≡ F.pruned folder.old }
 {
     for name in names {
