@@ -7,3 +7,4 @@ pub mod SealedTexts
 pub mod SegmentFiles
 pub mod TextFacts
 pub mod Checked
+pub mod Finishing

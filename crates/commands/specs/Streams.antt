@@ -1,5 +1,5 @@
 -- What a command read and wrote.
-use Rattle.std.specs.Prelude.{◌≡◌, ℕ, List, Option, Ok, is_err, true}
+use Rattle.std.specs.Prelude.{◌≡◌, ◌<◌, ◌⊎◌, ℕ, List, Option, Ok, is_err, true}
 use Rattle.std.specs.Io.KnownBytes.{Consumes, IsAtEnd, Appends}
 use Rattle.ts_packet.specs.Packets.{packets, joined}
 use Rattle.hex.specs.Hex.{decode_of}
@@ -12,6 +12,10 @@ use Rattle.commands.specs.Hex.{without_end}
 pub record ReadsAll (left left_then : Option (List ℕ)) (bytes : List ℕ) : Type 0 where
   pub consumed : Consumes left left_then bytes
   pub at_end : IsAtEnd left_then
+
+-- A read gave a byte, or the reader came to its end.
+abbrev pub HasBegun : ℕ → ℕ → Option (List ℕ) → Option (List ℕ) → Type 0
+HasBegun reads reads_then left left_then = (reads < reads_then) ⊎ ((bytes : List ℕ) × ReadsAll left left_then bytes)
 
 -- the line that `seal` writes of a stream
 abbrev pub sealed_line : List ℕ → List ℕ → List ℕ → List ℕ

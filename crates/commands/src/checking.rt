@@ -1,4 +1,4 @@
-ghost use Rattle.std.specs.Prelude.{◌≡◌, ◌≢◌, OnOk, IfOk, IfErr, IsErrOf, map};
+ghost use Rattle.std.specs.Prelude.{◌≡◌, ◌≢◌, ◌<◌, OnOk, IfOk, IfErr, IsErr, IsErrOf, length, map};
 ghost use Rattle.std.specs.Path.{path_buf_bytes};
 ghost use Rattle.std.specs.String.{string_bytes};
 ghost use Rattle.commands.specs.Checking;
@@ -132,6 +132,7 @@ fn read_segments<F: FileReader>(
     ensures ok { IfOk result (λ segments. Checking.AllGive (F.gives files.now) (Checking.segment_paths playlist.now listing.now)
         (map (λ s. s.items) segments.items)) }
     ensures unread { IsErrOf result FileFault.Unread → Checking.RefusesOne (F.refuses files.now) (Checking.segment_paths playlist.now listing.now) }
+    ensures none { IsErr result → 0 < length listing.now.entries }
 {
     let mut segments = Vec::new(alloc);
     for entry in &listing.entries {

@@ -2,7 +2,7 @@ ghost use Rattle.std.specs.Prelude.{◌≡◌, ◌≢◌, ◌⊎◌, ◌%◌, le
 ghost use Rattle.hex.specs.Hex.{decode_of};
 ghost use Rattle.commands.specs.Counts.{HasRoom, ReadsFewer, OpeningCounts};
 ghost use Rattle.commands.specs.Hex.{without_end};
-ghost use Rattle.commands.specs.Streams.{WritesOpened, BeginsOpened, ReadsOther, ReadsNoBlocks, ReadsNoSealed};
+ghost use Rattle.commands.specs.Streams.{WritesOpened, BeginsOpened, HasBegun, ReadsOther, ReadsNoBlocks, ReadsNoSealed};
 
 use crate::output::write_hex_line;
 use crate::reading::{ReadingFault, read_all};
@@ -126,6 +126,10 @@ pub fn open<S: Source, W: Write>(
     ensures untouched { IfErr result (λ fault. fault ≢ OpeningFault.Unwritten → output.new ≡ output.old) }
     ensures counts { IfErr result (OpeningCounts (S.input.reads input.old) (S.input.reads input.new) (S.input.failures input.old)
         (S.input.failures input.new)) }
+
+    // Memory is wanted only for bytes that a read gave, or once the end has come.
+    ensures scarce { IsErrOf result OpeningFault.NoMemory →
+        HasBegun (S.input.reads input.old) (S.input.reads input.new) (S.input.left input.old) (S.input.left input.new) }
 {
     let line = read_all(alloc, input)?;
     let sealed = decode_line(alloc, &line)?;

@@ -1,4 +1,4 @@
-ghost use Rattle.std.specs.Prelude.{◌≡◌, ℕ, List, OnOk, IfOk, IfErr};
+ghost use Rattle.std.specs.Prelude.{◌≡◌, ◌<◌, ℕ, List, OnOk, IfOk, IfErr, IsErrOf};
 ghost use Rattle.ts_packet.specs.Packets.{packets};
 ghost use Rattle.commands.specs.Counts.{HasRoom, ReadsFewer, ReadingCounts};
 ghost use Rattle.commands.specs.Streams.{ReadsAll};
@@ -20,6 +20,9 @@ pub(crate) fn read_packets<S: Source>(
     ensures ok_counts { OnOk result (ReadsFewer (S.input.reads input.old) (S.input.reads input.new) (S.input.failures input.old) (S.input.failures input.new)) }
     ensures counts { IfErr result (ReadingCounts (S.input.reads input.old) (S.input.reads input.new) (S.input.failures input.old)
         (S.input.failures input.new)) }
+
+    // Memory is wanted only for bytes that a read gave.
+    ensures scarce { IsErrOf result ReadingFault.NoMemory → S.input.reads input.old < S.input.reads input.new }
 {
     let mut reader = Reader::new();
     let mut packets = Vec::new(alloc);

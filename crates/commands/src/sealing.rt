@@ -1,6 +1,6 @@
 ghost use Rattle.std.specs.Prelude.{◌≡◌, ◌≢◌, OnOk, IfErr, IsErrOf};
 ghost use Rattle.commands.specs.Counts.{HasRoom, ReadsFewer, SealingCounts};
-ghost use Rattle.commands.specs.Streams.{WritesSealed, BeginsSealed};
+ghost use Rattle.commands.specs.Streams.{WritesSealed, BeginsSealed, HasBegun};
 
 use crate::output::write_hex_line;
 use crate::packets::read_packets;
@@ -82,6 +82,10 @@ pub fn seal<S: Source, W: Write>(
     ensures untouched { IfErr result (λ fault. fault ≢ SealingFault.Unwritten → output.new ≡ output.old) }
     ensures counts { IfErr result (SealingCounts (S.input.reads input.old) (S.input.reads input.new) (S.input.failures input.old)
         (S.input.failures input.new)) }
+
+    // Memory is wanted only for bytes that a read gave, or once the end has come.
+    ensures scarce { IsErrOf result SealingFault.NoMemory →
+        HasBegun (S.input.reads input.old) (S.input.reads input.new) (S.input.left input.old) (S.input.left input.new) }
 {
     let packets = read_packets(alloc, input)?;
     let sealed = aes_cbc::seal(alloc, key, vector, packets.as_flattened())?;

@@ -1,8 +1,8 @@
-use Rattle.std.proofs.Common.{◌≡◌, ap, Err}
+use Rattle.std.proofs.Common.{◌≡◌, ap, Err, inl, inr}
 use Rattle.std.proofs.lemmas.Result.{err_from_is_err_and}
-use Rattle.commands.specs.Told.{opening_of}
-use Rattle.commands.specs.declared.opening.OpeningFault.TheVariants.{NotBlocks}
-use Rattle.commands.proofs.SealedTexts.{opening_of-NotBlocks}
+use Rattle.commands.specs.Told.{opening_of, opening_of_reading}
+use Rattle.commands.specs.declared.opening.OpeningFault.TheVariants.{NoMemory, NotBlocks}
+use Rattle.commands.proofs.SealedTexts.{opening_of-NotBlocks, opening_of_reading-NoMemory}
 use Rattle.commands.proofs.opening.open.Goals as goal
 
 pub returns-in_err-plain-clause-not_blocks : goal.returns-in_err-plain-clause-not_blocks
@@ -19,3 +19,15 @@ returns-in_err-plain-clause-not_blocks g c = λ told.
       };
       not_blocks = rw c.deref-2.ensures.value at not_blocks;
     }
+
+pub returns-in_err-line-clause-scarce : goal.returns-in_err-line-clause-scarce
+returns-in_err-line-clause-scarce g c = λ told.
+    let p = err_from_is_err_and c.from_residual.result c.from_residual.ensures.1 in
+    let same : opening_of_reading c.in_err-line.field-0.0 ≡ NoMemory = cc (told, p.1, p.2) in
+    inl (c.in_err-line.ensures.scarce (ap Err (opening_of_reading-NoMemory _ same)))
+
+pub returns-in_err-sealed-clause-scarce : goal.returns-in_err-sealed-clause-scarce
+returns-in_err-sealed-clause-scarce g c = λ _. inr (c.in_ok-line.line.items, c.in_ok-line.ensures.all)
+
+pub returns-in_err-plain-clause-scarce : goal.returns-in_err-plain-clause-scarce
+returns-in_err-plain-clause-scarce g c = λ _. inr (c.in_ok-line.line.items, c.in_ok-line.ensures.all)
