@@ -9,6 +9,7 @@ use Rattle.channel.specs.Looking.{IsRowFault}
 use Rattle.channel.specs.Reading.{IsScanFault}
 use Rattle.channel.specs.Rolling.{IsRollFault}
 use Rattle.channel.specs.Views.{FolderView}
+use Rattle.channel.specs.declared.fault.ResumingFault.TheVariants.{Outlet}
 
 pub not-read : {F : Type 0} (folder : FolderView F) (name : List ℕ) (now : F) (why : FolderReadFault) → (why ≡ Read.Unread → folder.refuses now) → IsRollFault folder name now now (of_reading why)
 not-read folder name now Read.Unread refuses = (refl, refuses refl)
@@ -22,3 +23,8 @@ row-not-read Refuses Gives Lacks r rendition row Read.NoMemory refuses = tt
 pub names-not-read : (Refuses : Type 0) (why : FolderReadFault) → (why ≡ Read.Unread → Refuses) → IsScanFault Refuses (of_reading why)
 names-not-read Refuses Read.Unread refuses = refuses refl
 names-not-read Refuses Read.NoMemory refuses = tt
+
+-- that isn't told as a file that can't be changed
+pub not-outlet : (why : FolderReadFault) → ¬ (of_reading why ≡ Outlet)
+not-outlet Read.Unread is = cc is
+not-outlet Read.NoMemory is = cc is

@@ -26,7 +26,7 @@ use Rattle.channel.specs.Rolling.{IsOnlyRolled, RollingStops, RollsEach}
 use Rattle.channel.specs.Views.{FolderView}
 use Rattle.channel.proofs.Rolls.{rolls-all}
 
-asks-count : (ladder : Ladder) (asked : List Asked) → AsksFor ladder asked → length asked ≡ length ladder.renditions
+pub asks-count : (ladder : Ladder) (asked : List Asked) → AsksFor ladder asked → length asked ≡ length ladder.renditions
 asks-count ladder asked asks =
     sym (length-map asked (λ (a : Asked). (a.name.now, a.wanted))) ∙ (ap length asks ∙ length-map ladder.renditions (wanted_of ladder))
 

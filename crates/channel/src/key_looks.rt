@@ -1,7 +1,7 @@
 //! Whether the keys of a ladder are those that its listed segments were sealed under.
 
 ghost use Rattle.std.specs.Prelude.{◌≡◌, ◌≢◌, ◌⊎◌, ◌↔◌, ◌<◌, ℕ, Some, true, false, IsTrue, ◌∷◌, [], All, length, map, slice_get};
-ghost use Rattle.std.specs.Prelude.{Decides, IfErr, IfOk, OnErr, OnOk};
+ghost use Rattle.std.specs.Prelude.{Decides, IfErr, IfOk, IsErr, OnErr, OnOk};
 ghost use Rattle.std.specs.String.{string_bytes};
 ghost use Rattle.item_io.specs.FileNames.{segment_file_name};
 ghost use Rattle.limits.specs.declared.TheConstants.{MOST_KEYS};
@@ -33,6 +33,7 @@ pub(crate) fn look_at_keys<F: FolderReader>(
     requires turns { TakeTurns found.now }
     ensures ok { OnOk result (AllKeysOpen (F.gives folder.now) renditions.now found.now) }
     ensures err { IfErr result (IsLookFault (F.refuses folder.now) (F.gives folder.now) (F.lacks folder.now) renditions.now found.now) }
+    ensures none { IsErr result → 0 < length renditions.now }
 {
     for r in 0..renditions.len() {
         let one = found_at(found, r);
@@ -78,6 +79,7 @@ fn look_at<F: FolderReader>(
     requires { All (λ row. row.key < MOST_KEYS) rows.now }
     ensures ok { OnOk result (KeysOpen (F.gives folder.now) rendition.now rows.now) }
     ensures err { IfErr result (IsKeyFault (F.refuses folder.now) (F.gives folder.now) (F.lacks folder.now) r rendition.now rows.now) }
+    ensures none { IsErr result → 0 < length rows.now }
 {
     let mut seen = [false; MOST_KEYS as usize];
     for i in 0..rows.len() {

@@ -1,6 +1,6 @@
 //! A ladder goes on in its folder.
 
-ghost use Rattle.std.specs.Prelude.{length, ◌<◌, OnErr, ◌≡◌, IfOk, IfErr, map};
+ghost use Rattle.std.specs.Prelude.{length, ◌<◌, OnErr, ◌≡◌, IfOk, IfErr, IsErr, IsErrOf, map};
 ghost use Rattle.channel_folder.specs.Scans.{IsScan};
 ghost use Rattle.channel.specs.Reading;
 ghost use Rattle.channel.specs.Reading.{AsksFor, IsReadBack, IsReadFault, IsScanFault};
@@ -41,6 +41,9 @@ pub fn resume<F: Folder + FolderReader>(
         IfOk result (λ it. IsResumed view settings folder.old folder.new it.settings (map (λ n. n.items) it.older.items)) }
     ensures err { let view = folder_view F.lists F.gives F.lacks F.refuses F.made in
         IfErr result (IsNotResumed view settings folder.old folder.new) }
+
+    // What can't be changed was tried.
+    ensures failed { IsErrOf result ResumingFault.Outlet → (found : F) × F.fails found folder.new }
     ensures pruned { F.pruned folder.new ≡ F.pruned folder.old }
 {
     let scan = scan_names(alloc, folder, &settings)?;
@@ -90,6 +93,7 @@ fn read_back<F: Folder + FolderReader>(
         IfOk result (IsReadBack view folder.now settings.now scan.now) }
     ensures err { let view = folder_view F.lists F.gives F.lacks F.refuses F.made in
         IfErr result (IsReadFault view folder.now settings.now scan.now) }
+    ensures none { IsErr result → 0 < length settings.now.renditions }
 {
     let asked = asked_of(alloc, settings)?;
     let reopened = reopen(alloc, folder, scan, settings.kind, &asked)?;

@@ -1,6 +1,6 @@
 //! The blocks that a kill cut off are placed.
 
-ghost use Rattle.std.specs.Prelude.{◌≡◌, IfErr, OnOk};
+ghost use Rattle.std.specs.Prelude.{◌≡◌, IfErr, IsErrOf, OnOk};
 ghost use Rattle.channel.specs.Reading;
 ghost use Rattle.channel.specs.Rolling.{IsRollFault, RollingStops, RollsEach, RollsOne};
 ghost use Rattle.channel.specs.Views.{folder_view};
@@ -21,6 +21,7 @@ pub(crate) fn roll_each<F: Folder + FolderReader>(
         OnOk result (RollsEach view (Reading.names_of settings.now.renditions) folder.old folder.new) }
     ensures err { let view = folder_view F.lists F.gives F.lacks F.refuses F.made in
         IfErr result (RollingStops view (Reading.names_of settings.now.renditions) folder.old folder.new) }
+    ensures failed { IsErrOf result ResumingFault.Outlet → (found : F) × F.fails found folder.new }
     ensures pruned { F.pruned folder.new ≡ F.pruned folder.old }
 {
     for rendition in &settings.renditions {
@@ -39,6 +40,7 @@ fn roll_one<F: Folder + FolderReader>(
         OnOk result (RollsOne view name.now folder.old folder.new) }
     ensures err { let view = folder_view F.lists F.gives F.lacks F.refuses F.made in
         IfErr result (IsRollFault view name.now folder.old folder.new) }
+    ensures failed { IsErrOf result ResumingFault.Outlet → (found : F) × F.fails found folder.new }
     ensures pruned { F.pruned folder.new ≡ F.pruned folder.old }
 {
     let Some(block) = cut_off(alloc, folder, name)? else {

@@ -1,4 +1,4 @@
-use Rattle.std.proofs.Common.{◌≡◌, ◌∙◌, sym, ap, subst, ℕ, List, Option, length}
+use Rattle.std.proofs.Common.{arith, refl, ◌≡◌, ◌∙◌, sym, ap, subst, ℕ, List, Option, length}
 use Rattle.std.proofs.lemmas.Result.{err_from_is_err_and}
 use Rattle.ladder_items.specs.declared.settings.Kind.{Kind}
 use Rattle.ladder_items.specs.Ladder.{Ladder, RenditionValue}
@@ -9,7 +9,7 @@ use Rattle.channel_folder.specs.Stopped.{IsNotReopened}
 use Rattle.channel.specs.Looking.{AllKeysOpen, IsLookFault, TakeTurns}
 use Rattle.channel.specs.Reading.{IsReopenedFor}
 use Rattle.channel.specs.Views.{folder_view}
-use Rattle.channel.proofs.Whole.{not-opened, not-reopened, reopened-count, reopened-turns}
+use Rattle.channel.proofs.Whole.{asks-count, not-opened, not-reopened, reopened-count, reopened-turns}
 use Rattle.channel.proofs.resuming.read_back.Goals as goal
 
 pub returns-in_err-reopened-clause-err : goal.returns-in_err-reopened-clause-err
@@ -103,3 +103,13 @@ returns-clause-ok g c =
     subst (λ (l : List RenditionValue). AllKeysOpen Gives l reopened.found) renditions
     (subst (λ (l : List (Option RestoredValue)). AllKeysOpen Gives c.deref-2.result.now l) found c.in_ok-look_at_keys.ensures.ok) in
     record { all = all; keys = keys }
+
+pub returns-in_err-reopened-clause-none : goal.returns-in_err-reopened-clause-none
+returns-in_err-reopened-clause-none g c = λ _.
+    let asked = c.in_ok-asked.asked.items in
+    omega (arith, c.in_err-reopened.ensures.none refl, ap length c.deref.ensures.value, asks-count c.args.settings.now asked c.in_ok-asked.ensures.ok)
+
+pub returns-in_err-look_at_keys-clause-none : goal.returns-in_err-look_at_keys-clause-none
+returns-in_err-look_at_keys-clause-none g c = λ _.
+    let renditions : c.deref-2.result.now ≡ c.args.settings.now.renditions = c.deref-2.ensures.value ∙ ap (λ (l : Ladder). l.renditions) c.settings.view_is in
+    omega (arith, c.in_err-look_at_keys.ensures.none refl, ap length renditions)

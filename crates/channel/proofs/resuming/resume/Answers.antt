@@ -1,6 +1,9 @@
-use Rattle.std.proofs.Common.{inr}
+use Rattle.std.proofs.Common.{◌≡◌, inr, subst}
 use Rattle.std.proofs.lemmas.Result.{err_from_is_err_and}
-use Rattle.channel.specs.Reading.{names_of}
+use Rattle.channel.specs.GoingOn.{IsPastFault}
+use Rattle.channel.specs.Reading.{names_of, IsReadFault, IsScanFault}
+use Rattle.channel.specs.declared.fault.ResumingFault.{ResumingFault}
+use Rattle.channel.specs.declared.fault.ResumingFault.TheVariants.{Outlet}
 use Rattle.channel.specs.Views.{folder_view}
 use Rattle.channel.proofs.Whole.{not-back, not-begun, not-rolled, not-scanned, reopened-count}
 use Rattle.channel.proofs.Rolls.{rolls-all}
@@ -70,3 +73,27 @@ returns-clause-ok g c = record {
   older_are = c.in_ok-older.ensures;
   removed = c.in-Ok.ensures.ok;
 }
+
+pub returns-in_err-scan-clause-failed : goal.returns-in_err-scan-clause-failed
+returns-in_err-scan-clause-failed g c = λ is.
+    let told = err_from_is_err_and c.from_residual.result c.from_residual.ensures.1 in
+    let outlet : c.in_err-scan.field-0.0 ≡ Outlet = cc (is, told.1, told.2) in
+    absurd (subst (λ (fault : ResumingFault). IsScanFault (g.F.FolderReader.refuses c.args.folder.now) fault) outlet c.in_err-scan.ensures.err)
+
+pub returns-in_err-roll_each-clause-failed : goal.returns-in_err-roll_each-clause-failed
+returns-in_err-roll_each-clause-failed g c = λ is.
+    let told = err_from_is_err_and c.from_residual-in_err-roll_each.result c.from_residual-in_err-roll_each.ensures.1 in
+    c.in_err-roll_each.ensures.failed (cc (is, told.1, told.2))
+
+pub returns-in_err-reopened-clause-failed : goal.returns-in_err-reopened-clause-failed
+returns-in_err-reopened-clause-failed g c = λ is.
+    let view = folder_view g.F.FolderReader.lists g.F.FolderReader.gives g.F.FolderReader.lacks g.F.FolderReader.refuses g.F.Folder.made in
+    let told = err_from_is_err_and c.from_residual-in_err-reopened.result c.from_residual-in_err-reopened.ensures.1 in
+    let outlet : c.in_err-reopened.field-0.0 ≡ Outlet = cc (is, told.1, told.2) in
+    absurd (subst (λ (fault : ResumingFault). IsReadFault view c.roll_each.new.folder c.args.settings c.in_ok-scan.scan fault) outlet c.in_err-reopened.ensures.err)
+
+pub returns-in_err-settings-clause-failed : goal.returns-in_err-settings-clause-failed
+returns-in_err-settings-clause-failed g c = λ is.
+    let told = err_from_is_err_and c.from_residual-in_err-settings.result c.from_residual-in_err-settings.ensures.1 in
+    let outlet : c.in_err-settings.field-0.0 ≡ Outlet = cc (is, told.1, told.2) in
+    absurd (subst (λ (fault : ResumingFault). IsPastFault c.in_ok-reopened.reopened.found c.in_ok-reopened.reopened.common fault) outlet c.in_err-settings.ensures.err)

@@ -50,3 +50,8 @@ returns-clause-ok g c =
     let same : c.deref-rendition-items.result.now ≡ rs = c.deref-rendition-items.ensures.value ∙ ap (λ (l : Ladder). l.renditions) c.settings.view_is in
     let past : length rs ≤ i = subst (λ (l : List RenditionValue). length l ≤ i) same c.loop-rendition-test.false in
     subst (λ (l : List RenditionValue). RollsEach view (names_of l) c.args.folder.now c.loop-rendition.folder) (take_all i rs past) c.loop-rendition.invariant.rolls
+
+pub returns-in_err-roll_one-clause-failed : goal.returns-in_err-roll_one-clause-failed
+returns-in_err-roll_one-clause-failed g c = λ is.
+    let told = err_from_is_err_and c.from_residual.result c.from_residual.ensures.1 in
+    c.in_err-roll_one.ensures.failed (cc (is, told.1, told.2))

@@ -4,7 +4,7 @@ use Rattle.folder.specs.Rolling.{IsRolled, IsRolledInPart}
 use Rattle.folder.specs.StagedFiles.{staged_names}
 use Rattle.channel_folder.specs.CutOff.{IsCutOff}
 use Rattle.channel.specs.Views.{folder_view}
-use Rattle.channel.proofs.Unread.{not-read}
+use Rattle.channel.proofs.Unread.{not-outlet, not-read}
 use Rattle.channel.proofs.rolling.roll_one.Goals as goal
 
 pub returns-in_err-block-clause-err : goal.returns-in_err-block-clause-err
@@ -34,3 +34,8 @@ returns-clause-ok g c =
     let rolled : IsRolled (g.F.Folder.made c.args.folder.now) (g.F.Folder.made c.roll_forward.new.folder) (staged_names c.in-Some.block.items) =
     rw c.deref.ensures.value at c.in-Ok.ensures.rolled in
     record { due = Some (staged_names c.in-Some.block.items); is = cut; rolls = rolled }
+
+pub returns-in_err-block-clause-failed : goal.returns-in_err-block-clause-failed
+returns-in_err-block-clause-failed g c = λ is.
+    let told = err_from_is_err_and c.from_residual.result c.from_residual.ensures.1 in
+    absurd (not-outlet c.in_err-block.field-0.0 (cc (is, told.1, told.2)))
