@@ -1,5 +1,5 @@
 //! The options of `pack`: how help shows them, and the words that were given.
-ghost use Rattle.std.specs.Prelude.{◌≡◌, ◌∷◌, [], codes, false, map, option_map, IfOk};
+ghost use Rattle.std.specs.Prelude.{◌≡◌, ◌∷◌, [], codes, false, map, option_map, IfOk, OnErr, length, ◌<◌};
 ghost use Rattle.clap.specs.Words.{first_value, found_of, rule_of};
 ghost use Rattle.command_line.specs.Options.{GetsOptions, entries, flagged, ladder_options, text_option};
 ghost use Rattle.command_line.specs.Words.{ArePoolWords, IsFlagOf, text_of, texts_of};
@@ -131,7 +131,8 @@ fn with_entries<'a>(alloc: Global, command: Command<'a>) -> Result<Command<'a>, 
 
 /// The texts of a ladder's renditions.
 pub fn entry_words<'a>(alloc: Global, options: &ArgMatches<'a>) -> Result<Vec<&'a str>, AllocError>
-    ensures { IfOk result (λ texts. map (λ t. t.now) texts.items ≡ texts_of (found_of options.now) (codes "entries")) }
+    ensures ok { IfOk result (λ texts. map (λ t. t.now) texts.items ≡ texts_of (found_of options.now) (codes "entries")) }
+    ensures scarce { OnErr result (0 < length (texts_of (found_of options.now) (codes "entries"))) }
 {
     let mut entries = Vec::new(alloc);
     if let Some(texts) = options.get_strs("entries") {

@@ -1,6 +1,6 @@
 //! The retention of a ladder's renditions.
 
-ghost use Rattle.std.specs.Prelude.{◌≡◌, ◌<◌, [], IfOk, IsErr, IsOk, length, map, slice_index_or};
+ghost use Rattle.std.specs.Prelude.{◌≡◌, ◌<◌, [], IfOk, IsErr, IsOk, OnErr, length, map, slice_index_or};
 ghost use Rattle.ladder_items.specs.Ladder.{rendition_at};
 ghost use Rattle.ladder_items.specs.declared.settings.Kind.TheVariants.{Live, Event};
 ghost use Rattle.keeping.specs.Keepings.{AreTold};
@@ -23,6 +23,7 @@ pub fn keepings(
     ensures kept { settings.now.kind ≡ Live → IfOk result (λ made. AreKeptFor settings.now (map (λ n. n.items) older.now) made.items) }
     ensures event { settings.now.kind ≡ Event → IfOk result (λ made. made.items ≡ []) }
     ensures none { settings.now.kind ≡ Event → IsOk result }
+    ensures scarce { OnErr result (0 < length settings.now.renditions) }
 {
     let mut made = Vec::new(alloc);
     if settings.kind == Kind::Event {
