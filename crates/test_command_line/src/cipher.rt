@@ -1,4 +1,5 @@
 use super::words::{KEY, told};
+use crate::asserts::assert_same;
 use std::test::Fail;
 
 const VECTOR: &str = "10013223544576679889baabdccdfeef";
@@ -19,7 +20,7 @@ fn keys_on_the_command_line(rt: HostRuntime) -> Result<(), Fail> {
     ];
     for (key, text, status) in table {
         let told = told(rt.alloc(), &["tshls", "seal", "--key", key, "--seq", "0"])?;
-        assert_eq!(rt; (told.0.as_str(), told.1), (text, status), "at {key:?}");
+        assert_same(&rt, key, (told.0.as_str(), told.1), (text, status));
     }
     Ok(())
 }
@@ -46,7 +47,7 @@ fn vectors_on_the_command_line(rt: HostRuntime) -> Result<(), Fail> {
     ];
     for (words, text) in table {
         let told = told(rt.alloc(), words)?;
-        assert_eq!(rt; (told.0.as_str(), told.1), (text, 2), "at {words:?}");
+        assert_same(&rt, words, (told.0.as_str(), told.1), (text, 2));
     }
     let last = [
         "tshls",
@@ -56,7 +57,7 @@ fn vectors_on_the_command_line(rt: HostRuntime) -> Result<(), Fail> {
         "--seq",
         "18446744073709551615",
     ];
-    assert_eq!(rt; told(rt.alloc(), &last)?.1, 0);
+    assert_same(&rt, "the last number", told(rt.alloc(), &last)?.1, 0);
     Ok(())
 }
 
@@ -79,7 +80,7 @@ fn clap_refuses_with_status_2(rt: HostRuntime) -> Result<(), Fail> {
     ];
     for words in table {
         let told = told(rt.alloc(), words)?;
-        assert_eq!(rt; (told.0.is_empty(), told.1), (false, 2), "at {words:?}");
+        assert_same(&rt, words, (told.0.is_empty(), told.1), (false, 2));
     }
     Ok(())
 }

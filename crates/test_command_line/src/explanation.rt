@@ -1,9 +1,11 @@
 use super::words::{KeyFiles, VERSION};
+use crate::asserts::assert_same;
 use command_line::{Fault, explain, line};
 use commands::LadderPackingFault;
 use pipeline::PackFault;
 use read_ahead::InputFault;
 use std::alloc::{AllocError, Global};
+use std::process::Abort;
 use std::test::Fail;
 
 const KEY: &str = "000102030405060708090a0b0c0d0e0f";
@@ -12,21 +14,25 @@ const LOW: &str = "low:avc1:640x360:000102030405060708090a0b0c0d0e0f:/in/low.ts"
 
 const HIGH: &str = "high:avc1:1280x720:000102030405060708090a0b0c0d0e0f:/in/high.ts";
 
-/// Whether the words are explained so, by the fault that they are refused with or, where they aren't, by this one.
-fn is_explained(
+/// Stops a test where the words are explained otherwise, by the fault that they are refused with or, where they aren't, by this one.
+fn check(
+    rt: &impl Abort,
     alloc: Global,
     words: &[&str],
     fault: Fault,
     text: &str,
-) -> Result<bool, AllocError> {
+) -> Result<(), AllocError> {
     let fault = match line(alloc, &KeyFiles, words, VERSION) {
         Ok(_) => fault,
         Err(refused) => refused,
     };
-    match explain(alloc, words, &fault)? {
-        Some(told) => Ok(told.as_str() == text),
-        None => Ok(text == ""),
-    }
+    let told = explain(alloc, words, &fault)?;
+    let told = match &told {
+        Some(told) => told.as_str(),
+        None => "",
+    };
+    assert_same(rt, words, told, text);
+    Ok(())
 }
 
 fn of_packing(fault: PackFault) -> Fault {
@@ -117,10 +123,7 @@ const RANGES: [(&str, &str, &str); 16] = [
 fn numbers_out_of_their_ranges(rt: HostRuntime) -> Result<(), Fail> {
     for (option, value, text) in RANGES {
         let words = ["tshls", "pack", "--out", "hls", option, value, LOW];
-        assert!(rt;
-            is_explained(rt.alloc(), &words, Fault::NotUtf8, text)?,
-            "at {option}"
-        );
+        check(&rt, rt.alloc(), &words, Fault::NotUtf8, text)?;
     }
     Ok(())
 }
@@ -153,10 +156,7 @@ fn entries_that_cannot_be_listed(rt: HostRuntime) -> Result<(), Fail> {
     for (entry, text) in table {
         let words = ["tshls", "pack", "--out", "hls", LOW, entry];
         let fault = of_packing(PackFault::Settings);
-        assert!(rt;
-            is_explained(rt.alloc(), &words, fault, text)?,
-            "at {entry}"
-        );
+        check(&rt, rt.alloc(), &words, fault, text)?;
     }
     Ok(())
 }
@@ -188,10 +188,7 @@ fn faults_of_a_run(rt: HostRuntime) -> Result<(), Fail> {
     ];
     let words = ["tshls", "pack", "--out", "hls", LOW, HIGH];
     for (fault, text) in table {
-        assert!(rt;
-            is_explained(rt.alloc(), &words, of_packing(fault), text)?,
-            "at {text}"
-        );
+        check(&rt, rt.alloc(), &words, of_packing(fault), text)?;
     }
     Ok(())
 }
@@ -214,7 +211,7 @@ fn faults_of_other_commands(rt: HostRuntime) -> Result<(), Fail> {
         (&["tshls"], Fault::NotUtf8, ""),
     ];
     for (words, fault, text) in table {
-        assert!(rt; is_explained(rt.alloc(), words, fault, text)?, "at {text}");
+        check(&rt, rt.alloc(), words, fault, text)?;
     }
     Ok(())
 }

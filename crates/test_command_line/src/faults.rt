@@ -1,3 +1,4 @@
+use crate::asserts::assert_same;
 use command_line::Fault;
 use commands::{
     CheckingFault, CipherFault, KeyListFault, LadderFault, LadderPackingFault, OpeningFault,
@@ -8,12 +9,20 @@ use media_reading::ListFault;
 use pipeline::PackFault;
 use read_ahead::InputFault;
 use std::alloc::{AllocError, Global};
+use std::process::Abort;
 use std::test::Fail;
 
-/// Whether a fault prints so, and ends with this status.
-fn is_told(alloc: Global, fault: Fault, text: &str, status: u8) -> Result<bool, AllocError> {
+/// Stops a test where a fault prints otherwise, or ends with another status.
+fn check(
+    rt: &impl Abort,
+    alloc: Global,
+    fault: Fault,
+    text: &str,
+    status: u8,
+) -> Result<(), AllocError> {
     let told = format!(in alloc; "{fault}")?;
-    Ok(told.as_str() == text && fault.status() == status)
+    assert_same(rt, text, (told.as_str(), fault.status()), (text, status));
+    Ok(())
 }
 
 #[test]
@@ -49,7 +58,7 @@ fn of_the_line(rt: HostRuntime) -> Result<(), Fail> {
         ),
     ];
     for (fault, text, status) in table {
-        assert!(rt; is_told(rt.alloc(), fault, text, status)?, "at {text}");
+        check(&rt, rt.alloc(), fault, text, status)?;
     }
     Ok(())
 }
@@ -68,10 +77,7 @@ fn of_settings(rt: HostRuntime) -> Result<(), Fail> {
         (SettingsFault::NoMemory, "tshls: NoMemory\n", 1),
     ];
     for (fault, text, status) in table {
-        assert!(rt;
-            is_told(rt.alloc(), Fault::from(fault), text, status)?,
-            "at {text}"
-        );
+        check(&rt, rt.alloc(), Fault::from(fault), text, status)?;
     }
     Ok(())
 }
@@ -89,10 +95,7 @@ fn of_a_ladder(rt: HostRuntime) -> Result<(), Fail> {
         (LadderFault::NoMemory, "tshls: NoMemory\n", 1),
     ];
     for (fault, text, status) in table {
-        assert!(rt;
-            is_told(rt.alloc(), Fault::from(fault), text, status)?,
-            "at {text}"
-        );
+        check(&rt, rt.alloc(), Fault::from(fault), text, status)?;
     }
     Ok(())
 }
@@ -108,10 +111,7 @@ fn of_packing_a_ladder(rt: HostRuntime) -> Result<(), Fail> {
         (LadderPackingFault::NoMemory, "tshls: NoMemory\n"),
     ];
     for (fault, text) in table {
-        assert!(rt;
-            is_told(rt.alloc(), Fault::from(fault), text, 1)?,
-            "at {text}"
-        );
+        check(&rt, rt.alloc(), Fault::from(fault), text, 1)?;
     }
     Ok(())
 }
@@ -122,10 +122,7 @@ fn of_inputs(rt: HostRuntime) -> Result<(), Fail> {
         (InputFault::Unread, "tshls: Unread\n"),
         (InputFault::NoMemory, "tshls: NoMemory\n"),
     ] {
-        assert!(rt;
-            is_told(rt.alloc(), Fault::from(fault), text, 1)?,
-            "at {text}"
-        );
+        check(&rt, rt.alloc(), Fault::from(fault), text, 1)?;
     }
     Ok(())
 }
@@ -139,10 +136,7 @@ fn of_sealing(rt: HostRuntime) -> Result<(), Fail> {
         (SealingFault::NoMemory, "tshls: NoMemory\n"),
     ];
     for (fault, text) in table {
-        assert!(rt;
-            is_told(rt.alloc(), Fault::from(fault), text, 1)?,
-            "at {text}"
-        );
+        check(&rt, rt.alloc(), Fault::from(fault), text, 1)?;
     }
     Ok(())
 }
@@ -159,10 +153,7 @@ fn of_opening(rt: HostRuntime) -> Result<(), Fail> {
         (OpeningFault::NoMemory, "tshls: NoMemory\n"),
     ];
     for (fault, text) in table {
-        assert!(rt;
-            is_told(rt.alloc(), Fault::from(fault), text, 1)?,
-            "at {text}"
-        );
+        check(&rt, rt.alloc(), Fault::from(fault), text, 1)?;
     }
     Ok(())
 }
@@ -183,10 +174,7 @@ fn of_packing(rt: HostRuntime) -> Result<(), Fail> {
         (PackFault::Held(1, 2), "tshls: Held 1 2\n"),
     ];
     for (fault, text) in table {
-        assert!(rt;
-            is_told(rt.alloc(), Fault::from(fault), text, 1)?,
-            "at {text}"
-        );
+        check(&rt, rt.alloc(), Fault::from(fault), text, 1)?;
     }
     Ok(())
 }
@@ -223,10 +211,7 @@ fn of_checking(rt: HostRuntime) -> Result<(), Fail> {
         ),
     ];
     for (fault, text) in table {
-        assert!(rt;
-            is_told(rt.alloc(), Fault::from(fault), text, 1)?,
-            "at {text}"
-        );
+        check(&rt, rt.alloc(), Fault::from(fault), text, 1)?;
     }
     Ok(())
 }

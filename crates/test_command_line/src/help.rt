@@ -1,4 +1,5 @@
 use super::words::{VERSION, told};
+use crate::asserts::assert_same;
 use command_line::version;
 use commands::{
     DEFAULT_FRAME, DEFAULT_GAP, DEFAULT_MOST, DEFAULT_NAME, DEFAULT_PERIOD, DEFAULT_QUEUE,
@@ -9,6 +10,7 @@ use limits::{
     MOST_TARGET, MOST_WINDOW, MOST_WORKERS,
 };
 use std::alloc::Global;
+use std::process::Abort;
 use std::test::Fail;
 
 /// What help tells of an option of a command.
@@ -22,18 +24,51 @@ fn shown(alloc: Global, command: &str, option: &str) -> Result<String, Fail> {
     Err(Fail::from("no such option"))
 }
 
-/// Whether help tells this range of an option of a command.
-fn has_range(alloc: Global, command: &str, option: &str, most: u64) -> Result<bool, Fail> {
+/// Stops a test where help doesn't tell this range of an option of a command.
+fn check_range(
+    rt: &impl Abort,
+    alloc: Global,
+    command: &str,
+    option: &str,
+    most: u64,
+) -> Result<(), Fail> {
     let range = format!(in alloc; "{LEAST} to {most}")?;
     let line = shown(alloc, command, option)?;
-    Ok(line.as_str().contains(range.as_str()))
+    let line = line.as_str();
+    assert_same(
+        rt,
+        (option, line, most),
+        line.contains(range.as_str()),
+        true,
+    );
+    Ok(())
 }
 
-/// Whether help tells this default of an option of a command.
-fn has_default(alloc: Global, command: &str, option: &str, value: u64) -> Result<bool, Fail> {
+/// Stops a test where help doesn't tell this default of an option of a command at the end of its line.
+fn check_default(
+    rt: &impl Abort,
+    alloc: Global,
+    command: &str,
+    option: &str,
+    value: u64,
+) -> Result<(), Fail> {
     let text = format!(in alloc; "[default: {value}]")?;
+    check_end(rt, alloc, command, option, text.as_str())
+}
+
+/// Stops a test where help tells of an option of a command something else, at the end of its line, than what stands where it is
+/// absent.
+fn check_end(
+    rt: &impl Abort,
+    alloc: Global,
+    command: &str,
+    option: &str,
+    text: &str,
+) -> Result<(), Fail> {
     let line = shown(alloc, command, option)?;
-    Ok(line.as_str().ends_with(text.as_str()))
+    let line = line.as_str();
+    assert_same(rt, (option, line, text), line.ends_with(text), true);
+    Ok(())
 }
 
 #[test]
@@ -49,7 +84,7 @@ fn ranges(rt: HostRuntime) -> Result<(), Fail> {
         ("--keys <KEY[+KEY..]>", MOST_KEYS),
     ];
     for (option, most) in table {
-        assert!(rt; has_range(rt.alloc(), "one", option, most)?, "at {option}");
+        check_range(&rt, rt.alloc(), "one", option, most)?;
     }
     Ok(())
 }
@@ -65,17 +100,9 @@ fn defaults(rt: HostRuntime) -> Result<(), Fail> {
         ("--period", DEFAULT_PERIOD),
     ];
     for (option, value) in table {
-        assert!(rt;
-            has_default(rt.alloc(), "one", option, value)?,
-            "at {option}"
-        );
+        check_default(&rt, rt.alloc(), "one", option, value)?;
     }
     Ok(())
-}
-
-/// Whether help of `one` tells of an option at the end of its line what stands where it is absent.
-fn ends(alloc: Global, option: &str, text: &str) -> Result<bool, Fail> {
-    Ok(shown(alloc, "one", option)?.as_str().ends_with(text))
 }
 
 #[test]
@@ -85,8 +112,7 @@ fn what_is_absent_that_is_no_number(rt: HostRuntime) -> Result<(), Fail> {
         ("--name", name.as_str()),
         ("--segment", "[default: the target]"),
     ] {
-        let told = ends(rt.alloc(), option, text)?;
-        assert!(rt; told, "at {option}");
+        check_end(&rt, rt.alloc(), "one", option, text)?;
     }
     Ok(())
 }
@@ -102,13 +128,10 @@ fn of_a_pool(rt: HostRuntime) -> Result<(), Fail> {
         ("--target <SECONDS>", MOST_TARGET),
     ];
     for (option, most) in table {
-        assert!(rt; has_range(rt.alloc(), "pack", option, most)?, "at {option}");
+        check_range(&rt, rt.alloc(), "pack", option, most)?;
     }
     for (option, value) in [("--workers", DEFAULT_WORKERS), ("--queue", DEFAULT_QUEUE)] {
-        assert!(rt;
-            has_default(rt.alloc(), "pack", option, value)?,
-            "at {option}"
-        );
+        check_default(&rt, rt.alloc(), "pack", option, value)?;
     }
     Ok(())
 }
@@ -130,7 +153,7 @@ fn each_command_tells_its_faults(rt: HostRuntime) -> Result<(), Fail> {
     ];
     for (command, text) in table {
         let has = has_text(rt.alloc(), command, text)?;
-        assert!(rt; has, "at {command}");
+        assert_same(&rt, command, has, true);
     }
     Ok(())
 }
@@ -138,8 +161,13 @@ fn each_command_tells_its_faults(rt: HostRuntime) -> Result<(), Fail> {
 #[test]
 fn the_version(rt: HostRuntime) -> Result<(), Fail> {
     let version = version(rt.alloc(), "x86-64-v3")?;
-    assert_eq!(rt; version.as_str(), VERSION);
+    assert_same(&rt, "the version", version.as_str(), VERSION);
     let told = told(rt.alloc(), &["tshls", "--version"])?;
-    assert_eq!(rt; (told.0.as_str(), told.1), ("tshls 0.1.0 x86-64-v3\n", 2));
+    assert_same(
+        &rt,
+        "what is printed",
+        (told.0.as_str(), told.1),
+        ("tshls 0.1.0 x86-64-v3\n", 2),
+    );
     Ok(())
 }

@@ -1,7 +1,9 @@
 use super::words::{KEY, KeyFiles, VERSION};
+use crate::asserts::assert_same;
 use command_line::{Fault, Job, StreamJob, line};
 use pipeline::{Kind, Settings};
 use std::alloc::{AllocError, Global};
+use std::process::Abort;
 use std::test::Fail;
 
 /// The settings of a command line that ends with these words.
@@ -79,19 +81,21 @@ fn defaults(rt: HostRuntime) -> Result<(), Fail> {
     let words = ["--size", "640x360", "--keys", KEY];
     let settings = settings(rt.alloc(), &words).map_err(|_| "line")?;
     let is_live = settings.kind == Kind::Live;
-    assert_eq!(rt;
+    assert_same(
+        &rt,
+        "defaults",
         (
             rendition(&settings),
             numbers(&settings),
             keys(&settings),
-            is_live
+            is_live,
         ),
         (
             Some(("v", "avc1.4d401e", 640, 360)),
             ([5, 6, 540_000, 3600, 900_000, 1_000_000], None),
             Some((0, 0, true, [0, 1])),
-            true
-        )
+            true,
+        ),
     );
     Ok(())
 }
@@ -125,13 +129,15 @@ const OPTIONS: [&str; 22] = [
 #[test]
 fn settings_of_options(rt: HostRuntime) -> Result<(), Fail> {
     let settings = settings(rt.alloc(), &OPTIONS).map_err(|_| "line")?;
-    assert_eq!(rt;
+    assert_same(
+        &rt,
+        "settings of options",
         (rendition(&settings), numbers(&settings), keys(&settings)),
         (
             Some(("hd", "avc1.4d401e", 1, 7)),
             ([3, 8, 180_000, 4, 5, 6], Some(65_535)),
-            Some((0, 0x10, true, [0, 1]))
-        )
+            Some((0, 0x10, true, [0, 1])),
+        ),
     );
     Ok(())
 }
@@ -142,9 +148,11 @@ fn a_salt_and_an_event(rt: HostRuntime) -> Result<(), Fail> {
     let words = ["--size", "1x1", "--keys", KEY, "--salt", salt, "--event"];
     let settings = settings(rt.alloc(), &words).map_err(|_| "line")?;
     let is_event = settings.kind == Kind::Event;
-    assert_eq!(rt;
+    assert_same(
+        &rt,
+        "a salt and an event",
         (keys(&settings), is_event),
-        (Some((0, 0, true, [0xFF, 0xFE])), true)
+        (Some((0, 0, true, [0xFF, 0xFE])), true),
     );
     Ok(())
 }
@@ -153,7 +161,12 @@ fn a_salt_and_an_event(rt: HostRuntime) -> Result<(), Fail> {
 fn a_target_gives_the_segment(rt: HostRuntime) -> Result<(), Fail> {
     let words = ["--size", "1x1", "--keys", KEY, "--target", "8"];
     let settings = settings(rt.alloc(), &words).map_err(|_| "line")?;
-    assert_eq!(rt; settings.cut.segment, 720_000);
+    assert_same(
+        &rt,
+        "a target gives the segment",
+        settings.cut.segment,
+        720_000,
+    );
     Ok(())
 }
 
@@ -200,26 +213,32 @@ const REFUSALS: [Refusal; 13] = [
     ),
 ];
 
-/// Whether a command line with these words prints this, and ends with this status.
-fn is_told(alloc: Global, more: &[&str], text: &str, status: u8) -> Result<bool, Fail> {
+/// Stops a test where a command line with these words prints otherwise, or ends with another status.
+fn check(
+    rt: &impl Abort,
+    alloc: Global,
+    more: &[&str],
+    text: &str,
+    status: u8,
+) -> Result<(), Fail> {
     let told = told(alloc, more)?;
-    Ok(told.0.as_str() == text && told.1 == status)
+    assert_same(rt, more, (told.0.as_str(), told.1), (text, status));
+    Ok(())
 }
 
 /// The same of a size, keys and more options.
-fn is_refused(alloc: Global, refusal: Refusal) -> Result<bool, Fail> {
+fn check_refusal(rt: &impl Abort, alloc: Global, refusal: Refusal) -> Result<(), Fail> {
     let (size, keys, more, text, status) = refusal;
     let mut words: Vec<&'static str> = Vec::new(alloc);
     words.extend_from_slice(&["--size", size, "--keys", keys])?;
     words.extend_from_slice(more)?;
-    is_told(alloc, words.as_slice(), text, status)
+    check(rt, alloc, words.as_slice(), text, status)
 }
 
 #[test]
 fn refusals(rt: HostRuntime) -> Result<(), Fail> {
     for refusal in REFUSALS {
-        let is = is_refused(rt.alloc(), refusal)?;
-        assert!(rt; is, "at {refusal:?}");
+        check_refusal(&rt, rt.alloc(), refusal)?;
     }
     Ok(())
 }
@@ -234,24 +253,30 @@ fn push_keys(keys: &mut String, count: usize) -> Result<(), AllocError> {
     Ok(())
 }
 
-/// Whether so many keys, with this period, print this, and end with this status.
-fn are_told(
+/// Stops a test where so many keys, with this period, print otherwise, or end with another status.
+fn check_count(
+    rt: &impl Abort,
     alloc: Global,
     count: usize,
     period: &str,
     text: &str,
     status: u8,
-) -> Result<bool, Fail> {
+) -> Result<(), Fail> {
     let mut keys = String::new(alloc);
     push_keys(&mut keys, count)?;
     let words = ["--size", "1x1", "--keys", keys.as_str(), "--period", period];
-    is_told(alloc, &words, text, status)
+    let told = told(alloc, &words)?;
+    assert_same(
+        rt,
+        (count, "keys"),
+        (told.0.as_str(), told.1),
+        (text, status),
+    );
+    Ok(())
 }
 
 #[test]
 fn too_many_keys(rt: HostRuntime) -> Result<(), Fail> {
-    let most = are_told(rt.alloc(), 4096, "1", "", 0)?;
-    let more = are_told(rt.alloc(), 4097, "0", "tshls: TooMany\n", 1)?;
-    assert_eq!(rt; (most, more), (true, true));
-    Ok(())
+    check_count(&rt, rt.alloc(), 4096, "1", "", 0)?;
+    check_count(&rt, rt.alloc(), 4097, "0", "tshls: TooMany\n", 1)
 }

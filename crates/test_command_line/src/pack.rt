@@ -1,6 +1,8 @@
 use super::words::{KeyFiles, VERSION};
+use crate::asserts::assert_same;
 use command_line::{Job, LadderJob, line};
 use std::alloc::{AllocError, Global};
+use std::process::Abort;
 use std::test::Fail;
 
 /// What a job asks for: its folder, whether it is synced, the numbers of its pool, how it is read where that is bounded, its paths
@@ -45,9 +47,11 @@ fn asked(alloc: Global, more: &[&str]) -> Result<String, Fail> {
     }
 }
 
-/// Whether a command line of `pack` with these words asks for this, or prints it.
-fn is_asked(alloc: Global, more: &[&str], text: &str) -> Result<bool, Fail> {
-    Ok(asked(alloc, more)?.as_str() == text)
+/// Stops a test where a command line of `pack` with these words asks for something else, or prints it.
+fn check(rt: &impl Abort, alloc: Global, more: &[&str], text: &str) -> Result<(), Fail> {
+    let told = asked(alloc, more)?;
+    assert_same(rt, more, told.as_str(), text);
+    Ok(())
 }
 
 const V: &str = "v:c:2x1:000102030405060708090a0b0c0d0e0f:a.ts";
@@ -123,8 +127,7 @@ const LADDERS: [(&[&str], &str); 20] = [
 #[test]
 fn words_of_a_ladder(rt: HostRuntime) -> Result<(), Fail> {
     for (words, text) in LADDERS {
-        let is = is_asked(rt.alloc(), words, text)?;
-        assert!(rt; is, "at {words:?}");
+        check(&rt, rt.alloc(), words, text)?;
     }
     Ok(())
 }

@@ -1,6 +1,8 @@
+use crate::asserts::assert_same;
 use command_line::{Fault, Job, StreamJob, line};
 use commands::{CheckOptions, FileFault, FileReader};
 use std::alloc::{AllocError, Global};
+use std::process::Abort;
 use std::test::Fail;
 
 /// A key.
@@ -70,19 +72,27 @@ fn asked(alloc: Global, words: &[&str]) -> Result<(Keys, String, u8), AllocError
     Ok(((keys.len(), first), playlist, 0))
 }
 
-/// Whether a command line of `check` with these words asks for such keys and this playlist, or prints this; with the status.
-fn is_asked(
+/// Stops a test where a command line of `check` with these words asks for other keys or another playlist, or prints something else,
+/// or ends with another status.
+fn check(
+    rt: &impl Abort,
     alloc: Global,
     more: &[&str],
     keys: Keys,
     text: &str,
     status: u8,
-) -> Result<bool, AllocError> {
+) -> Result<(), AllocError> {
     let mut words = Vec::new(alloc);
     words.extend_from_slice(&["tshls", "check"])?;
     words.extend_from_slice(more)?;
     let told = asked(alloc, words.as_slice())?;
-    Ok(told.0 == keys && told.1.as_str() == text && told.2 == status)
+    assert_same(
+        rt,
+        more,
+        (told.0, told.1.as_str(), told.2),
+        (keys, text, status),
+    );
+    Ok(())
 }
 
 const NO_KEYS: Keys = (0, [[0; 16]; 2]);
@@ -122,8 +132,7 @@ fn options(rt: HostRuntime) -> Result<(), Fail> {
         ),
     ];
     for (more, keys, text, status) in table {
-        let is = is_asked(rt.alloc(), more, keys, text, status)?;
-        assert!(rt; is, "at {more:?}");
+        check(&rt, rt.alloc(), more, keys, text, status)?;
     }
     Ok(())
 }
@@ -147,8 +156,7 @@ fn keys_that_are_refused(rt: HostRuntime) -> Result<(), Fail> {
         (&["--keys", "", "v.m3u8"], NO_KEYS, "tshls: BadKey\n", 2),
     ];
     for (more, keys, text, status) in table {
-        let is = is_asked(rt.alloc(), more, keys, text, status)?;
-        assert!(rt; is, "at {more:?}");
+        check(&rt, rt.alloc(), more, keys, text, status)?;
     }
     Ok(())
 }
@@ -157,7 +165,7 @@ fn keys_that_are_refused(rt: HostRuntime) -> Result<(), Fail> {
 fn keys_and_a_playlist_are_wanted(rt: HostRuntime) -> Result<(), Fail> {
     for more in ["--keys", "v.m3u8"] {
         let told = told(rt.alloc(), &["tshls", "check", more])?;
-        assert_eq!(rt; told.1, 2);
+        assert_same(&rt, more, told.1, 2);
     }
     Ok(())
 }
