@@ -1,3 +1,4 @@
+use crate::asserts::assert_same;
 use crate::fixtures::{FullWriter, settings, stream_bytes};
 use commands::{CheckingFault, FileFault, FileReader, check};
 use hls_check::{CheckFault, UnpackFault};
@@ -135,10 +136,13 @@ fn told<F: FileReader>(alloc: Global, files: &F, playlist: &str) -> Result<Told,
     }
 }
 
-/// That the two segments of the standard stream unpack.
+/// What is written where the two segments of the standard stream unpack.
+const WHOLE: &str = "ok 2 752\n";
+
+/// That it is written.
 fn is_whole(told: Told) -> bool {
     match told {
-        Ok(text) => text.as_str() == "ok 2 752\n",
+        Ok(text) => text.as_str() == WHOLE,
         Err(_) => false,
     }
 }
@@ -164,12 +168,13 @@ fn wrong_line(line: u64) -> CheckingFault {
 #[test]
 fn a_whole_playlist(rt: HostRuntime) -> Result<(), Fail> {
     let files = packed(rt.alloc())?;
-    assert!(rt; is_whole(told(rt.alloc(), &files, "hls/v.m3u8")?));
+    let told = told(rt.alloc(), &files, "hls/v.m3u8")?;
+    assert_same(&rt, "a whole playlist", told.as_deref(), Ok(WHOLE));
     Ok(())
 }
 
 /// What is done to files.
-#[derive(Clone, Copy, Debug)]
+#[derive(Clone, Copy)]
 enum Change {
     None,
     Damage(&'static str),
@@ -231,7 +236,7 @@ fn faults_in_their_order(rt: HostRuntime) -> Result<(), Fail> {
     ];
     let mut files = packed(rt.alloc())?;
     let other = first_other(rt.alloc(), &mut files, &table)?;
-    assert_eq!(rt; other, None);
+    assert_same(&rt, "faults in their order", other, None);
     Ok(())
 }
 
@@ -260,7 +265,7 @@ fn segments_lie_beside_their_playlist(rt: HostRuntime) -> Result<(), Fail> {
     let packed = packed(rt.alloc())?;
     for folder in ["", "./", "/", "a b/hls/", "../"] {
         let told = told_in(rt.alloc(), &packed.files, folder)?;
-        assert!(rt; is_whole(told), "in '{folder}'");
+        assert_same(&rt, folder, told.as_deref(), Ok(WHOLE));
     }
     Ok(())
 }
@@ -290,7 +295,7 @@ fn files_of_the_system(rt: HostRuntime) -> Result<(), Fail> {
         is_fault(behind, unread),
     );
     fs::remove_dir_all(&rt, "hls")?;
-    assert_eq!(rt; told, (true, true, true));
+    assert_same(&rt, "files of the system", told, (true, true, true));
     Ok(())
 }
 
@@ -314,9 +319,11 @@ fn a_failed_write_leaves_a_beginning(rt: HostRuntime) -> Result<(), Fail> {
     let files = packed(rt.alloc())?;
     for room in [0, 1, 8] {
         let told = told_to_a_full_writer(rt.alloc(), &files, room);
-        assert!(rt;
-            told == (Err(CheckingFault::Unwritten), true),
-            "with room for {room}"
+        assert_same(
+            &rt,
+            ("room for", room),
+            told,
+            (Err(CheckingFault::Unwritten), true),
         );
     }
     Ok(())

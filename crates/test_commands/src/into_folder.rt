@@ -1,5 +1,6 @@
 //! Tests of `pack` into a folder: what stands there at the end, and after a move that failed.
 
+use crate::asserts::assert_same;
 use crate::fixtures::{settings, stream_bytes};
 use commands::Pool;
 use folder::MemoryFolder;
@@ -91,9 +92,11 @@ fn what_stands_in_the_folder(rt: HostRuntime) -> Result<(), Fail> {
     ];
     for (n, names, is_well) in table {
         let (found, ended_well) = packed(&rt, rt.alloc(), n, false)?;
-        assert!(rt;
-            found.as_str() == names && ended_well == is_well,
-            "move {n} fails: {found}"
+        assert_same(
+            &rt,
+            ("move that fails", n),
+            (found.as_str(), ended_well),
+            (names, is_well),
         );
     }
     Ok(())
@@ -117,9 +120,11 @@ fn what_stands_in_a_synced_folder(rt: HostRuntime) -> Result<(), Fail> {
     ];
     for (n, names, is_well) in table {
         let (found, ended_well) = packed(&rt, rt.alloc(), n, true)?;
-        assert!(rt;
-            found.as_str() == names && ended_well == is_well,
-            "move {n} fails: {found}"
+        assert_same(
+            &rt,
+            ("move that fails", n),
+            (found.as_str(), ended_well),
+            (names, is_well),
         );
     }
     Ok(())

@@ -1,3 +1,4 @@
+use crate::asserts::assert_same;
 use crate::fixtures::{KEY, KEY_BYTES, KeyFiles, no_numbers, words};
 use commands::{
     CheckOptions, CheckWords, CipherFault, CipherOptions, CipherWords, KeyListFault, LadderFault,
@@ -55,14 +56,6 @@ fn keys(alloc: Global, keys: &str) -> Result<Vec<[u8; 16]>, KeyListFault> {
     Ok(keys)
 }
 
-/// Whether the words of some keys tell these.
-fn are(alloc: Global, words: &str, wanted: &[[u8; 16]]) -> bool {
-    match keys(alloc, words) {
-        Ok(keys) => keys.as_slice() == wanted,
-        Err(_) => false,
-    }
-}
-
 #[test]
 fn files_hold_keys(rt: HostRuntime) -> Result<(), Fail> {
     let table: [(&str, &[[u8; 16]]); 6] = [
@@ -77,7 +70,8 @@ fn files_hold_keys(rt: HostRuntime) -> Result<(), Fail> {
         ),
     ];
     for (words, wanted) in table {
-        assert!(rt; are(rt.alloc(), words, wanted), "at {words}");
+        let told = keys(rt.alloc(), words);
+        assert_same(&rt, words, told.as_deref(), Ok(wanted));
     }
     Ok(())
 }
@@ -87,7 +81,7 @@ fn files_that_hold_none(rt: HostRuntime) -> Result<(), Fail> {
     for name in BAD {
         let words = format!(in rt.alloc(); "@raw+@{name}+@none")?;
         let told = keys(rt.alloc(), words.as_str()).err();
-        assert!(rt; told == Some(KeyListFault::BadKeyFile(2)), "at {name}");
+        assert_same(&rt, name, told, Some(KeyListFault::BadKeyFile(2)));
     }
     Ok(())
 }
@@ -108,7 +102,7 @@ fn the_first_that_gives_none_is_told(rt: HostRuntime) -> Result<(), Fail> {
     ];
     for (words, fault) in table {
         let told = keys(rt.alloc(), words).err();
-        assert!(rt; told == Some(fault), "at {words}");
+        assert_same(&rt, words, told, Some(fault));
     }
     Ok(())
 }
@@ -134,7 +128,7 @@ fn a_key_of_a_cipher(rt: HostRuntime) -> Result<(), Fail> {
     ];
     for (key, seq, wanted) in table {
         let told = sealing_key(rt.alloc(), key, seq);
-        assert!(rt; told == wanted, "at {key}");
+        assert_same(&rt, key, told, wanted);
     }
     Ok(())
 }
@@ -158,7 +152,7 @@ fn keys_of_one(rt: HostRuntime) -> Result<(), Fail> {
     ];
     for (size, keys, wanted) in table {
         let told = first_key(rt.alloc(), size, keys);
-        assert!(rt; told == wanted, "at {size}, {keys}");
+        assert_same(&rt, (size, keys), told, wanted);
     }
     Ok(())
 }
@@ -199,7 +193,12 @@ fn keys_of_a_ladder(rt: HostRuntime) -> Result<(), Fail> {
         Ok(options) => two_keys(&options),
         Err(_) => [[[0; 16]; 2]; 2],
     };
-    assert!(rt; keys == [[OTHER, OTHER], [KEY_BYTES, OTHER]]);
+    assert_same(
+        &rt,
+        "keys of a ladder",
+        keys,
+        [[OTHER, OTHER], [KEY_BYTES, OTHER]],
+    );
     Ok(())
 }
 
@@ -221,7 +220,7 @@ const NO_KEYS: [(&[&str], u64, LadderFault); 8] = [
 fn key_files_of_a_ladder_that_give_none(rt: HostRuntime) -> Result<(), Fail> {
     for (entries, workers, fault) in NO_KEYS {
         let told = ladder(rt.alloc(), entries, workers).err();
-        assert!(rt; told == Some(fault), "of {entries:?}");
+        assert_same(&rt, entries, told, Some(fault));
     }
     Ok(())
 }

@@ -1,3 +1,4 @@
+use crate::asserts::assert_same;
 use crate::fixtures::{KEY, NO_FILES, no_numbers};
 use commands::{
     LadderFault, LadderOptions, LadderWords, NumberWords, PoolWords, read_ladder_options,
@@ -80,14 +81,16 @@ fn a_ladder_of_two(rt: HostRuntime) -> Result<(), Fail> {
     let options = two(rt.alloc())?;
     let settings = &options.settings;
     let is_event = settings.kind == Kind::Event;
-    assert_eq!(rt;
+    assert_same(
+        &rt,
+        "a ladder of two",
         (
             are_two(&options),
             is_event,
             settings.queue,
-            options.pool.workers
+            options.pool.workers,
         ),
-        (true, true, 16, 4)
+        (true, true, 16, 4),
     );
     Ok(())
 }
@@ -124,7 +127,7 @@ const FAULTS: [(&[&str], Option<&str>, u64, LadderFault); 7] = [
 fn faults_in_their_order(rt: HostRuntime) -> Result<(), Fail> {
     for (entries, salt, period, fault) in FAULTS {
         let told = told(rt.alloc(), entries, salt, period);
-        assert!(rt; told == Some(fault), "of {entries:?}, {salt:?}, {period}");
+        assert_same(&rt, (entries, salt, period), told, Some(fault));
     }
     Ok(())
 }
@@ -146,9 +149,14 @@ fn too_many_keys_before_no_period(rt: HostRuntime) -> Result<(), Fail> {
     let mut many = String::new(alloc);
     push_many(&mut many)?;
     let many = many.as_str();
-    let salted = told(alloc, &[many], Some("0"), 0) == Some(LadderFault::BadVector);
-    let plain = told(alloc, &[many], None, 0) == Some(LadderFault::TooMany);
-    assert!(rt; salted && plain);
+    let salted = told(alloc, &[many], Some("0"), 0);
+    let plain = told(alloc, &[many], None, 0);
+    assert_same(
+        &rt,
+        "too many keys before no period",
+        (salted, plain),
+        (Some(LadderFault::BadVector), Some(LadderFault::TooMany)),
+    );
     Ok(())
 }
 
@@ -163,7 +171,7 @@ fn a_pool_out_of_range(rt: HostRuntime) -> Result<(), Fail> {
         no_numbers(),
         pool,
     ).err();
-    assert!(rt; told == Some(LadderFault::Settings));
+    assert_same(&rt, "65 workers", told, Some(LadderFault::Settings));
     let mut numbers = no_numbers();
     numbers.segment = Some(u64::MAX);
     let told = read_ladder_options(
@@ -173,7 +181,7 @@ fn a_pool_out_of_range(rt: HostRuntime) -> Result<(), Fail> {
         numbers,
         no_pool(),
     ).err();
-    assert!(rt; told == Some(LadderFault::Settings));
+    assert_same(&rt, "a segment too long", told, Some(LadderFault::Settings));
     Ok(())
 }
 
@@ -188,7 +196,7 @@ fn statuses_of_ladders(rt: HostRuntime) -> Result<(), Fail> {
         (LadderFault::NoMemory, 1),
     ];
     for (fault, status) in table {
-        assert_eq!(rt; fault.status(), status, "of {fault:?}");
+        assert_same(&rt, fault, fault.status(), status);
     }
     Ok(())
 }
@@ -219,6 +227,6 @@ fn lines_in_byte_order_of_names(rt: HostRuntime) -> Result<(), Fail> {
     let options = two(rt.alloc())?;
     let wanted = "a 11 66.000001 4044 2720\nb 2 9.040000 2022 1360\n";
     let is = is_summary(rt.alloc(), &options.settings, wanted)?;
-    assert!(rt; is);
+    assert_same(&rt, "lines in byte order of names", is, true);
     Ok(())
 }

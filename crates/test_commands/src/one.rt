@@ -1,3 +1,4 @@
+use crate::asserts::assert_same;
 use crate::fixtures::{BrokenReader, settings, stream_bytes};
 use packing::{Packed, one};
 use pipeline::PackFault;
@@ -64,7 +65,7 @@ fn items_of(text: &str) -> Option<usize> {
 fn ten_items(rt: HostRuntime) -> Result<(), Fail> {
     let stream = stream_bytes(rt.alloc())?;
     let text = whole(rt.alloc(), &stream)?;
-    assert_eq!(rt; items_of(&text), Some(10));
+    assert_same(&rt, "ten items", items_of(&text), Some(10));
     Ok(())
 }
 
@@ -75,7 +76,12 @@ fn no_program(rt: HostRuntime) -> Result<(), Fail> {
     let empty: &[u8] = &[];
     let packed = one(alloc, &settings, empty, Vec::new(alloc));
     let count = packed.outlet.into_writer().len();
-    assert!(rt; packed.answer == Err(PackFault::NoProgram(0)) && count == 0);
+    assert_same(
+        &rt,
+        "no program",
+        (packed.answer.err(), count),
+        (Some(PackFault::NoProgram(0)), 0),
+    );
     Ok(())
 }
 
@@ -120,9 +126,11 @@ fn a_read_that_fails_in_mid_stream(rt: HostRuntime) -> Result<(), Fail> {
     let whole = whole(rt.alloc(), &stream)?;
     let front = stream.get(..940).unwrap_or(&[]);
     let told = told_before_a_failed_read(rt.alloc(), front, &whole)?;
-    assert_eq!(rt;
+    assert_same(
+        &rt,
+        "a read that fails in mid stream",
         (front.len(), told),
-        (940, (0, Some(PackFault::Read(0)), true))
+        (940, (0, Some(PackFault::Read(0)), true)),
     );
     Ok(())
 }

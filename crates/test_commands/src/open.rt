@@ -1,3 +1,4 @@
+use crate::asserts::assert_same;
 use crate::fixtures::{BrokenReader, FullWriter, cipher, key_frame};
 use crate::seal::sealed;
 use aes_cbc::Key;
@@ -21,7 +22,12 @@ fn opens_what_was_sealed(rt: HostRuntime) -> Result<(), Fail> {
     let packet = opened(rt.alloc(), &cipher, &line).map_err(|_| "packet")?;
     let begins = packet.starts_with(b"474100300140000001e000008080052100010001ffff");
     let ends = packet.ends_with(b"ffff\n");
-    assert_eq!(rt; (packet.len(), begins, ends), (377, true, true));
+    assert_same(
+        &rt,
+        "opens what was sealed",
+        (packet.len(), begins, ends),
+        (377, true, true),
+    );
     Ok(())
 }
 
@@ -38,10 +44,8 @@ fn open_refuses_what_is_no_hex(rt: HostRuntime) -> Result<(), Fail> {
         b"69c4e0d86a7b0430d8cdb78070b4c55g",
     ];
     for input in table {
-        match opened(rt.alloc(), &cipher, input) {
-            Ok(_) => return Err(Fail::from("opened")),
-            Err(fault) => assert!(rt; fault == OpeningFault::BadHex, "at {input:?}"),
-        }
+        let told = opened(rt.alloc(), &cipher, input).err();
+        assert_same(&rt, input, told, Some(OpeningFault::BadHex));
     }
     Ok(())
 }
@@ -60,19 +64,15 @@ fn open_refuses_what_was_not_sealed(rt: HostRuntime) -> Result<(), Fail> {
         ),
     ];
     for (input, wanted) in table {
-        match opened(alloc, &cipher, input) {
-            Ok(_) => return Err(Fail::from("opened")),
-            Err(fault) => assert!(rt; fault == wanted, "at {input:?}"),
-        }
+        let told = opened(alloc, &cipher, input).err();
+        assert_same(&rt, input, told, Some(wanted));
     }
     let other_vector = CipherOptions {
         key: Key::new(*cipher.key.as_bytes()),
         vector: [0; 16],
     };
-    match opened(alloc, &other_vector, b"69c4e0d86a7b0430d8cdb78070b4c55a\n") {
-        Ok(_) => return Err(Fail::from("opened")),
-        Err(fault) => assert!(rt; fault == OpeningFault::BadPadding),
-    }
+    let told = opened(alloc, &other_vector, b"69c4e0d86a7b0430d8cdb78070b4c55a\n").err();
+    assert_same(&rt, "another vector", told, Some(OpeningFault::BadPadding));
     Ok(())
 }
 
@@ -86,7 +86,7 @@ fn open_takes_either_case_and_a_missing_end(rt: HostRuntime) -> Result<(), Fail>
     ];
     for input in table {
         let plain = opened(rt.alloc(), &cipher, input).map_err(|_| "opening")?;
-        assert_eq!(rt; plain.as_slice(), b"\n".as_slice(), "at {input:?}");
+        assert_same(&rt, input, plain.as_slice(), b"\n".as_slice());
     }
     Ok(())
 }
@@ -99,8 +99,12 @@ fn open_tells_a_failed_read(rt: HostRuntime) -> Result<(), Fail> {
     let mut input = ReaderSource::new(BrokenReader { bytes: &line });
     let mut output = Vec::new(alloc);
     let answer = open(alloc, &cipher.key, &cipher.vector, &mut input, &mut output);
-    assert!(rt; answer == Err(OpeningFault::Unread));
-    assert!(rt; output.is_empty());
+    assert_same(
+        &rt,
+        "a failed read",
+        (answer, output.len()),
+        (Err(OpeningFault::Unread), 0),
+    );
     Ok(())
 }
 
@@ -123,6 +127,11 @@ fn open_leaves_a_beginning(rt: HostRuntime) -> Result<(), Fail> {
     let line = sealed(rt.alloc(), &key_frame())?;
     let whole = opened(rt.alloc(), &cipher, &line).map_err(|_| "opening")?;
     let leave = [0, 1, 376].map(|room| leaves(rt.alloc(), &cipher, &line, &whole, room));
-    assert_eq!(rt; (whole.len(), leave), (377, [true; 3]));
+    assert_same(
+        &rt,
+        "open leaves a beginning",
+        (whole.len(), leave),
+        (377, [true; 3]),
+    );
     Ok(())
 }

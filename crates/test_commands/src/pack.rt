@@ -1,3 +1,4 @@
+use crate::asserts::assert_same;
 use crate::fixtures::{FullWriter, settings, stream_bytes};
 use commands::{LadderPackingFault, Pool};
 use item_io::{FailingOutlet, FailingReader};
@@ -62,9 +63,13 @@ fn a_line_of_the_standard_stream(rt: HostRuntime) -> Result<(), Fail> {
     let alloc = rt.alloc();
     let mut output = Vec::new(alloc);
     let told = packed(&rt, alloc, stream_bytes(alloc)?, &mut output)?;
-    assert!(rt; told.answer.is_ok());
-    assert_eq!(rt; told.items, 10);
-    assert!(rt; output.as_slice() == b"v 2 9.040000 2022 1360\n".as_slice());
+    let line = b"v 2 9.040000 2022 1360\n";
+    assert_same(
+        &rt,
+        "the standard stream",
+        (told.answer.err(), told.items, output.as_slice()),
+        (None, 10, line.as_slice()),
+    );
     Ok(())
 }
 
@@ -74,8 +79,12 @@ fn no_line_after_a_fault(rt: HostRuntime) -> Result<(), Fail> {
     let mut output = Vec::new(alloc);
     let told = packed(&rt, alloc, Vec::new(alloc), &mut output)?;
     let fault = LadderPackingFault::Packing(PackFault::NoProgram(0));
-    assert!(rt; matches!(told.answer, Err(why) if why == fault));
-    assert!(rt; output.is_empty());
+    assert_same(
+        &rt,
+        "an empty stream",
+        (told.answer.err(), output.len()),
+        (Some(fault), 0),
+    );
     Ok(())
 }
 
@@ -87,7 +96,11 @@ fn a_line_that_cannot_be_written(rt: HostRuntime) -> Result<(), Fail> {
         room: 5,
     };
     let told = packed(&rt, alloc, stream_bytes(alloc)?, &mut output)?;
-    assert!(rt; matches!(told.answer, Err(LadderPackingFault::Unwritten)));
-    assert_eq!(rt; told.items, 10);
+    assert_same(
+        &rt,
+        "a line that cannot be written",
+        (told.answer.err(), told.items),
+        (Some(LadderPackingFault::Unwritten), 10),
+    );
     Ok(())
 }

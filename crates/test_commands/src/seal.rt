@@ -1,3 +1,4 @@
+use crate::asserts::assert_same;
 use crate::fixtures::{BrokenReader, FullWriter, cipher, key_frame};
 use aes_cbc::Key;
 use commands::{SealingFault, seal};
@@ -20,23 +21,28 @@ pub fn sealed(alloc: Global, input: &[u8]) -> Result<Vec<u8>, Fail> {
 fn an_empty_stream_is_a_block_of_padding(rt: HostRuntime) -> Result<(), Fail> {
     let line = b"69c4e0d86a7b0430d8cdb78070b4c55a\n";
     let empty = sealed(rt.alloc(), &[])?;
-    assert_eq!(rt; empty.as_slice(), line.as_slice());
+    assert_same(&rt, "an empty stream", empty.as_slice(), line.as_slice());
     let packet = key_frame();
     let (short, _) = packet.split_at(187);
     let short = sealed(rt.alloc(), short)?;
-    assert_eq!(rt; short.as_slice(), line.as_slice());
+    assert_same(&rt, "less than a packet", short.as_slice(), line.as_slice());
     Ok(())
 }
 
 #[test]
 fn a_packet_is_twelve_blocks(rt: HostRuntime) -> Result<(), Fail> {
     let line = sealed(rt.alloc(), &key_frame())?;
-    assert_eq!(rt; line.len(), 385);
-    assert!(rt;
-        line.starts_with(b"413bea79d2e9de55a68238032b13225d56017f6340ba455f97a44d8978779f9c")
+    let begins = line.starts_with(
+        b"413bea79d2e9de55a68238032b13225d56017f6340ba455f97a44d8978779f9c",
     );
-    assert!(rt;
-        line.ends_with(b"1df2490c9bf172e2dbfb680ef720c334e5d57a2137add63911a40e539f67559b\n")
+    let ends = line.ends_with(
+        b"1df2490c9bf172e2dbfb680ef720c334e5d57a2137add63911a40e539f67559b\n",
+    );
+    assert_same(
+        &rt,
+        "a packet is twelve blocks",
+        (line.len(), begins, ends),
+        (385, true, true),
     );
     Ok(())
 }
@@ -48,8 +54,12 @@ fn a_failed_read_is_unread(rt: HostRuntime) -> Result<(), Fail> {
     let mut input = ReaderSource::new(BrokenReader { bytes: &packet });
     let mut output = Vec::new(alloc);
     let answer = seal(alloc, &Key::new([0; 16]), &[0; 16], &mut input, &mut output);
-    assert!(rt; answer == Err(SealingFault::Unread));
-    assert!(rt; output.is_empty());
+    assert_same(
+        &rt,
+        "a failed read",
+        (answer, output.len()),
+        (Err(SealingFault::Unread), 0),
+    );
     Ok(())
 }
 
@@ -66,12 +76,12 @@ fn a_failed_write_leaves_a_beginning(rt: HostRuntime) -> Result<(), Fail> {
             room,
         };
         let answer = seal(alloc, &cipher.key, &cipher.vector, &mut input, &mut output);
-        assert!(rt;
-            answer == Err(SealingFault::Unwritten),
-            "with room for {room}"
+        assert_same(
+            &rt,
+            ("room for", room),
+            (answer, output.taken.len(), whole.starts_with(&output.taken)),
+            (Err(SealingFault::Unwritten), room, true),
         );
-        assert_eq!(rt; output.taken.len(), room);
-        assert!(rt; whole.starts_with(&output.taken), "with room for {room}");
     }
     Ok(())
 }
@@ -136,7 +146,7 @@ fn interrupted_calls_are_made_again(rt: HostRuntime) -> Result<(), Fail> {
         };
         let key = Key::new([0; 16]);
         let answer = seal(rt.alloc(), &key, &[0; 16], &mut input, &mut output);
-        assert!(rt; answer == wanted, "at {reads}, {writes}, {flushes}");
+        assert_same(&rt, (reads, writes, flushes), answer, wanted);
     }
     Ok(())
 }

@@ -1,3 +1,4 @@
+use crate::asserts::assert_same;
 use crate::fixtures::{KEY, NO_FILES, VECTOR, no_numbers, settings, words};
 use commands::{
     CheckOptions, CheckWords, CipherFault, CipherWords, DEFAULT_FRAME, DEFAULT_GAP, DEFAULT_MOST,
@@ -22,8 +23,12 @@ fn defaults(rt: HostRuntime) -> Result<(), Fail> {
         numbers.most,
         numbers.period,
     ];
-    assert_eq!(rt; told, [6, 6, 5, 3600, 900_000, 1_000_000, 1]);
-    assert!(rt; numbers.program.is_none());
+    assert_same(
+        &rt,
+        "defaults",
+        (told, numbers.program),
+        ([6, 6, 5, 3600, 900_000, 1_000_000, 1], None),
+    );
     let named = [
         DEFAULT_TARGET,
         DEFAULT_WINDOW,
@@ -32,15 +37,22 @@ fn defaults(rt: HostRuntime) -> Result<(), Fail> {
         DEFAULT_MOST,
         DEFAULT_PERIOD,
     ];
-    assert_eq!(rt; named, [6, 5, 3600, 900_000, 1_000_000, 1]);
+    assert_same(
+        &rt,
+        "named defaults",
+        named,
+        [6, 5, 3600, 900_000, 1_000_000, 1],
+    );
     let settings = settings(rt.alloc(), "1x1")?;
     let name = settings
         .renditions
         .first()
         .map(|rendition| rendition.name.as_str());
-    assert_eq!(rt;
+    assert_same(
+        &rt,
+        "the default name and segment",
         (name, settings.cut.segment),
-        (Some(DEFAULT_NAME), 6 * TICKS)
+        (Some(DEFAULT_NAME), 6 * TICKS),
     );
     Ok(())
 }
@@ -49,9 +61,9 @@ fn defaults(rt: HostRuntime) -> Result<(), Fail> {
 fn a_target_gives_the_segment(rt: HostRuntime) -> Result<(), Fail> {
     let mut words = no_numbers();
     words.target = Some(8);
-    assert_eq!(rt; words.numbers().segment, 8);
+    assert_same(&rt, "a target", words.numbers().segment, 8);
     words.segment = Some(2);
-    assert_eq!(rt; words.numbers().segment, 2);
+    assert_same(&rt, "a target and a segment", words.numbers().segment, 2);
     Ok(())
 }
 
@@ -67,7 +79,7 @@ fn a_vector_is_given_in_one_way(rt: HostRuntime) -> Result<(), Fail> {
     ];
     for (key, seq, iv, wanted) in table {
         let told = read_cipher_options(rt.alloc(), &NO_FILES, CipherWords { key, seq, iv }).err();
-        assert!(rt; told == wanted, "at {key}, {seq:?}, {iv:?}");
+        assert_same(&rt, (key, seq, iv), told, wanted);
     }
     Ok(())
 }
@@ -85,9 +97,11 @@ fn checked(alloc: Global, keys: &str) -> Result<(usize, Option<u8>, bool), KeyLi
 
 #[test]
 fn keys_and_a_playlist(rt: HostRuntime) -> Result<(), Fail> {
-    assert_eq!(rt;
+    assert_same(
+        &rt,
+        "keys and a playlist",
         (checked(rt.alloc(), KEY), checked(rt.alloc(), "00")),
-        (Ok((1, Some(15), true)), Err(KeyListFault::BadKey))
+        (Ok((1, Some(15), true)), Err(KeyListFault::BadKey)),
     );
     Ok(())
 }
@@ -102,7 +116,7 @@ fn statuses(rt: HostRuntime) -> Result<(), Fail> {
         KeyListFault::BadKey.status(),
         KeyListFault::NoMemory.status(),
     );
-    assert_eq!(rt; (of_cipher, of_keys), ((2, 2), (2, 1)));
+    assert_same(&rt, "statuses", (of_cipher, of_keys), ((2, 2), (2, 1)));
     let table = [
         (SettingsFault::BadKey, 2),
         (SettingsFault::BadSize, 2),
@@ -113,7 +127,7 @@ fn statuses(rt: HostRuntime) -> Result<(), Fail> {
         (SettingsFault::NoMemory, 1),
     ];
     for (fault, status) in table {
-        assert_eq!(rt; fault.status(), status, "of {fault:?}");
+        assert_same(&rt, fault, fault.status(), status);
     }
     Ok(())
 }
@@ -139,7 +153,12 @@ fn fault_of_keys(alloc: Global, count: u64) -> Result<Option<SettingsFault>, All
 fn as_many_keys_as_there_may_be(rt: HostRuntime) -> Result<(), Fail> {
     let most = fault_of_keys(rt.alloc(), MOST_KEYS)?;
     let more = fault_of_keys(rt.alloc(), MOST_KEYS + 1)?;
-    assert_eq!(rt; (most, more), (None, Some(SettingsFault::TooMany)));
+    assert_same(
+        &rt,
+        "as many keys as there may be",
+        (most, more),
+        (None, Some(SettingsFault::TooMany)),
+    );
     Ok(())
 }
 
@@ -171,7 +190,7 @@ fn the_ends_of_sizes_and_programs(rt: HostRuntime) -> Result<(), Fail> {
     ];
     for (size, program, wanted) in table {
         let told = is_taken(rt.alloc(), size, program);
-        assert_eq!(rt; told, wanted, "at {size}, {program:?}");
+        assert_same(&rt, (size, program), told, wanted);
     }
     Ok(())
 }
@@ -194,13 +213,23 @@ fn entries_at_their_first_four_colons(rt: HostRuntime) -> Result<(), Fail> {
     let good = "a %20:avc1:640x360:000102030405060708090a0b0c0d0e0f:/in/a:b.ts";
     let read = parts(rt.alloc(), good)?;
     let words = [read.name, read.codecs, read.size, read.keys, read.path];
-    assert_eq!(rt; words, ["a %20", "avc1", "640x360", KEY, "/in/a:b.ts"]);
+    assert_same(
+        &rt,
+        "the parts of an entry",
+        words,
+        ["a %20", "avc1", "640x360", KEY, "/in/a:b.ts"],
+    );
     let bad = [
         first_bad(&[good]),
         first_bad(&[good, "a:b:1x1:00:p", "a"]),
         first_bad(&["a:b:1:000102030405060708090a0b0c0d0e0f:p"]),
         first_bad(&["a:b:1x1:000102030405060708090a0b0c0d0e0f"]),
     ];
-    assert_eq!(rt; bad, [None, Some(1), Some(0), Some(0)]);
+    assert_same(
+        &rt,
+        "the first bad entry",
+        bad,
+        [None, Some(1), Some(0), Some(0)],
+    );
     Ok(())
 }
