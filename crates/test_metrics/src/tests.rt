@@ -1,5 +1,6 @@
 ghost use Rattle.std.specs.Prelude.{◌≡◌};
 
+use crate::asserts::assert_same;
 use live_board::{HeldPublisher, Snapshot, Totals, Viewer, board};
 use metrics::{
     Glance, GlanceFault, InputSample, Known, RunSample, Seen, look, metrics_text, samples,
@@ -128,12 +129,17 @@ fn the_text_tells_what_the_board_shows(rt: HostRuntime) -> Result<(), Fail> {
     let (publisher, mut viewers) = board(&rt, alloc, shown(alloc)?, 1)?;
     let held = HeldPublisher { publisher, rt: &rt };
     let Some(viewer) = viewers.pop() else {
-        return Ok(());
+        return Err(Fail::from("no viewer"));
     };
     let (viewer, text) = told(alloc, viewer);
-    assert_eq!(rt; text.as_deref(), Ok(TEXT.as_bytes()));
+    assert_same(
+        &rt,
+        "the text tells what the board shows",
+        text.as_deref(),
+        Ok(TEXT.as_bytes()),
+    );
     held.release().end(&rt);
     let after = told(alloc, viewer).1;
-    assert_eq!(rt; after.err(), Some(GlanceFault::Gone));
+    assert_same(&rt, "behind the end", after.err(), Some(GlanceFault::Gone));
     Ok(())
 }
