@@ -1,5 +1,6 @@
 ghost use Rattle.std.specs.Prelude.{◌≡◌, ◌++◌, ◌∷◌, [], OnOk, OnErr};
 
+use crate::asserts::assert_same;
 use live_board::{BoardFault, HeldPublisher, Publisher, Snapshot, Totals, Viewer, board};
 use std::alloc::{AllocError, Global};
 use std::sync::{Arc, Wait};
@@ -89,12 +90,16 @@ fn a_told_viewer_sees_the_last_until_the_end(rt: HostRuntime) -> Result<(), Fail
     let first = publish(&rt, alloc, &mut held.publisher, &[1]);
     let second = publish(&rt, alloc, &mut held.publisher, &[2]);
     let is_last = held.publisher.counts() == [2].as_slice();
-    assert_eq!(rt; (first, second, is_last), (Ok(()), Ok(()), true));
     let mut shown = (None, None);
     if let Some(viewer) = viewer {
         shown = seen_to_end(held, viewer);
     }
-    assert_eq!(rt; shown, (Some(2), None));
+    assert_same(
+        &rt,
+        "a told viewer sees the last until the end",
+        (first, second, is_last, shown),
+        (Ok(()), Ok(()), true, (Some(2), None)),
+    );
     Ok(())
 }
 
@@ -131,14 +136,17 @@ fn a_view_shows_the_texts_of_its_snapshot(rt: HostRuntime) -> Result<(), Fail> {
     let count = viewers.len();
     let mut held = HeldPublisher { publisher, rt: &rt };
     let answer = publish(&rt, alloc, &mut held.publisher, &[100, 7]);
-    assert_eq!(rt; (count, answer), (64, Ok(())));
     let mut text = Ok(String::new(alloc));
     if let Some(viewer) = viewers.pop() {
         text = told_by(alloc, viewer);
     }
-    assert_eq!(rt;
-        text?.as_str(),
-        "[100, 7] [true, false] Some((28, 21, 7, 3)) Some(\"media 100\") Some(\"frames 7\") master 2"
+    let wanted =
+        "[100, 7] [true, false] Some((28, 21, 7, 3)) Some(\"media 100\") Some(\"frames 7\") master 2";
+    assert_same(
+        &rt,
+        "what one of 64 sees",
+        (count, answer, text?.as_str()),
+        (64, Ok(()), wanted),
     );
     Ok(())
 }
@@ -203,7 +211,12 @@ fn a_refused_snapshot_leaves_what_is_shown(rt: HostRuntime) -> Result<(), Fail> 
         shown = seen_to_grow(&rt, alloc, &mut held.publisher, viewer);
     }
     let falls = [Err(OWN), Err(OWN), Err(OTHER), Err(OWN)];
-    assert_eq!(rt; (told, shown), (falls, (Some(2), Some(3))));
+    assert_same(
+        &rt,
+        "a refused snapshot leaves what is shown",
+        (told, shown),
+        (falls, (Some(2), Some(3))),
+    );
     Ok(())
 }
 
@@ -278,7 +291,12 @@ fn counts_never_fall_in_four_threads(rt: HostRuntime) -> Result<(), Fail> {
     let held = HeldPublisher { publisher, rt: &rt };
     let (held, wrong) = publish_beside(&rt, alloc, held, viewers);
     let is_last = held.publisher.counts() == [100].as_slice();
-    assert_eq!(rt; (count, wrong, is_last), (4, 0, true));
+    assert_same(
+        &rt,
+        "counts never fall in four threads",
+        (count, wrong, is_last),
+        (4, 0, true),
+    );
     Ok(())
 }
 
@@ -325,6 +343,11 @@ fn a_publisher_comes_back_from_a_scope(rt: HostRuntime) -> Result<(), Fail> {
     let (publisher, answer) = publish_in_a_scope(&rt, alloc, viewer, publisher, next);
     let count = publisher.counts().first().copied();
     publisher.end(&rt);
-    assert_eq!(rt; (answer, count), (Ok(()), Some(1)));
+    assert_same(
+        &rt,
+        "a publisher comes back from a scope",
+        (answer, count),
+        (Ok(()), Some(1)),
+    );
     Ok(())
 }
