@@ -83,11 +83,13 @@ where
     let teller = Teller::new(rt, *host, words, &job.options.settings, theirs);
     let into = &mut host.stdout();
     let answer = match pack_ladder(rt, host.alloc(), &job, older, into, &teller, told) {
-        Ok(LadderRun {
-            sources: _,
-            outlet: _,
-            answer,
-        }) => answer,
+        Ok(
+            LadderRun {
+                sources: _,
+                outlet: _,
+                answer,
+            },
+        ) => answer,
         Err(fault) => Err(fault),
     };
     end_of(host, words, &teller, answer)

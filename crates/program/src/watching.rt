@@ -1,5 +1,6 @@
 //! Watches a run: a thread with a viewer of its board writes its metrics to a file. The run waits for nothing of it.
-ghost use Rattle.std.specs.Prelude.{true, OnErr, ◌≡◌, ◌<◌, ℕ, [], IfOk, IfSome, IsErr, IsSome, List, None, false, fold, length, map, option_copied, option_map, replicate};
+ghost use Rattle.std.specs.Prelude.{◌≡◌, ◌<◌, ℕ, [], IfOk, IfSome, IsErr, IsSome, List, None, OnErr, false, true};
+ghost use Rattle.std.specs.Prelude.{fold, length, map, option_copied, option_map, replicate};
 ghost use Rattle.std.specs.String.{string_bytes};
 ghost use Rattle.metrics.specs.Seens.{unseen};
 ghost use Rattle.program.specs.Asked.{input_sample};

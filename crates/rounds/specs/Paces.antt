@@ -26,4 +26,3 @@ pub record StopsSoon {X Y : Type 0} (input : SourceView X) (out : OutletView Y) 
   pub further : ReadsMore old before
   pub few : HasEnough (wanted pace 0 (turns_in before - turns_in old)) before → ⊥
   pub last : (k : ℕ) → HadOneAtMost input k before new
-

@@ -97,9 +97,7 @@ fn read_between<'r, S: Source, O: Outlet, R: Wait, H: Herald>(
         books,
     } = between;
     let mut buffer = [0; PIECE];
-    let read = broadcast
-        .course
-        .read_more(rt, pace, &mut buffer, telling);
+    let read = broadcast.course.read_more(rt, pace, &mut buffer, telling);
     (BetweenRounds { broadcast, books }, read)
 }
 
