@@ -1,3 +1,4 @@
+use crate::asserts::assert_same;
 use crate::fixtures::{Given, Pattern, drain, source_of};
 use std::test::Fail;
 
@@ -32,7 +33,7 @@ fn bytes_come_in_order(rt: HostRuntime) -> Result<(), Fail> {
                 if let Some(mut source) = source_of(rt, rt.alloc(), input)? {
                     given = Some(drain(rt.alloc(), &mut source, size)?);
                 }
-                assert_eq!(rt; given, Some(want), "{len} in {piece}, {size}");
+                assert_same(&rt, (len, piece, size, fails, falters), given, Some(want));
             }
         }
     }

@@ -1,3 +1,4 @@
+use crate::asserts::assert_same;
 use crate::fixtures::{Event, Given, Held, UNBOUNDED, drain, pattern_of, source_of, sources_of};
 use item_io::Source;
 use read_ahead::{OpenInput, open_all};
@@ -32,7 +33,12 @@ fn what_was_left_is_read_to_its_end(rt: HostRuntime) -> Result<(), Fail> {
         source.leave();
         ended.wait(&rt);
     }
-    assert_eq!(rt; counts.as_slice(), [Some(100)].as_slice());
+    assert_same(
+        &rt,
+        "what was left is read to its end",
+        counts.as_slice(),
+        [Some(100)].as_slice(),
+    );
     Ok(())
 }
 
@@ -54,10 +60,16 @@ fn one_that_was_left_unread_is_read_to_its_end(rt: HostRuntime) -> Result<(), Fa
     if let Some((mut first, mut second)) = sources_of(rt, rt.alloc(), first, second)? {
         first.leave();
         let given = drain(rt.alloc(), &mut second, 18_800)?;
-        assert_eq!(rt; given, WHOLE);
+        assert_same(&rt, "the other", given, WHOLE);
         ended.wait(&rt);
-        assert!(rt; !first.is_ready());
-        assert!(rt; first.read(&mut [0; 100]).is_err());
+        let is_ready = first.is_ready();
+        let fails = first.read(&mut [0; 100]).is_err();
+        assert_same(
+            &rt,
+            "ready, and fails, where it was left",
+            (is_ready, fails),
+            (false, true),
+        );
     }
     Ok(())
 }
@@ -69,9 +81,9 @@ fn one_that_waits_unread_holds_up_no_other(rt: HostRuntime) -> Result<(), Fail> 
     let (first, second) = (long(rt, &ended)?, long(rt, &others)?);
     if let Some((mut first, mut second)) = sources_of(rt, rt.alloc(), first, second)? {
         let given = drain(rt.alloc(), &mut second, 18_800)?;
-        assert_eq!(rt; given, WHOLE);
+        assert_same(&rt, "the other", given, WHOLE);
         let given = drain(rt.alloc(), &mut first, 18_800)?;
-        assert_eq!(rt; given, WHOLE);
+        assert_same(&rt, "the one that waited", given, WHOLE);
     }
     Ok(())
 }
@@ -93,12 +105,26 @@ fn a_silent_input_holds_up_no_other(rt: HostRuntime) -> Result<(), Fail> {
         ended: Arc::try_clone(&ended)?,
     };
     if let Some((mut first, mut second)) = sources_of(rt, rt.alloc(), silent, other)? {
-        assert_eq!(rt; second.read(&mut [0; 100]).ok(), Some(9));
-        assert!(rt; !first.is_ready());
+        let count = second.read(&mut [0; 100]).ok();
+        assert_same(
+            &rt,
+            "while it is silent",
+            (count, first.is_ready()),
+            (Some(9), false),
+        );
         until.bring(&rt);
         let given = drain(rt.alloc(), &mut first, 100)?;
-        assert_eq!(rt; (given.count, given.wrong, given.failed), (5, 0, false));
-        assert!(rt; first.is_ready());
+        let want = Given {
+            count: 5,
+            wrong: 0,
+            failed: false,
+        };
+        assert_same(
+            &rt,
+            "the silent one",
+            (given, first.is_ready()),
+            (want, true),
+        );
     }
     Ok(())
 }
@@ -137,6 +163,11 @@ fn waiting_ends_where_one_is_ready(rt: HostRuntime) -> Result<(), Fail> {
             ready.push(source.is_ready())?;
         }
     }
-    assert_eq!(rt; ready.as_slice(), [false, true, true, false].as_slice());
+    assert_same(
+        &rt,
+        "waiting ends where one is ready",
+        ready.as_slice(),
+        [false, true, true, false].as_slice(),
+    );
     Ok(())
 }

@@ -4,6 +4,8 @@
 #[cfg(test)]
 mod ahead;
 #[cfg(test)]
+mod asserts;
+#[cfg(test)]
 mod fixtures;
 #[cfg(test)]
 mod leaving;

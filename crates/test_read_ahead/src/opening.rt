@@ -1,3 +1,4 @@
+use crate::asserts::assert_same;
 use crate::fixtures::{UNBOUNDED, drain};
 use read_ahead::{InputFault, open_paths};
 use std::fs;
@@ -7,7 +8,7 @@ use std::test::Fail;
 fn a_path_that_cannot_be_opened(rt: HostRuntime) -> Result<(), Fail> {
     for paths in [["missing", "."], [".", "missing"], ["missing", "gone"]] {
         let opened = open_paths(rt, rt.alloc(), rt, &paths, UNBOUNDED);
-        assert_eq!(rt; opened.err(), Some(InputFault::Unread), "{paths:?}");
+        assert_same(&rt, paths, opened.err(), Some(InputFault::Unread));
     }
     Ok(())
 }
@@ -25,8 +26,12 @@ fn a_folder_fails_and_a_file_goes_on(rt: HostRuntime) -> Result<(), Fail> {
             failures.push(given.failed)?;
         }
     }
-    assert_eq!(rt; counts.as_slice(), [0, 4].as_slice());
-    assert_eq!(rt; failures.as_slice(), [true, false].as_slice());
+    assert_same(
+        &rt,
+        "what each gives, and whether it fails",
+        (counts.as_slice(), failures.as_slice()),
+        ([0, 4].as_slice(), [true, false].as_slice()),
+    );
     Ok(())
 }
 
@@ -36,6 +41,6 @@ fn no_paths_give_no_sources(rt: HostRuntime) -> Result<(), Fail> {
     if let Ok(sources) = open_paths(rt, rt.alloc(), rt, &[], UNBOUNDED) {
         count = Some(sources.len());
     }
-    assert_eq!(rt; count, Some(0));
+    assert_same(&rt, "no paths give no sources", count, Some(0));
     Ok(())
 }

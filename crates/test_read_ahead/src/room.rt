@@ -1,3 +1,4 @@
+use crate::asserts::assert_same;
 use crate::fixtures::{Pattern, pattern_of};
 use read_ahead::{InputsView, Limits, OpenInput, open_all};
 use std::alloc::{AllocError, Global};
@@ -59,8 +60,12 @@ fn what_is_read_ahead_is_bounded(rt: HostRuntime) -> Result<(), Fail> {
             thread::sleep(&rt, Duration::from_millis(300));
             let most = count.saturating_mul(room.saturating_add(64 << 10));
             let bytes = *given.lock(&rt);
-            assert!(rt; bytes <= most, "{bytes} bytes of {count} inputs");
-            assert!(rt; bytes > 0);
+            assert_same(
+                &rt,
+                (bytes, "bytes of", count, "inputs"),
+                (bytes > 0, bytes <= most),
+                (true, true),
+            );
         }
     }
     Ok(())
@@ -128,7 +133,7 @@ const BLOCKS: [(usize, usize); 4] = [
 fn a_block_waits_for_room(rt: HostRuntime) -> Result<(), Fail> {
     for (piece, most) in BLOCKS {
         let bytes = ready_of(rt, rt.alloc(), piece, most)?;
-        assert_eq!(rt; bytes, Some(most), "in blocks of {piece}");
+        assert_same(&rt, ("blocks of", piece), bytes, Some(most));
     }
     Ok(())
 }
@@ -146,7 +151,7 @@ fn inputs_share_what_is_read_ahead(rt: HostRuntime) -> Result<(), Fail> {
         (Some(8), 0, 8 << 20),
     ] {
         let limits = Limits { stall: None, ahead };
-        assert_eq!(rt; limits.room(inputs), room, "{ahead:?} of {inputs}");
+        assert_same(&rt, (ahead, "of", inputs), limits.room(inputs), room);
     }
     Ok(())
 }

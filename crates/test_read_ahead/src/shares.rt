@@ -1,5 +1,6 @@
 ghost use Rattle.std.specs.Prelude.{◌≡◌, ◌+◌, ◌<◌, ◌≤◌, ◌^◌, IfOk, IfSome};
 
+use crate::asserts::assert_same;
 use crate::fixtures::{Event, Held, pattern_of, sources_of};
 use item_io::{PIECE, Source};
 use read_ahead::{Ahead, OpenInput};
@@ -98,7 +99,7 @@ fn backlogs_shrink_together(rt: HostRuntime) -> Result<(), Fail> {
         if let Some((mut one, mut other)) = ready(rt, rt.alloc(), lens)? {
             given = given_in_turns(&mut one, &mut other, &mut buffer, turns);
         }
-        assert_eq!(rt; given, (first, lens));
+        assert_same(&rt, (lens, turns), given, (first, lens));
     }
     Ok(())
 }
@@ -115,7 +116,7 @@ fn one_that_is_read_no_more_holds_up_none(rt: HostRuntime) -> Result<(), Fail> {
             let count = given_by(&mut one, &mut buffer);
             told = Some((count, one.is_ready(), other.is_ready()));
         }
-        assert_eq!(rt; told, Some((share, true, !is_left)));
+        assert_same(&rt, ("left", is_left), told, Some((share, true, !is_left)));
     }
     Ok(())
 }

@@ -1,5 +1,6 @@
 ghost use Rattle.std.specs.Prelude.{◌≡◌};
 
+use crate::asserts::assert_same;
 use crate::fixtures::{Event, Given, Pattern, UNBOUNDED, drain, pattern_of, pop_unread};
 use item_io::Source;
 use read_ahead::{Contents, Input, InputFault, Limits, OpenInput, open_all};
@@ -112,9 +113,9 @@ fn a_silent_input_fails_and_the_other_goes_on(rt: HostRuntime) -> Result<(), Fai
                 wrong,
                 failed,
             } = *given;
-            assert_eq!(rt; (count, wrong, failed), *want, "{silence:?}");
+            assert_same(&rt, silence, (count, wrong, failed), *want);
         }
-        assert_eq!(rt; given.len(), 2);
+        assert_same(&rt, (silence, "inputs"), given.len(), 2);
     }
     Ok(())
 }
@@ -152,7 +153,7 @@ fn a_silent_input_is_ready_and_fails_for_good(rt: HostRuntime) -> Result<(), Fai
         {
             told = told_of(&rt, &mut source, &until);
         }
-        assert_eq!(rt; told, [true; 4], "{silence:?}");
+        assert_same(&rt, silence, told, [true; 4]);
     }
     Ok(())
 }
@@ -206,7 +207,7 @@ fn silence_counts_from_the_last_bytes(rt: HostRuntime) -> Result<(), Fail> {
         wrong: 0,
         failed: false,
     };
-    assert_eq!(rt; given, Some(want));
+    assert_same(&rt, "silence counts from the last bytes", given, Some(want));
     Ok(())
 }
 
@@ -230,12 +231,17 @@ fn one_that_waits_for_a_writer_holds_up_no_other(rt: HostRuntime) -> Result<(), 
             && let Some(mut first) = sources.pop()
         {
             counts.push(drain(rt.alloc(), &mut last, 100)?.count)?;
-            assert!(rt; !first.is_ready());
+            assert_same(&rt, "ready while it waits", first.is_ready(), false);
             until.bring(&rt);
             counts.push(drain(rt.alloc(), &mut first, 100)?.count)?;
         }
     }
-    assert_eq!(rt; counts.as_slice(), [9, 9].as_slice());
+    assert_same(
+        &rt,
+        "one that waits for a writer holds up no other",
+        counts.as_slice(),
+        [9, 9].as_slice(),
+    );
     Ok(())
 }
 
@@ -255,7 +261,7 @@ fn what_is_refused_in_the_first_moment_is_not_begun(rt: HostRuntime) -> Result<(
         }
         let opened = open_all(rt, rt.alloc(), inputs, UNBOUNDED);
         until.bring(&rt);
-        assert_eq!(rt; opened.err(), Some(InputFault::Unread), "{silence:?}");
+        assert_same(&rt, silence, opened.err(), Some(InputFault::Unread));
     }
     Ok(())
 }
