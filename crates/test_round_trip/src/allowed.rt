@@ -1,4 +1,5 @@
 //! Which settings are allowed.
+use crate::asserts::assert_same;
 use crate::run::{CUT, WELL, rendition, run};
 use cutter::CutSettings;
 use pipeline::{FrameRow, Gone, Kind, PackFault, Rendition, Row, Settings};
@@ -113,10 +114,11 @@ fn a_run_begins_behind_what_came_before(rt: HostRuntime) -> Result<(), Fail> {
             frames: 9,
             discontinuities,
         };
-        assert_eq!(rt;
+        assert_same(
+            &rt,
+            (kind, first, gone),
             behind(rt.alloc(), kind, first, gone)?,
             allowed,
-            "{kind:?} {first} {gone:?}"
         );
     }
     Ok(())
@@ -174,10 +176,11 @@ fn earlier_rows_follow_on_one_another(rt: HostRuntime) -> Result<(), Fail> {
         ([5, 5], 0, 6_000_000, false),
     ];
     for (numbers, key, micros, allowed) in table {
-        assert_eq!(rt;
+        assert_same(
+            &rt,
+            (numbers, key, micros),
             behind_rows(rt.alloc(), numbers, key, micros)?,
             allowed,
-            "{numbers:?} {key} {micros}"
         );
     }
     Ok(())
@@ -200,7 +203,7 @@ const NUMBERS: [(usize, usize, bool); 9] = [
 fn numbers_of_renditions_and_inputs(rt: HostRuntime) -> Result<(), Fail> {
     for (renditions, inputs, allowed) in NUMBERS {
         let told = names(rt.alloc(), &NAMES[..renditions.min(33)], inputs)?;
-        assert_eq!(rt; told, allowed, "{renditions} {inputs}");
+        assert_same(&rt, (renditions, inputs), told, allowed);
     }
     Ok(())
 }
@@ -222,10 +225,11 @@ fn keys_hold_the_salt(rt: HostRuntime) -> Result<(), Fail> {
         (Some(SALT), Some([0; 16]), false),
     ];
     for (own, of_keys, allowed) in table {
-        assert_eq!(rt;
+        assert_same(
+            &rt,
+            (own, of_keys),
             salts(rt.alloc(), own, of_keys)?,
             allowed,
-            "{own:?} {of_keys:?}"
         );
     }
     Ok(())
@@ -240,7 +244,7 @@ fn names_that_can_be_listed(rt: HostRuntime) -> Result<(), Fail> {
     ];
     for (listed, allowed) in table {
         let told = names(rt.alloc(), listed, listed.len())?;
-        assert_eq!(rt; told, allowed, "{listed:?}");
+        assert_same(&rt, listed, told, allowed);
     }
     Ok(())
 }
@@ -249,7 +253,7 @@ fn names_that_can_be_listed(rt: HostRuntime) -> Result<(), Fail> {
 fn widths(rt: HostRuntime) -> Result<(), Fail> {
     for (width, allowed) in [(0, false), (1, true), (16_384, true), (16_385, false)] {
         let told = one(rt.alloc(), width, CUT, 5, 4)?;
-        assert_eq!(rt; told, allowed, "{width}");
+        assert_same(&rt, ("a width of", width), told, allowed);
     }
     Ok(())
 }
@@ -268,7 +272,7 @@ fn windows_and_queues(rt: HostRuntime) -> Result<(), Fail> {
     ];
     for (window, queue, allowed) in table {
         let told = one(rt.alloc(), 640, CUT, window, queue)?;
-        assert_eq!(rt; told, allowed, "{window} {queue}");
+        assert_same(&rt, (window, queue), told, allowed);
     }
     Ok(())
 }
@@ -288,7 +292,7 @@ fn programs(rt: HostRuntime) -> Result<(), Fail> {
     ];
     for (program, allowed) in table {
         let told = cut(rt.alloc(), CutSettings { program, ..CUT })?;
-        assert_eq!(rt; told, allowed, "{program:?}");
+        assert_same(&rt, ("program", program), told, allowed);
     }
     Ok(())
 }
@@ -317,7 +321,7 @@ fn targets_and_segments(rt: HostRuntime) -> Result<(), Fail> {
                 ..CUT
             },
         )?;
-        assert_eq!(rt; told, allowed, "{target} {segment}");
+        assert_same(&rt, (target, segment), told, allowed);
     }
     Ok(())
 }
@@ -354,7 +358,7 @@ fn gaps_frames_and_sizes(rt: HostRuntime) -> Result<(), Fail> {
                 ..CUT
             },
         )?;
-        assert_eq!(rt; told, allowed, "{gap} {frame} {most}");
+        assert_same(&rt, (gap, frame, most), told, allowed);
     }
     Ok(())
 }

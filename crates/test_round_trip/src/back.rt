@@ -1,4 +1,5 @@
 //! What is packed is read back.
+use crate::asserts::assert_same;
 use crate::run::{PLAY, Play, Ran, last_media, played};
 use crate::stream::Video::{Key, Other};
 use hls_check::check;
@@ -235,6 +236,11 @@ fn told_of_text(alloc: Global, text: &str) -> Result<(usize, bool, bool, bool), 
 fn a_changed_playlist_has_one_meaning(rt: HostRuntime) -> Result<(), Fail> {
     let text = playlist(rt.alloc())?;
     let told = told_of_text(rt.alloc(), &text)?;
-    assert_eq!(rt; told, (4, true, true, true));
+    assert_same(
+        &rt,
+        "a changed playlist has one meaning",
+        told,
+        (4, true, true, true),
+    );
     Ok(())
 }

@@ -1,4 +1,5 @@
 //! Streams of one rendition: what is given of each, and the fault that is told.
+use crate::asserts::assert_same;
 use crate::back::{first_lost, has_one_meaning_changed};
 use crate::run::{
     CUT, PLAY, Play, WELL, Ways, are_sizes, last_frames, last_media, played_each_way, values,
@@ -267,19 +268,34 @@ fn first_wrong<R: Threads + Wait + Sync>(
 
 #[test]
 fn streams_with_damage(rt: HostRuntime) -> Result<(), Fail> {
-    assert_eq!(rt; first_wrong(&rt, rt.alloc(), &DAMAGED)?, None);
+    assert_same(
+        &rt,
+        "streams with damage",
+        first_wrong(&rt, rt.alloc(), &DAMAGED)?,
+        None,
+    );
     Ok(())
 }
 
 #[test]
 fn streams_are_cut(rt: HostRuntime) -> Result<(), Fail> {
-    assert_eq!(rt; first_wrong(&rt, rt.alloc(), &CUT_UP)?, None);
+    assert_same(
+        &rt,
+        "streams are cut",
+        first_wrong(&rt, rt.alloc(), &CUT_UP)?,
+        None,
+    );
     Ok(())
 }
 
 #[test]
 fn jumps_and_iframes(rt: HostRuntime) -> Result<(), Fail> {
-    assert_eq!(rt; first_wrong(&rt, rt.alloc(), &JUMPS)?, None);
+    assert_same(
+        &rt,
+        "jumps and iframes",
+        first_wrong(&rt, rt.alloc(), &JUMPS)?,
+        None,
+    );
     Ok(())
 }
 
@@ -288,7 +304,7 @@ fn a_window_of_any_size_lists_three_targets(rt: HostRuntime) -> Result<(), Fail>
     for window in [3, 1] {
         let listed = Whole { window, ..LISTED };
         let wrong = wrong_in(&rt, rt.alloc(), &listed.play(), &listed.wanted())?;
-        assert_eq!(rt; wrong, None, "{window}");
+        assert_same(&rt, ("a window of", window), wrong, None);
     }
     Ok(())
 }
@@ -311,7 +327,7 @@ fn faults_of_streams(rt: HostRuntime) -> Result<(), Fail> {
             ..PLAY
         };
         let told = told_of(&rt, rt.alloc(), &play)?;
-        assert_eq!(rt; told, (Some(fault), 0), "{change:?}");
+        assert_same(&rt, change, told, (Some(fault), 0));
     }
     Ok(())
 }
@@ -320,7 +336,7 @@ fn faults_of_streams(rt: HostRuntime) -> Result<(), Fail> {
 fn as_many_packets_as_a_segment_may_have(rt: HostRuntime) -> Result<(), Fail> {
     let cut = CutSettings { most: 2, ..CUT };
     let wrong = wrong_in(&rt, rt.alloc(), &Play { cut, ..PLAY }, &TWO.wanted())?;
-    assert_eq!(rt; wrong, None);
+    assert_same(&rt, "as many packets as a segment may have", wrong, None);
     Ok(())
 }
 
@@ -328,7 +344,12 @@ fn as_many_packets_as_a_segment_may_have(rt: HostRuntime) -> Result<(), Fail> {
 fn a_packet_more_than_a_segment_may_have(rt: HostRuntime) -> Result<(), Fail> {
     let cut = CutSettings { most: 1, ..CUT };
     let told = told_of(&rt, rt.alloc(), &Play { cut, ..PLAY })?;
-    assert_eq!(rt; told, (Some(PackFault::BigSegment(0, 0)), 0));
+    assert_same(
+        &rt,
+        "a packet more than a segment may have",
+        told,
+        (Some(PackFault::BigSegment(0, 0)), 0),
+    );
     Ok(())
 }
 
@@ -347,7 +368,7 @@ fn a_read_that_fails_is_no_end(rt: HostRuntime) -> Result<(), Fail> {
         iframes: (END, ""),
     };
     let wrong = wrong_in(&rt, rt.alloc(), &Play { ways, ..PLAY }, &wanted)?;
-    assert_eq!(rt; wrong, None);
+    assert_same(&rt, "a read that fails is no end", wrong, None);
     Ok(())
 }
 
@@ -365,6 +386,6 @@ fn a_put_that_fails_stops_the_run(rt: HostRuntime) -> Result<(), Fail> {
         iframes: (RANGE, ""),
     };
     let wrong = wrong_in(&rt, rt.alloc(), &Play { ways, ..PLAY }, &wanted)?;
-    assert_eq!(rt; wrong, None);
+    assert_same(&rt, "a put that fails stops the run", wrong, None);
     Ok(())
 }

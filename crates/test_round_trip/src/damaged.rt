@@ -1,4 +1,5 @@
 //! A stream of two segments of which a byte is another, or whose tables come in an unusual way.
+use crate::asserts::assert_same;
 use crate::run::{CUT, PLAY, Play, WELL, played, run_beside, settings, told_beside};
 use crate::stream::{Change, TWO_SEGMENTS, stream_of};
 use item_io::Item;
@@ -72,6 +73,11 @@ fn first_other_change<R: Threads + Wait + Sync>(
 fn tables_in_two_packets_and_behind_a_long_section(rt: HostRuntime) -> Result<(), Fail> {
     let whole = played(rt.alloc(), &PLAY)?;
     let other = first_other_change(&rt, rt.alloc(), whole.outlet.items())?;
-    assert_eq!(rt; other, None);
+    assert_same(
+        &rt,
+        "tables in two packets and behind a long section",
+        other,
+        None,
+    );
     Ok(())
 }

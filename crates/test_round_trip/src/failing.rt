@@ -1,4 +1,5 @@
 //! Reads and puts that fail, each in its turn.
+use crate::asserts::assert_same;
 use crate::many::{Seen, run_seen};
 use crate::run::{CUT, PLAY, Play, WELL, Ways, played, settings, told_beside};
 use crate::stream::{Change, TWO_SEGMENTS, stream_of};
@@ -33,7 +34,7 @@ fn first_other_put<R: Threads + Wait + Sync>(
 fn each_put_fails(rt: HostRuntime) -> Result<(), Fail> {
     let whole = played(rt.alloc(), &PLAY)?;
     let other = first_other_put(&rt, rt.alloc(), whole.outlet.items())?;
-    assert_eq!(rt; other, None);
+    assert_same(&rt, "each put fails", other, None);
     Ok(())
 }
 
@@ -63,7 +64,7 @@ fn first_other_read<R: Threads + Wait + Sync>(
 fn each_read_fails(rt: HostRuntime) -> Result<(), Fail> {
     let whole = played(rt.alloc(), &PLAY)?;
     let other = first_other_read(&rt, rt.alloc(), whole.outlet.items())?;
-    assert_eq!(rt; other, None);
+    assert_same(&rt, "each read fails", other, None);
     Ok(())
 }
 
@@ -129,6 +130,6 @@ fn a_snapshot_is_shown_behind_each_segment(rt: HostRuntime) -> Result<(), Fail> 
     let settings = settings(rt.alloc(), &["a", "b"], 1, 1, CUT, 5)?;
     let inputs = [stream.as_slice(), stream.as_slice()];
     let other = first_other_shown(&rt, rt.alloc(), &inputs, &settings)?;
-    assert_eq!(rt; other, None);
+    assert_same(&rt, "a snapshot is shown behind each segment", other, None);
     Ok(())
 }

@@ -1,5 +1,6 @@
 //! Salted vectors, playlists of an event, as many renditions as there may be, and each prefix of a stream.
 use crate::allowed::NAMES;
+use crate::asserts::assert_same;
 use crate::back::is_whole;
 use crate::cases::SEVEN;
 use crate::ladder::{SEVEN_BEHIND_A_JUMP, packed_alike};
@@ -63,9 +64,11 @@ fn two_segments_under_a_salt(rt: HostRuntime) -> Result<(), Fail> {
     let ran = played_each_way(&rt, rt.alloc(), &Play { form, ..PLAY })?;
     let whole = is_whole(rt.alloc(), &ran, 10, &[[0; 16]])?;
     let items = ran.outlet.items();
-    assert_eq!(rt;
+    assert_same(
+        &rt,
+        "two segments under a salt",
         (whole, last_media(items), last_frames(items)),
-        (true, MEDIA, FRAMES)
+        (true, MEDIA, FRAMES),
     );
     Ok(())
 }
@@ -81,7 +84,7 @@ fn keys_take_turns_under_a_salt(rt: HostRuntime) -> Result<(), Fail> {
     };
     let ran = played_each_way(&rt, rt.alloc(), &play)?;
     let whole = is_whole(rt.alloc(), &ran, 30, &[[0; 16], [1; 16]])?;
-    assert!(rt; whole);
+    assert_same(&rt, "keys take turns under a salt", whole, true);
     Ok(())
 }
 
@@ -105,9 +108,11 @@ fn an_event_lists_all_segments(rt: HostRuntime) -> Result<(), Fail> {
     let ran = played_each_way(&rt, rt.alloc(), &play)?;
     let whole = is_whole(rt.alloc(), &ran, 30, &[[0; 16]])?;
     let items = ran.outlet.items();
-    assert_eq!(rt;
+    assert_same(
+        &rt,
+        "an event lists all segments",
         (whole, head(last_media(items)), head(last_frames(items))),
-        (true, (22, true, true), (36, true, true))
+        (true, (22, true, true), (36, true, true)),
     );
     Ok(())
 }
@@ -142,14 +147,24 @@ fn an_event_with_a_discontinuity(rt: HostRuntime) -> Result<(), Fail> {
     };
     let ran = played_each_way(&rt, rt.alloc(), &play)?;
     let other = first_other_event(ran.outlet.items());
-    assert_eq!(rt; (ran.told(), other), ((None, 30), None));
+    assert_same(
+        &rt,
+        "an event with a discontinuity",
+        (ran.told(), other),
+        ((None, 30), None),
+    );
     Ok(())
 }
 
 #[test]
 fn as_many_renditions_as_there_may_be(rt: HostRuntime) -> Result<(), Fail> {
     let ran = packed_alike(&rt, rt.alloc(), &NAMES[..32], 32)?;
-    assert_eq!(rt; ran.told(), (None, 320));
+    assert_same(
+        &rt,
+        "as many renditions as there may be",
+        ran.told(),
+        (None, 320),
+    );
     Ok(())
 }
 
@@ -205,6 +220,11 @@ fn each_beginning_of_a_stream(rt: HostRuntime) -> Result<(), Fail> {
     let stream = stream_of(rt.alloc(), TWO_SEGMENTS, Change::None)?;
     let settings = settings(rt.alloc(), &["v"], 1, 1, CUT, 5)?;
     let other = first_other_beginning(&rt, rt.alloc(), &stream, &settings)?;
-    assert_eq!(rt; (stream.len(), other), (1128, None));
+    assert_same(
+        &rt,
+        "each beginning of a stream",
+        (stream.len(), other),
+        (1128, None),
+    );
     Ok(())
 }

@@ -1,4 +1,5 @@
 //! A gate that lets the segments of a round through from the last to the first.
+use crate::asserts::assert_same;
 use crate::many::run_on;
 use crate::run::{CUT, PLAY, Play, WELL, played, settings};
 use crate::stream::Video::Key;
@@ -76,11 +77,18 @@ fn segments_pass_from_the_last_to_the_first(rt: HostRuntime) -> Result<(), Fail>
     let whole = played(rt.alloc(), &THREE)?;
     let items = whole.outlet.items();
     let told = told_of_three(&rt, rt.alloc(), 3, 100_000_000, items)?;
-    assert_eq!(rt; (items.len(), told), (14, (None, 14, true)));
+    assert_same(
+        &rt,
+        "segments pass from the last to the first",
+        (items.len(), told),
+        (14, (None, 14, true)),
+    );
     let held = told_of_three(&rt, rt.alloc(), 2, 1_000_000, items)?;
-    assert!(rt;
+    assert_same(
+        &rt,
+        ("held", held),
         matches!(held, (Some(PackFault::Held(0, 0 | 1)), 0, _)),
-        "{held:?}"
+        true,
     );
     Ok(())
 }

@@ -1,4 +1,5 @@
 //! Several renditions, keys that take turns, and a window that slides.
+use crate::asserts::assert_same;
 use crate::back::{first_lost, is_whole};
 use crate::run::{
     CUT, PLAY, Play, Ran, WELL, last_master, last_media, played_each_way, run_each_way, settings,
@@ -54,7 +55,12 @@ fn are_two(alloc: Global, items: &[Item]) -> Result<(bool, bool, bool), AllocErr
 fn two_renditions_in_one_master(rt: HostRuntime) -> Result<(), Fail> {
     let ran = packed_alike(&rt, rt.alloc(), &["a", "hd 1"], 2)?;
     let are = are_two(rt.alloc(), ran.outlet.items())?;
-    assert_eq!(rt; (ran.told(), are), ((None, 20), (true, true, true)));
+    assert_same(
+        &rt,
+        "two renditions in one master",
+        (ran.told(), are),
+        ((None, 20), (true, true, true)),
+    );
     Ok(())
 }
 
@@ -65,7 +71,12 @@ const REFUSED: [(&str, usize); 4] = [("a.b", 1), ("master", 1), ("", 1), ("v", 2
 fn settings_that_are_not_allowed(rt: HostRuntime) -> Result<(), Fail> {
     for (name, inputs) in REFUSED {
         let ran = packed_alike(&rt, rt.alloc(), &[name], inputs)?;
-        assert_eq!(rt; ran.told(), (Some(PackFault::Settings), 0), "{name}");
+        assert_same(
+            &rt,
+            (name, inputs),
+            ran.told(),
+            (Some(PackFault::Settings), 0),
+        );
     }
     Ok(())
 }
@@ -99,7 +110,7 @@ fn keys_take_turns(rt: HostRuntime) -> Result<(), Fail> {
     };
     let ran = played_each_way(&rt, rt.alloc(), &play)?;
     let have = have_turns(rt.alloc(), &ran)?;
-    assert_eq!(rt; have, (true, true));
+    assert_same(&rt, "keys take turns", have, (true, true));
     Ok(())
 }
 
@@ -169,6 +180,11 @@ fn a_window_slides_past_a_discontinuity(rt: HostRuntime) -> Result<(), Fail> {
     };
     let ran = played_each_way(&rt, rt.alloc(), &play)?;
     let told = slides(rt.alloc(), &ran)?;
-    assert_eq!(rt; told, (true, true));
+    assert_same(
+        &rt,
+        "a window slides past a discontinuity",
+        told,
+        (true, true),
+    );
     Ok(())
 }

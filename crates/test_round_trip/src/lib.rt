@@ -4,6 +4,8 @@
 #[cfg(test)]
 mod allowed;
 #[cfg(test)]
+mod asserts;
+#[cfg(test)]
 mod back;
 #[cfg(test)]
 mod cases;

@@ -1,6 +1,7 @@
 //! Inputs that have all their reads.
 ghost use Rattle.std.specs.Prelude.{◌≡◌, All, IfOk};
 
+use crate::asserts::assert_same;
 use crate::run::{CUT, PLAY, Play, WELL, Ways, are_sizes, played_each_way, settings};
 use item_io::{FailingOutlet, ReaderSource};
 use pipeline::{PackFault, opening_board, pack_parallel_reads, pack_serial_reads};
@@ -29,10 +30,11 @@ fn a_byte_a_read(rt: HostRuntime) -> Result<(), Fail> {
             ..WELL
         };
         let ran = played_each_way(&rt, rt.alloc(), &Play { ways, ..PLAY })?;
-        assert_eq!(rt;
+        assert_same(
+            &rt,
+            (reads, "reads"),
             (ran.told(), are_sizes(ran.outlet.items(), sizes)),
             ((fault, items), true),
-            "{reads} reads"
         );
     }
     Ok(())
@@ -75,9 +77,11 @@ fn an_input_without_an_end(rt: HostRuntime) -> Result<(), Fail> {
     let mut outlet = FailingOutlet::new(alloc, 0);
     let answer = pack_serial_reads(alloc, &mut sources, &settings, &mut outlet, 100);
     let count = outlet.items().len();
-    assert_eq!(rt;
+    assert_same(
+        &rt,
+        "an input without an end",
         (answer.err(), count, reads_of(sources)),
-        (Some(PackFault::ReadLimit(0)), 0, Some(100))
+        (Some(PackFault::ReadLimit(0)), 0, Some(100)),
     );
     Ok(())
 }
@@ -99,9 +103,11 @@ fn an_input_without_an_end_on_many_threads(rt: HostRuntime) -> Result<(), Fail> 
     );
     publisher.end(&rt);
     let count = outlet.items().len();
-    assert_eq!(rt;
+    assert_same(
+        &rt,
+        "an input without an end on many threads",
         (answer.err(), count, reads_of(sources)),
-        (Some(PackFault::ReadLimit(0)), 0, Some(100))
+        (Some(PackFault::ReadLimit(0)), 0, Some(100)),
     );
     Ok(())
 }

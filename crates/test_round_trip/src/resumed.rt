@@ -1,4 +1,5 @@
 //! Runs that go on behind earlier ones.
+use crate::asserts::assert_same;
 use crate::run::{CUT, WELL, last_frames, last_master, last_media, rendition, run_beside};
 use crate::stream::{Change, TWO_SEGMENTS, stream_of};
 use hls_check::check;
@@ -93,9 +94,11 @@ fn two_segments_behind_seven(rt: HostRuntime) -> Result<(), Fail> {
     let ran = run_beside(&rt, rt.alloc(), &[&stream], WELL, &settings, &[2])?;
     let items = ran.outlet.items();
     let back = come_back(rt.alloc(), items, 7, MEDIA)?;
-    assert_eq!(rt;
+    assert_same(
+        &rt,
+        "two segments behind seven",
         (ran.told(), last_media(items), last_frames(items), back),
-        ((None, 10), MEDIA, FRAMES, true)
+        ((None, 10), MEDIA, FRAMES, true),
     );
     Ok(())
 }
@@ -208,12 +211,14 @@ fn two_segments_behind_two_that_are_listed(rt: HostRuntime) -> Result<(), Fail> 
     let stream = stream_of(rt.alloc(), TWO_SEGMENTS, Change::None)?;
     let ran = run_beside(&rt, rt.alloc(), &[&stream], WELL, &settings, &[2])?;
     let items = ran.outlet.items();
-    assert_eq!(rt;
+    assert_same(
+        &rt,
+        "two segments behind two that are listed",
         (ran.told(), last_media(items), last_frames(items)),
-        ((None, 10), LISTED_MEDIA, LISTED_FRAMES)
+        ((None, 10), LISTED_MEDIA, LISTED_FRAMES),
     );
     let known = last_master(items).contains("BANDWIDTH=4000000,");
-    assert_eq!(rt; known, true);
+    assert_same(&rt, "the bandwidth that is known", known, true);
     Ok(())
 }
 
@@ -229,7 +234,7 @@ fn faults_name_the_numbers_that_players_see(rt: HostRuntime) -> Result<(), Fail>
     ];
     for (fault, number) in table {
         let seen = seen_number(fault, &settings);
-        assert_eq!(rt; seen, number, "{fault:?}");
+        assert_same(&rt, fault, seen, number);
     }
     Ok(())
 }

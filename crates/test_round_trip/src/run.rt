@@ -37,7 +37,7 @@ impl Ran {
 
 /// How inputs are read and items are put: the most bytes of a read, how many reads an input has, and which read of the
 /// first input and which put fails, counted from 1.
-#[derive(Clone, Copy, Debug)]
+#[derive(Clone, Copy)]
 pub struct Ways {
     pub piece: usize,
     pub reads: u64,
@@ -63,7 +63,7 @@ impl Ways {
 }
 
 /// Which segments are listed, and the salt of the vectors.
-#[derive(Clone, Copy, Debug)]
+#[derive(Clone, Copy)]
 pub struct Form {
     pub kind: Kind,
     pub salt: Option<[u8; 16]>,

@@ -1,4 +1,5 @@
 //! The standard stream of two segments, its texts byte for byte.
+use crate::asserts::assert_same;
 use crate::run::{
     PLAY, Play, Ran, WELL, Ways, are_sizes, last_frames, last_master, last_media, played_each_way,
 };
@@ -76,10 +77,11 @@ fn two_segments_in_pieces(rt: HostRuntime) -> Result<(), Fail> {
         let ways = Ways { piece, ..WELL };
         let ran = played_each_way(&rt, rt.alloc(), &Play { ways, ..PLAY })?;
         let items = ran.outlet.items();
-        assert_eq!(rt;
+        assert_same(
+            &rt,
+            ("pieces of", piece),
             (ran.told(), wrong_text(items), are_sizes(items, &[768, 768])),
             ((None, 10), None, true),
-            "pieces of {piece}"
         );
     }
     Ok(())
@@ -118,6 +120,6 @@ fn a_report(rt: HostRuntime) -> Result<(), Fail> {
     let change = Change::NoiseBefore;
     let ran = played_each_way(&rt, rt.alloc(), &Play { change, ..PLAY })?;
     let wanted = (Some(2), Some(9_040_000), Some(2022), Some(1360), Some(5));
-    assert_eq!(rt; reported(&ran), Some((wanted, (0, 2, 0))));
+    assert_same(&rt, "a report", reported(&ran), Some((wanted, (0, 2, 0))));
     Ok(())
 }

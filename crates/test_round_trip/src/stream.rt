@@ -17,7 +17,7 @@ fn push_split_pat(stream: &mut Vec<u8>, counter: u8) -> Result<(), AllocError> {
 }
 
 /// A frame of video by its time in ticks: a key frame, with the indicator of random access, or another.
-#[derive(Clone, Copy, Debug)]
+#[derive(Clone, Copy)]
 pub enum Video {
     Key(u64),
     Other(u64),

@@ -1,4 +1,5 @@
 //! In which order renditions have their turns, and what a fault of one leaves of the others.
+use crate::asserts::assert_same;
 use crate::back::first_lost;
 use crate::run::{CUT, WELL, Ways, last_media, run, run_each_way, settings, values};
 use crate::stream::Video::Key;
@@ -70,9 +71,11 @@ fn renditions_take_turns(rt: HostRuntime) -> Result<(), Fail> {
     let settings = settings(rt.alloc(), &["a", "b"], 1, 1, CUT, 5)?;
     let ran = run(rt.alloc(), &[&stream, &stream], WELL, &settings)?;
     let kinds = kinds(rt.alloc(), ran.outlet.items())?;
-    assert_eq!(rt;
+    assert_same(
+        &rt,
+        "renditions take turns",
         (ran.told(), kinds.as_slice()),
-        ((None, 20), IN_TURN.as_slice())
+        ((None, 20), IN_TURN.as_slice()),
     );
     Ok(())
 }
@@ -113,10 +116,10 @@ fn unread_at_put(alloc: Global, stream: &[u8], n: u64) -> Result<usize, Fail> {
 fn items_are_put_at_once(rt: HostRuntime) -> Result<(), Fail> {
     let stream = stream_of(rt.alloc(), TWO_SEGMENTS, Change::None)?;
     for n in 1..5 {
-        assert_eq!(rt; unread_at_put(rt.alloc(), &stream, n)?, 188, "put {n}");
+        assert_same(&rt, ("put", n), unread_at_put(rt.alloc(), &stream, n)?, 188);
     }
     for n in 5..11 {
-        assert_eq!(rt; unread_at_put(rt.alloc(), &stream, n)?, 0, "put {n}");
+        assert_same(&rt, ("put", n), unread_at_put(rt.alloc(), &stream, n)?, 0);
     }
     Ok(())
 }
@@ -174,7 +177,7 @@ fn a_fault_ends_one_rendition_alone(rt: HostRuntime) -> Result<(), Fail> {
     let settings = settings(rt.alloc(), &["a", "b"], 1, 1, CUT, 5)?;
     for (first, ways, fault) in table {
         let told = told_of_two(&rt, rt.alloc(), &[first, &whole], ways, &settings)?;
-        assert_eq!(rt; told, (Some(fault), true));
+        assert_same(&rt, fault, told, (Some(fault), true));
     }
     Ok(())
 }
