@@ -1,5 +1,6 @@
 //! Tests of the collector.
 
+use crate::asserts::assert_same;
 use crate::fixtures::{OTHER, Things, keys_of, misses};
 use crate::told::{Name, Told, name, received};
 use Event::{Expect, Follows, Give, GiveWrong, HandOut, HasRoom, Misses};
@@ -154,7 +155,7 @@ fn check(
     steps: &[(Event, Told)],
 ) -> Result<(), Fail> {
     let wrong = wrong_step(alloc, renditions, starts, most, steps)?;
-    assert_eq!(rt; wrong, None);
+    assert_same(rt, "the first wrong step", wrong, None);
     Ok(())
 }
 

@@ -1,5 +1,6 @@
 //! Streams, plans and keys for tests.
 
+use crate::asserts::assert_same;
 use crate::told::{Name, name};
 use cutter::{Lent, Plan, cut_stream};
 use fixture_standard_stream::{
@@ -128,5 +129,5 @@ fn are_named(plans: &[Lent<'_>], names: &[Name]) -> bool {
 
 /// Stops a test where other bytes came than are wanted.
 pub(crate) fn same(rt: &impl Abort, what: &str, came: &[u8], wanted: &[u8]) {
-    assert_eq!(rt; came, wanted, "{what}");
+    assert_same(rt, what, came, wanted);
 }

@@ -2,6 +2,7 @@
 
 ghost use Rattle.std.specs.Prelude.{◌≡◌};
 
+use crate::asserts::assert_same;
 use crate::fixtures::{Things, keys_of, misses};
 use crate::model::{Letter, Model, Seen};
 use crate::told::{Name, Told, claimed, ended, fed, name, received};
@@ -394,13 +395,23 @@ fn plays(alloc: Global, most: usize) -> Result<(u64, bool), Fail> {
 
 #[test]
 fn all_lists_in_a_queue_of_one(rt: HostRuntime) -> Result<(), Fail> {
-    assert_eq!(rt; plays(rt.alloc(), 1)?, (83_753, true));
+    assert_same(
+        &rt,
+        "all lists in a queue of one",
+        plays(rt.alloc(), 1)?,
+        (83_753, true),
+    );
     Ok(())
 }
 
 #[test]
 fn all_lists_in_a_queue_of_two(rt: HostRuntime) -> Result<(), Fail> {
-    assert_eq!(rt; plays(rt.alloc(), 2)?, (600_450, true));
+    assert_same(
+        &rt,
+        "all lists in a queue of two",
+        plays(rt.alloc(), 2)?,
+        (600_450, true),
+    );
     Ok(())
 }
 
@@ -409,6 +420,11 @@ fn a_plan_from_its_feed_to_its_show(rt: HostRuntime) -> Result<(), Fail> {
     let things = Things::new(rt.alloc())?;
     // fed, claimed, delivered, taken, closed and shown
     let mut path = Vec::from_array(rt.alloc(), [0, 3, 5, 9, 13, 15])?;
-    assert_eq!(rt; play(&things, 1, &mut path)?, true);
+    assert_same(
+        &rt,
+        "a plan from its feed to its show",
+        play(&things, 1, &mut path)?,
+        true,
+    );
     Ok(())
 }

@@ -2,6 +2,7 @@
 
 ghost use Rattle.std.specs.Prelude.{◌≡◌};
 
+use crate::asserts::assert_same;
 use crate::fixtures::Things;
 use crate::told::{Told, claimed, ended, given, queued};
 use Event::{Claim as Claims, Close, Deliver, Feed, Hold, Look, Refuse, Stop, Take};
@@ -220,7 +221,12 @@ fn check(
     left: usize,
 ) -> Result<(), Fail> {
     let told = played(alloc, most, steps)?;
-    assert_eq!(rt; told, (None, left));
+    assert_same(
+        rt,
+        "the first wrong step, and what is left",
+        told,
+        (None, left),
+    );
     Ok(())
 }
 

@@ -1,5 +1,6 @@
 //! Tests of keys and of sealed segments.
 
+use crate::asserts::assert_same;
 use crate::fixtures::{NEW_TABLES, key_of, plans_of, same};
 use aes_cbc::{Key, OpenFault, open, seal};
 use cutter::Plan;
@@ -35,7 +36,7 @@ fn check_rotation(
     let mut keys = Vec::new(alloc);
     keys.resize(count, [7; 16])?;
     let fault = Keys::new(keys, period).err();
-    assert_eq!(rt; fault, wanted, "{count} {period}");
+    assert_same(rt, (count, period), fault, wanted);
     Ok(())
 }
 
@@ -74,7 +75,7 @@ fn two_keys_take_turns(rt: HostRuntime) -> Result<(), Fail> {
         (4, 0, 1),
         (u64::MAX, 1, 2),
     ] {
-        assert_eq!(rt; (keys.index(n), keys.key(n)), (index, [byte; 16]), "{n}");
+        assert_same(&rt, n, (keys.index(n), keys.key(n)), (index, [byte; 16]));
     }
     Ok(())
 }
@@ -104,7 +105,7 @@ fn salted_vectors(rt: HostRuntime) -> Result<(), Fail> {
     same(&rt, "of 1", &keys.vector(1), wanted);
     let wanted = b"\xf0\xf1\xf2\xf3\xf4\xf5\xf6\xf7\xf8\xf9\xfa\xfb\xfc\xfd\xff\xff";
     same(&rt, "of 256", &keys.vector(256), wanted);
-    assert!(rt; keys.salt() == Some(*SALT));
+    assert_same(&rt, "the salt", keys.salt(), Some(*SALT));
     let plain = two_keys(rt.alloc())?;
     same(
         &rt,
@@ -112,7 +113,7 @@ fn salted_vectors(rt: HostRuntime) -> Result<(), Fail> {
         &plain.vector(258),
         &vector(258),
     );
-    assert!(rt; plain.salt().is_none());
+    assert_same(&rt, "no salt", plain.salt(), None);
     Ok(())
 }
 
@@ -126,7 +127,7 @@ fn a_run_goes_on_behind_another(rt: HostRuntime) -> Result<(), Fail> {
         (5, 8, 0),
         (u64::MAX, (1 << 64) + 2, 1),
     ] {
-        assert_eq!(rt; (keys.number(n), keys.index(n)), (number, index), "{n}");
+        assert_same(&rt, n, (keys.number(n), keys.index(n)), (number, index));
     }
     same(&rt, "of 255", &keys.vector(255), &vector(258));
     let salted = salted_key(rt.alloc())?.behind(200);
@@ -160,10 +161,10 @@ fn check_lengths(
     keys: &Keys,
     wanted: &[(usize, usize, u64); 2],
 ) -> Result<(), Fail> {
-    assert_eq!(rt; plans.len(), 2);
-    for at in 0..2 {
-        let told = lengths(alloc, &plans[at], keys)?;
-        assert_eq!(rt; told, wanted[at], "{at}");
+    assert_same(rt, "plans", plans.len(), 2);
+    for (plan, wanted) in plans.iter().zip(wanted) {
+        let told = lengths(alloc, plan, keys)?;
+        assert_same(rt, plan.number, told, *wanted);
     }
     Ok(())
 }
@@ -207,29 +208,32 @@ fn check_blocks(
     let number = plan.number;
     same(rt, "the key", &sealed.key(), &keys.key(number));
     same(rt, "the vector", &sealed.vector(), &vector(number));
-    assert!(rt; sealed.bytes().starts_with(first), "{number}");
-    assert!(rt; sealed.bytes().ends_with(last), "{number}");
+    let begins = sealed.bytes().starts_with(first);
+    let ends = sealed.bytes().ends_with(last);
+    assert_same(rt, ("the blocks of", number), (begins, ends), (true, true));
     Ok(())
 }
 
-/// The same of two plans, by blocks from OpenSSL 3, `enc -aes-128-cbc`.
+/// The same of two plans, by blocks from OpenSSL 3, `enc -aes-128-cbc`: the first and the last of each.
 fn check_all_blocks(
     rt: &impl Abort,
     alloc: Global,
     plans: &[Plan],
     keys: &Keys,
 ) -> Result<(), AllocError> {
-    let firsts = [
-        b"\x06\xdf\x0c\x5f\xc1\xfd\xfb\xbf\xa9\xb0\xee\x3c\x7c\x13\x38\x1b",
-        b"\x7e\xe6\x3c\x38\x32\x9a\x55\x00\x96\x88\xc5\x44\x4f\xe1\x29\x3a",
+    let blocks: [(&[u8; 16], &[u8; 16]); 2] = [
+        (
+            b"\x06\xdf\x0c\x5f\xc1\xfd\xfb\xbf\xa9\xb0\xee\x3c\x7c\x13\x38\x1b",
+            b"\x35\xe1\xac\x3a\xd9\xde\x0e\x06\x8d\xaf\xa7\x3f\x46\x78\xd8\xf6",
+        ),
+        (
+            b"\x7e\xe6\x3c\x38\x32\x9a\x55\x00\x96\x88\xc5\x44\x4f\xe1\x29\x3a",
+            b"\x29\x46\x3b\xf1\xea\xe3\xff\xc8\x59\x1f\x6f\x6d\x32\xd9\xfb\xc0",
+        ),
     ];
-    let lasts = [
-        b"\x35\xe1\xac\x3a\xd9\xde\x0e\x06\x8d\xaf\xa7\x3f\x46\x78\xd8\xf6",
-        b"\x29\x46\x3b\xf1\xea\xe3\xff\xc8\x59\x1f\x6f\x6d\x32\xd9\xfb\xc0",
-    ];
-    assert_eq!(rt; plans.len(), 2);
-    for at in 0..2 {
-        check_blocks(rt, alloc, &plans[at], keys, firsts[at], lasts[at])?;
+    assert_same(rt, "plans", plans.len(), 2);
+    for (plan, (first, last)) in plans.iter().zip(blocks) {
+        check_blocks(rt, alloc, plan, keys, first, last)?;
     }
     Ok(())
 }
@@ -263,9 +267,11 @@ fn check_origin(
     );
     let by = (sealed.is_by(keys), sealed.is_by(others));
     let (made_of, bytes) = sent(sealed).into_parts();
-    assert_eq!(rt;
+    assert_same(
+        rt,
+        plan.number,
         (by, made_of.number, bytes.len()),
-        ((true, false), plan.number, 768)
+        ((true, false), plan.number, 768),
     );
     Ok(())
 }
@@ -278,7 +284,7 @@ fn check_origins(
     keys: &Keys,
     others: &Keys,
 ) -> Result<(), AllocError> {
-    assert_eq!(rt; plans.len(), 2);
+    assert_same(rt, "plans", plans.len(), 2);
     for plan in plans {
         check_origin(rt, alloc, plan, keys, others)?;
     }
@@ -366,7 +372,7 @@ fn check_fault(
 ) {
     let fault = open_range(alloc, &Key::new([7; 16]), &[0; 16], bytes, offset, len).err();
     let size = bytes.len();
-    assert_eq!(rt; fault, wanted, "{size} {offset} {len}");
+    assert_same(rt, (size, offset, len), fault, wanted);
 }
 
 #[test]
@@ -407,9 +413,11 @@ fn check_range(
         offset as u64,
         len,
     )?;
-    assert!(rt;
-        Some(part.as_slice()) == PADDED.get(offset..end),
-        "{offset} {end}"
+    assert_same(
+        rt,
+        (offset, end),
+        Some(part.as_slice()),
+        PADDED.get(offset..end),
     );
     Ok(())
 }

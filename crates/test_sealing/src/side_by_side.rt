@@ -1,5 +1,6 @@
 //! Tests of texts that are sealed side by side: each comes out as it does alone.
 
+use crate::asserts::assert_same;
 use aes_cbc::{Key, seal, seal_four_in_place, seal_two_in_place};
 use std::alloc::{AllocError, Global};
 use std::test::Fail;
@@ -71,16 +72,9 @@ fn two_are_sealed(alloc: Global, lengths: [usize; 4]) -> Result<bool, AllocError
 #[test]
 fn each_text_comes_out_as_alone(rt: HostRuntime) -> Result<(), Fail> {
     for lengths in LENGTHS {
-        assert!(rt;
-            four_are_sealed(rt.alloc(), lengths)?,
-            "four, of {} bytes and others",
-            lengths[0]
-        );
-        assert!(rt;
-            two_are_sealed(rt.alloc(), lengths)?,
-            "two, of {} bytes and others",
-            lengths[0]
-        );
+        let four = four_are_sealed(rt.alloc(), lengths)?;
+        let two = two_are_sealed(rt.alloc(), lengths)?;
+        assert_same(&rt, lengths, (four, two), (true, true));
     }
     Ok(())
 }
