@@ -1,13 +1,16 @@
 ghost use Rattle.std.specs.Prelude.{◌≡◌};
 
+use crate::asserts::assert_same;
 use crate::fixtures::{Job, Told, run};
 use cutter::PlanRef;
 use fixture_standard_stream::plans;
 use std::alloc::Global;
 use std::marker::Brand;
+use std::process::Abort;
 use std::sync::Wait;
 use std::sync::ledger::{Blank, Ledger};
 use std::test::Fail;
+use std::thread::Threads;
 use work_desk::{Desk, FeedFault, FreeGate, Gate, Opened, Outcome, Pass};
 
 /// How often each run is made, so that threads meet in many orders.
@@ -25,6 +28,19 @@ const fn sealed(count: u64) -> Told {
     }
 }
 
+/// Stops a test where a run of a job, which is made so often, tells otherwise.
+fn check<G: Gate + Sync, R: Abort + Threads + Wait + Sync>(
+    rt: &R,
+    alloc: Global,
+    case: &str,
+    job: &Job<'_, G>,
+    wanted: Told,
+) -> Result<(), Fail> {
+    let told = run(rt, alloc, job, TIMES, wanted)?;
+    assert_same(rt, case, told, wanted);
+    Ok(())
+}
+
 #[test]
 fn two_workers_seal_both_plans(rt: HostRuntime) -> Result<(), Fail> {
     let job = Job {
@@ -35,9 +51,13 @@ fn two_workers_seal_both_plans(rt: HostRuntime) -> Result<(), Fail> {
         stops: false,
         gate: &FreeGate,
     };
-    let told = run(&rt, rt.alloc(), &job, TIMES, sealed(2))?;
-    assert_eq!(rt; told, sealed(2));
-    Ok(())
+    check(
+        &rt,
+        rt.alloc(),
+        "two workers seal both plans",
+        &job,
+        sealed(2),
+    )
 }
 
 #[test]
@@ -50,9 +70,13 @@ fn sixteen_workers_seal_each_plan_once(rt: HostRuntime) -> Result<(), Fail> {
         stops: false,
         gate: &FreeGate,
     };
-    let told = run(&rt, rt.alloc(), &job, TIMES, sealed(1000))?;
-    assert_eq!(rt; told, sealed(1000));
-    Ok(())
+    check(
+        &rt,
+        rt.alloc(),
+        "sixteen workers seal each plan once",
+        &job,
+        sealed(1000),
+    )
 }
 
 /// One worker before a long queue seals its plans four at a time.
@@ -66,9 +90,13 @@ fn one_worker_seals_a_long_queue(rt: HostRuntime) -> Result<(), Fail> {
         stops: false,
         gate: &FreeGate,
     };
-    let told = run(&rt, rt.alloc(), &job, TIMES, sealed(103))?;
-    assert_eq!(rt; told, sealed(103));
-    Ok(())
+    check(
+        &rt,
+        rt.alloc(),
+        "one worker seals a long queue",
+        &job,
+        sealed(103),
+    )
 }
 
 /// A gate that holds one segment back.
@@ -100,9 +128,13 @@ fn a_run_goes_on_behind_a_segment_that_is_held(rt: HostRuntime) -> Result<(), Fa
         held: 1,
         ..sealed(3)
     };
-    let told = run(&rt, rt.alloc(), &job, TIMES, wanted)?;
-    assert_eq!(rt; told, wanted);
-    Ok(())
+    check(
+        &rt,
+        rt.alloc(),
+        "a run goes on behind a segment that is held",
+        &job,
+        wanted,
+    )
 }
 
 /// A segment that is held back or refused among those that are sealed side by side is told for itself.
@@ -122,9 +154,13 @@ fn one_of_four_that_is_held_or_refused_leaves_the_others(rt: HostRuntime) -> Res
         held: 1,
         ..sealed(8)
     };
-    let told = run(&rt, rt.alloc(), &job, TIMES, wanted)?;
-    assert_eq!(rt; told, wanted);
-    Ok(())
+    check(
+        &rt,
+        rt.alloc(),
+        "one of four that is held or refused leaves the others",
+        &job,
+        wanted,
+    )
 }
 
 #[test]
@@ -142,9 +178,13 @@ fn a_run_goes_on_where_each_second_plan_is_refused(rt: HostRuntime) -> Result<()
         refused: 4,
         ..sealed(8)
     };
-    let told = run(&rt, rt.alloc(), &job, TIMES, wanted)?;
-    assert_eq!(rt; told, wanted);
-    Ok(())
+    check(
+        &rt,
+        rt.alloc(),
+        "a run goes on where each second plan is refused",
+        &job,
+        wanted,
+    )
 }
 
 #[test]
@@ -157,9 +197,13 @@ fn a_stop_wakes_workers_that_wait(rt: HostRuntime) -> Result<(), Fail> {
         stops: true,
         gate: &FreeGate,
     };
-    let told = run(&rt, rt.alloc(), &job, TIMES, sealed(0))?;
-    assert_eq!(rt; told, sealed(0));
-    Ok(())
+    check(
+        &rt,
+        rt.alloc(),
+        "a stop wakes workers that wait",
+        &job,
+        sealed(0),
+    )
 }
 
 #[test]
@@ -172,9 +216,13 @@ fn a_stop_wakes_a_taker_that_waits(rt: HostRuntime) -> Result<(), Fail> {
         stops: true,
         gate: &FreeGate,
     };
-    let told = run(&rt, rt.alloc(), &job, TIMES, sealed(0))?;
-    assert_eq!(rt; told, sealed(0));
-    Ok(())
+    check(
+        &rt,
+        rt.alloc(),
+        "a stop wakes a taker that waits",
+        &job,
+        sealed(0),
+    )
 }
 
 /// What is told of a plan that is fed, and the number of the plan that comes back.
@@ -267,10 +315,14 @@ fn fed<R: Wait>(
 fn a_plan_is_refused_with_its_reason(rt: HostRuntime) -> Result<(), Fail> {
     let (told, claimed, done) = fed(&rt, rt.alloc(), 2)?;
     let wanted = [("waits", 0), ("twice", 0), ("waits", 1), ("closed", 1)];
-    assert_eq!(rt; told.as_slice(), wanted.as_slice());
-    assert_eq!(rt; (claimed, done), (false, false));
+    assert_same(
+        &rt,
+        "a queue of two",
+        (told.as_slice(), claimed, done),
+        (wanted.as_slice(), false, false),
+    );
     let (told, _, _) = fed(&rt, rt.alloc(), 1)?;
     let wanted = [("waits", 0), ("full", 0), ("full", 1), ("closed", 1)];
-    assert_eq!(rt; told.as_slice(), wanted.as_slice());
+    assert_same(&rt, "a queue of one", told.as_slice(), wanted.as_slice());
     Ok(())
 }
