@@ -2,6 +2,7 @@
 
 ghost use Rattle.std.specs.Prelude.{◌≡◌, All, IfOk, OnOk};
 
+use crate::asserts::assert_same;
 use crate::pause_tests::{nothing_of_two, two};
 use crate::run_jobs::SEVEN;
 use fixture_standard_stream::append_packets;
@@ -158,8 +159,7 @@ fn each_fault_is_told_once(rt: HostRuntime) -> Result<(), Fail> {
         let (publisher, _) = board(&rt, rt.alloc(), nothing_of_two(rt.alloc())?, 1)?;
         let notes = Notes::new(rt);
         let answer = run(&rt, rt.alloc(), &settings, sources, publisher, &notes);
-        assert_eq!(rt; *notes.told.lock(&rt), told, "{failing:?}");
-        assert_eq!(rt; answer, fault, "{failing:?}");
+        assert_same(&rt, failing, (*notes.told.lock(&rt), answer), (told, fault));
     }
     Ok(())
 }
@@ -171,8 +171,13 @@ fn all_segments_are_told_at_last(rt: HostRuntime) -> Result<(), Fail> {
     let (publisher, _) = board(&rt, rt.alloc(), nothing_of_two(rt.alloc())?, 1)?;
     let notes = Notes::new(rt);
     let answer = run(&rt, rt.alloc(), &settings, sources, publisher, &notes);
-    assert_eq!(rt; answer, None);
-    assert_eq!(rt; *notes.completed.lock(&rt), 14);
-    assert_eq!(rt; *notes.fell.lock(&rt), false);
+    let completed = *notes.completed.lock(&rt);
+    let fell = *notes.fell.lock(&rt);
+    assert_same(
+        &rt,
+        "segments, and whether they fell",
+        (answer, completed, fell),
+        (None, 14, false),
+    );
     Ok(())
 }

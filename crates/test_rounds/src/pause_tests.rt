@@ -3,6 +3,7 @@
 ghost use Rattle.std.specs.Prelude.{◌≡◌, ◌≤◌, All, IfOk, OnOk};
 ghost use Rattle.item_io.specs.declared.limits.TheConstants.{READS};
 
+use crate::asserts::assert_same;
 use crate::fixtures::{rendition, settings};
 use crate::pausing::Pausing;
 use crate::run_jobs::SEVEN;
@@ -153,8 +154,12 @@ const PAUSES: [([u64; 2], u64, Option<PackFault>, &[usize]); 6] = [
 fn a_silent_input_holds_up_no_other(rt: HostRuntime) -> Result<(), Fail> {
     for (pauses, reads, fault, order) in PAUSES {
         let told = packed(&rt, rt.alloc(), pauses, reads)?;
-        assert_eq!(rt; told.0, fault, "{pauses:?}, {reads}");
-        assert_eq!(rt; told.1.as_slice(), order, "{pauses:?}, {reads}");
+        assert_same(
+            &rt,
+            (pauses, reads),
+            (told.0, told.1.as_slice()),
+            (fault, order),
+        );
     }
     Ok(())
 }

@@ -1,3 +1,4 @@
+use crate::asserts::assert_same;
 use crate::gates::{AllBut, Meeting};
 use crate::run_jobs::{Job, Numbers, SEVEN, TWO, WELL, told};
 use ladder_items::PackFault;
@@ -14,9 +15,11 @@ fn workers_seal_both_segments(rt: HostRuntime) -> Result<(), Fail> {
                 ..WELL
             };
             let told = told(&rt, rt.alloc(), &job, &FreeGate)?;
-            assert!(rt;
+            assert_same(
+                &rt,
+                (workers, "pieces of", piece, told),
                 matches!(told, (Ok((2, 2, 0, 0, _)), 10, 1, 2)),
-                "{workers} workers, pieces of {piece}: {told:?}"
+                true,
             );
         }
     }
@@ -46,10 +49,11 @@ fn rounds_begin_with_enough_plans(rt: HostRuntime) -> Result<(), Fail> {
             ..WELL
         };
         let told = told(&rt, rt.alloc(), &job, &FreeGate)?;
-        assert_eq!(rt;
+        assert_same(
+            &rt,
+            (workers, "pieces of", piece),
             told,
             (Ok((7, 7, 0, 0, rounds)), 30, 1, 7),
-            "{workers} workers, pieces of {piece}"
         );
     }
     Ok(())
@@ -72,12 +76,16 @@ fn all_workers_meet(rt: HostRuntime) -> Result<(), Fail> {
             ..WELL
         };
         let told = told(&rt, rt.alloc(), &job, &gate)?;
-        assert_eq!(rt; told, (Ok(numbers), items, 1, numbers.0));
         let mut asked = [0; 4];
         for (n, there) in asked.iter_mut().enumerate() {
             *there = u64::from(n < workers);
         }
-        assert_eq!(rt; gate.record(), (asked, workers as u64));
+        assert_same(
+            &rt,
+            (workers, "workers"),
+            (told, gate.record()),
+            ((Ok(numbers), items, 1, numbers.0), (asked, workers as u64)),
+        );
     }
     Ok(())
 }
@@ -85,7 +93,12 @@ fn all_workers_meet(rt: HostRuntime) -> Result<(), Fail> {
 #[test]
 fn a_held_segment_stops_the_run(rt: HostRuntime) -> Result<(), Fail> {
     let told = told(&rt, rt.alloc(), &WELL, &AllBut(0))?;
-    assert_eq!(rt; told, (Err(PackFault::Held(0, 0)), 0, 1, 0));
+    assert_same(
+        &rt,
+        "a held segment stops the run",
+        told,
+        (Err(PackFault::Held(0, 0)), 0, 1, 0),
+    );
     Ok(())
 }
 
@@ -94,7 +107,7 @@ fn a_run_has_1_to_64_workers(rt: HostRuntime) -> Result<(), Fail> {
     for workers in [0, 65] {
         let job = Job { workers, ..WELL };
         let told = told(&rt, rt.alloc(), &job, &FreeGate)?;
-        assert_eq!(rt; told, (Err(PackFault::Settings), 0, 1, 0), "{workers}");
+        assert_same(&rt, workers, told, (Err(PackFault::Settings), 0, 1, 0));
     }
     Ok(())
 }

@@ -1,5 +1,6 @@
 //! Runs that a read, a put or a gate stops, and runs in which a later segment is sealed first.
 
+use crate::asserts::assert_same;
 use crate::gates::{Behind, TURNS};
 use crate::run_jobs::{Job, SEVEN, TWO, WELL, packed, told, told_beside};
 use item_io::FailingOutlet;
@@ -41,9 +42,11 @@ fn items_come_in_sequence(rt: HostRuntime) -> Result<(), Fail> {
         };
         let gate = Behind::new(other, TURNS);
         let (told, begins) = told_beside(&rt, rt.alloc(), &job, &gate, whole.items())?;
-        assert!(rt;
+        assert_same(
+            &rt,
+            (workers, told),
             begins && told.1 == whole.items().len() && matches!(told.0, Ok((_, _, 0, 0, _))),
-            "{told:?}"
+            true,
         );
     }
     Ok(())
@@ -62,9 +65,11 @@ fn longer_rounds_give_the_same(rt: HostRuntime) -> Result<(), Fail> {
             ..WELL
         };
         let (told, begins) = told_beside(&rt, rt.alloc(), &job, &FreeGate, whole.items())?;
-        assert!(rt;
+        assert_same(
+            &rt,
+            ("pieces of", piece, told),
             begins && matches!(told, (Ok((7, 7, 0, 0, 2..=4)), 30, 1, 7)),
-            "pieces of {piece}: {told:?}"
+            true,
         );
     }
     Ok(())
@@ -81,10 +86,11 @@ fn a_segment_that_waits_too_long_is_held(rt: HostRuntime) -> Result<(), Fail> {
             ..WELL
         };
         let told = told(&rt, rt.alloc(), &job, &Behind::new(2, 100_000))?;
-        assert_eq!(rt;
+        assert_same(
+            &rt,
+            ("pieces of", piece),
             told,
             (Err(PackFault::Held(0, 0)), 0, 1, 0),
-            "pieces of {piece}"
         );
     }
     Ok(())
@@ -102,10 +108,11 @@ fn a_put_that_fails_stops_the_run(rt: HostRuntime) -> Result<(), Fail> {
             };
             let (told, begins) = told_beside(&rt, rt.alloc(), &job, &FreeGate, whole.items())?;
             let (numbers, items, inputs, _) = told;
-            assert_eq!(rt;
+            assert_same(
+                &rt,
+                (workers, "workers"),
                 (numbers, items.saturating_add(1) as u64, inputs, begins),
                 (Err(PackFault::Outlet), failing_put, 1, true),
-                "{workers} workers"
             );
         }
     }
@@ -127,10 +134,11 @@ fn a_read_that_fails_ends_an_input(rt: HostRuntime) -> Result<(), Fail> {
             let (told, begins) = told_beside(&rt, rt.alloc(), &job, &FreeGate, whole.items())?;
             let (numbers, items, inputs, _) = told;
             let count = if failing_read < 6 { 0 } else { 4 };
-            assert_eq!(rt;
+            assert_same(
+                &rt,
+                (workers, "workers, read", failing_read),
                 (numbers, items, inputs, begins),
                 (Err(PackFault::Read(0)), count, 1, true),
-                "{workers} workers, read {failing_read}"
             );
         }
     }

@@ -1,5 +1,6 @@
 //! Viewers that look all the time.
 
+use crate::asserts::assert_same;
 use crate::run_jobs::{Ended, Job, SEVEN, WELL, nothing, pack, packed, settings_of};
 use item_io::Item;
 use ladder_items::Settings;
@@ -162,7 +163,12 @@ fn viewers_see_beginnings_of_the_run(rt: HostRuntime) -> Result<(), Fail> {
     let (whole, _) = packed(&rt, alloc, &job, &FreeGate)?;
     for _ in 0..TIMES {
         let seen = watched_once(&rt, alloc, &job, &settings, whole.outlet.items())?;
-        assert_eq!(rt; seen, (VIEWERS, true));
+        assert_same(
+            &rt,
+            "viewers see beginnings of the run",
+            seen,
+            (VIEWERS, true),
+        );
     }
     Ok(())
 }
