@@ -1,5 +1,5 @@
 -- What a ladder was packed from, and into what.
-use Rattle.std.specs.Prelude.{◌≡◌, ℕ, All, IfErr, IfOk, List, [], OnOk, Option, Result, map}
+use Rattle.std.specs.Prelude.{◌≡◌, ℕ, All, IfErr, IfOk, List, [], OnOk, Option, Result, length, map, replicate}
 use Rattle.folder.specs.FileFolders.{file_moves, folder_path, may_sync}
 use Rattle.folder.specs.declared.file_folder.FileFolder.{FileFolder}
 use Rattle.item_io.specs.FolderMoves.{FolderState}
@@ -12,6 +12,7 @@ use Rattle.ladder_items.specs.Ladder.{Ladder}
 use Rattle.ladder_items.specs.Runs.{Run}
 use Rattle.ladder_items.specs.declared.report.Report.{Report}
 use Rattle.ladder_items.specs.declared.settings.Kind.TheVariants.{Live, Event}
+use Rattle.live_board.specs.Counts.{counts_shown}
 use Rattle.live_board.specs.Snapshots.{SnapshotFacts}
 use Rattle.rounds.specs.Shown.{IsPackedShown}
 use Rattle.read_ahead.specs.Sources.{Seen}
@@ -44,10 +45,11 @@ pub record IsAskedFor {R : Type 0} (job : LadderJob) (into : Destination (FileFo
   pub may : may_sync into.folder ≡ job.syncs
   pub syncs : into.syncs ≡ job.syncs
 
--- A run ended so: all was packed and shown, or its fault says what was.
+-- A run ended so: its board had a place for each rendition and no segment, and all was packed and shown, or its fault says what was.
 pub record EndsSo {Y V : Type 0} (run : Run Seen Y) (job : LadderJob) (held held_then : Option (List ℕ)) (answer : Result V Fault) : Type 0 where
   pub old : List SnapshotFacts
   pub new : List SnapshotFacts
+  pub first : counts_shown old ≡ replicate (length job.options.settings.renditions) 0
   pub ok : OnOk answer ((report : Report) × IsPackedShown run job.options.settings job.options.pool.workers old new report)
   pub fault : IfErr answer (λ fault. (why : LadderPackingFault) × (fault ≡ LadderPacking why)
       × LadderSays run job.options.settings job.options.pool.workers old new held held_then why)

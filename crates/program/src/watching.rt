@@ -138,9 +138,10 @@ impl Writer {
         glance: &Glance,
         fault: Option<PackFault>,
     ) -> Result<Vec<u8>, AllocError>
-        ensures { IfOk result (λ text. (now : ℕ) × (told : Told) × (inputs : List InputSample) ×
+        ensures ok { IfOk result (λ text. (now : ℕ) × (told : Told) × (inputs : List InputSample) ×
             (self.new.seen.items ≡ seen_then self.old.seen.items glance.now.counts.items now) ×
             IsMetered (map string_bytes self.old.names.items) self.old.start glance.now told self.new.seen.items inputs fault now text.items) }
+        ensures kept { self.new ≡ record self.old { seen = self.new.seen } }
     {
         let now = since(rt, self.begun);
         self.seen = seen_again(alloc, &self.seen, &glance.counts, now)?;
@@ -420,6 +421,7 @@ impl Watching {
     where
         R::File: Send + 'static,
         R::Dir: Send + 'static,
+        ensures asked { IfSome result (λ w. IsSome path.entry) }
     {
         let path = path?;
         let watching = Watching::start(rt, alloc, renditions, path, watched);

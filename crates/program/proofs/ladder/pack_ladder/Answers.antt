@@ -1,10 +1,14 @@
-use Rattle.std.proofs.Common.{refl, arith}
+use Rattle.std.proofs.Common.{◌≡◌, ◌∙◌, ℕ, refl, ap, arith}
+use Rattle.std.specs.Prelude.{length, replicate}
+use Rattle.ladder_items.specs.Ladder.{Ladder}
 use Rattle.program.proofs.Ending.{told-fault, told-on, told-well, told-why}
 use Rattle.program.proofs.ladder.pack_ladder.Goals as goal
 
 pub returns-then-job : goal.returns-then-job
 returns-then-job g c =
     let p = c.pack_and_remove-sources.ensures in
+    let all : c.len.result ≡ length c.args.job.now.options.settings.renditions =
+    omega (arith, c.len.ensures, ap (λ (s : Ladder). length s.renditions) c.settings.view_is) in
     let e = c.end_run-ended in
     record {
       written = told-well _ c.pack_and_remove-sources.result.answer e.result e.ensures.fault p.written;
@@ -25,8 +29,9 @@ returns-then-job g c =
         leaves = p.killed;
         unlisted = told-on _ c.pack_and_remove-sources.result.answer e.result e.ensures.fault p.unlisted;
         ends = record {
-          old = _;
+          old = c.in_ok-publisher.publisher.list;
           new = _;
+          first = c.in_ok-publisher.ensures.none ∙ ap (λ (n : ℕ). replicate {A = ℕ} n 0) all;
           ok = told-well _ c.pack_and_remove-sources.result.answer e.result e.ensures.fault p.ok;
           fault = told-why _ c.pack_and_remove-sources.result.answer e.result e.ensures.well e.ensures.fault p.fault;
         };
@@ -42,6 +47,8 @@ pack_into_folder-sources-requires-clause-room g c κs within = λ k d lt.
 pub returns : goal.returns
 returns g c =
     let p = c.pack_into_folder-sources.ensures in
+    let all : c.len.result ≡ length c.args.job.now.options.settings.renditions =
+    omega (arith, c.len.ensures, ap (λ (s : Ladder). length s.renditions) c.settings.view_is) in
     let e = c.end_run-ended-2 in
     record {
       written = told-well _ c.pack_into_folder-sources.result.answer e.result e.ensures.fault p.written;
@@ -56,8 +63,9 @@ returns g c =
         is = refl;
         leaves = p.playable;
         ends = record {
-          old = _;
+          old = c.in_ok-publisher.publisher.list;
           new = _;
+          first = c.in_ok-publisher.ensures.none ∙ ap (λ (n : ℕ). replicate {A = ℕ} n 0) all;
           ok = told-well _ c.pack_into_folder-sources.result.answer e.result e.ensures.fault p.ok;
           fault = told-why _ c.pack_into_folder-sources.result.answer e.result e.ensures.well e.ensures.fault p.fault;
         };
