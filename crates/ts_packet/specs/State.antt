@@ -1,5 +1,5 @@
 -- What a reader has given, and what it keeps.
-use Rattle.std.specs.Prelude.{◌≡◌, ℕ, ◌+◌, ◌*◌, ◌<◌, Bool, true, false, if◌then◌else◌, List, [], ◌++◌, length}
+use Rattle.std.specs.Prelude.{◌≡◌, ℕ, ◌+◌, ◌-◌, ◌*◌, ◌/◌, ◌<◌, Bool, true, false, if◌then◌else◌, List, [], ◌++◌, length}
 use Rattle.ts_packet.specs.Packets.{packets, packets_from, decided, rest_from, rest_of, fits}
 use Rattle.ts_packet.specs.declared.lengths.TheConstants.{PACKET, UNDECIDED}
 
@@ -46,3 +46,9 @@ pub record IsKept (fed : List ℕ) (count : ℕ) : Type 0 where
 -- no packet more stands ahead in a piece, behind those that were lent, where the packet before the piece ended
 abbrev pub AreAllAhead : List ℕ → List ℕ → List (List ℕ) → Type 0
 AreAllAhead fed piece lent = rest_of fed ≡ record { locked = true; bytes = [] } → fits piece (PACKET * length lent) ≡ false
+
+-- there is no room, behind so many packets, for those that may be appended besides the ones that are lent
+abbrev pub LacksRoomBehind : List ℕ → List ℕ → ℕ → ℕ → Type 0
+LacksRoomBehind fed piece count room =
+    (lent : List (List ℕ)) × AreAllAhead fed piece lent
+    × (room < count + (length (rest_of fed).bytes + (length piece - PACKET * length lent)) / PACKET)

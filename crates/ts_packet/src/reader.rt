@@ -1,6 +1,6 @@
 ghost use Rattle.std.specs.Prelude.{◌≡◌, ◌+◌, ◌/◌, ◌<◌, ◌≤◌, ◌^◌, ◌++◌, [], length, vec_len, vec_capacity, IfOk, OnOk, OnErr};
 ghost use Rattle.ts_packet.specs.Packets.{decided, packets, rest_of, skipped};
-ghost use Rattle.ts_packet.specs.State.{AreAllAhead, GrowsAlike, IsKept};
+ghost use Rattle.ts_packet.specs.State.{AreAllAhead, GrowsAlike, IsKept, LacksRoomBehind};
 
 use crate::joined::Joined;
 use crate::lengths::{PACKET, UNDECIDED};
@@ -89,6 +89,7 @@ impl Reader {
         ensures err { OnErr result ((self.new ≡ self.old) × (out.new.items ≡ out.old.items)) }
         ensures scarce { OnErr result (vec_capacity out.old < vec_len out.old + (UNDECIDED + length piece.now) / PACKET) }
         ensures room { OnErr result (vec_capacity out.old < vec_len out.old + (length (rest_of self.old).bytes + length piece.now) / PACKET) }
+        ensures behind { OnErr result (LacksRoomBehind self.old piece.now (vec_len out.old) (vec_capacity out.old)) }
         ensures capacity { vec_capacity out.old ≤ vec_capacity out.new }
     {
         let lent = ahead(&self.rest, self.locked, piece);

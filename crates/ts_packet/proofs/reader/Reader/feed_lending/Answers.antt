@@ -30,3 +30,14 @@ pub returns-clause-lent : goal.returns-clause-lent
 returns-clause-lent c = λ ended.
     let same = sym (Keeps-rest _ _ _ _ c.self.invariant.0) ∙ ap rest_of c.self.view_is ∙ ended in
     c.ahead-lent.ensures.all (ap (λ (r : Rest). r.locked) same) (ap (λ (r : Rest). r.bytes) same)
+
+pub returns-in_err-left-clause-behind : goal.returns-in_err-left-clause-behind
+returns-in_err-left-clause-behind c =
+    let scarce = rw (take_rest c.args.piece.now (188 * length c.ahead-lent.result.now)) at c.in_err-left.ensures.scarce in
+    on-err c.from_residual.result (
+      c.ahead-lent.result.now,
+      λ ended.
+          let same = sym (Keeps-rest _ _ _ _ c.self.invariant.0) ∙ ap rest_of c.self.view_is ∙ ended in
+          c.ahead-lent.ensures.all (ap (λ (r : Rest). r.locked) same) (ap (λ (r : Rest). r.bytes) same),
+      omega (arith, scarce, kept-long _ _ _ _ _ c.self.invariant.0 c.self.view_is, length-drop (188 * length c.ahead-lent.result.now) c.args.piece.now),
+    )
