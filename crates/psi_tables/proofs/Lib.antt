@@ -9,6 +9,7 @@ pub mod Fronts
 pub mod Flow
 pub mod Carrying
 pub mod Keeping
+pub mod Bringing
 pub mod Choosing
 pub mod Watching
 pub mod Good

@@ -1,5 +1,6 @@
 -- What assemblers and watches stand for, and what they keep.
 use Rattle.std.specs.Prelude.{◌≡◌, ◌⊎◌, ℕ, ◌<◌, ◌≤◌, Bool, false, true, ◌&&◌, nat_lt, if◌then◌else◌, List, [], ◌∷◌, ◌++◌, length, Option, Some, None}
+use Rattle.ts_packet.specs.Fields.{payload_unit_start_indicator}
 use Rattle.psi_tables.specs.Sections.{Carrier, carriers, follows, pointed, is_whole, is_open, first_section, begun_in, flow_behind, unfinished, bring_too_long, is_given_up, is_taken, last_counter, opening, sections_in, sections}
 use Rattle.psi_tables.specs.declared.next.Begun.{Begun}
 use Rattle.std.specs.List.{filter_map}
@@ -97,6 +98,14 @@ Follows g p (Some begun) = Keeps (with_packet g p) begun.counter begun.bytes.ite
 abbrev pub IsCarried : Gathered → List ℕ → Type 0
 IsCarried g p = is_taken g.pid (last_counter g.pid None g.packets) p ≡ true
 
+-- sections may begin in the packet, or it comes while the front of one is kept
+abbrev pub MayBring : Gathered → List ℕ → Type 0
+MayBring g p = (payload_unit_start_indicator p ≡ true) ⊎ ((kept : ℕ) × IsKept g kept × (0 < kept))
+
+-- .. and carries parts of this PID's sections
+abbrev pub Brings : Gathered → List ℕ → Type 0
+Brings g p = IsCarried g p × MayBring g p
+
 -- the program that was asked for, if one was, and the packets that came
 pub record Watched : Type 0 where
   pub program : Option ℕ
@@ -114,6 +123,10 @@ gathered_behind w = record { pid = pid_of (choice w.program w.packets); packets 
 -- the packet carries parts of sections of the PAT, or of the PMT that is chosen before it
 abbrev pub CarriesTables : Watched → List ℕ → Type 0
 CarriesTables w p = IsCarried (record { pid = 0; packets = w.packets }) p ⊎ IsCarried (gathered_behind w) p
+
+-- the packet brings something to a section of the PAT, or of the PMT that is chosen before it
+abbrev pub BringsTables : Watched → List ℕ → Type 0
+BringsTables w p = Brings (record { pid = 0; packets = w.packets }) p ⊎ Brings (gathered_behind w) p
 
 -- the tables among the sections that were found on the chosen PID
 abbrev pub tables_among : Option Choice → List (List ℕ) → List InForce

@@ -1,6 +1,6 @@
 ghost use Rattle.std.specs.Prelude.{◌≡◌, ◌⊎◌, ◌≤◌, ◌<◌, ◌^◌, [], ◌∷◌, ◌++◌, None, false, true, map, vec_capacity, IfOk, OnOk, OnErr};
 ghost use Rattle.ts_packet.specs.State.{GrowsAlike};
-ghost use Rattle.psi_tables.specs.State.{gathered_sections, with_packet, IsCarried, IsKept, Follows};
+ghost use Rattle.psi_tables.specs.State.{gathered_sections, with_packet, IsCarried, IsKept, Follows, MayBring};
 
 use crate::gather::gather;
 use crate::next::{Begun, Next, continued, is_taken};
@@ -48,13 +48,15 @@ impl Assembler {
     }
 
     /// Takes the next packet, and appends the sections that it completes. Only one that carries parts of the PID's sections,
-    /// and is no repeat, takes memory. A refusal leaves the assembler and the sections as they were.
+    /// and is no repeat, takes memory: where sections may begin in it, or one was begun. A refusal leaves the assembler and
+    /// the sections as they were.
     pub fn push(&mut self, packet: &Packet, out: &mut Vec<Vec<u8>>) -> Result<(), AllocError>
         ensures pushed { OnOk result (self.new ≡ with_packet self.old packet.now) }
         ensures sections { OnOk result (GrowsAlike (gathered_sections self.old) (gathered_sections self.new)
             (map (λ section. section.items) out.old.items) (map (λ section. section.items) out.new.items)) }
         ensures err { OnErr result ((self.new ≡ self.old) × (out.new.items ≡ out.old.items)) }
         ensures carried { OnErr result (IsCarried self.old packet.now) }
+        ensures idle { OnErr result (MayBring self.old packet.now) }
         ensures capacity { vec_capacity out.old ≤ vec_capacity out.new }
     {
         let mut next = self.next(packet)?;
@@ -93,7 +95,9 @@ impl Assembler {
         ensures found { IfOk result (λ next. gathered_sections (with_packet self.now packet.now) ≡ gathered_sections self.now ++
             map (λ section. section.items) next.found.items) }
         ensures carried { OnErr result (IsCarried self.now packet.now) }
+        ensures idle { OnErr result (MayBring self.now packet.now) }
         ensures some { IfOk result (λ next. (next.found.items ≡ []) ⊎ IsCarried self.now packet.now) }
+        ensures none { IfOk result (λ next. (next.found.items ≡ []) ⊎ MayBring self.now packet.now) }
     {
         let alloc = *self.begun.bytes.allocator();
         if !is_taken(self.pid, self.begun.counter, packet) {

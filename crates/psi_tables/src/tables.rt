@@ -1,4 +1,4 @@
-ghost use Rattle.std.specs.Prelude.{◌≡◌, ◌≢◌, ◌<◌, ◌^◌, ◌⊎◌, [], None, map, Any, IfOk, OnErr, Decides};
+ghost use Rattle.std.specs.Prelude.{◌≡◌, ◌≢◌, ◌<◌, ◌^◌, ◌⊎◌, [], None, map, Any, IfOk, OnErr, IsSomeAnd, Decides};
 ghost use Rattle.psi_tables.specs.ProgramMap.{program_map, pmt_fault, video_pid};
 ghost use Rattle.psi_tables.specs.InForce.{IsGood, HasPid, is_same, tables_of, last_or};
 ghost use Rattle.psi_tables.specs.State.{tables_among};
@@ -136,7 +136,7 @@ fn read_tables(alloc: Global, choice: Choice, section: &[u8]) -> Result<Option<T
 }
 
 /// The last tables that these sections on the chosen PID put in force, if any do. Only good PMTs want memory, and only where
-/// something is chosen.
+/// something is chosen; one of another program only for its entries.
 pub(crate) fn last_tables(
     alloc: Global,
     choice: Option<Choice>,
@@ -145,6 +145,8 @@ pub(crate) fn last_tables(
     requires { HasPid choice }
     ensures value { IfOk result (λ tables. tables ≡ last_or None (tables_among choice (map (λ section. section.items) found.now))) }
     ensures scarce { OnErr result ((choice ≢ None) × Any (λ section. pmt_fault section.items ≡ None) found.now) }
+    ensures some { OnErr result (IsSomeAnd choice (λ c. Any (λ section. ((program_map section.items).entries ≢ [])
+        ⊎ ((program_map section.items).program ≡ c.program)) found.now)) }
 {
     let mut tables = None;
     let Some(choice) = choice else {

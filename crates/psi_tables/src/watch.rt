@@ -1,6 +1,6 @@
 ghost use Rattle.std.specs.Prelude.{◌≡◌, [], ◌∷◌, ◌++◌, OnOk, OnErr, option_copied};
 ghost use Rattle.psi_tables.specs.InForce.{tables_behind};
-ghost use Rattle.psi_tables.specs.State.{CarriesTables};
+ghost use Rattle.psi_tables.specs.State.{BringsTables, CarriesTables};
 
 use crate::assembler::Assembler;
 use crate::choice::{Choice, choose, gathered_pid, is_same_pid};
@@ -49,12 +49,13 @@ impl Watch {
         }
     }
 
-    /// Takes the next packet. Only one that carries parts of the tables, and is no repeat, takes memory. A refusal leaves
-    /// the watch as it was.
+    /// Takes the next packet. Only one that carries parts of the tables, and is no repeat, takes memory: where sections may
+    /// begin in it, or one was begun. A refusal leaves the watch as it was.
     pub fn push(&mut self, packet: &Packet) -> Result<(), AllocError>
         ensures pushed { OnOk result (self.new ≡ record self.old { packets = self.old.packets ++ packet.now ∷ [] }) }
         ensures err { OnErr result (self.new ≡ self.old) }
         ensures none { OnErr result (CarriesTables self.old packet.now) }
+        ensures idle { OnErr result (BringsTables self.old packet.now) }
     {
         let is_taken = self.pats.takes(packet) || self.pmts.takes(packet);
         if is_taken {
@@ -69,6 +70,7 @@ impl Watch {
     fn take(&mut self, packet: &Packet) -> Result<(), AllocError>
         ensures pushed { OnOk result (self.new ≡ record self.old { packets = self.old.packets ++ packet.now ∷ [] }) }
         ensures err { OnErr result (self.new ≡ self.old) }
+        ensures idle { OnErr result (BringsTables self.old packet.now) }
     {
         let pats = self.pats.next(packet)?;
         let pmts = self.pmts.next(packet)?;

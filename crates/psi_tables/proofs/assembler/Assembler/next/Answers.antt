@@ -1,9 +1,12 @@
-use Rattle.std.proofs.Common.{inl, inr, sym, ◌∙◌}
+use Rattle.std.proofs.Common.{inl, inr, sym, ap, ◌∙◌}
+use Rattle.psi_tables.specs.State.{completed}
+use Rattle.std.proofs.lemmas.Bool.{false≢true}
 use Rattle.std.proofs.lemmas.Result.{err_from_is_err_and}
 use Rattle.psi_tables.specs.Sections.{carrier}
 use Rattle.psi_tables.proofs.Flow.{front_from, front_only}
 use Rattle.psi_tables.proofs.Carrying.{continued-is_front}
 use Rattle.psi_tables.proofs.Keeping.{Keeps-taken, Keeps-left_out, taken-carried}
+use Rattle.psi_tables.proofs.Bringing.{may-bring, found-or-brings, map-none}
 use Rattle.psi_tables.proofs.assembler.Assembler.next.Goals as goal
 use Rattle.psi_tables.proofs.assembler.Assembler.next.Goals.{After-is_taken}
 
@@ -39,3 +42,19 @@ returns-then-not-is_taken-clause-some c = inl c.new.ensures.items
 
 pub returns-clause-some : goal.returns-clause-some
 returns-clause-some c = inr (rw (← c.self.view_is) (taken-carried _ c.args.packet.now _ _ c.self.invariant (sym c.is_taken.ensures ∙ c.if-not-is_taken.false)))
+
+pub returns-in_err-brought-clause-idle : goal.returns-in_err-brought-clause-idle
+returns-in_err-brought-clause-idle c =
+    let told = err_from_is_err_and c.from_residual.result c.from_residual.ensures.1 in
+    rw (told.1, ← c.self.view_is) (may-bring _ c.args.packet.now _ _ c.self.invariant
+    (λ not none. false≢true (c.in_err-brought.ensures.idle not (c.continued.ensures ∙ none))))
+
+pub returns-then-not-is_taken-clause-none : goal.returns-then-not-is_taken-clause-none
+returns-then-not-is_taken-clause-none c = inl c.new.ensures.items
+
+pub returns-clause-none : goal.returns-clause-none
+returns-clause-none c =
+    elim (found-or-brings _ c.args.packet.now _ _ c.self.invariant) [
+      | inl none ↦ inl (map-none _ _ (c.in_ok-brought.ensures.found ∙ ap (λ x. completed x (carrier c.args.packet.now)) c.continued.ensures ∙ none))
+      | inr brings ↦ inr (rw (← c.self.view_is) brings)
+    ]
