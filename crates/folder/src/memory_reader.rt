@@ -1,5 +1,5 @@
 //! The files of a folder in memory are read.
-ghost use Rattle.std.specs.Prelude.{◌≡◌, ⊤, [], length, Ok, Some, None, map, IfOk, IsErrOf, IsOk, OnErr, OnOk};
+ghost use Rattle.std.specs.Prelude.{◌≡◌, ◌<◌, ⊤, [], length, Ok, Some, None, map, IfOk, IsErrOf, IsOk, IsSomeAnd, OnErr, OnOk};
 ghost use Rattle.std.specs.Option.{option_map};
 ghost use Rattle.std.specs.String.{string_bytes};
 ghost use Rattle.folder.specs.MemoryFolders.{moves_in_memory};
@@ -46,11 +46,15 @@ impl FolderReader for MemoryFolder {
         ensures ok { IfOk result (λ found. option_map (λ bytes. bytes.items) found ≡ standing no_files (moves_in_memory self.now) name.now) }
         ensures unread { IsErrOf result FolderReadFault.Unread → ⊥ }
         ensures absent { standing no_files (moves_in_memory self.now) name.now ≡ None → result ≡ Ok None }
+        ensures scarce { IsErrOf result FolderReadFault.NoMemory →
+            IsSomeAnd (standing no_files (moves_in_memory self.now) name.now) (λ bytes. 0 < length bytes) }
     {
         let Some(bytes) = self.find(name) else {
             return Ok(None);
         };
-        Ok(Some(bytes.to_vec(alloc)?))
+        let mut copy = Vec::new(alloc);
+        copy.extend_from_slice(bytes)?;
+        Ok(Some(copy))
     }
 }
 
