@@ -124,31 +124,3 @@ pub finish-all : (c : Inside) (v : Spooling) (now : Option Gathered) (t : Option
 finish-all c v now t after is k going tables placed =
     let plan = (finished c.rendition c.settings t now).plan in
     all-more c v after.plans plan _ is k placed.plans (finish-plan c v now t plan is k going tables placed.going)
-
--- where the end brings no fault it closes one plan
-no-first : (a b : Option CutFault) → first_fault a b ≡ None → b ≡ None
-no-first None b none = none
-no-first (Some e) b none = cc
-
-one-last : (r : ℕ) (s : CutSettings) (t : Option InForce) (going : Option Segment) → end_fault r s t going ≡ None → length (last_plan r s going) ≡ 1
-one-last r s t (Some g) none = refl
-one-last r s None None none = cc
-one-last r s (Some t) None none = cc
-
-last-is : (r : ℕ) (s : CutSettings) (ps : List (List ℕ)) → fault r s ps ≡ None → plans r s ps ≡ closed r s ps ++ last_plan r s (cuts r s ps).going
-unfolding plans
-last-is r s ps sound = ap (λ (f : Option CutFault). closed r s ps ++ (if is_none f then last_plan r s (cuts r s ps).going else [])) sound
-
-sound-end : (r : ℕ) (s : CutSettings) (ps : List (List ℕ)) → fault r s ps ≡ None → end_fault r s (in_force s ps) (cuts r s ps).going ≡ None
-unfolding fault
-sound-end r s ps sound = no-first (cuts r s ps).fault _ sound
-
--- so before it not all plans are there
-pub one-short : (c : Inside) (after : List SegmentPlan) → Keeps c → after ≡ c.reel.plans → fault c.rendition c.settings c.fed.items ≡ None
-    → joined c.turned.items ++ after ≡ plans c.rendition c.settings c.fed.items → ⊥
-one-short c after k same sound all =
-    let r = c.rendition in
-    let s = c.settings in
-    let ps = c.fed.items in
-    let grown : closed r s ps ≡ closed r s ps ++ last_plan r s (cuts r s ps).going = sym k.plans ∙ ap (λ list. joined c.turned.items ++ list) (sym same) ∙ all ∙ last-is r s ps sound in
-    omega (arith, ap length grown, length-append (closed r s ps) (last_plan r s (cuts r s ps).going), one-last r s (in_force s ps) (cuts r s ps).going (sound-end r s ps sound))

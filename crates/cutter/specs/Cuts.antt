@@ -133,7 +133,7 @@ pub record Gives (r : ℕ) (s : CutSettings) (ps : List (List ℕ)) (told : CutF
   pub fault : fault r s ps ≡ Some told
   pub plans : new ≡ old ++ plans r s ps
 
--- some plans behind those that were there, which are a beginning of the stream's
+-- some plans behind those that were there, which are a prefix of the stream's
 pub record GivesFront (r : ℕ) (s : CutSettings) (ps : List (List ℕ)) (old new : List SegmentPlan) : Type 0 where
   pub given : List SegmentPlan
   pub grown : new ≡ old ++ given

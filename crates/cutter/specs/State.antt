@@ -1,5 +1,5 @@
 -- What a cutter keeps of the packets that it was pushed.
-use Rattle.std.specs.Prelude.{◌≡◌, [], ◌++◌, true, false, Option, Some, None, All}
+use Rattle.std.specs.Prelude.{◌≡◌, [], ◌++◌, false, Option, Some, None, All}
 use Rattle.pes_time.specs.declared.clock.Stamp.{Stamp}
 use Rattle.cutter.specs.declared.cutter.Cutter.TheInside.{Inside as CutterInside}
 use Rattle.cutter.specs.declared.spool_cutter.SpoolCutter.TheInside.{Inside}
@@ -7,7 +7,7 @@ use Rattle.cutter.specs.Settings.{Pushed, IsAllowed}
 use Rattle.cutter.specs.Spooled.{Spooling, joined}
 use Rattle.cutter.specs.Stream.{packets_of, pts_list}
 use Rattle.cutter.specs.Segments.{Segment}
-use Rattle.cutter.specs.Cuts.{Cuts, cuts, closed, fault, plans}
+use Rattle.cutter.specs.Cuts.{Cuts, cuts, closed}
 use Rattle.cutter.specs.SegmentState.{Gathered, gathered, held_in, IsIdle}
 use Rattle.cutter.specs.Ordered.{IsPacketLong}
 
@@ -46,9 +46,6 @@ pub record IsTied (c : Inside) : Type 0 where
   pub settings : IsAllowed c.settings
   pub packets : All IsPacketLong c.fed.items
   pub keeps : c.ended ≡ false → Keeps c
-  -- behind the end of a stream without a fault, once all its plans are closed, the reel has no body
-  pub idle : c.ended ≡ true → fault c.rendition c.settings c.fed.items ≡ None → joined c.turned.items ++ c.reel.plans ≡ plans c.rendition c.settings c.fed.items
-      → IsIdle None c.reel
 
 -- while a cutter hasn't ended, each plan was turned out at once
 pub record IsEmptied (c : CutterInside) : Type 0 where

@@ -179,21 +179,30 @@ impl SpoolCutter {
         Ok(true)
     }
 
+    /// Ends the stream where it stands. No plan is closed, and the body that went on is let go at the next swap.
+    pub fn end(&mut self)
+        ensures { self.new ≡ record self.old { ended = true } }
+    {
+        self.ended = true;
+    }
+
     /// Empties a spool, copies the body that goes on with its I-frames into it, goes on in it, and answers the full one.
-    /// For want of memory it answers the spool that it was given, emptied, and goes on as it was.
+    /// For want of memory it answers the spool that it was given, emptied, and goes on as it was. Once the cutter has ended
+    /// no body goes on.
     pub fn swap(&mut self, spool: Spool) -> Result<Spool, Spool>
         ensures full { IfOk result (λ full. full ≡ self.old.filled) }
         ensures turned { OnOk result (self.new ≡ record self.old { turned = self.old.turned ++ self.old.filled ∷ []; filled = [] }) }
         ensures spare { IfErr result (λ spare. spare ≡ []) }
         ensures err { OnErr result (self.new ≡ self.old) }
 
-        // Where no segment goes on there is nothing to copy. None does behind the last plan of a stream without a fault.
+        // Where no segment goes on there is nothing to copy.
         ensures none { self.old.ended ≡ false → (cuts self.old.rendition self.old.settings self.old.list).going ≡ None → IsOk result }
-        ensures last { self.old.ended ≡ true → fault self.old.rendition self.old.settings self.old.list ≡ None
-            → all_plans self.old ≡ plans self.old.rendition self.old.settings self.old.list → IsOk result }
+        ensures ended { self.old.ended ≡ true → IsOk result }
     {
         let Spool { mut reel } = spool;
-        if reel.copy_open(&self.reel).is_err() {
+        if self.ended {
+            reel.clear();
+        } else if reel.copy_open(&self.reel).is_err() {
             reel.clear();
             return Err(Spool { reel });
         }

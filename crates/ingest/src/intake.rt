@@ -105,8 +105,15 @@ impl Intake {
         Ok(skipped)
     }
 
+    /// Ends the input where it stands: a read failed. No plan is closed.
+    pub fn end(&mut self)
+        ensures { self.new ≡ record self.old { ended = true } }
+    {
+        self.ended = true;
+    }
+
     /// Empties a spool, goes on in it with the body that is open, and answers the full one. For want of memory it
-    /// answers the spool that it was given, emptied, and goes on as it was.
+    /// answers the spool that it was given, emptied, and goes on as it was. Once the intake has ended no body is open.
     pub fn swap(&mut self, spool: Spool) -> Result<Spool, Spool>
         ensures full { IfOk result (λ full. full ≡ self.old.filled) }
         ensures turned { OnOk result (self.new ≡ record self.old { turned = self.old.turned ++ self.old.filled; filled = [] }) }
@@ -115,7 +122,11 @@ impl Intake {
 
         // Where no segment goes on there is nothing to copy, and so no memory is wanted.
         ensures none { self.old.ended ≡ false → (cuts self.old.rendition self.old.settings (decided self.old.stream)).going ≡ None → IsOk result }
+        ensures ended { self.old.ended ≡ true → IsOk result }
     {
+        if self.ended {
+            self.cutter.end();
+        }
         self.cutter.swap(spool)
     }
 }

@@ -1,4 +1,4 @@
-ghost use Rattle.std.specs.Prelude.{◌≡◌, ◌≢◌, ◌+◌, ◌<◌, ◌≤◌, ◌^◌, ◌++◌, ℕ, List, None, Some, false, length, IfOk, OnOk, OnErr};
+ghost use Rattle.std.specs.Prelude.{◌≡◌, ◌≢◌, ◌+◌, ◌<◌, ◌≤◌, ◌^◌, ◌++◌, ℕ, List, None, Some, true, false, length, IfOk, OnOk, OnErr};
 ghost use Rattle.ghost_list.specs.Bytes.{AreBytes};
 ghost use Rattle.cutter.specs.Settings.{IsAllowed};
 ghost use Rattle.ingest.specs.Inputs.{IsRead};
@@ -63,10 +63,11 @@ impl Lane {
         requires going { self.old.intake.ended ≡ false }
         requires few { length self.old.intake.stream + PIECE < 2 ^ 63 }
         ensures ok { OnOk result (IsTurned S.input source.old source.new self.old self.new) }
-        ensures unread { OnOk result (self.new.stop ≡ Some Read → self.new.intake ≡ self.old.intake) }
+        ensures unread { OnOk result (self.new.stop ≡ Some Read → self.new.intake ≡ record self.old.intake { ended = true }) }
         ensures err { OnErr result ((piece : List ℕ) × IsRead S.input source.old source.new piece) }
         ensures no_read_failed { OnErr result (S.input.failures source.new ≡ S.input.failures source.old) }
         ensures stop { OnErr result (self.new.stop ≡ self.old.stop) }
+        ensures ended { OnOk result (self.new.stop ≢ None → self.new.intake.ended ≡ true) }
     {
         self.read(source, buffer)?;
         if self.stop.is_some() {
@@ -85,13 +86,17 @@ impl Lane {
         requires going { self.old.intake.ended ≡ false }
         requires few { length self.old.intake.stream + PIECE < 2 ^ 63 }
         ensures ok { OnOk result (IsTurned S.input source.old source.new self.old self.new) }
-        ensures unread { OnOk result (self.new.stop ≡ Some Read → self.new.intake ≡ self.old.intake) }
+        ensures unread { OnOk result (self.new.stop ≡ Some Read → self.new.intake ≡ record self.old.intake { ended = true }) }
         ensures err { OnErr result ((piece : List ℕ) × IsRead S.input source.old source.new piece) }
         ensures no_read_failed { OnErr result (S.input.failures source.new ≡ S.input.failures source.old) }
         ensures stop { OnErr result (self.new.stop ≡ self.old.stop) }
+        ensures ended { OnOk result (self.new.stop ≢ None → self.new.intake.ended ≡ true) }
     {
         match source.read(buffer) {
-            Err(_) => self.stop = Some(Stop::Read),
+            Err(_) => {
+                self.intake.end();
+                self.stop = Some(Stop::Read);
+            }
             Ok(0) => self.close()?,
             Ok(count) => {
                 let piece = &buffer[..count];
@@ -110,6 +115,7 @@ impl Lane {
         ensures takes { OnOk result (Takes self.old self.new (self.old.intake.stream ++ piece.now)) }
         ensures stays { OnOk result (IsOfPiece self.new.stop self.old.intake.rendition self.old.intake.settings (self.old.intake.stream ++ piece.now)) }
         ensures stop { OnErr result (self.new.stop ≡ self.old.stop) }
+        ensures ended { OnOk result (self.new.stop ≢ None → self.new.intake.ended ≡ true) }
     {
         if let Err(fault) = self.intake.take(piece) {
             self.stop = Some(Stop::Cut(of_stream(fault)?));
@@ -125,6 +131,7 @@ impl Lane {
         ensures takes { OnOk result (Takes self.old self.new self.old.intake.stream) }
         ensures ends { OnOk result (IsOfEnd self.new.stop) }
         ensures stop { OnErr result (self.new.stop ≡ self.old.stop) }
+        ensures ended { OnOk result (self.new.stop ≢ None → self.new.intake.ended ≡ true) }
     {
         self.stop = match self.intake.finish() {
             Ok(skipped) => Some(Stop::Good(skipped.bytes)),

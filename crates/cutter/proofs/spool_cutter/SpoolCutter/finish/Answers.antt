@@ -3,7 +3,7 @@ use Rattle.std.proofs.lemmas.Bool.{true≢false}
 use Rattle.std.proofs.lemmas.Result.{err_from_is_err_and}
 use Rattle.cutter.specs.SegmentState.{held_in}
 use Rattle.cutter.specs.Spooled.{Spooling, joined}
-use Rattle.cutter.proofs.Ending.{finish-sound, finish-fault, finish-scarce, finish-closes, finish-all, one-short}
+use Rattle.cutter.proofs.Ending.{finish-sound, finish-fault, finish-scarce, finish-closes, finish-all}
 use Rattle.cutter.proofs.spool_cutter.SpoolCutter.finish.Goals as goal
 
 pub returns-in_err-finish-clause-fault : goal.returns-in_err-finish-clause-fault
@@ -37,5 +37,4 @@ invariant_of-self c = record {
   settings = c.self.invariant.settings;
   packets = c.self.invariant.packets;
   keeps = λ going. absurd (true≢false going);
-  idle = λ _ sound all. absurd (one-short c.self.inside c.finish.new.reel.plans (c.self.invariant.keeps c.if-self.false) c.in_err-finish.ensures.kept sound all);
 }

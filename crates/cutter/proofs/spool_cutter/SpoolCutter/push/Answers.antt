@@ -9,7 +9,6 @@ use Rattle.cutter.specs.Stream.{is_packet}
 use Rattle.cutter.specs.Reels.{Filled}
 use Rattle.cutter.specs.Spooled.{Spooling, joined}
 use Rattle.cutter.specs.SegmentState.{held_in, taken, Places}
-use Rattle.cutter.proofs.Ending.{one-short}
 use Rattle.cutter.proofs.Keeping.{few, push-lost, push-fault, push-scarce, push-closes, push-all, push-sound, push-keeps, read-of}
 use Rattle.cutter.proofs.Sparing.{read-dropped, leaves-all, closes-none, closes-accepted, closes-goes, placed-accepted, placed-goes, carried-tables, dropped-sound, never-lost}
 use Rattle.cutter.proofs.spool_cutter.SpoolCutter.push.Goals as goal
@@ -57,7 +56,6 @@ invariant_of-self-2 c =
       packets = subst (All IsPacketLong) (sym c.push.ensures) (All-push IsPacketLong c.self.inside.fed.items c.args.packet.now c.self.invariant.packets (search rules));
       keeps = λ _. push-keeps c.self.inside _ c.args.packet.now c.new-arrival.result c.in_ok-look.look _ _ c.counted-counted.result c.in_ok-closed.closed
           (c.self.invariant.keeps c.if-self.false) read placed c.new-arrival.ensures refl refl c.in_ok-watch_or_reopen.ensures.ok c.in_ok-look.ensures.pushed c.or-self-inside.ensures c.push.ensures refl;
-      idle = λ ended. absurd (false≢true ended);
     }
 
 pub returns-clause-closes : goal.returns-clause-closes
@@ -164,7 +162,6 @@ invariant_of-self c = record {
   settings = c.self.invariant.settings;
   packets = c.self.invariant.packets;
   keeps = λ going. absurd (true≢false going);
-  idle = λ _ sound all. absurd (one-short c.self.inside c.self.inside.reel.plans (c.self.invariant.keeps c.if-self.false) refl sound all);
 }
 
 pub invariant_of-self-in_err-closed : goal.invariant_of-self-in_err-closed
@@ -172,7 +169,6 @@ invariant_of-self-in_err-closed c = record {
   settings = c.self.invariant.settings;
   packets = c.self.invariant.packets;
   keeps = λ going. absurd (true≢false going);
-  idle = λ _ sound all. absurd (one-short c.self.inside c.place.new.reel.plans (c.self.invariant.keeps c.if-self.false) c.in_err-closed.ensures.kept sound all);
 }
 
 pub invariant_of-self-in_err-watch_or_reopen : goal.invariant_of-self-in_err-watch_or_reopen
@@ -180,5 +176,4 @@ invariant_of-self-in_err-watch_or_reopen c = record {
   settings = c.self.invariant.settings;
   packets = c.self.invariant.packets;
   keeps = λ going. absurd (true≢false going);
-  idle = λ _ sound all. absurd (one-short c.self.inside c.watch_or_reopen.new.reel.plans (c.self.invariant.keeps c.if-self.false) (c.in_err-watch_or_reopen.ensures.err c.self.inside.reel.plans _ c.in_ok-closed.ensures.ok.plans c.in_ok-closed.ensures.ok.told) sound all);
 }
