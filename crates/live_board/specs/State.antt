@@ -39,7 +39,7 @@ nothing_known = record { begun = false; history = record { list = []; board = no
 abbrev pub knowing : Known → Knowledge
 knowing k = record { begun = true; history = k }
 
--- what is known is a beginning of what the copy's board has shown
+-- what is known is a prefix of what the copy's board has shown
 abbrev pub KnowsFront : Shown → Knowledge → Type 0
 KnowsFront x v = v.begun ≡ true → ((moment_of x).history.board ≡ v.history.board) × IsBeginning v.history.list (moment_of x).history.list
 
@@ -62,6 +62,6 @@ all_of_it v = v
 abbrev pub informed : Knowledge → Knowledge → Knowledge
 informed v w = w
 
--- what is known is a beginning of these snapshots, of their board
+-- what is known is a prefix of these snapshots, of their board
 abbrev pub KnowsFrontOf : Knowledge → Known → Type 0
 KnowsFrontOf v k = (v.begun ≡ true) × (k.board ≡ v.history.board) × IsBeginning v.history.list k.list

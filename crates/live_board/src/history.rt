@@ -60,7 +60,7 @@ impl Plain<Snapshot, Snapshot, u64> for Addition {
 /// The word of a board's history, which its head alone changes.
 type HeadWord = Word<Snapshot, u64, HistoryRule>;
 
-/// A beginning of the history of a board.
+/// A prefix of the history of a board.
 #[derive(Drop)]
 pub struct History {
     count: u64,
@@ -160,7 +160,7 @@ impl History {
         }
     }
 
-    /// A copy. `None` where the other one, a beginning of the same history, is longer.
+    /// A copy. `None` where the other one, a prefix of the same history, is longer.
     pub fn after(&self, other: &History) -> Option<History>
         requires { other.now.board ≡ self.now.board }
         ensures same { IfSome result (λ h. h ≡ self.now) }

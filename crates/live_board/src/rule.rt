@@ -1,4 +1,4 @@
-//! The rule of the two copies: readers and the writer each know a beginning of what was shown.
+//! The rule of the two copies: readers and the writer each know a prefix of what was shown.
 
 ghost use Rattle.live_board.specs.State.{Holds, nothing_known, Enters, Publishes, all_of_it, informed};
 
