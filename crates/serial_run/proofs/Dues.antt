@@ -16,9 +16,9 @@ use Rattle.ladder_items.specs.Items.{Part, no_part, part_at, shown_all}
 use Rattle.ladder_items.specs.Weave.{Event, Row, End, rendition_of, AreLegal, closed_part, after, after_all, block, blocks}
 use Rattle.ladder_items.specs.Giving.{IsGoing, rows, no_shown}
 use Rattle.item_io.specs.Views.{OutletView}
-use Rattle.ladder_items.specs.Putting.{PutAll, PutSome}
+use Rattle.ladder_items.specs.Putting.{PutAll, PutFewer, PutSome}
 use Rattle.ladder_items.specs.World.{AreOf}
-use Rattle.ladder_items.proofs.Puts.{all_none, all-more, put-more, put-front}
+use Rattle.ladder_items.proofs.Puts.{all_none, all-more, put-more, put-front, fewer-none, fewer-front, fewer-more, grows-none}
 use Rattle.ladder_items.proofs.Blocks.{grown-at, after-each}
 use Rattle.ladder_items.proofs.Nexts.{shown-at, shown-set}
 use Rattle.ladder_items.proofs.Rows.{rows-each, rows-part, after_all-append, blocks-append, legal-append}
@@ -145,17 +145,42 @@ gave-end out ladder r parts a b c shown now lane good g given end =
       end-shown ladder (after_all parts (rows r ps)) now r h ∙ ap (shown_all ladder) (sym (after_all-append parts (rows r ps) (End r ∷ []))),
     )
 
+-- the items of all that is due: those of the segments, and behind them those of the end, if it is one
+due-front : (ladder : Ladder) (r : ℕ) (parts : List Part) (lane : Lane)
+    → blocks ladder parts (due r lane) ≡ blocks ladder parts (rows r lane.intake.filled) ++ blocks ladder (after_all parts (rows r lane.intake.filled)) (ends r (is_good lane.stop))
+due-front ladder r parts lane = blocks-append ladder parts (rows r lane.intake.filled) (ends r (is_good lane.stop))
+
+due-end : (ladder : Ladder) (r : ℕ) (parts : List Part) (lane : Lane) → is_good lane.stop ≡ true
+    → blocks ladder parts (due r lane) ≡ blocks ladder parts (rows r lane.intake.filled) ++ block ladder (after_all parts (rows r lane.intake.filled)) (End r)
+due-end ladder r parts lane good =
+    let ps = lane.intake.filled in
+    due-front ladder r parts lane
+    ∙ (ap (λ e. blocks ladder parts (rows r ps) ++ blocks ladder (after_all parts (rows r ps)) (ends r e)) good
+    ∙ ap (λ l. blocks ladder parts (rows r ps) ++ l) (end-blocks ladder (after_all parts (rows r ps)) r))
+
 -- it was cut off in the segments, or in the end
 pub cut-rows : {Y : Type 0} (out : OutletView Y) (ladder : Ladder) (r : ℕ) (parts : List Part) (a b : Y) (lane : Lane)
     → PutSome out a b (blocks ladder parts (rows r lane.intake.filled)) → PutSome out a b (blocks ladder parts (due r lane))
-cut-rows out ladder r parts a b lane some =
-    subst (PutSome out a b) (sym (blocks-append ladder parts (rows r lane.intake.filled) (ends r (is_good lane.stop)))) (put-front out a b _ _ some)
+cut-rows out ladder r parts a b lane some = subst (PutSome out a b) (sym (due-front ladder r parts lane)) (put-front out a b _ _ some)
 
 pub cut-end : {Y : Type 0} (out : OutletView Y) (ladder : Ladder) (r : ℕ) (parts : List Part) (a b c : Y) (lane : Lane) → is_good lane.stop ≡ true
     → PutAll out a b (blocks ladder parts (rows r lane.intake.filled))
     → PutSome out b c (block ladder (after_all parts (rows r lane.intake.filled)) (End r)) → PutSome out a c (blocks ladder parts (due r lane))
-cut-end out ladder r parts a b c lane good given end =
-    let ps = lane.intake.filled in
-    subst (λ (e : Bool). PutSome out a c (blocks ladder parts (rows r ps ++ ends r e))) (sym good)
-    (subst (PutSome out a c) (sym (blocks-append ladder parts (rows r ps) (End r ∷ []) ∙ ap (λ l. blocks ladder parts (rows r ps) ++ l) (end-blocks ladder (after_all parts (rows r ps)) r)))
-    (put-more out a b c _ _ given end))
+cut-end out ladder r parts a b c lane good given end = subst (PutSome out a c) (sym (due-end ladder r parts lane good)) (put-more out a b c _ _ given end)
+
+-- where plans are closed, an item is left
+pub rows-left : {Y : Type 0} (out : OutletView Y) (ladder : Ladder) (r : ℕ) (parts : List Part) (a : Y) (ps : List SegmentPlan) → (length ps ≡ 0 → ⊥)
+    → PutFewer out a a (blocks ladder parts (rows r ps))
+unfolding blocks
+rows-left out ladder r parts a [] some = absurd (some refl)
+rows-left out ladder r parts a (p ∷ ps) some = fewer-none out a a _ _ (grows-none (out.holds a))
+
+-- an item is left of the segments, or of the end
+pub left-rows : {Y : Type 0} (out : OutletView Y) (ladder : Ladder) (r : ℕ) (parts : List Part) (a b : Y) (lane : Lane)
+    → PutFewer out a b (blocks ladder parts (rows r lane.intake.filled)) → PutFewer out a b (blocks ladder parts (due r lane))
+left-rows out ladder r parts a b lane some = subst (PutFewer out a b) (sym (due-front ladder r parts lane)) (fewer-front out a b _ _ some)
+
+pub left-end : {Y : Type 0} (out : OutletView Y) (ladder : Ladder) (r : ℕ) (parts : List Part) (a b c : Y) (lane : Lane) → is_good lane.stop ≡ true
+    → PutAll out a b (blocks ladder parts (rows r lane.intake.filled))
+    → PutFewer out b c (block ladder (after_all parts (rows r lane.intake.filled)) (End r)) → PutFewer out a c (blocks ladder parts (due r lane))
+left-end out ladder r parts a b c lane good given end = subst (PutFewer out a c) (sym (due-end ladder r parts lane good)) (fewer-more out a b c _ _ given end)

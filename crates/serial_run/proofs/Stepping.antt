@@ -1,5 +1,5 @@
 -- A turn of one rendition: one read, and all that is due is given.
-use Rattle.std.proofs.Common.{◌≡◌, ◌∙◌, inl, inr, ℕ, zero, suc, ◌+◌, ◌<◌, ◌≤◌, false, List, [], Option, ◌∷◌, ◌++◌, length, Some, None, refl, ap, sym, subst, arith}
+use Rattle.std.proofs.Common.{◌≡◌, ◌∙◌, inl, inr, ℕ, zero, suc, ◌+◌, ◌<◌, ◌≤◌, true, false, List, [], Option, ◌∷◌, ◌++◌, length, Some, None, refl, ap, sym, subst, arith}
 use Rattle.std.specs.List.{slice_get}
 use Rattle.std.proofs.Math.ListN.{set}
 use Rattle.std.proofs.lemmas.List.{append-nil}
@@ -143,14 +143,14 @@ module _ (X Y : Type 0) (input : SourceView X) (out : OutletView Y) (most_reads 
   unfailed-by r s stream (Some Read) b c filled says unread owing = absurd (owing (unread refl) refl)
 
   unfailed-turn : (b c : X) (lane moved : Lane) → IsTurned input b c lane moved → lane.intake.filled ≡ []
-      → (moved.stop ≡ Some Read → moved.intake ≡ lane.intake) → (moved.intake.filled ≡ [] → is_good moved.stop ≡ false → ⊥) → input.failures c ≡ input.failures b
+      → (moved.stop ≡ Some Read → moved.intake ≡ record lane.intake { ended = true }) → (moved.intake.filled ≡ [] → is_good moved.stop ≡ false → ⊥) → input.failures c ≡ input.failures b
   unfailed-turn b c lane moved turn filled unread owing =
       unfailed-by lane.intake.rendition lane.intake.settings _ moved.stop b c moved.intake.filled turn.says (λ failed. ap (λ (t : Taken). t.filled) (unread failed) ∙ filled) owing
 
   -- what was due was given in part
   pub due-cut : (rounds r : ℕ) (before now : List X) (lanes : List Lane) (shown : List Shown) (x y z : Y) (b c : X) (lane moved : Lane)
       → slice_get now r ≡ Some b → slice_get lanes r ≡ Some lane → lane.stop ≡ None → IsTurned input b c lane moved
-      → (moved.stop ≡ Some Read → moved.intake ≡ lane.intake) → (moved.intake.filled ≡ [] → is_good moved.stop ≡ false → ⊥)
+      → (moved.stop ≡ Some Read → moved.intake ≡ record lane.intake { ended = true }) → (moved.intake.filled ≡ [] → is_good moved.stop ≡ false → ⊥)
       → (d : NothingDue (run_of input out most_reads before now x y) ladder (turns_of rounds r) lanes shown) (piece : List ℕ) → length piece ≤ 18800
       → HasRead rounds r before now lanes shown x y c moved d piece
       → ((parts : List Part) → AreNextPlans ladder r parts shown moved.intake.filled → PutSome out y z (blocks ladder parts (due r moved)))

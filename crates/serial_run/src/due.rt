@@ -1,10 +1,10 @@
-ghost use Rattle.std.specs.Prelude.{◌≡◌, ◌<◌, ◌^◌, [], ◌++◌, ℕ, List, false, length, IsOk, IfErr, OnOk, OnErr};
+ghost use Rattle.std.specs.Prelude.{◌≡◌, ◌<◌, ◌^◌, [], ◌++◌, ℕ, List, true, false, length, IsOk, IfErr, OnOk, OnErr};
 ghost use Rattle.ingest.specs.Lanes.{is_good};
 ghost use Rattle.ladder_items.specs.Ladder.{IsAllowed};
 ghost use Rattle.ladder_items.specs.Items.{Part, shown_all};
 ghost use Rattle.ladder_items.specs.Weave.{after_all, blocks};
 ghost use Rattle.ladder_items.specs.Giving.{AreNextPlans, rows};
-ghost use Rattle.ladder_items.specs.Putting.{PutAll, PutSome, SaysFailures};
+ghost use Rattle.ladder_items.specs.Putting.{PutAll, PutFewer, PutSome, SaysFailures};
 ghost use Rattle.serial_run.specs.Dues.{due};
 
 use cutter::Spool;
@@ -34,6 +34,8 @@ pub fn give_due<O: Outlet>(
         × (playlists.new.items ≡ shown_all settings.now (after_all parts (due r lane.old)))) }
     ensures err { OnErr result ((parts : List Part) → AreNextPlans settings.now r parts playlists.old.items lane.old.intake.filled →
         PutSome O.output outlet.old outlet.new (blocks settings.now parts (due r lane.old))) }
+    ensures left { OnErr result ((parts : List Part) → AreNextPlans settings.now r parts playlists.old.items lane.old.intake.filled →
+        PutFewer O.output outlet.old outlet.new (blocks settings.now parts (due r lane.old))) }
     ensures stop { OnOk result (lane.new.stop ≡ lane.old.stop) }
     ensures intake { OnOk result (lane.new.intake ≡ record lane.old.intake { turned = lane.old.intake.turned ++ lane.old.intake.filled; filled = [] }) }
     ensures failures { OnOk result (O.output.failures outlet.new ≡ O.output.failures outlet.old) }
@@ -76,6 +78,8 @@ fn give_closed<O: Outlet>(
         × (playlists.new.items ≡ shown_all settings.now (after_all parts (rows r intake.old.filled)))) }
     ensures err { OnErr result ((parts : List Part) → AreNextPlans settings.now r parts playlists.old.items intake.old.filled →
         PutSome O.output outlet.old outlet.new (blocks settings.now parts (rows r intake.old.filled))) }
+    ensures left { OnErr result ((parts : List Part) → AreNextPlans settings.now r parts playlists.old.items intake.old.filled →
+        PutFewer O.output outlet.old outlet.new (blocks settings.now parts (rows r intake.old.filled))) }
     ensures intake { OnOk result (intake.new ≡ record intake.old { turned = intake.old.turned ++ intake.old.filled; filled = [] }) }
     ensures failures { OnOk result (O.output.failures outlet.new ≡ O.output.failures outlet.old) }
     ensures fault { IfErr result (λ fault. SaysFailures fault (O.output.failures outlet.old) (O.output.failures outlet.new)) }
@@ -93,6 +97,7 @@ fn give_closed<O: Outlet>(
 fn turn_out(alloc: Global, intake: &mut Intake, spare: &mut Spool) -> Result<(), AllocError>
     ensures full { OnOk result (spare.new ≡ intake.old.filled) }
     ensures turned { OnOk result (intake.new ≡ record intake.old { turned = intake.old.turned ++ intake.old.filled; filled = [] }) }
+    ensures ended { intake.old.ended ≡ true → IsOk result }
 {
     let empty = mem::replace(spare, Spool::new(alloc));
     match intake.swap(empty) {

@@ -3,7 +3,7 @@ use Rattle.std.proofs.lemmas.Result.{err_from_is_err_and}
 use Rattle.ladder_items.specs.Weave.{after_all}
 use Rattle.ladder_items.specs.Giving.{rows}
 use Rattle.ladder_items.proofs.Blocks.{shown-each}
-use Rattle.serial_run.proofs.Dues.{going-on, gave-rows, gave-end, cut-rows, cut-end}
+use Rattle.serial_run.proofs.Dues.{going-on, gave-rows, gave-end, cut-rows, cut-end, left-rows, left-end}
 use Rattle.serial_run.proofs.due.give_due.Goals as goal
 
 pub returns-in_err-give_closed-clause-err : goal.returns-in_err-give_closed-clause-err
@@ -41,3 +41,17 @@ returns-clause-ok g c parts next =
     let h = going-on c.args.settings.now c.args.r parts c.args.playlists.now.items c.deref.result.now ps next.goes_on (c.deref.ensures.value ∙ now.1) in
     gave-end _ c.args.settings.now c.args.r parts _ _ _ c.args.playlists.now.items _ c.args.lane.now (search rules) next.goes_on now
     (c.in_ok-give_end.ensures.ok (after_all parts (rows c.args.r ps)) h)
+
+pub returns-in_err-give_closed-clause-left : goal.returns-in_err-give_closed-clause-left
+returns-in_err-give_closed-clause-left g c =
+    let told = err_from_is_err_and c.from_residual.result c.from_residual.ensures.1 in
+    rw told.1 (λ parts next. left-rows _ c.args.settings.now c.args.r parts _ _ c.args.lane.now (c.in_err-give_closed.ensures.left parts next))
+
+pub returns-in_err-give_end-clause-left : goal.returns-in_err-give_end-clause-left
+returns-in_err-give_end-clause-left g c =
+    let told = err_from_is_err_and c.from_residual-in_err-give_end.result c.from_residual-in_err-give_end.ensures.1 in
+    let ps = c.args.lane.now.intake.filled in
+    rw told.1 (λ parts next.
+    let now = c.in_ok-give_closed.ensures.ok parts next in
+    let h = going-on c.args.settings.now c.args.r parts c.args.playlists.now.items c.deref.result.now ps next.goes_on (c.deref.ensures.value ∙ now.1) in
+    left-end _ c.args.settings.now c.args.r parts _ _ _ c.args.lane.now (search rules) now.0 (c.in_err-give_end.ensures.left (after_all parts (rows c.args.r ps)) h))
