@@ -1,14 +1,19 @@
 -- When there is enough for the next round.
-use Rattle.std.specs.Prelude.{◌⊎◌, ℕ, ◌-◌, ◌<◌, ◌≤◌, ◌==◌, if◌then◌else◌, nat_le, List, length, sum_by}
+use Rattle.std.specs.Prelude.{◌⊎◌, ℕ, ◌-◌, ◌*◌, ◌<◌, ◌≤◌, ◌==◌, if◌then◌else◌, max, nat_le, List, length, sum_by}
 use Rattle.ingest.specs.declared.lane.Lane.{Lane}
 use Rattle.item_io.specs.Views.{OutletView, SourceView}
 use Rattle.rounds.specs.declared.run.course.Course.{Course}
 use Rattle.rounds.specs.declared.run.pace.Pace.{Pace}
+use Rattle.rounds.specs.declared.run.pace.TheConstants.{TURNS, TURNS_A_WORKER}
 use Rattle.rounds.specs.Courses.{HadOneAtMost, ReadsMore, ReadsOn, Rests, turns_in}
 
 -- how many plans are closed and not swapped out, over all renditions
 abbrev pub closed_in : List Lane → ℕ
 closed_in lanes = sum_by (λ (lane : Lane). length lane.intake.filled) lanes
+
+-- After how many turns one closed plan begins the next round: so many for each worker, and never fewer than the least.
+abbrev pub enough_turns : ℕ → ℕ
+enough_turns workers = max TURNS (TURNS_A_WORKER * workers)
 
 -- How many closed plans begin the next round: one, once so many turns were had that what was read in them shouldn't grow; before that
 -- the lesser number where all of the round before is given, and else the greater.

@@ -7,7 +7,7 @@ ghost use Rattle.rounds.specs.Begun.{IsBegun};
 ghost use Rattle.rounds.specs.Courses.{IsBetween};
 ghost use Rattle.rounds.specs.Gated.{IsGatesWord};
 ghost use Rattle.rounds.specs.Shown.{EndsFaulted, EndsPacked, FitsStart, start_at};
-ghost use Rattle.rounds.specs.declared.run.pace.TheConstants.{TURNS};
+ghost use Rattle.rounds.specs.Paces.{enough_turns};
 ghost use Rattle.item_io.specs.declared.limits.TheConstants.{READS};
 
 use crate::giving::broadcast::Broadcast;
@@ -85,7 +85,7 @@ pub fn pack_fitted<
     requires fits { FitsStart setup.now.settings.now setup.now.workers (start_at endpoints) }
     requires begun { IsBegun setup.now.settings.now setup.now.workers first }
     requires pace { setup.now.pace.least ≡ min setup.now.pace.most setup.now.workers }
-    requires turns { setup.now.pace.turns ≡ TURNS }
+    requires turns { setup.now.pace.turns ≡ enough_turns setup.now.workers }
     ensures ok { IfOk result.answer (EndsPacked S.input O.output setup.now.settings.now setup.now.workers (start_at endpoints) result) }
     ensures fault { IfErr result.answer (EndsFaulted S.input O.output setup.now.settings.now setup.now.workers (start_at endpoints) result) }
     ensures board { result.publisher.board ≡ endpoints.publisher.board }

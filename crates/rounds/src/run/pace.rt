@@ -2,11 +2,14 @@
 
 ghost use Rattle.std.specs.Prelude.{◌≡◌, min};
 ghost use Rattle.std.specs.Option.{unwrap_or};
-ghost use Rattle.rounds.specs.Paces.{wanted};
+ghost use Rattle.rounds.specs.Paces.{enough_turns, wanted};
 
-/// How many turns are had for a round before one segment is enough: what is read in them, at most 18,800 bytes in each, is 47 MB. So
-/// what is held is bounded by bytes too, and not by the number of segments alone.
+/// How many turns are had for a round, at the least, before one segment is enough: what is read in them, at most 18,800 bytes in each,
+/// is 47 MB. So what is held is bounded by bytes too, and not by the number of segments alone.
 const TURNS: u128 = 2500;
+
+/// How many for each worker: 23.5 MB. Fewer would leave workers idle where segments are that large.
+const TURNS_A_WORKER: u128 = 1250;
 
 /// How many closed segments, over all renditions, begin the next round.
 #[derive(Clone, Copy)]
@@ -24,13 +27,13 @@ impl Pace {
     pub fn new(workers: usize, queue: usize, batch: Option<usize>) -> Pace
         ensures most { result.most ≡ unwrap_or batch (min workers queue) }
         ensures least { result.least ≡ min result.most workers }
-        ensures turns { result.turns ≡ TURNS }
+        ensures turns { result.turns ≡ enough_turns workers }
     {
         let most = batch.unwrap_or(workers.min(queue));
         Pace {
             least: most.min(workers),
             most,
-            turns: TURNS,
+            turns: TURNS.max(TURNS_A_WORKER * workers as u128),
         }
     }
 
