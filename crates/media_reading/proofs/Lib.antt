@@ -1,6 +1,7 @@
 pub mod Spellings
 pub mod Found
 pub mod KeyLines
+pub mod SegmentEnds
 pub mod Salts
 pub mod NamesIn
 pub mod Going

@@ -6,12 +6,12 @@ use Rattle.std.specs.Str.{IsUtf8}
 use Rattle.std.proofs.lemmas.Option.{same_Some, none-some}
 use Rattle.std.proofs.lemmas.Str.{IsUtf8-from_ascii}
 use Rattle.playlist_text.specs.Names.{is_name}
-use Rattle.playlist_text.specs.MediaLines.{Listing, discontinuity_lines, duration_line, head_lines, listing_lines, entries_lines, end_lines}
+use Rattle.playlist_text.specs.MediaLines.{Listing, discontinuity_lines, head_lines, listing_lines, entries_lines, end_lines}
 use Rattle.std.proofs.lemmas.List.{take_all, length-append, take-append-drop}
 use Rattle.std.proofs.lemmas.Bool.{false≢true, ltb-true, and_parts}
 use Rattle.media_reading.specs.declared.reading.Stage.{Stage}
 use Rattle.media_reading.specs.declared.reading.Stage.TheVariants.{Fresh, Tagged, Versioned, Targeted, Sequenced, Headed, Between, Broken, Keyed, Timed, Ended}
-use Rattle.media_reading.specs.State.{Tells, begins_key, has_number, may_want, Progress, fresh, step, steps, listing_at, listing_of}
+use Rattle.media_reading.specs.State.{Tells, begins_key, ends_segment, has_number, may_want, Progress, fresh, step, steps, listing_at, listing_of}
 use Rattle.std.proofs.lemmas.List.Elements.{All-cons, All-append, All-nil}
 use Rattle.std.proofs.Math.Seq.{take-append_seam, take-append-add}
 use Rattle.playlist_text.specs.Lines.{text_of}
@@ -262,7 +262,7 @@ wants-memory text rest line behind lines p whole each taken is split may =
     }
 
 -- the line is one that is compared or kept
-line-wanted : (stage : Stage) (p : Progress) (line : List ℕ) → may_want stage p line ≡ true → (begins_key line ≡ true) ⊎ EndsTimed (lines_at stage p)
+line-wanted : (stage : Stage) (p : Progress) (line : List ℕ) → may_want stage p line ≡ true → (begins_key line ≡ true) ⊎ (EndsTimed (lines_at stage p) × (ends_segment line ≡ true))
 line-wanted Fresh p line may = absurd (false≢true may)
 line-wanted Tagged p line may = absurd (false≢true may)
 line-wanted Versioned p line may = absurd (false≢true may)
@@ -272,11 +272,10 @@ line-wanted Headed p line may = inl (and_parts (has_number p) (begins_key line) 
 line-wanted Between p line may = inl (and_parts (has_number p) (begins_key line) may).1
 line-wanted Broken p line may = inl (and_parts (has_number p) (begins_key line) may).1
 line-wanted Keyed p line may = absurd (false≢true may)
-line-wanted Timed p line may = inr (record {
-  front = listed_lines p ++ discontinuity_lines p.discontinuity ++ keys_of p;
-  micros = p.micros;
-  is = refl;
-})
+line-wanted Timed p line may = inr (
+  record { front = listed_lines p ++ discontinuity_lines p.discontinuity ++ keys_of p; micros = p.micros; is = refl },
+  (and_parts (has_number p) (ends_segment line) may).1,
+)
 line-wanted Ended p line may = absurd (false≢true may)
 
 pub wants-line : (text rest line behind : List ℕ) (lines : List (List ℕ)) (p : Progress) → text_of lines ++ rest ≡ text → All IsLine lines
@@ -291,5 +290,5 @@ wants-line text rest line behind lines p whole each taken is split may =
       last = more.last;
       splits = whole-split text rest line behind lines whole each is split;
       begins = subst AreFirst told.1 (sound-first p told.0);
-      wants = subst (λ (l : List (List ℕ)). (begins_key line ≡ true) ⊎ EndsTimed l) told.1 (line-wanted p.stage p line may);
+      wants = subst (λ (l : List (List ℕ)). (begins_key line ≡ true) ⊎ (EndsTimed l × (ends_segment line ≡ true))) told.1 (line-wanted p.stage p line may);
     }

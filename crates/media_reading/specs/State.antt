@@ -261,8 +261,12 @@ has_number p = is_some (number_left p)
 abbrev pub begins_key : List ℕ → Bool
 begins_key line = starts_with nat_eq line key_begin
 
+-- the line ends as that of a segment does
+abbrev pub ends_segment : List ℕ → Bool
+ends_segment line = ends_with nat_eq line (codes ".ts")
+
 -- A line for which memory may be wanted, to compare it or to keep what it tells: one that begins as that of a key does, where an entry
--- may begin, and one that may be that of a segment; none of the others.
+-- may begin, and one that ends as that of a segment does, where one may stand; none of the others.
 abbrev pub key_may_want : Progress → List ℕ → Bool
 key_may_want p line = has_number p && begins_key line
 
@@ -270,5 +274,5 @@ abbrev pub may_want : Stage → Progress → List ℕ → Bool
 may_want Headed p line = key_may_want p line
 may_want Between p line = key_may_want p line
 may_want Broken p line = key_may_want p line
-may_want Timed p line = has_number p && is_some p.name
+may_want Timed p line = has_number p && ends_segment line
 may_want _ p line = false

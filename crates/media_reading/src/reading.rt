@@ -29,6 +29,9 @@ const DISCONTINUITIES: u64 = 1 << 33;
 /// What the line of a key begins with, before the name.
 const KEY_BEGIN: &str = "#EXT-X-KEY:METHOD=AES-128,URI=\"";
 
+/// What the line of a segment ends in.
+const SEGMENT_END: &str = ".ts";
+
 /// Which line comes next.
 #[derive(Clone, Copy, Debug, PartialEq, Eq)]
 pub enum Stage {
@@ -306,10 +309,20 @@ impl Reading {
         true
     }
 
-    #[tactic(auto, unfolding(crate::specs::State::listed))]
     fn take_segment(&mut self, line: &[u8]) -> Result<bool, AllocError>
         ensures taken { IfOk result (λ taken. Tells taken (listed (progress_of self.old) line.now) (progress_of self.new)) }
         ensures scarce { OnErr result (may_want Timed (progress_of self.old) line.now ≡ true) }
+    {
+        if !line.ends_with(SEGMENT_END.as_bytes()) {
+            return Ok(false);
+        }
+        self.take_ended_segment(line)
+    }
+
+    #[tactic(auto, unfolding(crate::specs::State::listed))]
+    fn take_ended_segment(&mut self, line: &[u8]) -> Result<bool, AllocError>
+        ensures taken { IfOk result (λ taken. Tells taken (listed (progress_of self.old) line.now) (progress_of self.new)) }
+        ensures scarce { OnErr result (has_number (progress_of self.old) ≡ true) }
     {
         let Some(number) = self.next_number() else {
             return Ok(false);
