@@ -9,7 +9,7 @@ use Rattle.hls_check.specs.declared.checking.Checked.{Checked}
 use Rattle.hls_check.specs.declared.checking.CheckFault.{CheckFault}
 use Rattle.hls_check.specs.declared.checking.CheckFault.TheVariants.{Text, Segments}
 use Rattle.media_reading.specs.MediaTexts.{IsListing, listing_text, IsUnread}
-use Rattle.hls_check.specs.Unpacking.{Packed, packed, AllUnpack, IsTold}
+use Rattle.hls_check.specs.Unpacking.{Packed, packed, AllUnpack, HasBytes, IsTold}
 
 -- each entry of a playlist unpacks: so many, to so many bytes
 pub record AreUnpacked (p : Packed) (c : Checked) : Type 0 where
@@ -31,6 +31,13 @@ pub record DontUnpack (text : List ℕ) (segments keys : List (List ℕ)) (fault
   pub sound : IsListing listing
   pub is_text : text ≡ listing_text listing
   pub told : IsTold (packed listing.salt listing.entries segments keys) fault
+
+-- the text is that of a playlist of which an entry opens to some bytes, as each before it opens
+pub record WantsBytes (text : List ℕ) (segments keys : List (List ℕ)) : Type 0 where
+  pub listing : Listing
+  pub sound : IsListing listing
+  pub is_text : text ≡ listing_text listing
+  pub bytes : HasBytes (packed listing.salt listing.entries segments keys)
 
 -- why they aren't whole: the text comes first
 abbrev pub IsFaulty : List ℕ → List (List ℕ) → List (List ℕ) → CheckFault → Type 0

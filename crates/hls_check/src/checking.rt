@@ -4,8 +4,10 @@ ghost use Rattle.std.specs.Prelude.{◌≡◌, ◌↔◌, ℕ, map, IfOk, IfErr,
 ghost use Rattle.hls_check.specs.declared.checking.Checked as TheChecked;
 ghost use Rattle.hls_check.specs.declared.checking.CheckFault.TheVariants.{Text, Segments};
 ghost use Rattle.hls_check.specs.declared.fault.UnpackFault.TheVariants.{NoMemory};
+ghost use Rattle.media_reading.specs.declared.list_fault.ListFault.TheVariants.{NoMemory as NoMemoryForText};
+ghost use Rattle.media_reading.specs.MediaTexts.{WantsMemory};
 ghost use Rattle.hls_check.specs.Unpacking.{packed, HasBytes, IsTold};
-ghost use Rattle.hls_check.specs.Checks.{AreUnpacked, AreWhole, IsFaulty, IsMemory};
+ghost use Rattle.hls_check.specs.Checks.{AreUnpacked, AreWhole, IsFaulty, IsMemory, WantsBytes};
 
 use crate::counting::count_bytes;
 use crate::fault::UnpackFault;
@@ -62,6 +64,10 @@ pub fn check(
     ensures whole { (c : TheChecked.Checked) → AreWhole text.now (map (λ s. s.items) segments.now) keys.now c
         → MatchResult result (λ found. found ≡ c) IsMemory }
     ensures err { IfErr result (IsFaulty text.now (map (λ s. s.items) segments.now) keys.now) }
+
+    // Memory is wanted only for a line that is kept or compared, or for a segment with bytes.
+    ensures scarce_text { IsErrOf result (Text NoMemoryForText) → WantsMemory text.now }
+    ensures scarce { IsErrOf result (Segments NoMemory) → WantsBytes text.now (map (λ s. s.items) segments.now) keys.now }
 {
     let listing = read_media(alloc, text)?;
     Ok(check_listing(alloc, &listing, segments, keys)?)
