@@ -92,14 +92,17 @@ fn row_of(alloc: Global, entry: Entry, size: u64, frames: &[FrameRow]) -> Result
     ensures entry { IfOk result (λ row. entry_of row ≡ entry) }
     ensures size { IfOk result (λ row. row.size ≡ size) }
     ensures frames { IfOk result (λ row. row.frames ≡ frames.now) }
+    ensures scarce { OnErr result (0 < length frames.now) }
 {
+    let mut listed = Vec::new(alloc);
+    listed.extend_from_slice(frames)?;
     Ok(Row {
         number: entry.number,
         size,
         micros: entry.micros,
         key: entry.key,
         discontinuity: entry.discontinuity,
-        frames: Vec::from_slice(alloc, frames)?,
+        frames: listed,
     })
 }
 
