@@ -13,3 +13,4 @@ pub mod Turns
 pub mod Putting
 pub mod Left
 pub mod Between
+pub mod Clearing

@@ -33,9 +33,9 @@ failed-files syncs made staged f held h = record {
 }
 
 pub refused : {F : Type 0} (made : F → List Move) (o : KeepingState F) (renditions : List KeepingValue) → renditions ≡ o.renditions →
-    Grows (KeptBy made o) (KeptBy made (record { files = record o.files { failures = o.files.failures + 1 }; renditions = renditions; lags = o.lags })) []
+    Grows (KeptBy made o) (KeptBy made (record { files = record o.files { failures = o.files.failures + 1 }; renditions = renditions; lags = o.lags; missed = o.missed })) []
 refused {F} made o renditions is = record {
-  follows = λ held h. (Grows-nil (KeptBy made (record { files = record o.files { failures = o.files.failures + 1 }; renditions = renditions; lags = o.lags }))).follows held (record {
+  follows = λ held h. (Grows-nil (KeptBy made (record { files = record o.files { failures = o.files.failures + 1 }; renditions = renditions; lags = o.lags; missed = o.missed }))).follows held (record {
     files = failed-files o.files.syncs (other_moves (made o.files.folder)) o.files.staged o.files.failures held h.files;
     told = λ none. absurd (omega (arith, none));
     gone = subst (AreGone (pruned_names (made o.files.folder))) (sym is) h.gone;
@@ -45,9 +45,9 @@ refused {F} made o renditions is = record {
 }
 
 pub refused-first : {F : Type 0} (made : F → List Move) (o : KeepingState F) (renditions : List KeepingValue) (item : ItemValue) → renditions ≡ o.renditions → o.files.failures ≡ 0 →
-    BreaksOff (KeptBy made o) (KeptUpTo made (record { files = record o.files { failures = o.files.failures + 1 }; renditions = renditions; lags = o.lags })) [] item
+    BreaksOff (KeptBy made o) (KeptUpTo made (record { files = record o.files { failures = o.files.failures + 1 }; renditions = renditions; lags = o.lags; missed = o.missed })) [] item
 refused-first {F} made o renditions item is well = record {
-  follows = λ held h. subst (λ (items : List ItemValue). KeptUpTo made (record { files = record o.files { failures = o.files.failures + 1 }; renditions = renditions; lags = o.lags }) (record { before = held.before; items = items }) item)
+  follows = λ held h. subst (λ (items : List ItemValue). KeptUpTo made (record { files = record o.files { failures = o.files.failures + 1 }; renditions = renditions; lags = o.lags; missed = o.missed }) (record { before = held.before; items = items }) item)
       (sym (append-nil held.items)) (record {
         files = record { marked = h.files.marked; more = h.files.more; made_are = h.files.made_are; stopped = inl (inl (h.files.none well)) };
         turns = turns-still o.files.syncs (prunings (made o.files.folder)) held.items o.renditions renditions (same-all o.renditions renditions is) (h.turns well);
@@ -55,9 +55,9 @@ refused-first {F} made o renditions item is well = record {
 }
 
 pub refused-by : {F : Type 0} (made : F → List Move) (o : KeepingState F) (files : FolderState F) (renditions : List KeepingValue) (item : ItemValue) → files ≡ record o.files { failures = o.files.failures + 1 } →
-    renditions ≡ o.renditions → o.files.failures ≡ 0 → BreaksOff (KeptBy made o) (KeptUpTo made (record { files = files; renditions = renditions; lags = o.lags })) [] item
+    renditions ≡ o.renditions → o.files.failures ≡ 0 → BreaksOff (KeptBy made o) (KeptUpTo made (record { files = files; renditions = renditions; lags = o.lags; missed = o.missed })) [] item
 refused-by {F} made o files renditions item counted is well =
-    subst (λ (f : FolderState F). BreaksOff (KeptBy made o) (KeptUpTo made (record { files = f; renditions = renditions; lags = o.lags })) [] item) (sym counted)
+    subst (λ (f : FolderState F). BreaksOff (KeptBy made o) (KeptUpTo made (record { files = f; renditions = renditions; lags = o.lags; missed = o.missed })) [] item) (sym counted)
     (refused-first made o renditions item is well)
 
 -- a put failed in the folder

@@ -117,7 +117,7 @@ with_text-append : (t : Bool) (text : List ℕ) (texts more : List (List ℕ)) �
 with_text-append true text texts more = refl
 with_text-append false text texts more = refl
 
-texts_of-append : (r : ℕ) (items more : List ItemValue) → texts_of r (items ++ more) ≡ texts_of r items ++ texts_of r more
+pub texts_of-append : (r : ℕ) (items more : List ItemValue) → texts_of r (items ++ more) ≡ texts_of r items ++ texts_of r more
 texts_of-append r [] more = refl
 texts_of-append r (SegmentItem s ∷ items) more = texts_of-append r items more
 texts_of-append r (MediaItem p ∷ items) more =
@@ -150,7 +150,7 @@ told-one r items item text old new one noted told =
       are = AreStepsOf-more old.base (texts_of r items) told.told text noted.step told.are noted.is_step;
     }))
 
-text-here : (ended : Bool) (r o : ℕ) (text : List ℕ) → ended ≡ false → eqb r o ≡ true → with_text (not ended && (r == o)) text [] ≡ text ∷ []
+pub text-here : (ended : Bool) (r o : ℕ) (text : List ℕ) → ended ≡ false → eqb r o ≡ true → with_text (not ended && (r == o)) text [] ≡ text ∷ []
 text-here ended r o text on here = ap (λ (t : Bool). with_text (not t && (r == o)) text []) on ∙ ap (λ (t : Bool). with_text t text []) here
 
 text-elsewhere : (ended : Bool) (r o : ℕ) (text : List ℕ) → ended ≡ false → eqb r o ≡ false → with_text (not ended && (r == o)) text [] ≡ []

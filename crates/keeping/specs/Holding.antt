@@ -9,11 +9,13 @@ use Rattle.item_io.specs.FolderMoves.{FolderState, HoldsFiles, HoldsFilesUpTo}
 use Rattle.keeping.specs.Keepings.{AreGone, AreTold, AreUnlisted, KeepingValue}
 use Rattle.keeping.specs.Turns.{AreInTurn}
 
--- a keeping outlet, as contracts see it: the outlet of files, its renditions, and whether a segment that might go couldn't be removed
+-- a keeping outlet, as contracts see it: the outlet of files, its renditions, whether a segment that might go couldn't be removed
+-- behind the last item, and the renditions of which that was ever so, in the order in which it happened
 pub record KeepingState (F : Type 0) : Type 0 where
   pub files : FolderState F
   pub renditions : List KeepingValue
   pub lags : Bool
+  pub missed : List ℕ
 
 -- The folder's moves, but for what was taken away, are those of the items held. What was taken away are segments that might go, by the
 -- media playlists held, each at a moment when those that list it had all been replaced; and the last of these lists none of them.

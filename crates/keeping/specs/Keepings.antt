@@ -102,9 +102,9 @@ pub record LetsGo (old new : KeepingValue) (made made_then : List Move) : Type 0
 abbrev pub SweepsOn : KeepingValue → KeepingValue → Type 0
 SweepsOn old new = 0 < new.gone → (new.swept ≡ length new.older) ⊎ (new.swept ≡ old.swept + 64)
 
--- A segment that may go is there still: the next one, or, where one has gone, an older one.
-abbrev pub IsLeft : KeepingValue → Type 0
-IsLeft k = MayGo k.kept.least k.kept.steps k.gone ⊎ ((0 < k.gone) × (k.swept < length k.older))
+-- A segment that may go is there still: the next one, or, where one has gone, an older one, of which fewer than 64 were taken away.
+abbrev pub IsLeft : KeepingValue → KeepingValue → Type 0
+IsLeft old new = MayGo new.kept.least new.kept.steps new.gone ⊎ ((0 < new.gone) × (new.swept < length new.older) × (new.swept < old.swept + 64))
 
 -- It is the rendition that it was: of its retention and of what was taken away there may only be more.
 pub record Stays (old new : KeepingValue) : Type 0 where
@@ -193,11 +193,11 @@ AllWent (FramesItem p) renditions = p.rendition < length renditions →
 AllWent (MasterItem text) renditions = Unit {0}
 
 -- behind the last item of a block, a segment of its rendition is left that may go
-abbrev pub IsLeftBehind : ItemValue → List KeepingValue → Type 0
-IsLeftBehind (SegmentItem s) renditions = ⊥
-IsLeftBehind (MediaItem p) renditions = ⊥
-IsLeftBehind (FramesItem p) renditions = (p.rendition < length renditions) × IsLeft (keeping_at renditions p.rendition)
-IsLeftBehind (MasterItem text) renditions = ⊥
+abbrev pub IsLeftBehind : ItemValue → List KeepingValue → List KeepingValue → Type 0
+IsLeftBehind (SegmentItem s) old new = ⊥
+IsLeftBehind (MediaItem p) old new = ⊥
+IsLeftBehind (FramesItem p) old new = (p.rendition < length new) × IsLeft (keeping_at old p.rendition) (keeping_at new p.rendition)
+IsLeftBehind (MasterItem text) old new = ⊥
 
 -- behind the last item of a block, older segments of its rendition were taken away as they may be
 abbrev pub SweptBehind : ItemValue → List KeepingValue → List KeepingValue → Type 0

@@ -4,3 +4,4 @@ pub mod InPlace
 pub mod Turns
 pub mod Holding
 pub mod State
+pub mod Clearing

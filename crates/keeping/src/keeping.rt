@@ -148,7 +148,7 @@ impl Keeping {
         ensures older { OnOk result (SweepsOn self.old self.new) }
 
         // A failure leaves one that might have gone.
-        ensures left { OnErr result (IsLeft self.new) }
+        ensures left { OnErr result (IsLeft self.old self.new) }
         ensures others { other_moves (F.made files.new.folder) ≡ other_moves (F.made files.old.folder) }
         ensures same { files.new ≡ record files.old { folder = files.new.folder } }
     {

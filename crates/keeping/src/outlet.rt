@@ -1,14 +1,16 @@
-ghost use Rattle.std.specs.Prelude.{◌≡◌, ℕ, ◌+◌, ◌<◌, ◌^◌, ◌∷◌, [], true, false, length, Decides, OnErr, OnOk};
+ghost use Rattle.std.specs.Prelude.{◌≡◌, ℕ, List, ◌++◌, ◌+◌, ◌<◌, ◌^◌, ◌∷◌, [], true, false, length, Decides, OnErr, OnOk};
 ghost use Rattle.folder.specs.Pruning.{other_moves};
-ghost use Rattle.item_io.specs.Items.{item_value};
+ghost use Rattle.item_io.specs.Items.{ItemValue, item_value};
 ghost use Rattle.item_io.specs.Outlets.{BreaksOff, Grows};
 ghost use Rattle.item_io.specs.Views.{outlet_view};
+ghost use Rattle.keeping.specs.Clearing.{AreCleared, missed_with};
 ghost use Rattle.keeping.specs.Keepings.{AllWent, AreNotedBy, ComesInTurn, GoBehind, HasOwnName, IsLeftBehind, MayBeRefused};
 ghost use Rattle.keeping.specs.Keepings.{Stay, SweptBehind, keeping_at, removed_of};
 ghost use Rattle.keeping.specs.Holding.{KeptBy, KeptUpTo};
 
 use crate::keeping::Keeping;
 use folder::{Folder, PruningFolder};
+use ghost_list::GhostList;
 use item_io::{FolderOutlet, Item, Outlet, OutletFault};
 use std::alloc::Global;
 use std::marker::Model;
@@ -25,6 +27,7 @@ pub struct KeepingOutlet<F> {
     alloc: Global,
     renditions: Vec<Keeping>,
     lags: bool,
+    missed: GhostList<usize>,
 }
 
 impl<F> Model for KeepingOutlet<F> {
@@ -32,7 +35,7 @@ impl<F> Model for KeepingOutlet<F> {
 
     ghost Value = { KeepingState F };
 
-    ghost view = { λ o. record { files = o.files; renditions = o.renditions.items; lags = o.lags } };
+    ghost view = { λ o. record { files = o.files; renditions = o.renditions.items; lags = o.lags; missed = o.missed.items } };
 }
 
 impl<F: Folder> KeepingOutlet<F> {
@@ -42,13 +45,14 @@ impl<F: Folder> KeepingOutlet<F> {
         alloc: Global,
         renditions: Vec<Keeping>,
     ) -> KeepingOutlet<F>
-        ensures { result ≡ record { files = files; renditions = renditions.items; lags = false } }
+        ensures { result ≡ record { files = files; renditions = renditions.items; lags = false; missed = [] } }
     {
         KeepingOutlet {
             files,
             alloc,
             renditions,
             lags: false,
+            missed: GhostList::new(),
         }
     }
 
@@ -103,7 +107,15 @@ impl<F: Folder> Outlet for KeepingOutlet<F> {
         ensures older { OnOk result (self.new.lags ≡ false → SweptBehind (item_value item.now) self.old.renditions self.new.renditions) }
 
         // Where one couldn't be removed, it is left.
-        ensures lags { OnOk result (self.new.lags ≡ true → IsLeftBehind (item_value item.now) self.new.renditions) }
+        ensures lags { OnOk result (self.new.lags ≡ true → IsLeftBehind (item_value item.now) self.old.renditions self.new.renditions) }
+
+        // The renditions of which that was ever so.
+        ensures missed { OnOk result (self.new.missed ≡ missed_with self.new.lags (item_value item.now) self.old.missed) }
+        ensures unmissed { OnErr result (self.new.missed ≡ self.old.missed) }
+
+        // Each other one is cleared behind its last block, if it was behind the last one before this item.
+        ensures cleared { OnOk result ((items : List ItemValue) → AreCleared self.old.missed self.old.renditions items →
+            AreCleared self.new.missed self.new.renditions (items ++ item_value item.now ∷ [])) }
     {
         if note(&mut self.renditions, self.alloc, item).is_err() {
             return Err(self.files.refuse());
@@ -112,6 +124,7 @@ impl<F: Folder> Outlet for KeepingOutlet<F> {
             return Err(fault);
         }
         self.lags = let_go(&mut self.renditions, self.alloc, &mut self.files, item).is_err();
+        note_missed(&mut self.missed, self.lags, item);
         Ok(())
     }
 }
@@ -187,7 +200,7 @@ fn let_go<F: Folder>(
     ensures gone { GoBehind (item_value item.now) renditions.old.items renditions.new.items (F.made files.old.folder) (F.made files.new.folder) }
     ensures went { OnOk result (AllWent (item_value item.now) renditions.new.items) }
     ensures older { OnOk result (SweptBehind (item_value item.now) renditions.old.items renditions.new.items) }
-    ensures left { OnErr result (IsLeftBehind (item_value item.now) renditions.new.items) }
+    ensures left { OnErr result (IsLeftBehind (item_value item.now) renditions.old.items renditions.new.items) }
     ensures others { other_moves (F.made files.new.folder) ≡ other_moves (F.made files.old.folder) }
     ensures same { files.new ≡ record files.old { folder = files.new.folder } }
 {
@@ -198,4 +211,15 @@ fn let_go<F: Folder>(
         return Ok(());
     }
     renditions[*rendition].let_go(alloc, files)
+}
+
+/// Notes the rendition of an item behind which a segment couldn't be removed.
+fn note_missed(missed: &mut GhostList<usize>, lags: bool, item: &Item)
+    ensures { missed.new.items ≡ missed_with lags (item_value item.now) missed.old.items }
+{
+    if let Item::Frames { rendition, .. } = item
+        && lags
+    {
+        missed.push(rendition);
+    }
 }

@@ -49,7 +49,7 @@ pub(crate) fn take_some<F: Folder>(
     requires { swept.old ≤ length numbers.now }
     ensures went { Swept name.now numbers.now swept.old swept.new (F.made files.old.folder) (F.made files.new.folder) }
     ensures all { OnOk result ((swept.new ≡ length numbers.now) ⊎ (swept.new ≡ swept.old + 64)) }
-    ensures left { OnErr result (swept.new < length numbers.now) }
+    ensures left { OnErr result ((swept.new < length numbers.now) × (swept.new < swept.old + 64)) }
     ensures others { other_moves (F.made files.new.folder) ≡ other_moves (F.made files.old.folder) }
     ensures same { files.new ≡ record files.old { folder = files.new.folder } }
 {

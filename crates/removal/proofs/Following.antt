@@ -1,22 +1,21 @@
 -- In each block of a weave the I-frame playlist lists no segment that the media playlist doesn't.
-use Rattle.std.proofs.Common.{arith, ◌≡◌, ℕ, Bool, true, false, Option, None, Some, List, [], ◌∷◌, ◌++◌, ◌+◌, All, codes, map, refl, sym, subst}
+use Rattle.std.proofs.Common.{arith, ℕ, Bool, true, false, Option, None, Some, List, [], ◌∷◌, ◌++◌, ◌+◌, All, codes, map, refl, sym, subst}
 use Rattle.std.specs.Fmt.{decimal}
 use Rattle.std.specs.List.{Contains, flat_map}
 use Rattle.std.proofs.lemmas.List.Elements.{All-append, All-cons, All-head, All-nil, All-tail, All-weaker, Contains-append_left, Contains-append_right}
 use Rattle.playlist_text.specs.Uris.{segment_uri}
 use Rattle.playlist_text.specs.Lines.{text_of}
-use Rattle.playlist_text.specs.MediaLines.{Entry, Listing, discontinuity_lines, duration_line, end_lines, entries_lines, entry_key_lines, entry_lines, head_lines, listing_lines, type_lines, vector_key_line}
+use Rattle.playlist_text.specs.MediaLines.{Entry, discontinuity_lines, duration_line, end_lines, entries_lines, entry_key_lines, entry_lines, head_lines, listing_lines, type_lines, vector_key_line}
 use Rattle.media_playlist.specs.declared.row.FrameRow.{FrameRow}
 use Rattle.media_playlist.specs.Rows.{SegmentRow}
 use Rattle.media_playlist.specs.Listed.{Pushed, discontinuity_count, frame_count, listed, removed}
 use Rattle.media_playlist.specs.Lines.{entry_of, frame_lines, frames_only_line, iframe_lines, listing_of, media_lines, range_line, row_frame_lines, unless_empty}
 use Rattle.item_io.specs.Blocks.{AreBlocks}
 use Rattle.item_io.specs.Items.{ItemValue}
-use Rattle.ladder_items.specs.Ladder.{IsAllowed, Ladder, rendition_at}
+use Rattle.ladder_items.specs.Ladder.{Ladder, rendition_at}
 use Rattle.ladder_items.specs.Items.{Part, part_at, shown_of}
 use Rattle.ladder_items.specs.Shown.{in_window}
 use Rattle.ladder_items.specs.Weave.{End, Event, Row, Weaves, after, blocks, none_of}
-use Rattle.ladder_items.proofs.WholeBlocks.{weaves-whole}
 use Rattle.keeping.specs.InPlace.{FramesFollow, IsUri, ListsNoMore}
 
 module _ (lines : List (List ℕ)) where

@@ -7,7 +7,6 @@ use Rattle.item_io.specs.Items.{ItemValue}
 use Rattle.item_io.specs.Views.{SourceView}
 use Rattle.live_board.specs.Snapshots.{SnapshotFacts}
 use Rattle.live_board.specs.Counts.{counts_shown}
-use Rattle.ladder_items.specs.declared.fault.PackFault.{PackFault}
 use Rattle.ladder_items.specs.declared.report.Report.{Report}
 use Rattle.ladder_items.specs.Ladder.{IsAllowed, Ladder}
 use Rattle.ladder_items.specs.Packed.{HasHalted, IsCutShort, IsPacked}

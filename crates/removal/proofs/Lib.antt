@@ -2,3 +2,4 @@ pub mod Following
 pub mod Kept
 pub mod Since
 pub mod Untold
+pub mod Clearing

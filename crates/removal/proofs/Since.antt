@@ -1,8 +1,10 @@
 -- Renditions with which an outlet began, told of what it holds.
 use Rattle.std.specs.Prelude.{Err, IfErr, IfOk, Ok, OnErr, OnOk, Option, Result}
-use Rattle.std.proofs.Common.{arith, ◌≡◌, refl, sym, ap, subst, ◌∙◌, ℕ, List, [], ◌∷◌, ◌++◌, map}
+use Rattle.std.proofs.Common.{arith, ◌≡◌, ◌+◌, length, length-append, drop, refl, sym, subst, ◌∙◌, ℕ, List, [], ◌∷◌, ◌++◌, map}
+use Rattle.std.proofs.Math.Seq.{drop-append_seam, drop-length}
+use Rattle.std.proofs.lemmas.List.{drop-append-le}
 use Rattle.folder.specs.Moves.{Move}
-use Rattle.item_io.specs.Items.{ItemValue}
+use Rattle.item_io.specs.Items.{FramesItem, ItemValue}
 use Rattle.item_io.specs.Outlets.{BreaksOff, Grows, Held}
 use Rattle.item_io.specs.Views.{SourceView}
 use Rattle.live_board.specs.Snapshots.{SnapshotFacts}
@@ -15,6 +17,7 @@ use Rattle.ladder_items.specs.Runs.{Run, run_of}
 use Rattle.ladder_items.proofs.Endings.{says-as}
 use Rattle.rounds.specs.Courses.{IsCutShown}
 use Rattle.rounds.specs.Shown.{IsHaltedShown, IsPackedShown, IsUnfit, of_shown}
+use Rattle.keeping.specs.Clearing.{AreCleared}
 use Rattle.keeping.specs.Keepings.{KeepingValue, Stay}
 use Rattle.keeping.specs.Holding.{KeepingState, KeptBy, KeptUpTo}
 use Rattle.keeping.proofs.Telling.{same-all, stay-on}
@@ -84,15 +87,29 @@ same-marked (k ∷ ks) (l ∷ ls) r s e =
     let more = same-marked ks ls r s one.1 in
     (λ i. one.0 i ∷ more.0 i, more.1)
 
+-- there is no block yet
+not-first : (front rest : List ItemValue) (item : ItemValue) → [] ≡ front ++ item ∷ rest → ⊥
+not-first [] rest item e = cc e
+not-first (i ∷ front) rest item e = cc e
+
+none-cleared : (missed : List ℕ) (renditions : List KeepingValue) → AreCleared missed renditions []
+none-cleared missed renditions front rest p e none within unmissed = absurd (not-first front rest (FramesItem p) e)
+
 -- What a put does to the outlet it does to the one that tells with which renditions it began.
 module _ {F : Type 0} (made : F → List Move) (x y : KeepingState F) (stay : Stay x.renditions y.renditions) where
-  grows-since : (given : List ItemValue) → Grows (KeptBy made x) (KeptBy made y) given → Grows (HoldsSince made x) (HoldsSince made y) given
-  grows-since given g = record {
+  grows-since : (given : List ItemValue) → Grows (KeptBy made x) (KeptBy made y) given → (y.files.failures ≡ 0 → x.files.failures ≡ 0) →
+      (y.files.failures ≡ 0 → (items : List ItemValue) → AreCleared x.missed x.renditions items → AreCleared y.missed y.renditions (items ++ given)) →
+      Grows (HoldsSince made x) (HoldsSince made y) given
+  grows-since given g before more = record {
     follows = λ held h. record {
       first = h.first;
+      count = h.count;
       before = h.before;
       marked = h.marked;
+      within = omega (arith, h.within, length-append held.items given);
       stay = stay-on h.first x.renditions y.renditions h.stay stay;
+      cleared = λ none. subst (λ (l : List ItemValue). AreCleared y.missed y.renditions l) (sym (drop-append-le h.count held.items given h.within))
+          (more none (drop h.count held.items) (h.cleared (before none)));
       kept = g.follows (record { before = h.before; items = held.items }) h.kept;
     };
   }
@@ -101,6 +118,7 @@ module _ {F : Type 0} (made : F → List Move) (x y : KeepingState F) (stay : St
   breaks-since given item b = record {
     follows = λ held h. record {
       first = h.first;
+      count = h.count;
       before = h.before;
       marked = h.marked;
       stay = stay-on h.first x.renditions y.renditions h.stay stay;
@@ -109,13 +127,16 @@ module _ {F : Type 0} (made : F → List Move) (x y : KeepingState F) (stay : St
   }
 
   module _ {T E : Type 0} where
-    pub ok-since : (answer : Result T E) (given : List ItemValue) → OnOk answer (Grows (KeptBy made x) (KeptBy made y) given) → OnOk answer (Grows (HoldsSince made x) (HoldsSince made y) given)
-    ok-since (Ok v) given g = grows-since given g
-    ok-since (Err e) given g = tt
+    pub ok-since : (answer : Result T E) (item : ItemValue) → OnOk answer (Grows (KeptBy made x) (KeptBy made y) (item ∷ [])) → OnOk answer (y.files.failures ≡ x.files.failures) →
+        OnOk answer ((items : List ItemValue) → AreCleared x.missed x.renditions items → AreCleared y.missed y.renditions (items ++ item ∷ [])) →
+        OnOk answer (Grows (HoldsSince made x) (HoldsSince made y) (item ∷ []))
+    ok-since (Ok v) item g well more = grows-since (item ∷ []) g (λ none. sym well ∙ none) (λ none. more)
+    ok-since (Err e) item g well more = tt
 
-    pub err-since : (answer : Result T E) (given : List ItemValue) → OnErr answer (Grows (KeptBy made x) (KeptBy made y) given) → OnErr answer (Grows (HoldsSince made x) (HoldsSince made y) given)
-    err-since (Ok v) given g = tt
-    err-since (Err e) given g = grows-since given g
+    pub err-since : (answer : Result T E) → OnErr answer (Grows (KeptBy made x) (KeptBy made y) []) → OnErr answer (y.files.failures ≡ x.files.failures + 1) →
+        OnErr answer (Grows (HoldsSince made x) (HoldsSince made y) [])
+    err-since (Ok v) g failed = tt
+    err-since (Err e) g failed = grows-since [] g (λ none. absurd (omega (arith, none, failed))) (λ none. absurd (omega (arith, none, failed)))
 
     pub refused-since : (answer : Result T E) (Well : Type 0) (given : List ItemValue) (item : ItemValue) → OnErr answer (Well → BreaksOff (KeptBy made x) (KeptUpTo made y) given item) →
         OnErr answer (Well → BreaksOff (HoldsSince made x) (HoldsSinceUpTo made y) given item)
@@ -131,23 +152,34 @@ module _ {X F : Type 0} (input : SourceView X) (made : F → List Move) (ladder 
   Plain = run_of input (kept_view made) most before now x y
 
   -- what it holds that the outlet holds
-  at : (held : Held) → KeptBy made x held → HoldsSince made x (record { before = mark_all x.renditions held.before; items = held.items })
-  at held h = record { first = x.renditions; before = held.before; marked = refl; stay = same-all x.renditions x.renditions refl; kept = h }
+  at : (held : Held) → KeptBy made x held → HoldsSince made x (record { before = mark_all x.renditions (length held.items ∷ held.before); items = held.items })
+  at held h = record {
+    first = x.renditions;
+    count = length held.items;
+    before = held.before;
+    marked = refl;
+    within = omega arith;
+    stay = same-all x.renditions x.renditions refl;
+    cleared = λ none. subst (λ (l : List ItemValue). AreCleared x.missed x.renditions l) (sym (drop-length held.items)) (none-cleared x.missed x.renditions);
+    kept = h;
+  }
 
   grows-plain : (given : List ItemValue) → Grows (HoldsSince made x) (HoldsSince made y) given → Grows (KeptBy made x) (KeptBy made y) given
   grows-plain given g = record {
     follows = λ held h.
-        let then = g.follows (record { before = mark_all x.renditions held.before; items = held.items }) (at held h) in
-        let same = same-marked x.renditions then.first held.before then.before then.marked in
-        subst (λ (b : List ℕ). KeptBy made y (record { before = b; items = held.items ++ given })) (sym same.1) then.kept;
+        let then = g.follows (record { before = mark_all x.renditions (length held.items ∷ held.before); items = held.items }) (at held h) in
+        let same = same-marked x.renditions then.first (length held.items ∷ held.before) (then.count ∷ then.before) then.marked in
+        let bytes : held.before ≡ then.before = cc (same.1) in
+        subst (λ (b : List ℕ). KeptBy made y (record { before = b; items = held.items ++ given })) (sym bytes) then.kept;
   }
 
   breaks-plain : (given : List ItemValue) (item : ItemValue) → BreaksOff (HoldsSince made x) (HoldsSinceUpTo made y) given item → BreaksOff (KeptBy made x) (KeptUpTo made y) given item
   breaks-plain given item b = record {
     follows = λ held h.
-        let then = b.follows (record { before = mark_all x.renditions held.before; items = held.items }) (at held h) in
-        let same = same-marked x.renditions then.first held.before then.before then.marked in
-        subst (λ (b : List ℕ). KeptUpTo made y (record { before = b; items = held.items ++ given }) item) (sym same.1) then.kept;
+        let then = b.follows (record { before = mark_all x.renditions (length held.items ∷ held.before); items = held.items }) (at held h) in
+        let same = same-marked x.renditions then.first (length held.items ∷ held.before) (then.count ∷ then.before) then.marked in
+        let bytes : held.before ≡ then.before = cc (same.1) in
+        subst (λ (b : List ℕ). KeptUpTo made y (record { before = b; items = held.items ++ given }) item) (sym bytes) then.kept;
   }
 
   all-plain : (items : List ItemValue) → PutAll (since_view made) x y items → PutAll (kept_view made) x y items
@@ -251,9 +283,18 @@ module _ {X F : Type 0} (input : SourceView X) (made : F → List Move) (ladder 
   module _ (first : Held) (held_first : KeptBy made x first) where
     stay-grown : (given : List ItemValue) → Grows (HoldsSince made x) (HoldsSince made y) given → Stay x.renditions y.renditions
     stay-grown given g =
-        let then = g.follows (record { before = mark_all x.renditions first.before; items = first.items }) (at first held_first) in
-        let same = same-marked x.renditions then.first first.before then.before then.marked in
+        let then = g.follows (record { before = mark_all x.renditions (length first.items ∷ first.before); items = first.items }) (at first held_first) in
+        let same = same-marked x.renditions then.first (length first.items ∷ first.before) (then.count ∷ then.before) then.marked in
         subst (λ (l : List KeepingValue). Stay l y.renditions) (sym same.0) then.stay
+
+    -- The items since then were all put: by them each rendition is cleared.
+    pub cleared-grown : (given : List ItemValue) → Grows (HoldsSince made x) (HoldsSince made y) given → y.files.failures ≡ 0 → AreCleared y.missed y.renditions given
+    cleared-grown given g none =
+        let then = g.follows (record { before = mark_all x.renditions (length first.items ∷ first.before); items = first.items }) (at first held_first) in
+        let same = same-marked x.renditions then.first (length first.items ∷ first.before) (then.count ∷ then.before) then.marked in
+        let count : length first.items ≡ then.count = cc (same.1) in
+        subst (λ (l : List ItemValue). AreCleared y.missed y.renditions l) (drop-append_seam first.items given)
+        (subst (λ (n : ℕ). AreCleared y.missed y.renditions (drop n (first.items ++ given))) (sym count) (then.cleared none))
 
     stay-said : (workers : ℕ) (old new : List SnapshotFacts) (held held_then : Option (List ℕ)) (fault : LadderPackingFault) → LadderSays Since ladder workers old new held held_then fault →
         Stay x.renditions y.renditions

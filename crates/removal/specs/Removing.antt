@@ -1,5 +1,6 @@
 -- What a run leaves of a folder from which old segments go.
-use Rattle.std.specs.Prelude.{◌≡◌, ℕ, Bool, true, false, List}
+use Rattle.std.specs.Prelude.{◌≡◌, ◌<◌, ℕ, Bool, true, false, List, [], length}
+use Rattle.std.specs.List.{Contains}
 use Rattle.folder.specs.Moves.{Move}
 use Rattle.item_io.specs.Items.{ItemValue}
 use Rattle.item_io.specs.Views.{OutletView, SourceView, outlet_view}
@@ -8,7 +9,8 @@ use Rattle.ladder_items.specs.Ladder.{Ladder}
 use Rattle.ladder_items.specs.Items.{Part}
 use Rattle.ladder_items.specs.Weave.{Weaves}
 use Rattle.ladder_items.specs.Runs.{Run, run_of}
-use Rattle.keeping.specs.Keepings.{KeepingValue}
+use Rattle.keeping.specs.Clearing.{IsCleared}
+use Rattle.keeping.specs.Keepings.{KeepingValue, keeping_at}
 use Rattle.keeping.specs.Holding.{KeepingState, KeptBy, KeptUpTo}
 use Rattle.keeping.specs.InPlace.{EachKillLeavesUnlisted, EachLossOfPowerLeavesUnlisted}
 use Rattle.packing.specs.declared.destination.Destination.{Destination}
@@ -19,7 +21,7 @@ kept_view made = outlet_view (KeptBy made) (KeptUpTo made) (λ o. o.files.failur
 
 -- the outlet before its first item
 abbrev pub new_keeping : {F : Type 0} → Destination F → List KeepingValue → KeepingState F
-new_keeping into renditions = record { files = new_outlet into.syncs into.folder; renditions = renditions; lags = false }
+new_keeping into renditions = record { files = new_outlet into.syncs into.folder; renditions = renditions; lags = false; missed = [] }
 
 -- a run of such an outlet
 abbrev pub kept_run : {X F : Type 0} → SourceView X → (F → List Move) → ℕ → List X → List X → KeepingState F → KeepingState F → Run X (KeepingState F)
@@ -33,3 +35,7 @@ pub record LeavesKept (ladder : Ladder) (syncs : Bool) (made : List Move) (rendi
   pub weave : Weaves ladder parts items
   pub killed : EachKillLeavesUnlisted made items renditions
   pub lost : syncs ≡ true → EachLossOfPowerLeavesUnlisted made items renditions
+
+-- Of each rendition all segments went that may go, but where one couldn't be removed.
+abbrev pub AreAllCleared : Ladder → List ℕ → List KeepingValue → Type 0
+AreAllCleared ladder missed renditions = (r : ℕ) → r < length ladder.renditions → r < length renditions → ¬ Contains missed r → IsCleared (keeping_at renditions r)

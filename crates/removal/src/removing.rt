@@ -8,7 +8,7 @@ ghost use Rattle.item_io.specs.FolderMoves.{new_outlet};
 ghost use Rattle.keeping.specs.Keepings.{AreTold, Stay};
 ghost use Rattle.keeping.specs.InPlace.{NoneIsListed};
 ghost use Rattle.packing.specs.LadderPacking.{IsNeverHeld, LadderSays, TurnsAway, WritesSummary};
-ghost use Rattle.removal.specs.Removing.{LeavesKept, kept_run, new_keeping};
+ghost use Rattle.removal.specs.Removing.{AreAllCleared, LeavesKept, kept_run, new_keeping};
 
 use crate::tally::{Tallied, Tally};
 use commands::Pool;
@@ -70,6 +70,9 @@ pub fn pack_and_remove<
 
     // Each rendition that comes back is the one that was handed in: none is lost, made anew, or takes the place of another one.
     ensures same { Stay renditions.items result.outlet.renditions }
+
+    // Behind a run that ended well all of its segments went that may go, unless one couldn't be removed.
+    ensures cleared { OnOk result.answer (AreAllCleared settings.now result.outlet.missed result.outlet.renditions) }
 {
     let outlet = Tallied {
         outlet: KeepingOutlet::new(outlet_of(into, alloc), alloc, renditions),

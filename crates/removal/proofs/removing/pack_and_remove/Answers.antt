@@ -1,6 +1,7 @@
 use Rattle.std.proofs.Common.{refl, ◌≡◌, ◌^◌, [], rules}
 use Rattle.keeping.proofs.Left.{held-first, held-of}
 use Rattle.removal.specs.Removing.{new_keeping}
+use Rattle.removal.proofs.Clearing.{all-cleared}
 use Rattle.removal.proofs.Kept.{leaves-kept, none-listed}
 use Rattle.removal.proofs.Since.{breach-plain, fault-plain, ok-plain, stay-then}
 use Rattle.removal.proofs.removing.pack_and_remove.Goals as goal
@@ -62,3 +63,12 @@ returns-clause-same g c =
     (held-first c.args.into.syncs (g.F.Folder.made c.args.into.folder) [] c.args.renditions.items c.requires.fresh refl c.requires.untold)
     c.args.pool.workers c.args.publisher.list c.pack-sources.result.publisher.list _ _ c.pack-sources.result.answer
     (rw start at c.pack-sources.ensures.ok) (rw start at c.pack-sources.ensures.fault))
+
+pub returns-clause-cleared : goal.returns-clause-cleared
+returns-clause-cleared g c =
+    let start : c.new.result ≡ new_keeping c.args.into c.args.renditions.items = search rules in
+    rw c.into_outlet.ensures (all-cleared g.S.Source.input g.F.Folder.made c.args.settings.now (2 ^ 40) c.args.sources.items c.pack-sources.result.sources.items
+    (new_keeping c.args.into c.args.renditions.items) c.pack-sources.result.outlet (held-of c.args.into.syncs [])
+    (held-first c.args.into.syncs (g.F.Folder.made c.args.into.folder) [] c.args.renditions.items c.requires.fresh refl c.requires.untold) refl
+    c.args.pool.workers c.args.publisher.list c.pack-sources.result.publisher.list c.pack-sources.result.answer
+    (rw start at c.pack-sources.ensures.ok) c.pack-sources.ensures.fits)
