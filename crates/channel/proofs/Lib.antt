@@ -5,3 +5,4 @@ pub mod Looks
 pub mod Rolls
 pub mod Unread
 pub mod Whole
+pub mod Scarce

@@ -1,7 +1,7 @@
 //! A ladder goes on in its folder.
 
-ghost use Rattle.std.specs.Prelude.{length, ◌<◌, OnErr, ◌≡◌, IfOk, IfErr, IsErr, IsErrOf, map};
-ghost use Rattle.channel_folder.specs.Scans.{IsScan};
+ghost use Rattle.std.specs.Prelude.{length, ◌<◌, ◌⊎◌, OnErr, ◌≡◌, IfOk, IfErr, IsErr, IsErrOf, map};
+ghost use Rattle.channel_folder.specs.Scans.{IsScan, MayHoldUnfinished};
 ghost use Rattle.channel.specs.Reading;
 ghost use Rattle.channel.specs.Reading.{AsksFor, IsReadBack, IsReadFault, IsScanFault};
 ghost use Rattle.channel.specs.Resuming;
@@ -45,6 +45,10 @@ pub fn resume<F: Folder + FolderReader>(
     // What can't be changed was tried.
     ensures failed { IsErrOf result ResumingFault.Outlet → (found : F) × F.fails found folder.new }
     ensures pruned { F.pruned folder.new ≡ F.pruned folder.old }
+
+    // Memory is wanted for the folder's files, for a rendition, or for an unfinished file.
+    ensures scarce { IsErrOf result ResumingFault.NoMemory → F.wants folder.old ⊎ (0 < length settings.renditions)
+        ⊎ MayHoldUnfinished (F.lists folder.old) (Reading.names_of settings.renditions) }
 {
     let scan = scan_names(alloc, folder, &settings)?;
     roll_each(alloc, folder, &settings)?;
@@ -65,6 +69,8 @@ fn scan_names<F: FolderReader>(
 ) -> Result<Scan, ResumingFault>
     ensures ok { IfOk result (IsScan (F.lists folder.now) (Reading.names_of settings.now.renditions)) }
     ensures err { IfErr result (IsScanFault (F.refuses folder.now)) }
+    ensures scarce { IsErrOf result ResumingFault.NoMemory → F.wants folder.now ⊎ (0 < length settings.now.renditions)
+        ⊎ MayHoldUnfinished (F.lists folder.now) (Reading.names_of settings.now.renditions) }
 {
     let names = names_of(alloc, settings)?;
     Ok(scan_files(alloc, folder, &names)?)
@@ -132,7 +138,8 @@ fn base_of(found: &Option<Restored>) -> u64
 
 /// For each rendition the numbers of its segments that come before those listed.
 fn older_of(alloc: Global, scan: &Scan, reopened: &Reopened) -> Result<Vec<Vec<u64>>, AllocError>
-    ensures { IfOk result (λ older. map (λ n. n.items) older.items ≡ older_from scan.now 0 reopened.now.found) }
+    ensures ok { IfOk result (λ older. map (λ n. n.items) older.items ≡ older_from scan.now 0 reopened.now.found) }
+    ensures scarce { OnErr result (0 < length reopened.now.found) }
 {
     older_of_each(alloc, scan, &reopened.found)
 }

@@ -1,6 +1,6 @@
 //! The blocks that a kill cut off are placed.
 
-ghost use Rattle.std.specs.Prelude.{◌≡◌, IfErr, IsErrOf, OnOk};
+ghost use Rattle.std.specs.Prelude.{◌≡◌, ◌<◌, IfErr, IsErr, IsErrOf, OnOk, length};
 ghost use Rattle.channel.specs.Reading;
 ghost use Rattle.channel.specs.Rolling.{IsRollFault, RollingStops, RollsEach, RollsOne};
 ghost use Rattle.channel.specs.Views.{folder_view};
@@ -23,6 +23,7 @@ pub(crate) fn roll_each<F: Folder + FolderReader>(
         IfErr result (RollingStops view (Reading.names_of settings.now.renditions) folder.old folder.new) }
     ensures failed { IsErrOf result ResumingFault.Outlet → (found : F) × F.fails found folder.new }
     ensures pruned { F.pruned folder.new ≡ F.pruned folder.old }
+    ensures none { IsErr result → 0 < length settings.now.renditions }
 {
     for rendition in &settings.renditions {
         roll_one(alloc, folder, rendition.name.as_str())?;

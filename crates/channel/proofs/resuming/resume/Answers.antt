@@ -1,9 +1,9 @@
-use Rattle.std.proofs.Common.{◌≡◌, inr, subst}
+use Rattle.std.proofs.Common.{◌≡◌, inl, inr, refl, subst, arith}
 use Rattle.std.proofs.lemmas.Result.{err_from_is_err_and}
 use Rattle.channel.specs.GoingOn.{IsPastFault}
 use Rattle.channel.specs.Reading.{names_of, IsReadFault, IsScanFault}
 use Rattle.channel.specs.declared.fault.ResumingFault.{ResumingFault}
-use Rattle.channel.specs.declared.fault.ResumingFault.TheVariants.{Outlet}
+use Rattle.channel.specs.declared.fault.ResumingFault.TheVariants.{NoMemory, Outlet}
 use Rattle.channel.specs.Views.{folder_view}
 use Rattle.channel.proofs.Whole.{not-back, not-begun, not-rolled, not-scanned, reopened-count}
 use Rattle.channel.proofs.Rolls.{rolls-all}
@@ -70,7 +70,7 @@ returns-clause-ok g c = record {
   back = c.in_ok-reopened.ensures.ok;
   begin_within = c.in_ok-settings.ensures.begins;
   settings_are = c.in_ok-settings.ensures.ok;
-  older_are = c.in_ok-older.ensures;
+  older_are = c.in_ok-older.ensures.ok;
   removed = c.in-Ok.ensures.ok;
 }
 
@@ -97,3 +97,29 @@ returns-in_err-settings-clause-failed g c = λ is.
     let told = err_from_is_err_and c.from_residual-in_err-settings.result c.from_residual-in_err-settings.ensures.1 in
     let outlet : c.in_err-settings.field-0.0 ≡ Outlet = cc (is, told.1, told.2) in
     absurd (subst (λ (fault : ResumingFault). IsPastFault c.in_ok-reopened.reopened.found c.in_ok-reopened.reopened.common fault) outlet c.in_err-settings.ensures.err)
+
+pub returns-in_err-scan-clause-scarce : goal.returns-in_err-scan-clause-scarce
+returns-in_err-scan-clause-scarce g c = λ is.
+    let told = err_from_is_err_and c.from_residual.result c.from_residual.ensures.1 in
+    c.in_err-scan.ensures.scarce (cc (is, told.1, told.2))
+
+pub returns-in_err-roll_each-clause-scarce : goal.returns-in_err-roll_each-clause-scarce
+returns-in_err-roll_each-clause-scarce g c = λ _. inr (inl (c.in_err-roll_each.ensures.none refl))
+
+pub returns-in_err-reopened-clause-scarce : goal.returns-in_err-reopened-clause-scarce
+returns-in_err-reopened-clause-scarce g c = λ _. inr (inl (c.in_err-reopened.ensures.none refl))
+
+pub returns-in_err-older-clause-scarce : goal.returns-in_err-older-clause-scarce
+returns-in_err-older-clause-scarce g c = λ _.
+    let view = folder_view g.F.FolderReader.lists g.F.FolderReader.gives g.F.FolderReader.lacks g.F.FolderReader.refuses g.F.Folder.made in
+    inr (inl (omega (
+      arith,
+      c.in_err-older.ensures.scarce,
+      reopened-count view c.args.settings c.roll_each.new.folder c.in_ok-scan.scan c.in_ok-reopened.reopened c.in_ok-reopened.ensures.ok.all,
+    )))
+
+pub returns-in_err-settings-clause-scarce : goal.returns-in_err-settings-clause-scarce
+returns-in_err-settings-clause-scarce g c = λ is.
+    let told = err_from_is_err_and c.from_residual-in_err-settings.result c.from_residual-in_err-settings.ensures.1 in
+    let memory : c.in_err-settings.field-0.0 ≡ NoMemory = cc (is, told.1, told.2) in
+    absurd (subst (λ (fault : ResumingFault). IsPastFault c.in_ok-reopened.reopened.found c.in_ok-reopened.reopened.common fault) memory c.in_err-settings.ensures.err)
