@@ -8,3 +8,4 @@ pub mod SegmentFiles
 pub mod TextFacts
 pub mod Checked
 pub mod Finishing
+pub mod Decoding

@@ -1,5 +1,5 @@
 //! The keys of a rendition, as one word tells them.
-ghost use Rattle.std.specs.Prelude.{◌≡◌, map, length, true, IfOk, IfErr};
+ghost use Rattle.std.specs.Prelude.{◌≡◌, ◌<◌, map, length, true, IfOk, IfErr, OnErr};
 ghost use Rattle.std.specs.List.{list_all};
 ghost use Rattle.commands.specs.KeyFiles.{IsKeyFault, TellKeys, counted, is_key_word, texts_of, told};
 ghost use Rattle.commands.specs.KeyLists.{key_texts, are_keys};
@@ -110,7 +110,8 @@ fn counted<'a>(alloc: Global, texts: &[&'a str]) -> Result<Vec<KeyWord<'a>>, All
 
 /// Room for so many keys.
 pub(crate) fn room(alloc: Global, count: usize) -> Result<Vec<[u8; 16]>, AllocError>
-    ensures { IfOk result (λ keys. length keys.items ≡ count) }
+    ensures ok { IfOk result (λ keys. length keys.items ≡ count) }
+    ensures scarce { OnErr result (0 < count) }
 {
     let mut keys = Vec::new(alloc);
     keys.resize(count, [0; 16])?;

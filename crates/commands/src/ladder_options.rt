@@ -102,6 +102,9 @@ pub fn read_ladder_options<'a, F: FileReader>(
         HasBadKeyFile (F.gives files.now) (asked_of words.entry (numbers_of numbers) (pool_of pool)) n }
     ensures no_memory { IsErrOf result LadderFault.NoMemory → HasTurns (asked_of words.entry (numbers_of numbers) (pool_of pool)) ×
         FitsCut (numbers_of numbers) × IsPool (pool_of pool) }
+
+    // A ladder without entries wants none.
+    ensures scarce { IsErrOf result LadderFault.NoMemory → 0 < length words.entry.entries.now }
 {
     let numbers = numbers.numbers();
     let pool = pool.pool();

@@ -1,4 +1,4 @@
-ghost use Rattle.std.specs.Prelude.{◌≡◌, ◌≢◌, None, ℕ, ◌<◌, ◌≤◌, ◌⊎◌, map, length, false, true, All, Any, Decides, IfOk, IfErr, IsErrOf};
+ghost use Rattle.std.specs.Prelude.{◌≡◌, ◌≢◌, None, ℕ, ◌<◌, ◌≤◌, ◌⊎◌, map, length, false, true, All, Any, Decides, IfOk, IfErr, IsErrOf, OnErr};
 ghost use Rattle.std.specs.Option.{option_map};
 ghost use Rattle.commands.specs.Hex.{chosen_salt};
 ghost use Rattle.commands.specs.Entries.{entry_of, entry_value, IsGood};
@@ -87,8 +87,9 @@ fn renditions(
     requires keys { length keys.now ≡ key_total (map entry_value entries.now) }
     requires salt { chosen_salt (option_map (λ t. t.now) words.salt) ≢ None }
     requires some { 0 < period }
-    ensures { IfOk result (λ made. ShareKeys (entry_words (option_map (λ t. t.now) words.entry.salt) words.entry.event) period
+    ensures ok { IfOk result (λ made. ShareKeys (entry_words (option_map (λ t. t.now) words.entry.salt) words.entry.event) period
         (map entry_value entries.now) keys.now made.items) }
+    ensures scarce { OnErr result (0 < length entries.now) }
 {
     let mut renditions = Vec::new(alloc);
     let mut rest = keys;
@@ -135,6 +136,7 @@ fn ladder_under(
     ensures within { IfOk result (λ made. IsWithin (asked_of words.entry numbers pool) made) }
     ensures outside { IsErrOf result LadderFault.Settings → IsOutside (asked_of words.entry numbers pool) }
     ensures only { IfErr result (λ fault. (fault ≡ LadderFault.Settings) ⊎ (fault ≡ LadderFault.NoMemory)) }
+    ensures scarce { IsErrOf result LadderFault.NoMemory → 0 < length entries.now }
 {
     let settings = Settings {
         renditions: renditions(alloc, words, entries, keys, numbers.period)?,
@@ -167,6 +169,7 @@ pub(crate) fn read_ladder<F: FileReader>(
     ensures unread { IsErrOf result LadderFault.Unread → HasUnreadKey (F.gives files.now) (F.refuses files.now) (asked_of words.entry numbers pool) }
     ensures bad_file { (n : ℕ) → IsErrOf result (LadderFault.BadKeyFile n) → HasBadKeyFile (F.gives files.now) (asked_of words.entry numbers pool) n }
     ensures only { IfErr result IsBehindTexts }
+    ensures scarce { IsErrOf result LadderFault.NoMemory → 0 < length entries.now }
 {
     let key_words = ladder_words(alloc, entries)?;
     let blank = room(alloc, key_words.len())?;

@@ -1,8 +1,8 @@
-ghost use Rattle.std.specs.Prelude.{◌≡◌, ◌≢◌, ◌⊎◌, ◌%◌, length, OnOk, IfOk, IfErr, IsErrOf, true, is_err, Ok};
+ghost use Rattle.std.specs.Prelude.{◌≡◌, ◌≢◌, ◌<◌, ◌⊎◌, ◌%◌, length, OnOk, IfOk, IfErr, IsErrOf, true, is_err, Ok};
 ghost use Rattle.hex.specs.Hex.{decode_of};
 ghost use Rattle.commands.specs.Counts.{HasRoom, ReadsFewer, OpeningCounts};
 ghost use Rattle.commands.specs.Hex.{without_end};
-ghost use Rattle.commands.specs.Streams.{WritesOpened, BeginsOpened, HasBegun, ReadsOther, ReadsNoBlocks, ReadsNoSealed};
+ghost use Rattle.commands.specs.Streams.{WritesOpened, BeginsOpened, ReadsOther, ReadsNoBlocks, ReadsNoSealed};
 
 use crate::output::write_hex_line;
 use crate::reading::{ReadingFault, read_all};
@@ -93,8 +93,15 @@ fn decode_line(alloc: Global, line: &[u8]) -> Result<Vec<u8>, OpeningFault>
     ensures bad { IsErrOf result OpeningFault.BadHex → is_err (decode_of (without_end line.now)) ≡ true }
     ensures no_memory { IsErrOf result OpeningFault.NoMemory → length (without_end line.now) % 2 ≢ 1 }
     ensures only { IfErr result (λ fault. (fault ≡ OpeningFault.BadHex) ⊎ (fault ≡ OpeningFault.NoMemory)) }
+
+    // No digits take no memory.
+    ensures some { IsErrOf result OpeningFault.NoMemory → 0 < length line.now }
 {
-    match hex::decode(alloc, without_end(line)) {
+    let digits = without_end(line);
+    if digits.is_empty() {
+        return Ok(Vec::new(alloc));
+    }
+    match hex::decode(alloc, digits) {
         Ok(bytes) => Ok(bytes),
         Err(FromHexError::OutOfMemory) => Err(OpeningFault::NoMemory),
         Err(_) => Err(OpeningFault::BadHex),
@@ -127,9 +134,8 @@ pub fn open<S: Source, W: Write>(
     ensures counts { IfErr result (OpeningCounts (S.input.reads input.old) (S.input.reads input.new) (S.input.failures input.old)
         (S.input.failures input.new)) }
 
-    // Memory is wanted only for bytes that a read gave, or once the end has come.
-    ensures scarce { IsErrOf result OpeningFault.NoMemory →
-        HasBegun (S.input.reads input.old) (S.input.reads input.new) (S.input.left input.old) (S.input.left input.new) }
+    // Memory is wanted only for bytes that a read gave.
+    ensures scarce { IsErrOf result OpeningFault.NoMemory → S.input.reads input.old < S.input.reads input.new }
 {
     let line = read_all(alloc, input)?;
     let sealed = decode_line(alloc, &line)?;

@@ -1,4 +1,4 @@
-ghost use Rattle.std.specs.Prelude.{◌≡◌, ◌<◌, OnOk, IfOk, IfErr, IsErrOf};
+ghost use Rattle.std.specs.Prelude.{◌≡◌, ◌<◌, length, OnOk, IfOk, IfErr, IsErrOf};
 ghost use Rattle.commands.specs.Counts.{HasRoom, ReadsFewer, ReadingCounts};
 ghost use Rattle.commands.specs.Streams.{ReadsAll};
 
@@ -44,6 +44,8 @@ pub(crate) fn read_all<S: Source>(alloc: Global, input: &mut S) -> Result<Vec<u8
     ensures ok_counts { OnOk result (ReadsFewer (S.input.reads input.old) (S.input.reads input.new) (S.input.failures input.old) (S.input.failures input.new)) }
     ensures counts { IfErr result (ReadingCounts (S.input.reads input.old) (S.input.reads input.new) (S.input.failures input.old)
         (S.input.failures input.new)) }
+
+    ensures some { IfOk result (λ bytes. 0 < length bytes.items → S.input.reads input.old < S.input.reads input.new) }
 
     // Memory is wanted only for bytes that a read gave.
     ensures scarce { IsErrOf result ReadingFault.NoMemory → S.input.reads input.old < S.input.reads input.new }

@@ -19,7 +19,7 @@ returns-then-not-is_allowed-clause-outside c = λ told.
       queue = c.args.pool.queue;
     } in
     let is_here : IsAskedLadder asked c.args.keys.now here = record {
-      renditions_are = rw (c.requires.each) at c.in_ok-renditions.ensures;
+      renditions_are = rw (c.requires.each) at c.in_ok-renditions.ensures.ok;
       cut_is = c.cut.ensures;
       kind_is = c.kind.ensures;
       window_is = refl;

@@ -48,7 +48,7 @@ returns-clause-ok g c =
       queue = c.settings.inside.queue;
     } in
     let is_made : IsAskedLadder asked keys made = record {
-      renditions_are = rw (c.requires.each, c.deref-3.ensures.value) at c.in_ok-renditions.ensures;
+      renditions_are = rw (c.requires.each, c.deref-3.ensures.value) at c.in_ok-renditions.ensures.ok;
       cut_is = ap (λ (l : Ladder). l.cut) c.settings.view_is ∙ c.in_ok-settings.ensures.ladder.cut_is;
       kind_is = ap (λ (l : Ladder). l.kind) c.settings.view_is ∙ c.in_ok-settings.ensures.ladder.kind_is;
       window_is = ap (λ (l : Ladder). l.window) c.settings.view_is ∙ c.in_ok-settings.ensures.ladder.window_is;

@@ -21,6 +21,6 @@ loop-entry-preserved c =
     c.split_at.result.0.now c.split_at.result.1.now c.loop-entry.renditions.items c.push.new.self.items c.in_ok-rendition.field-0 c.loop-entry-test.true c.loop-entry.invariant parted
     c.in_ok-rendition.ensures (c.split_at.ensures.front_len ∙ c.key_count.ensures) c.in_ok-push.ensures.items
 
-pub returns : goal.returns
-returns c = shares-end (entry_words (option_map (λ t. t.now) c.args.words.salt) c.args.words.event) c.args.period c.args.entries.now c.loop-entry.entry-index c.args.keys.now c.loop-entry.rest.now
+pub returns-clause-ok : goal.returns-clause-ok
+returns-clause-ok c = shares-end (entry_words (option_map (λ t. t.now) c.args.words.salt) c.args.words.event) c.args.period c.args.entries.now c.loop-entry.entry-index c.args.keys.now c.loop-entry.rest.now
     c.loop-entry.renditions.items (omega (arith, c.loop-entry-test.false, c.loop-entry.auto.entry-index-end)) c.loop-entry.invariant

@@ -1,8 +1,9 @@
-use Rattle.std.proofs.Common.{◌≡◌, ap, Err, inl, inr}
+use Rattle.std.proofs.Common.{◌≡◌, ap, Err}
 use Rattle.std.proofs.lemmas.Result.{err_from_is_err_and}
 use Rattle.commands.specs.Told.{opening_of, opening_of_reading}
 use Rattle.commands.specs.declared.opening.OpeningFault.TheVariants.{NoMemory, NotBlocks}
-use Rattle.commands.proofs.SealedTexts.{opening_of-NotBlocks, opening_of_reading-NoMemory}
+use Rattle.commands.proofs.Decoding.{some-line}
+use Rattle.commands.proofs.SealedTexts.{opening_of-NoMemory, opening_of-NotBlocks, opening_of_reading-NoMemory, some-sealed}
 use Rattle.commands.proofs.opening.open.Goals as goal
 
 pub returns-in_err-plain-clause-not_blocks : goal.returns-in_err-plain-clause-not_blocks
@@ -24,10 +25,11 @@ pub returns-in_err-line-clause-scarce : goal.returns-in_err-line-clause-scarce
 returns-in_err-line-clause-scarce g c = λ told.
     let p = err_from_is_err_and c.from_residual.result c.from_residual.ensures.1 in
     let same : opening_of_reading c.in_err-line.field-0.0 ≡ NoMemory = cc (told, p.1, p.2) in
-    inl (c.in_err-line.ensures.scarce (ap Err (opening_of_reading-NoMemory _ same)))
-
-pub returns-in_err-sealed-clause-scarce : goal.returns-in_err-sealed-clause-scarce
-returns-in_err-sealed-clause-scarce g c = λ _. inr (c.in_ok-line.line.items, c.in_ok-line.ensures.all)
+    c.in_err-line.ensures.scarce (ap Err (opening_of_reading-NoMemory _ same))
 
 pub returns-in_err-plain-clause-scarce : goal.returns-in_err-plain-clause-scarce
-returns-in_err-plain-clause-scarce g c = λ _. inr (c.in_ok-line.line.items, c.in_ok-line.ensures.all)
+returns-in_err-plain-clause-scarce g c = λ told.
+    let p = err_from_is_err_and c.from_residual-in_err-plain.result c.from_residual-in_err-plain.ensures.1 in
+    let same : opening_of c.in_err-plain.field-0.0 ≡ NoMemory = cc (told, p.1, p.2) in
+    let some = some-sealed _ _ (ap Err (opening_of-NoMemory _ same)) c.in_err-plain.ensures.not_blocks.1 in
+    c.in_ok-line.ensures.some (some-line c.in_ok-line.line.items c.in_ok-sealed.sealed.items (rw c.deref.ensures.value at c.in_ok-sealed.ensures.ok) (rw c.deref-2.ensures.value at some))
