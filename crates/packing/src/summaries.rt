@@ -39,7 +39,10 @@ fn summary_rows<'a>(
 
 /// One line a rendition, in byte order of their names: name, segments, seconds, peak and average bit rate.
 pub fn summary(alloc: Global, settings: &Settings, report: &Report) -> Result<String, AllocError>
-    ensures { IfOk result (λ text. IsSummaryOf settings.now report.now (string_bytes text)) }
+    ensures ok { IfOk result (λ text. IsSummaryOf settings.now report.now (string_bytes text)) }
+
+    // A ladder without renditions wants no memory.
+    ensures scarce { OnErr result (0 < length settings.now.renditions) }
 {
     let rows = summary_rows(alloc, &settings.renditions, report)?;
     sorted_lines(alloc, rows)

@@ -48,6 +48,8 @@ fn push_row(out: &mut String, row: SummaryRow<'_>) -> Result<(), AllocError>
 fn sort_by_name(rows: &mut Vec<SummaryRow<'_>>) -> Result<(), AllocError>
     ensures same { IsPermutation rows.old.items rows.new.items }
     ensures ascending { OnOk result (AreByName (map told_value rows.new.items)) }
+    ensures len { length rows.new.items ≡ length rows.old.items }
+    ensures scarce { OnErr result (0 < length rows.old.items) }
 {
     rows.sort_by_key(|row| row.name)?;
     Ok(())
@@ -67,7 +69,8 @@ fn lines(alloc: Global, rows: &[SummaryRow<'_>]) -> Result<String, AllocError>
 
 /// The lines of rows, in byte order of their names.
 pub(crate) fn sorted_lines(alloc: Global, rows: Vec<SummaryRow<'_>>) -> Result<String, AllocError>
-    ensures { IfOk result (λ text. AreLinesOf (map told_value rows.entry.items) (string_bytes text)) }
+    ensures ok { IfOk result (λ text. AreLinesOf (map told_value rows.entry.items) (string_bytes text)) }
+    ensures scarce { OnErr result (0 < length rows.entry.items) }
 {
     let mut rows = rows;
     sort_by_name(&mut rows)?;

@@ -5,8 +5,8 @@ use Rattle.std.specs.List.{flat_map}
 use Rattle.packing.specs.SummaryLines.{told_value, line_of}
 use Rattle.packing.proofs.summary_text.sorted_lines.Goals as goal
 
-pub returns : goal.returns
-returns c = IfOk-weaker c.lines.result _ _ (λ text is. record {
+pub returns-clause-ok : goal.returns-clause-ok
+returns-clause-ok c = IfOk-weaker c.lines.result _ _ (λ text is. record {
   rows = map told_value c.sort_by_name.new.rows.items;
   same = IsPermutation-map told_value _ _ c.sort_by_name.ensures.same;
   ascending = c.in_ok-sort_by_name.ensures.ascending;
