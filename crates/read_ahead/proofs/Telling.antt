@@ -5,8 +5,8 @@ use Rattle.std.proofs.lemmas.Bool.{and_from, and_parts}
 use Rattle.std.specs.Io.KnownBytes.{Consumes, IsAtEnd, prepend_known}
 use Rattle.std.specs.Option.{option_map}
 use Rattle.read_ahead.specs.declared.message.Message.{Message}
-use Rattle.read_ahead.specs.declared.message.Message.TheVariants.{Opened, Bytes, End}
-use Rattle.read_ahead.specs.Messages.{bytes_of, is_last, joined, goes_on, held, untold, Asks, IsOpen, Tells, MayTell, MayFollow}
+use Rattle.read_ahead.specs.declared.message.Message.TheVariants.{Asked, Opened, Bytes, End, Failed, Refused}
+use Rattle.read_ahead.specs.Messages.{bytes_of, is_last, joined, goes_on, held, untold, Asks, AsksFor, IsFirst, RefusedBy, MayRefuse, IsOpen, Tells, MayTell, MayEnd}
 use Rattle.read_ahead.proofs.Streams.{consumes_none, consumes_on, begins, whole, left_front, none_left, prepend_nil, drop_used}
 
 module _ {I : Type 0} where
@@ -28,6 +28,19 @@ module _ {I : Type 0} where
     some = omega (arith, length-append told (x ∷ []));
     going = goes_on_snoc told x on more;
   }
+
+  -- an input that was asked for may be refused where it may refuse
+  refused_by : (refuses : I → Type 0) (message : Message I) (input : I) → AsksFor input message → refuses input → RefusedBy refuses message
+  refused_by refuses (Asked s) input same may = subst refuses (sym same) may
+  refused_by refuses Opened input same may = absurd same
+  refused_by refuses (Bytes block) input same may = absurd same
+  refused_by refuses End input same may = absurd same
+  refused_by refuses Failed input same may = absurd same
+  refused_by refuses Refused input same may = absurd same
+
+  pub may_refuse : (refuses : I → Type 0) (told : List (Message I)) (input : I) → IsFirst input told → refuses input → MayRefuse refuses told
+  may_refuse refuses [] input first may = absurd first
+  may_refuse refuses (message ∷ more) input first may = refused_by refuses message input first may
 
   -- an input that was asked for is open, and nothing of it was told
   pub tells_first : (holds : I → Option (List ℕ)) → (told : List (Message I)) (input : I) (rest : Option (List ℕ)) → Asks told input → rest ≡ holds input → Tells holds (told ++ Opened ∷ []) rest
@@ -51,7 +64,7 @@ module _ {I : Type 0} where
     next = begins (held holds told) new (joined told ++ block) (consumes_on (held holds told) old new (joined told) block t.all gave);
   }
 
-  pub may_end : (holds : I → Option (List ℕ)) → (told : List (Message I)) (rest : Option (List ℕ)) → Tells holds told rest → IsAtEnd rest → MayFollow holds told End
+  pub may_end : (holds : I → Option (List ℕ)) → (told : List (Message I)) (rest : Option (List ℕ)) → Tells holds told rest → IsAtEnd rest → MayEnd holds told
   may_end holds told rest t end = record { opened = t.opened; all = whole (held holds told) rest (joined told) t.all end }
 
   -- a block that was told is next of what was left
@@ -66,7 +79,7 @@ module _ {I : Type 0} where
       ap₂ (λ (start : Option (List ℕ)) (bs : List ℕ). option_map (λ (zs : List ℕ). drop (length bs) zs) start) (held_snoc holds told x some) (joined_snoc told x ∙ ap (λ (bs : List ℕ). joined told ++ bs) none ∙ append-nil (joined told))
 
   -- at the end nothing is left
-  untold_end : (holds : I → Option (List ℕ)) → (told : List (Message I)) → MayFollow holds told End → IsAtEnd (untold holds (told ++ End ∷ []))
+  untold_end : (holds : I → Option (List ℕ)) → (told : List (Message I)) → MayEnd holds told → IsAtEnd (untold holds (told ++ End ∷ []))
   untold_end holds told may = subst IsAtEnd (sym (untold_plain holds told End (omega (arith, may.opened.some)) refl)) (none_left (held holds told) (joined told) may.all)
 
   -- behind a block that was used up, the next one: as much is left
@@ -81,7 +94,7 @@ module _ {I : Type 0} where
   pub next_plain : (holds : I → Option (List ℕ)) → (told more : List (Message I)) (x : Message I) (rest : List ℕ) → more ≡ told ++ x ∷ [] → 0 < length told → bytes_of x ≡ [] → prepend_known rest (untold holds more) ≡ prepend_known rest (untold holds told)
   next_plain holds told more x rest order some none = ap (prepend_known rest) (ap (untold holds) order ∙ untold_plain holds told x some none)
 
-  pub next_end : (holds : I → Option (List ℕ)) → (told more : List (Message I)) → more ≡ told ++ End ∷ [] → MayFollow holds told End → IsAtEnd (untold holds more)
+  pub next_end : (holds : I → Option (List ℕ)) → (told more : List (Message I)) → more ≡ told ++ End ∷ [] → MayEnd holds told → IsAtEnd (untold holds more)
   next_end holds told more order may = subst (λ (l : List (Message I)). IsAtEnd (untold holds l)) (sym order) (untold_end holds told may)
 
   pub some_more : (told more : List (Message I)) (x : Message I) → more ≡ told ++ x ∷ [] → 0 < length more

@@ -51,12 +51,39 @@ module _ {I : Type 0} where
   abbrev pub untold : (I → Option (List ℕ)) → List (Message I) → Option (List ℕ)
   untold holds told = option_map (λ xs. drop (length (joined told)) xs) (held holds told)
 
+  -- the input that is asked for may be refused; refuses: which may
+  abbrev pub RefusedBy : (I → Type 0) → Message I → Type 0
+  RefusedBy refuses (Asked s) = refuses s.value
+  RefusedBy refuses Opened = ⊥
+  RefusedBy refuses (Bytes block) = ⊥
+  RefusedBy refuses End = ⊥
+  RefusedBy refuses Failed = ⊥
+  RefusedBy refuses Refused = ⊥
+
+  abbrev pub MayRefuse : (I → Type 0) → List (Message I) → Type 0
+  MayRefuse refuses [] = ⊥
+  MayRefuse refuses (message ∷ more) = RefusedBy refuses message
+
+  -- the message asks for this input
+  abbrev pub AsksFor : I → Message I → Type 0
+  AsksFor input (Asked s) = s.value ≡ input
+  AsksFor input Opened = ⊥
+  AsksFor input (Bytes block) = ⊥
+  AsksFor input End = ⊥
+  AsksFor input Failed = ⊥
+  AsksFor input Refused = ⊥
+
+  abbrev pub IsFirst : I → List (Message I) → Type 0
+  IsFirst input [] = ⊥
+  IsFirst input (message ∷ more) = AsksFor input message
+
   -- this input was asked for, and nothing else was told
   pub record Asks (told : List (Message I)) (input : I) : Type 0 where
     pub one : length told ≡ 1
     pub none : joined told ≡ []
     pub going : goes_on told ≡ true
     pub same : (holds : I → Option (List ℕ)) → held holds told ≡ holds input
+    pub first : IsFirst input told
 
   -- an input that was opened, and of which more may be told
   pub record IsOpen (told : List (Message I)) : Type 0 where
@@ -74,15 +101,15 @@ module _ {I : Type 0} where
     pub some : 0 < length block
     pub next : IfSome (held holds before) (λ xs. take (length (joined before ++ block)) xs ≡ joined before ++ block)
 
-  -- An input is asked for first, then it's opened or refused. The blocks, joined, begin what it holds. The end is told only where
+  -- An input is asked for first, then it's opened or, where it may be, refused. The blocks, joined, begin what it holds. The end is told only where
   -- they are all, and nothing is told behind the end, a failure or a refusal.
-  abbrev pub MayFollow : (I → Option (List ℕ)) → List (Message I) → Message I → Type 0
-  MayFollow holds before (Asked s) = before ≡ []
-  MayFollow holds before Opened = length before ≡ 1
-  MayFollow holds before (Bytes block) = MayTell holds before block.items
-  MayFollow holds before End = MayEnd holds before
-  MayFollow holds before Failed = IsOpen before
-  MayFollow holds before Refused = length before ≡ 1
+  abbrev pub MayFollow : (I → Option (List ℕ)) → (I → Type 0) → List (Message I) → Message I → Type 0
+  MayFollow holds refuses before (Asked s) = before ≡ []
+  MayFollow holds refuses before Opened = length before ≡ 1
+  MayFollow holds refuses before (Bytes block) = MayTell holds before block.items
+  MayFollow holds refuses before End = MayEnd holds before
+  MayFollow holds refuses before Failed = IsOpen before
+  MayFollow holds refuses before Refused = (length before ≡ 1) × MayRefuse refuses before
 
   -- all that a reader gave since it was opened was told
   pub record Tells (holds : I → Option (List ℕ)) (told : List (Message I)) (rest : Option (List ℕ)) : Type 0 where

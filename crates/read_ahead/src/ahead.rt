@@ -2,6 +2,7 @@ ghost use Rattle.std.specs.Prelude.{◌≡◌, IfOk, length};
 ghost use Rattle.std.specs.Arc.{arc_value};
 ghost use Rattle.item_io.specs.Views.{source_view};
 ghost use Rattle.read_ahead.specs.Sources.{IsSound, inputs_of, rest_of};
+ghost use Rattle.read_ahead.specs.declared.incoming.Phase.TheVariants.{Opening};
 
 use crate::incoming::Incoming;
 use crate::input::Contents;
@@ -43,9 +44,10 @@ impl<R: Wait, I: Contents> Model for Ahead<R, I> {
 }
 
 impl<R: Wait + Clock, I: Contents> Ahead<R, I> {
-    /// The source of what comes of an input.
-    pub fn new(rt: R, incoming: Incoming<I>) -> Ahead<R, I>
-        requires { IsSound I.holds incoming }
+    /// The source of what comes of an input that is being opened.
+    pub(crate) fn new(rt: R, incoming: Incoming<I>) -> Ahead<R, I>
+        requires sound { IsSound I.holds incoming }
+        requires opening { incoming.phase ≡ Opening }
         ensures left { result.left ≡ rest_of I.holds incoming }
         ensures reads { result.reads ≡ 0 }
         ensures failures { result.failures ≡ 0 }

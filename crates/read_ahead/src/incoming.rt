@@ -332,7 +332,7 @@ fn wait_message<R: Wait + Clock, I: Contents>(
     consumer: &mut Consumer<Message<I>, Global, InOrder<I>>,
 ) -> Option<Message<I>>
     ensures order { IfSome result (λ message. received consumer.new ≡ received consumer.old ++ message ∷ []) }
-    ensures allowed { IfSome result (MayFollow I.holds (received consumer.old)) }
+    ensures allowed { IfSome result (MayFollow I.holds I.refuses (received consumer.old)) }
     ensures none { result ≡ None → received consumer.new ≡ received consumer.old }
     ensures ready { 0 < length (known_items consumer.old) → IsSome result }
     ensures patient { result ≡ None → backlogs.now.stall ≢ None }

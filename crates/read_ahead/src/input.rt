@@ -1,5 +1,5 @@
 //! Inputs before they are open.
-ghost use Rattle.std.specs.Prelude.{◌≡◌, ℕ, List, Option, Some, IfSome};
+ghost use Rattle.std.specs.Prelude.{◌≡◌, ⊤, ℕ, List, Option, Some, IfNone, IfSome};
 
 use std::io::Read;
 
@@ -7,6 +7,9 @@ use std::io::Read;
 pub trait Contents {
     /// The bytes that it has, where it tells them.
     ghost holds: { Self → Option (List ℕ) };
+
+    /// It may be that it can't be opened.
+    ghost refuses: { Self → Type 0 } = { λ _. ⊤ };
 }
 
 /// An input that isn't open yet.
@@ -21,7 +24,8 @@ pub trait Input: Contents {
 
     /// Opens it; None where it can't be opened. Of a FIFO it waits for a writer.
     fn open(self) -> Option<Self::Reader>
-        ensures { IfSome result (λ reader. Self.Reader.remaining reader ≡ Self.holds self) };
+        ensures ok { IfSome result (λ reader. Self.Reader.remaining reader ≡ Self.holds self) }
+        ensures none { IfNone result (Self.refuses self) };
 }
 
 /// A reader, as an input that is open as soon as it's asked for.
@@ -32,6 +36,8 @@ pub struct OpenInput<I> {
 
 impl<I: Read> Contents for OpenInput<I> {
     ghost holds = { λ input. I.remaining input.reader };
+
+    ghost refuses = { λ _. ⊥ };
 }
 
 impl<I: Read + Drop> Input for OpenInput<I> {

@@ -1,5 +1,5 @@
 //! Inputs by their paths.
-ghost use Rattle.std.specs.Prelude.{◌≡◌, ◌<◌, ℕ, List, Option, None, IfSome, IfOk, OnErr, length, map};
+ghost use Rattle.std.specs.Prelude.{◌≡◌, ◌<◌, ⊤, ℕ, List, Option, None, IfNone, IfSome, IfOk, OnErr, length, map};
 ghost use Rattle.std.specs.String.{string_bytes};
 
 use crate::input::{Contents, Input};
@@ -17,12 +17,16 @@ pub trait InputFiles {
     /// The bytes that the input at a path has, where they are told.
     ghost holds: { Self → List ℕ → Option (List ℕ) };
 
+    /// It may be that the input at a path can't be opened.
+    ghost refuses: { Self → List ℕ → Type 0 };
+
     /// Whether the input at a path is a FIFO, whose opening waits for a writer. No clause says.
     fn is_fifo(&self, path: &str) -> bool;
 
     /// Opens the input at a path; None where it can't be opened. Of a FIFO it waits for a writer.
     fn open(&self, path: &str) -> Option<Self::Reader>
-        ensures { IfSome result (λ reader. Self.Reader.remaining reader ≡ holds self.now path.now) };
+        ensures ok { IfSome result (λ reader. Self.Reader.remaining reader ≡ holds self.now path.now) }
+        ensures none { IfNone result (refuses self.now path.now) };
 }
 
 /// The files of the system. What they hold is the system's, so nothing is claimed of it.
@@ -30,6 +34,8 @@ impl InputFiles for HostRuntime {
     type Reader = File;
 
     ghost holds = { λ _ _. None };
+
+    ghost refuses = { λ _ _. ⊤ };
 
     fn is_fifo(&self, path: &str) -> bool {
         match fs::metadata(self, path) {
@@ -54,6 +60,8 @@ impl<F: InputFiles> Contents for InputAt<F> {
     ghost use Rattle.std.specs.String.{string_bytes};
 
     ghost holds = { λ input. F.holds input.files (string_bytes input.path) };
+
+    ghost refuses = { λ input. F.refuses input.files (string_bytes input.path) };
 }
 
 impl<F: InputFiles + Drop> Input for InputAt<F> {

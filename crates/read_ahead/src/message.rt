@@ -20,7 +20,8 @@ pub enum Message<I> {
     Refused,
 }
 
-/// The order of messages: the blocks, joined, begin the bytes that the input has, and the end is told only where they are all.
+/// The order of messages: the blocks, joined, begin the bytes that the input has, the end is told only where they are all, and a
+/// refusal only where the input may refuse to be opened.
 pub struct InOrder<I> {
     of: PhantomData<I>,
 }
@@ -28,5 +29,5 @@ pub struct InOrder<I> {
 impl<I: Contents> Protocol<Message<I>> for InOrder<I> {
     ghost use Rattle.read_ahead.specs.Messages.{MayFollow};
 
-    ghost allows = { MayFollow I.holds };
+    ghost allows = { MayFollow I.holds I.refuses };
 }

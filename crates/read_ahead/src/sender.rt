@@ -38,7 +38,7 @@ impl<I: Contents> Sender<I> {
 
     /// Tells something more, once there is a slot for it.
     pub fn send<R: Wait>(&mut self, rt: &R, message: Message<I>)
-        requires { MayFollow I.holds (sent self.old.producer) message }
+        requires { MayFollow I.holds I.refuses (sent self.old.producer) message }
         ensures { sent self.new.producer ≡ sent self.old.producer ++ message ∷ [] }
     {
         push(rt, &mut self.producer, message);
@@ -67,7 +67,7 @@ fn push<R: Wait, I: Contents>(
     producer: &mut Producer<Message<I>, Global, InOrder<I>>,
     message: Message<I>,
 )
-    requires { MayFollow I.holds (sent producer.old) message }
+    requires { MayFollow I.holds I.refuses (sent producer.old) message }
     ensures { sent producer.new ≡ sent producer.old ++ message ∷ [] }
 {
     let mut message = message;

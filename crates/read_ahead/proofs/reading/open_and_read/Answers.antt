@@ -4,4 +4,4 @@ use Rattle.read_ahead.proofs.reading.open_and_read.Goals as goal
 
 pub read_ahead-requires : goal.read_ahead-requires
 read_ahead-requires g c =
-    rw c.send.ensures (tells_first g.I.Contents.holds (sent c.args.sender.producer) c.args.input (g.I.Reader.Read.remaining c.in-Some.reader) c.requires c.in-Some.ensures)
+    rw c.send.ensures (tells_first g.I.Contents.holds (sent c.args.sender.producer) c.args.input (g.I.Reader.Read.remaining c.in-Some.reader) c.requires c.in-Some.ensures.ok)

@@ -8,7 +8,7 @@ use Rattle.read_ahead.proofs.incoming.Incoming.wait_next.Goals as goal
 pub returns-in-Bytes-clause-same : goal.returns-in-Bytes-clause-same
 returns-in-Bytes-clause-same g c =
     let s = c.args.self.now in
-    next_block g.I.Contents.holds (received s.consumer) (received c.wait_message.new.consumer) s.front.items s.at c.in-Bytes.block (in_order (received s.consumer) (received c.wait_message.new.consumer) c.in-Some.message (Bytes c.in-Bytes.block) c.in-Some.ensures.order c.in-Bytes.is) (subst (MayFollow g.I.Contents.holds (received s.consumer)) c.in-Bytes.is c.in-Some.ensures.allowed) c.requires.used
+    next_block g.I.Contents.holds (received s.consumer) (received c.wait_message.new.consumer) s.front.items s.at c.in-Bytes.block (in_order (received s.consumer) (received c.wait_message.new.consumer) c.in-Some.message (Bytes c.in-Bytes.block) c.in-Some.ensures.order c.in-Bytes.is) (subst (MayFollow g.I.Contents.holds g.I.Contents.refuses (received s.consumer)) c.in-Bytes.is c.in-Some.ensures.allowed) c.requires.used
 
 pub returns-in-End-clause-same : goal.returns-in-End-clause-same
 returns-in-End-clause-same g c =
@@ -37,7 +37,7 @@ returns-in-End-clause-sound g c =
       within = c.requires.sound.within;
       opening = λ e. absurd (search (rules, e));
       empty = λ e. absurd (search (rules, e));
-      ended = λ _. next_end g.I.Contents.holds (received s.consumer) (received c.wait_message.new.consumer) (in_order (received s.consumer) (received c.wait_message.new.consumer) c.in-Some.message (End) c.in-Some.ensures.order c.in-End.is) (subst (MayFollow g.I.Contents.holds (received s.consumer)) c.in-End.is c.in-Some.ensures.allowed);
+      ended = λ _. next_end g.I.Contents.holds (received s.consumer) (received c.wait_message.new.consumer) (in_order (received s.consumer) (received c.wait_message.new.consumer) c.in-Some.message (End) c.in-Some.ensures.order c.in-End.is) (subst (MayFollow g.I.Contents.holds g.I.Contents.refuses (received s.consumer)) c.in-End.is c.in-Some.ensures.allowed);
     }
 
 pub returns-in_default-clause-stands : goal.returns-in_default-clause-stands
