@@ -4,3 +4,4 @@ pub mod Words
 pub mod Options
 pub mod Jobs
 pub mod Refusals
+pub mod Explanations

@@ -1,11 +1,21 @@
 //! Why settings aren't allowed: the option, or the entry of a ladder, that is outside its limits.
+ghost use Rattle.std.specs.Prelude.{◌≡◌, Decides, IfOk, Some, false, true};
+ghost use Rattle.std.specs.Fmt.{DisplaysOnOk};
+ghost use Rattle.commands.specs.Defaults.{numbers_of};
+ghost use Rattle.commands.specs.Pools.{pool_of};
+ghost use Rattle.commands.specs.Ranges.{AreWithin};
+ghost use Rattle.command_line.specs.Explanations.{MayBeSide, TellsFirstOutside, option_word, outside_text, range_text};
+
 use commands::{NumberWords, PoolWords, Ranged, cut_entry, first_outside};
 use limits::{MOST_PIXELS, MOST_RENDITIONS};
 use playlist_text::{is_codecs, is_name};
 use std::fmt;
 
 /// The option, its range and its unit.
-fn range_of(option: Ranged) -> (&'static str, &'static str) {
+fn range_of(option: Ranged) -> (&'static str, &'static str)
+    ensures option { result.0.now ≡ option_word option }
+    ensures range { result.1.now ≡ range_text option }
+{
     match option {
         Ranged::Target => ("--target", "1 to 3600 seconds"),
         Ranged::Segment => ("--segment", "1 second to the target"),
@@ -22,16 +32,26 @@ fn range_of(option: Ranged) -> (&'static str, &'static str) {
     }
 }
 
+/// Writes that this option is outside its range.
+fn write_option<W: fmt::Write>(f: &mut fmt::Formatter<W>, option: Ranged) -> fmt::Result
+    ensures { DisplaysOnOk W.write_str_gives f.old result (Some (outside_text option)) f.new }
+{
+    let (name, range) = range_of(option);
+    write!(f, "{name} is outside its range, {range}")
+}
+
 /// Writes which option is outside its range, and answers whether one is.
 pub(crate) fn write_outside<W: fmt::Write>(
     f: &mut fmt::Formatter<W>,
     numbers: NumberWords,
     pool: PoolWords,
-) -> Result<bool, fmt::Error> {
+) -> Result<bool, fmt::Error>
+    ensures some { IfOk result (λ told. told ≡ true → TellsFirstOutside W.write_str_gives (numbers_of numbers) (pool_of pool) f.old f.new) }
+    ensures none { IfOk result (λ told. told ≡ false → AreWithin (numbers_of numbers) (pool_of pool)) }
+{
     match first_outside(&numbers.numbers(), pool.pool()) {
         Some(option) => {
-            let (name, range) = range_of(option);
-            write!(f, "{name} is outside its range, {range}")?;
+            write_option(f, option)?;
             Ok(true)
         }
         None => Ok(false),
@@ -39,7 +59,9 @@ pub(crate) fn write_outside<W: fmt::Write>(
 }
 
 /// Whether a side of a size has 1 to 16,384 pixels, if it is a number.
-fn is_side(text: &str) -> bool {
+fn is_side(text: &str) -> bool
+    ensures { Decides result (MayBeSide text.now) }
+{
     match text.parse::<u64>() {
         Ok(pixels) => 1 <= pixels && pixels <= MOST_PIXELS,
         Err(_) => true,
