@@ -23,7 +23,7 @@ use Rattle.command_line.specs.declared.job.LadderJob.{LadderJob}
 use Rattle.packing.specs.FolderPacking.{LeavesPlayable, folder_run}
 use Rattle.packing.specs.LadderPacking.{LadderSays}
 use Rattle.packing.specs.declared.destination.Destination.{Destination}
-use Rattle.removal.specs.Removing.{LeavesKept, kept_run, new_keeping}
+use Rattle.removal.specs.Removing.{AreAllCleared, LeavesKept, kept_run, new_keeping}
 use Rattle.removal.specs.Retaining.{AreKeptFor}
 use Rattle.program.specs.declared.ladder.LadderOutlet.{LadderOutlet}
 use Rattle.program.specs.declared.ladder.LadderOutlet.TheVariants.{Pruned, Whole}
@@ -79,4 +79,5 @@ pub record IsPrunedRun {R : Type 0} (left : List (Option (List ℕ))) (job : Lad
   pub same : Stay kept outlet.renditions
   pub leaves : LeavesKept job.options.settings into.syncs (file_moves outlet.files.folder) outlet.renditions
   pub unlisted : OnOk run.answer (NoneIsListed (file_moves outlet.files.folder) outlet.renditions)
+  pub cleared : OnOk run.answer (AreAllCleared job.options.settings outlet.missed outlet.renditions)
   pub ends : EndsSo (kept_run ahead_input file_moves READS inputs run.sources.items (new_keeping into kept) outlet) job held held_then run.answer

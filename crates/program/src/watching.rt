@@ -3,6 +3,7 @@ ghost use Rattle.std.specs.Prelude.{◌≡◌, ◌<◌, ℕ, [], IfOk, IfSome, I
 ghost use Rattle.std.specs.Prelude.{fold, length, map, option_copied, option_map, replicate};
 ghost use Rattle.std.specs.String.{string_bytes};
 ghost use Rattle.metrics.specs.Seens.{unseen};
+ghost use Rattle.read_ahead.specs.Sources.{inputs_of};
 ghost use Rattle.program.specs.Asked.{input_sample};
 ghost use Rattle.program.specs.Faulted.{last_fault, name_of, named_in, rendition_of};
 ghost use Rattle.program.specs.Metered.{IsMetered, seen_then};
@@ -120,7 +121,13 @@ impl Writer {
         alloc: Global,
         glance: &Glance,
         fault: Option<PackFault>,
-    ) {
+    )
+        // It stays the writer of this run.
+        ensures kept { self.new ≡ record self.old { seen = self.new.seen; has_told = self.new.has_told } }
+
+        // What was told once stays told.
+        ensures told { self.old.has_told ≡ true → self.new.has_told ≡ true }
+    {
         let written = match self.text(rt, alloc, glance, fault) {
             Ok(text) => replace(rt, alloc, &self.path, &text),
             Err(_) => Err(io::Error::from(io::ErrorKind::OutOfMemory)),
@@ -207,6 +214,9 @@ impl Writer {
         alloc: Global,
     ) -> Result<Vec<InputSample>, AllocError>
         ensures none { self.now.inputs ≡ None → IfOk result (λ all. all.items ≡ []) }
+
+        // There is one of each input.
+        ensures some { IfOk result (λ all. IfSome self.now.inputs (λ inputs. length all.items ≡ inputs_of inputs)) }
         ensures scarce { OnErr result (IsSome self.now.inputs) }
     {
         match &self.inputs {

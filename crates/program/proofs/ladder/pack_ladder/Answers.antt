@@ -28,6 +28,7 @@ returns-then-job g c =
         same = p.same;
         leaves = p.killed;
         unlisted = told-on _ c.pack_and_remove-sources.result.answer e.result e.ensures.fault p.unlisted;
+        cleared = told-on _ c.pack_and_remove-sources.result.answer e.result e.ensures.fault p.cleared;
         ends = record {
           old = c.in_ok-publisher.publisher.list;
           new = _;
