@@ -1,4 +1,5 @@
 //! Lines that are written in another way, left out or doubled.
+use crate::asserts::assert_same;
 use crate::texts::{EVENT, MEDIA, SALTED, fault_changed};
 use media_reading::ListFault;
 use std::alloc::{AllocError, Global};
@@ -93,7 +94,8 @@ fn lines_in_another_way(rt: HostRuntime) -> Result<(), Fail> {
         (SALTED, OF_SALTED.as_slice()),
         (EVENT, OF_EVENT.as_slice()),
     ] {
-        assert_eq!(rt; first_other(rt.alloc(), text, rows)?, None, "{text}");
+        let other = first_other(rt.alloc(), text, rows)?;
+        assert_same(&rt, text, other, None);
     }
     Ok(())
 }
@@ -119,6 +121,7 @@ fn first_line_told_otherwise(alloc: Global) -> Result<Option<usize>, AllocError>
 
 #[test]
 fn each_line_left_out_and_twice(rt: HostRuntime) -> Result<(), Fail> {
-    assert_eq!(rt; first_line_told_otherwise(rt.alloc())?, None);
+    let other = first_line_told_otherwise(rt.alloc())?;
+    assert_same(&rt, "each line left out and twice", other, None);
     Ok(())
 }

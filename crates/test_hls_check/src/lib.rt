@@ -2,6 +2,8 @@
 #![tactic(auto)]
 
 #[cfg(test)]
+mod asserts;
+#[cfg(test)]
 mod changed_tests;
 #[cfg(test)]
 mod reading_tests;

@@ -1,4 +1,5 @@
 //! What is read of texts.
+use crate::asserts::assert_same;
 use crate::texts::{EVENT, MEDIA, SALT, SALTED, changed, fault};
 use media_reading::{ListFault, Listing, read_media};
 use std::alloc::{AllocError, Global};
@@ -122,7 +123,7 @@ const TEXTS: [(&str, &str, Read); 5] = [
 #[test]
 fn texts_are_read(rt: HostRuntime) -> Result<(), Fail> {
     for (text, name, told) in TEXTS {
-        assert_eq!(rt; read(rt.alloc(), text, name), Ok(told), "{text}");
+        assert_same(&rt, text, read(rt.alloc(), text, name), Ok(told));
     }
     Ok(())
 }
@@ -154,7 +155,8 @@ fn an_event_by_its_line_alone(rt: HostRuntime) -> Result<(), Fail> {
         (EVENT, &[], (true, (6, 0, 0), (false, false), None, ENTRIES)),
     ];
     for (text, sixth, told) in table {
-        assert_eq!(rt; read_changed(rt.alloc(), text, sixth)?, Ok(told), "{text}");
+        let came = read_changed(rt.alloc(), text, sixth)?;
+        assert_same(&rt, text, came, Ok(told));
     }
     Ok(())
 }
@@ -176,16 +178,12 @@ fn told_of_ends(alloc: Global) -> Result<[Option<ListFault>; 3], AllocError> {
 
 #[test]
 fn texts_that_end_in_another_way(rt: HostRuntime) -> Result<(), Fail> {
-    assert_eq!(rt;
-        told_of_ends(rt.alloc())?,
-        [11, 12, 13].map(|line| Some(ListFault::NotProfile(line)))
-    );
+    for (told, line) in told_of_ends(rt.alloc())?.into_iter().zip([11, 12, 13]) {
+        assert_same(&rt, "an end", told, Some(ListFault::NotProfile(line)));
+    }
     for text in ["", "\u{feff}#EXTM3U\n", "#EXTM3U\r\n"] {
-        assert_eq!(rt;
-            fault(rt.alloc(), text),
-            Some(ListFault::NotProfile(1)),
-            "{text}"
-        );
+        let told = fault(rt.alloc(), text);
+        assert_same(&rt, text, told, Some(ListFault::NotProfile(1)));
     }
     Ok(())
 }
@@ -210,6 +208,7 @@ fn first_end_told_otherwise(alloc: Global) -> Result<Option<usize>, AllocError> 
 
 #[test]
 fn texts_that_end_early(rt: HostRuntime) -> Result<(), Fail> {
-    assert_eq!(rt; first_end_told_otherwise(rt.alloc())?, None);
+    let other = first_end_told_otherwise(rt.alloc())?;
+    assert_same(&rt, "texts that end early", other, None);
     Ok(())
 }

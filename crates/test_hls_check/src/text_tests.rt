@@ -1,3 +1,4 @@
+use crate::asserts::assert_same;
 use crate::texts::MEDIA;
 use media_reading::{Entry, Listing, read_media};
 use playlist_text::{
@@ -106,6 +107,7 @@ fn told_of_bytes(alloc: Global) -> Result<(u64, Option<usize>), AllocError> {
 /// point, or with one of all seven of the second duration.
 #[test]
 fn each_byte_in_another_way(rt: HostRuntime) -> Result<(), Fail> {
-    assert_eq!(rt; told_of_bytes(rt.alloc())?, (16, None));
+    let told = told_of_bytes(rt.alloc())?;
+    assert_same(&rt, "each byte in another way", told, (16, None));
     Ok(())
 }

@@ -1,4 +1,5 @@
 //! What the segments of a playlist unpack to.
+use crate::asserts::assert_same;
 use crate::texts::{MEDIA, SALT, SALTED};
 use aes_cbc::{Key, seal};
 use fixture_standard_stream::{
@@ -316,13 +317,15 @@ fn first_other(alloc: Global, cases: &[Case]) -> Result<Option<usize>, AllocErro
 
 #[test]
 fn segments_unpack(rt: HostRuntime) -> Result<(), Fail> {
-    assert_eq!(rt; first_other(rt.alloc(), &UNPACKED)?, None);
+    let other = first_other(rt.alloc(), &UNPACKED)?;
+    assert_same(&rt, "segments unpack", other, None);
     Ok(())
 }
 
 #[test]
 fn segments_that_do_not_unpack(rt: HostRuntime) -> Result<(), Fail> {
-    assert_eq!(rt; first_other(rt.alloc(), &FAULTS)?, None);
+    let other = first_other(rt.alloc(), &FAULTS)?;
+    assert_same(&rt, "segments that don't unpack", other, None);
     Ok(())
 }
 
@@ -374,7 +377,8 @@ fn checked(
 #[test]
 fn playlists_and_their_segments(rt: HostRuntime) -> Result<(), Fail> {
     for (text, segments, told) in TEXTS {
-        assert_eq!(rt; checked(rt.alloc(), text, segments)?, told);
+        let came = checked(rt.alloc(), text, segments)?;
+        assert_same(&rt, text, came, told);
     }
     Ok(())
 }

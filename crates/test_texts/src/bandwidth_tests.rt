@@ -1,6 +1,6 @@
 ghost use Rattle.std.specs.Prelude.{◌≤◌, ◌<◌, ◌^◌, length};
 
-use crate::fixtures::assert_same;
+use crate::asserts::assert_same;
 use bandwidth::{Meter, Peak};
 use std::alloc::{AllocError, Global};
 use std::process::Abort;

@@ -1,19 +1,9 @@
-use std::fmt::Debug;
+use crate::asserts::assert_same;
 use std::process::Abort;
-
-/// Fails unless a case gave what was wanted.
-pub(crate) fn assert_same<C: Copy + Debug, T: Copy + Debug + PartialEq>(
-    rt: &impl Abort,
-    case: C,
-    came: T,
-    wanted: T,
-) {
-    assert_eq!(rt; came, wanted, "{case:?}");
-}
 
 /// Fails unless a text is this one.
 pub(crate) fn assert_text(rt: &impl Abort, text: &str, wanted: &str) {
-    assert_eq!(rt; text, wanted);
+    assert_same(rt, "text", text, wanted);
 }
 
 /// A salt of the bytes from F0 on.

@@ -1,4 +1,5 @@
-use crate::fixtures::{assert_same, assert_text};
+use crate::asserts::assert_same;
+use crate::fixtures::assert_text;
 use crate::items::{items, media, put_all};
 use folder::{FileFolder, Folder, FolderFault, MemoryFolder, StagedFile, roll_forward};
 use item_io::{FolderOutlet, Item};

@@ -11,7 +11,7 @@ fn segment(alloc: Global) -> Result<Item, AllocError> {
         rendition: 0,
         number: 7,
         name,
-        bytes: vec![in alloc; 0x00, 0x47, 0xAB, 0xFF]?,
+        bytes: Vec::from_slice(alloc, b"\x00\x47\xAB\xFF")?,
     })
 }
 

@@ -1,6 +1,6 @@
 ghost use Rattle.std.specs.Prelude.{◌≤◌, IfOk};
 
-use crate::fixtures::assert_same;
+use crate::asserts::assert_same;
 use crate::items::put_items;
 use item_io::{Item, LineOutlet, Outlet};
 use std::alloc::{AllocError, Global};
@@ -15,7 +15,7 @@ frames v.iframes.m3u8 1\n#EXTM3U\n\
 master master.m3u8 2\n#EXTM3U\n#EXT-X-VERSION:4\n";
 
 /// What goes wrong with a writer.
-#[derive(Clone, Copy, PartialEq, Eq)]
+#[derive(Clone, Copy)]
 enum Trouble {
     /// The write behind this many bytes fails; it would take all that come later.
     FullOnce(usize),

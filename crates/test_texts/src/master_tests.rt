@@ -1,7 +1,8 @@
 ghost use Rattle.std.specs.Prelude.{◌≡◌, IfOk, map};
 ghost use Rattle.std.specs.String.{string_bytes};
 
-use crate::fixtures::{assert_same, assert_text};
+use crate::asserts::assert_same;
+use crate::fixtures::assert_text;
 use crate::name_tests::{LONGER_CODECS, LONGEST_CODECS};
 use master_playlist::{MasterFault, Variant, master_text};
 use std::alloc::{AllocError, Global};

@@ -1,4 +1,4 @@
-use crate::fixtures::assert_same;
+use crate::asserts::assert_same;
 use playlist_text::{is_codecs, is_name};
 
 /// 64 bytes.

@@ -1,4 +1,5 @@
-use crate::fixtures::{SALT, assert_same};
+use crate::asserts::assert_same;
+use crate::fixtures::SALT;
 use playlist_text::{micros, salted_vector, vector};
 
 #[test]

@@ -1,4 +1,4 @@
-use crate::fixtures::assert_same;
+use crate::asserts::assert_same;
 use crate::items::{items, put_items};
 use item_io::{FailingOutlet, Item, MemoryOutlet};
 use std::alloc::{AllocError, Global};

@@ -1,6 +1,6 @@
 //! Tests of how long segments are kept.
 
-use crate::fixtures::assert_same;
+use crate::asserts::assert_same;
 use retention::Retention;
 use std::alloc::{AllocError, Global};
 use std::process::Abort;

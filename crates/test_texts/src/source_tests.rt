@@ -1,6 +1,6 @@
 ghost use Rattle.std.specs.Prelude.{◌≡◌};
 
-use crate::fixtures::assert_same;
+use crate::asserts::assert_same;
 use item_io::{FailingReader, ReaderSource, Source};
 use std::alloc::{AllocError, Global};
 use std::io;

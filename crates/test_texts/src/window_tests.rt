@@ -1,6 +1,6 @@
 //! What a window lists as rows come, and rows that it refuses.
 
-use crate::fixtures::assert_same;
+use crate::asserts::assert_same;
 use crate::windows::{
     Kind, assert_begins, assert_both_begin, first_frame, give, give_frames, give_two, window_of,
 };

@@ -1,4 +1,5 @@
-use crate::fixtures::{SALT, assert_same};
+use crate::asserts::assert_same;
+use crate::fixtures::SALT;
 use media_playlist::{FrameRow, Row, Window, WindowFault};
 use std::alloc::{AllocError, Global};
 use std::process::Abort;
