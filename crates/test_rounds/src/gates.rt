@@ -4,7 +4,7 @@ use std::sync::atomic::{AtomicU64, Ordering};
 use work_desk::Gate;
 
 /// How often a gate looks for what comes before it holds a segment.
-pub(crate) const TURNS: u64 = 10_000_000;
+pub(crate) const TURNS: u64 = 500_000_000;
 
 /// A gate at which the first segments wait for each other, with its record.
 #[derive(Drop)]

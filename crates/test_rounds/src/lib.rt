@@ -1,8 +1,11 @@
-//! Tests of `rounds`: whole runs on many threads, their gates, their stops and their viewers.
+//! Tests of `rounds` and of `live_board`: whole runs on many threads, their gates, their stops and their viewers, and what the
+//! viewers of a board see beside a publisher in another thread.
 #![tactic(auto)]
 
 #[cfg(test)]
 mod asserts;
+#[cfg(test)]
+mod board_tests;
 #[cfg(test)]
 mod fixtures;
 #[cfg(test)]

@@ -1,3 +1,5 @@
+//! Boards whose viewers look alone, and beside a publisher in another thread.
+
 ghost use Rattle.std.specs.Prelude.{◌≡◌, ◌++◌, ◌∷◌, [], OnOk, OnErr};
 
 use crate::asserts::assert_same;
