@@ -109,15 +109,19 @@ fn push_entry(
     push_segment_lines(alloc, name, entry, text)
 }
 
+/// Adds the line of a number.
+fn push_number(alloc: Global, tag: &str, number: u64, text: &mut String) -> Result<(), AllocError> {
+    let line = format!(in alloc; "#EXT-X-{tag}:{number}\n")?;
+    text.push_str(line.as_str())
+}
+
 /// Adds the lines that a playlist begins with.
 fn push_head(alloc: Global, listing: &Listing, text: &mut String) -> Result<(), AllocError> {
-    let target = listing.target;
-    let sequence = listing.sequence;
     let count = listing.discontinuity_sequence;
     text.push_str("#EXTM3U\n#EXT-X-VERSION:4\n")?;
-    text.push_str(format!(in alloc; "#EXT-X-TARGETDURATION:{target}\n")?.as_str())?;
-    text.push_str(format!(in alloc; "#EXT-X-MEDIA-SEQUENCE:{sequence}\n")?.as_str())?;
-    text.push_str(format!(in alloc; "#EXT-X-DISCONTINUITY-SEQUENCE:{count}\n")?.as_str())
+    push_number(alloc, "TARGETDURATION", listing.target, text)?;
+    push_number(alloc, "MEDIA-SEQUENCE", listing.sequence, text)?;
+    push_number(alloc, "DISCONTINUITY-SEQUENCE", count, text)
 }
 
 /// Adds the text of a playlist whose name needs no escapes.

@@ -2,7 +2,7 @@
 use crate::asserts::assert_same;
 use crate::back::{first_lost, has_one_meaning_changed};
 use crate::run::{
-    CUT, PLAY, Play, WELL, Ways, are_sizes, last_frames, last_media, played_each_way, values,
+    CUT, PLAY, Play, WELL, Ways, are_sizes, has_values, last_frames, last_media, played_each_way,
 };
 use crate::stream::Video::{Key, Other};
 use crate::stream::{Change, TWO_SEGMENTS, Video};
@@ -198,10 +198,12 @@ fn wrong(
     if !are_sizes(items, wanted.sizes) {
         return Ok(Some("sizes"));
     }
-    if values(alloc, last_media(items), wanted.media.0)?.as_str() != wanted.media.1 {
+    let (tag, values) = wanted.media;
+    if !has_values(alloc, last_media(items), tag, values)? {
         return Ok(Some("media"));
     }
-    if values(alloc, last_frames(items), wanted.iframes.0)?.as_str() != wanted.iframes.1 {
+    let (tag, values) = wanted.iframes;
+    if !has_values(alloc, last_frames(items), tag, values)? {
         return Ok(Some("I-frames"));
     }
     if first_lost(alloc, items, 0, &[[0; 16]])?.is_some() {
@@ -327,7 +329,7 @@ fn faults_of_streams(rt: HostRuntime) -> Result<(), Fail> {
             ..PLAY
         };
         let told = told_of(&rt, rt.alloc(), &play)?;
-        assert_same(&rt, change, told, (Some(fault), 0));
+        assert_same(&rt, fault, told, (Some(fault), 0));
     }
     Ok(())
 }

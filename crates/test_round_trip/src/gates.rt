@@ -5,7 +5,7 @@ use crate::run::{CUT, PLAY, Play, WELL, played, settings};
 use crate::stream::Video::Key;
 use crate::stream::{Change, stream_of};
 use item_io::Item;
-use pipeline::PackFault;
+use pipeline::{PackFault, Settings};
 use std::alloc::Global;
 use std::sync::Wait;
 use std::sync::atomic::{AtomicU64, Ordering};
@@ -65,8 +65,20 @@ fn told_of_three<R: Threads + Wait + Sync>(
     let mut settings = settings(alloc, &["v"], 1, 1, CUT, 5)?;
     settings.queue = queue;
     let stream = stream_of(alloc, THREE.frames, Change::None)?;
+    told_under(rt, alloc, &settings, &stream, turns, whole)
+}
+
+/// The same under these settings.
+fn told_under<R: Threads + Wait + Sync>(
+    rt: &R,
+    alloc: Global,
+    settings: &Settings,
+    stream: &[u8],
+    turns: u64,
+    whole: &[Item],
+) -> Result<(Option<PackFault>, usize, bool), Fail> {
     let gate = LastFirst::new(turns);
-    let ran = run_on(rt, alloc, &[&stream], WELL, &settings, 3, &gate)?;
+    let ran = run_on(rt, alloc, &[stream], WELL, settings, 3, &gate)?;
     let (fault, count) = ran.told();
     Ok((fault, count, whole.starts_with(ran.outlet.items())))
 }

@@ -2,8 +2,8 @@
 use crate::asserts::assert_same;
 use crate::back::{first_lost, is_whole};
 use crate::run::{
-    CUT, PLAY, Play, Ran, WELL, last_master, last_media, played_each_way, run_each_way, settings,
-    values,
+    CUT, PLAY, Play, Ran, WELL, has_values, last_master, last_media, played_each_way, run_each_way,
+    settings,
 };
 use crate::stream::Video::{Key, Other};
 use crate::stream::{Change, TWO_SEGMENTS, Video, stream_of};
@@ -39,9 +39,7 @@ pub fn packed_alike<R: Threads + Wait + Sync>(
 
 /// Whether two renditions have this master playlist, the last media playlist lists both segments, and all comes back.
 fn are_two(alloc: Global, items: &[Item]) -> Result<(bool, bool, bool), AllocError> {
-    let segments = values(alloc, last_media(items), "hd%201.")?;
-    let lists = segments.as_str() == "0.ts 1.ts ";
-    drop(segments);
+    let lists = has_values(alloc, last_media(items), "hd%201.", "0.ts 1.ts ")?;
     let first = first_lost(alloc, items, 0, &[[0; 16]])?;
     let second = first_lost(alloc, items, 1, &[[0; 16]])?;
     Ok((
@@ -94,11 +92,9 @@ const FIVE: &[Video] = &[
 fn have_turns(alloc: Global, ran: &Ran) -> Result<(bool, bool), AllocError> {
     let whole = is_whole(alloc, ran, 22, &[[0; 16], [1; 16]])?;
     let media = last_media(ran.outlet.items());
-    let keys = values(alloc, media, "#EXT-X-KEY:METHOD=AES-128,URI=")?;
-    Ok((
-        whole,
-        keys.as_str() == "\"v.0.key\" \"v.1.key\" \"v.0.key\" ",
-    ))
+    let tag = "#EXT-X-KEY:METHOD=AES-128,URI=";
+    let keys = "\"v.0.key\" \"v.1.key\" \"v.0.key\" ";
+    Ok((whole, has_values(alloc, media, tag, keys)?))
 }
 
 #[test]

@@ -1,12 +1,14 @@
 //! Runs that go on behind earlier ones.
 use crate::asserts::assert_same;
-use crate::run::{CUT, WELL, last_frames, last_master, last_media, rendition, run_beside};
+use crate::run::{CUT, Ran, WELL, last_frames, last_master, last_media, rendition, run_beside};
 use crate::stream::{Change, TWO_SEGMENTS, stream_of};
 use hls_check::check;
 use item_io::Item;
 use pipeline::{FrameRow, Gone, Kind, PackFault, Rendition, Row, Settings, seen_number};
 use std::alloc::{AllocError, Global};
+use std::sync::Wait;
 use std::test::Fail;
+use std::thread::Threads;
 
 /// Seven segments came before, of twenty I-frames, three of them discontinuities.
 const GONE: Gone = Gone {
@@ -32,6 +34,16 @@ fn settings(alloc: Global) -> Result<Settings, Fail> {
         window: 5,
         queue: 4,
     })
+}
+
+/// What one thread makes of two segments under these settings, where two workers make the same.
+fn packed<R: Threads + Wait + Sync>(
+    rt: &R,
+    alloc: Global,
+    settings: &Settings,
+) -> Result<Ran, Fail> {
+    let stream = stream_of(alloc, TWO_SEGMENTS, Change::None)?;
+    run_beside(rt, alloc, &[&stream], WELL, settings, &[2])
 }
 
 const MEDIA: &str = "#EXTM3U
@@ -89,9 +101,7 @@ fn come_back(alloc: Global, items: &[Item], from: u64, text: &str) -> Result<boo
 
 #[test]
 fn two_segments_behind_seven(rt: HostRuntime) -> Result<(), Fail> {
-    let settings = settings(rt.alloc())?;
-    let stream = stream_of(rt.alloc(), TWO_SEGMENTS, Change::None)?;
-    let ran = run_beside(&rt, rt.alloc(), &[&stream], WELL, &settings, &[2])?;
+    let ran = packed(&rt, rt.alloc(), &settings(rt.alloc())?)?;
     let items = ran.outlet.items();
     let back = come_back(rt.alloc(), items, 7, MEDIA)?;
     assert_same(
@@ -207,9 +217,7 @@ v.8.ts
 
 #[test]
 fn two_segments_behind_two_that_are_listed(rt: HostRuntime) -> Result<(), Fail> {
-    let settings = listed_settings(rt.alloc())?;
-    let stream = stream_of(rt.alloc(), TWO_SEGMENTS, Change::None)?;
-    let ran = run_beside(&rt, rt.alloc(), &[&stream], WELL, &settings, &[2])?;
+    let ran = packed(&rt, rt.alloc(), &listed_settings(rt.alloc())?)?;
     let items = ran.outlet.items();
     assert_same(
         &rt,

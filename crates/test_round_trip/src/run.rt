@@ -313,7 +313,7 @@ pub fn last_master(items: &[Item]) -> &str {
 }
 
 /// What stands behind this tag, a space behind each.
-pub fn values(alloc: Global, text: &str, tag: &str) -> Result<String, AllocError> {
+fn values(alloc: Global, text: &str, tag: &str) -> Result<String, AllocError> {
     let mut values = String::new(alloc);
     for line in text.lines() {
         if let Some(value) = line.strip_prefix(tag) {
@@ -322,4 +322,10 @@ pub fn values(alloc: Global, text: &str, tag: &str) -> Result<String, AllocError
         }
     }
     Ok(values)
+}
+
+/// Whether this is what stands behind this tag.
+pub fn has_values(alloc: Global, text: &str, tag: &str, wanted: &str) -> Result<bool, AllocError> {
+    let values = values(alloc, text, tag)?;
+    Ok(values.as_str() == wanted)
 }

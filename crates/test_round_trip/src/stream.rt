@@ -86,7 +86,7 @@ pub const TWO_SEGMENTS: &[Video] = &[
 ];
 
 /// What is done to a stream before it is packed.
-#[derive(Clone, Copy, Debug)]
+#[derive(Clone, Copy)]
 pub enum Change {
     None,
     /// Five bytes of no packet stand before it.

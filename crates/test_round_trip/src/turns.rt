@@ -1,7 +1,7 @@
 //! In which order renditions have their turns, and what a fault of one leaves of the others.
 use crate::asserts::assert_same;
 use crate::back::first_lost;
-use crate::run::{CUT, WELL, Ways, last_media, run, run_each_way, settings, values};
+use crate::run::{CUT, WELL, Ways, has_values, last_media, run, run_each_way, settings};
 use crate::stream::Video::Key;
 use crate::stream::{Change, TWO_SEGMENTS, stream_of};
 use item_io::{FailingOutlet, Item, ReaderSource};
@@ -95,12 +95,11 @@ impl Read for PacketReader<'_> {
 }
 
 /// How many bytes of a stream aren't read, packet by packet, where put `n` fails.
-fn unread_at_put(alloc: Global, stream: &[u8], n: u64) -> Result<usize, Fail> {
-    let settings = settings(alloc, &["v"], 1, 1, CUT, 5)?;
+fn unread_at_put(alloc: Global, stream: &[u8], settings: &Settings, n: u64) -> Result<usize, Fail> {
     let mut sources = Vec::new(alloc);
     sources.push(ReaderSource::new(PacketReader { left: stream }))?;
     let mut outlet = FailingOutlet::new(alloc, n);
-    match pack_serial(alloc, &mut sources, &settings, &mut outlet) {
+    match pack_serial(alloc, &mut sources, settings, &mut outlet) {
         Err(PackFault::Outlet) => {}
         _ => return Err(Fail::from("another answer")),
     }
@@ -115,11 +114,11 @@ fn unread_at_put(alloc: Global, stream: &[u8], n: u64) -> Result<usize, Fail> {
 #[test]
 fn items_are_put_at_once(rt: HostRuntime) -> Result<(), Fail> {
     let stream = stream_of(rt.alloc(), TWO_SEGMENTS, Change::None)?;
-    for n in 1..5 {
-        assert_same(&rt, ("put", n), unread_at_put(rt.alloc(), &stream, n)?, 188);
-    }
-    for n in 5..11 {
-        assert_same(&rt, ("put", n), unread_at_put(rt.alloc(), &stream, n)?, 0);
+    let settings = settings(rt.alloc(), &["v"], 1, 1, CUT, 5)?;
+    for n in 1..11 {
+        let unread = unread_at_put(rt.alloc(), &stream, &settings, n)?;
+        let wanted = if n < 5 { 188 } else { 0 };
+        assert_same(&rt, ("put", n), unread, wanted);
     }
     Ok(())
 }
@@ -129,8 +128,8 @@ fn b_is_whole(alloc: Global, items: &[Item]) -> Result<bool, AllocError> {
     let media = last_media(items);
     Ok(
         items.len() == 4 + 10
-            && values(alloc, media, "b.")?.as_str() == "0.ts 1.ts "
-            && values(alloc, media, "#EXT-X-ENDLIST")?.as_str() == " ",
+            && has_values(alloc, media, "b.", "0.ts 1.ts ")?
+            && has_values(alloc, media, "#EXT-X-ENDLIST", " ")?,
     )
 }
 

@@ -1,4 +1,5 @@
-//! Tests of what goes out: attributes and numbers, media and master playlists, bandwidth, items.
+//! Tests of what goes out: attributes and numbers, media and master playlists, bandwidth, items; and of segments that go once no
+//! player can want them.
 #![tactic(auto)]
 
 #[cfg(test)]
@@ -10,7 +11,13 @@ mod fixtures;
 #[cfg(test)]
 mod folder_tests;
 #[cfg(test)]
+mod going_tests;
+#[cfg(test)]
 mod items;
+#[cfg(test)]
+mod keeping_runs;
+#[cfg(test)]
+mod lasting_tests;
 #[cfg(test)]
 mod line_tests;
 #[cfg(test)]
@@ -25,6 +32,8 @@ mod number_tests;
 mod outlet_tests;
 #[cfg(test)]
 mod pushed_tests;
+#[cfg(test)]
+mod resumed_tests;
 #[cfg(test)]
 mod retention_tests;
 #[cfg(test)]

@@ -1,7 +1,7 @@
 ghost use Rattle.std.specs.Prelude.{◌≡◌};
 
 use crate::asserts::assert_same;
-use crate::fixtures::{Job, Told, run};
+use crate::desk_runs::{Job, Told, run};
 use cutter::PlanRef;
 use fixture_standard_stream::plans;
 use std::alloc::Global;

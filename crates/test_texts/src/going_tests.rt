@@ -1,6 +1,8 @@
 //! Which segments stand behind which block.
 use crate::asserts::assert_same;
-use crate::stream::{Put, folder_of, outlet, push_block, push_end, push_lists, put_all, standing};
+use crate::keeping_runs::{
+    Put, folder_of, outlet, push_block, push_end, push_lists, put_all, standing,
+};
 use item_io::Item;
 use std::alloc::{AllocError, Global};
 use std::test::Fail;

@@ -1,4 +1,4 @@
-use Rattle.test_work_desk.proofs.tests.fed.Given as goal
+use Rattle.test_rounds.proofs.desk_tests.fed.Given as goal
 
 abbrev pub ghosts-fed_with-L-Ledger : goal.ghosts-fed_with-L-Ledger
 ghosts-fed_with-L-Ledger g a = record { name = a.claims.name; parts = a.claims.parts }

@@ -1,5 +1,5 @@
 use Rattle.std.proofs.Common.{◌≤◌}
-use Rattle.test_keeping.proofs.stream.put_all.Given as goal
+use Rattle.test_texts.proofs.keeping_runs.put_all.Given as goal
 
 abbrev pub invariant-loop-item : goal.invariant-loop-item
 invariant-loop-item g l = record {

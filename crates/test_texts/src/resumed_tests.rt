@@ -2,7 +2,7 @@
 ghost use Rattle.std.specs.Prelude.{◌≡◌, IfOk};
 
 use crate::asserts::assert_same;
-use crate::stream::{Files, Put, folder_of, push_block, put_all, standing};
+use crate::keeping_runs::{Files, Put, folder_of, push_block, put_all, standing};
 use folder::{Folder, MemoryFolder, PruningFolder};
 use item_io::{FolderOutlet, Item};
 use keeping::{Behind, Keeping, KeepingOutlet};
