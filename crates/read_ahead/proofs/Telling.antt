@@ -1,5 +1,5 @@
 -- What a thread told of an input, and what is left of it.
-use Rattle.std.proofs.Common.{◌≡◌, ◌<◌, not, ◌++◌, ◌∷◌, [], ℕ, List, length, drop, true, false, Option, arith, sym, ap, ◌∙◌, append_assoc, append-nil, refl, subst, ap₂, Vec, Global}
+use Rattle.std.proofs.Common.{◌≡◌, ◌<◌, ◌≤◌, ◌⊎◌, inl, inr, not, ◌++◌, ◌∷◌, [], ℕ, List, length, drop, true, false, Option, arith, sym, ap, ◌∙◌, append_assoc, append-nil, refl, subst, ap₂, Vec, Global}
 use Rattle.std.proofs.lemmas.List.{length-append}
 use Rattle.std.proofs.lemmas.Bool.{and_from, and_parts}
 use Rattle.std.specs.Io.KnownBytes.{Consumes, IsAtEnd, prepend_known}
@@ -7,6 +7,9 @@ use Rattle.std.specs.Option.{option_map}
 use Rattle.read_ahead.specs.declared.message.Message.{Message}
 use Rattle.read_ahead.specs.declared.message.Message.TheVariants.{Asked, Opened, Bytes, End, Failed, Refused}
 use Rattle.read_ahead.specs.Messages.{bytes_of, is_last, joined, goes_on, held, untold, Asks, AsksFor, IsFirst, RefusedBy, MayRefuse, IsOpen, Tells, MayTell, MayEnd}
+use Rattle.read_ahead.specs.Sources.{StandsByLast, TakesNext, going_by}
+use Rattle.read_ahead.specs.declared.incoming.Phase.{Phase}
+use Rattle.read_ahead.specs.declared.incoming.Phase.TheVariants as phase
 use Rattle.read_ahead.proofs.Streams.{consumes_none, consumes_on, begins, whole, left_front, none_left, prepend_nil, drop_used}
 
 module _ {I : Type 0} where
@@ -103,3 +106,24 @@ module _ {I : Type 0} where
   -- what was told last, by another name
   pub in_order : (told more : List (Message I)) (message x : Message I) → more ≡ told ++ message ∷ [] → message ≡ x → more ≡ told ++ x ∷ []
   in_order told more message x order is = order ∙ ap (λ (y : Message I). told ++ y ∷ []) is
+
+  -- behind those that were taken, the next one, or none
+  pub stands_on : (a b c : List (Message I)) (p q r : Phase) → StandsByLast a b p q → ((c ≡ b) × (r ≡ q)) ⊎ TakesNext going_by b c r → StandsByLast a c p r
+  stands_on a b c p q r (inl none) (inl same) = inl (same.0 ∙ none.0, same.1 ∙ none.1)
+  stands_on a b c p q r (inl none) (inr next) =
+      inr ([], (next.0, next.1 ∙ ap (λ (l : List (Message I)). l ++ next.0 ∷ []) (none.0 ∙ sym (append-nil a)), next.2))
+  stands_on a b c p q r (inr some) (inl same) = inr (some.0, (some.1.0, same.0 ∙ some.1.1, same.1 ∙ some.1.2))
+  stands_on a b c p q r (inr some) (inr next) =
+      inr (some.0 ++ some.1.0 ∷ [], (next.0, next.1 ∙ ap (λ (l : List (Message I)). l ++ next.0 ∷ []) (some.1.1 ∙ append_assoc a some.0 (some.1.0 ∷ [])), next.2))
+
+  -- or more was taken, of a list that is no shorter
+  or_more : (a b c : List (Message I)) (P : Type 0) → c ≡ b → P ⊎ (length a < length b) → P ⊎ (length a < length c)
+  or_more a b c P is (inl earlier) = inl earlier
+  or_more a b c P is (inr more) = inr (omega (arith, ap length is, more))
+
+  -- what has failed did so before, or more was taken
+  pub failed_on : (a b c : List (Message I)) (p q r : Phase) → length a ≤ length b → (q ≡ phase.Failed → (p ≡ phase.Failed) ⊎ (length a < length b))
+      → StandsByLast b c q r → r ≡ phase.Failed → (p ≡ phase.Failed) ⊎ (length a < length c)
+  failed_on a b c p q r grows first (inl same) failed = or_more a b c (p ≡ phase.Failed) same.0 (first (sym same.1 ∙ failed))
+  failed_on a b c p q r grows first (inr some) failed =
+      inr (omega (arith, grows, ap length some.1.1, length-append (b ++ some.0) (some.1.0 ∷ []), length-append b some.0))

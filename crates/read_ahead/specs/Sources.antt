@@ -64,6 +64,10 @@ TakesNext {I} phase_by before now phase = (message : Message I) × (now ≡ befo
 abbrev pub StandsBy : {I : Type 0} → (Message I → Phase) → List (Message I) → List (Message I) → Phase → Type 0
 StandsBy {I} phase_by before now phase = ((now ≡ before) × (phase ≡ Failed)) ⊎ TakesNext phase_by before now phase
 
+-- No message was taken, and an open input stands as it did; or some were, and it stands as the last of them says.
+abbrev pub StandsByLast : {I : Type 0} → List (Message I) → List (Message I) → Phase → Phase → Type 0
+StandsByLast {I} before now old new = ((now ≡ before) × (new ≡ old)) ⊎ ((more : List (Message I)) × TakesNext going_by (before ++ more) now new)
+
 -- for how long an input was waited for since then, in nanoseconds: nothing where no more of it is given, or it isn't waited for
 abbrev pub silence_of : Bool → Option Instant → Option Instant → ℕ
 silence_of true since now = 0

@@ -5,7 +5,7 @@ ghost use Rattle.std.specs.Arc.{arc_value};
 ghost use Rattle.std.specs.Io.KnownBytes.{Consumes, IsAtEnd, Keeps};
 ghost use Rattle.rtrb.specs.Ring.{known_items, received};
 ghost use Rattle.read_ahead.specs.Messages.{MayFollow};
-ghost use Rattle.read_ahead.specs.Sources.{IsSound, StandsBy, TakesNext, going_by, opened_by, rest_of};
+ghost use Rattle.read_ahead.specs.Sources.{IsSound, StandsBy, StandsByLast, TakesNext, going_by, opened_by, rest_of};
 ghost use Rattle.read_ahead.specs.declared.incoming.Phase.TheVariants.{Opening, Going, Ended, Failed};
 
 use crate::backlogs::Backlogs;
@@ -63,6 +63,7 @@ impl<I: Contents> Incoming<I> {
         ensures backlogs { self.new.backlogs ≡ self.old.backlogs }
         ensures same { rest_of I.holds self.new ≡ rest_of I.holds self.old }
         ensures phase { self.new.phase ≡ self.old.phase }
+        ensures kept { received self.new.consumer ≡ received self.old.consumer }
         ensures ready { (self.old.at < length self.old.front.items) ⊎ (self.old.phase ≡ Ended) ⊎ (self.old.phase ≡ Failed) → result ≡ true }
         ensures exact { result ≡ true → (self.old.at < length self.old.front.items) ⊎ (self.old.phase ≡ Ended) ⊎ (self.old.phase ≡ Failed)
             ⊎ (0 < length (known_items self.new.consumer)) }
@@ -86,6 +87,7 @@ impl<I: Contents> Incoming<I> {
             ⊎ StandsBy opened_by (received self.old.consumer) (received self.new.consumer) self.new.phase }
         ensures failed { self.new.phase ≡ Failed → result ≡ Some false }
         ensures waits { self.new.phase ≡ Opening → result ≡ (if was_awaited && self.old.may_wait then Some true else None) }
+        ensures empty { self.new.phase ≡ Opening → known_items self.new.consumer ≡ [] }
         ensures open { self.new.phase ≢ Opening → self.new.phase ≢ Failed → result ≡ Some true }
         ensures patient { (arc_value self.old.backlogs).stall ≡ None → self.new.phase ≡ Failed →
             (self.old.phase ≡ Failed) ⊎ (length (received self.old.consumer) < length (received self.new.consumer)) }
@@ -168,6 +170,8 @@ impl<I: Contents> Incoming<I> {
         ensures stands { StandsBy going_by (received self.old.consumer) (received self.new.consumer) self.new.phase }
         ensures patient { (arc_value self.old.backlogs).stall ≡ None →
             TakesNext going_by (received self.old.consumer) (received self.new.consumer) self.new.phase }
+        ensures ready { 0 < length (known_items self.old.consumer) →
+            TakesNext going_by (received self.old.consumer) (received self.new.consumer) self.new.phase }
     {
         let Some(message) = wait_message(rt, &self.backlogs, self.number, &mut self.consumer) else {
             return self.fail();
@@ -200,6 +204,7 @@ impl<I: Contents> Incoming<I> {
             ⊎ StandsBy going_by (received self.old.consumer) (received self.new.consumer) self.new.phase }
         ensures patient { (arc_value self.old.backlogs).stall ≡ None → self.new.phase ≡ Failed →
             (self.old.phase ≡ Failed) ⊎ (length (received self.old.consumer) < length (received self.new.consumer)) }
+        ensures grows { length (received self.old.consumer) ≤ length (received self.new.consumer) }
     {
         if matches!(self.phase, Phase::Opening) {
             self.wait_open(rt);
@@ -217,6 +222,8 @@ impl<I: Contents> Incoming<I> {
         ensures number { self.new.number ≡ self.old.number }
         ensures backlogs { self.new.backlogs ≡ self.old.backlogs }
         ensures phase { self.new.phase ≢ Opening }
+        ensures stays { self.new.phase ≡ self.old.phase }
+        ensures told { received self.new.consumer ≡ received self.old.consumer }
         ensures within { result ≤ length buffer.old }
         ensures some { self.old.at < length self.old.front.items → 0 < length buffer.old → 0 < result }
         ensures many { result ≡ min (length buffer.old) (length self.old.front.items - self.old.at) }
@@ -238,6 +245,8 @@ impl<I: Contents> Incoming<I> {
         ensures within { result ≤ length buffer.old }
         ensures some { self.old.at < length self.old.front.items → 0 < length buffer.old → 0 < result }
         ensures gave { Consumes (rest_of I.holds self.old) (rest_of I.holds self.new) (take result buffer.new) }
+        ensures stands { ((received self.new.consumer ≡ received self.old.consumer) × (self.new.phase ≡ self.old.phase))
+            ⊎ TakesNext going_by (received self.old.consumer) (received self.new.consumer) self.new.phase }
     {
         let count = self.take_front(buffer);
         if self.is_used_up() && !self.consumer.is_empty() {
@@ -259,6 +268,8 @@ impl<I: Contents> Incoming<I> {
         ensures failed { OnErr result (self.new.phase ≡ Failed) }
         ensures drained { OnErr result (self.new.at ≡ length self.new.front.items) }
         ensures ended { self.old.phase ≡ Ended → IsOk result }
+        ensures patient { (arc_value self.old.backlogs).stall ≡ None → self.new.phase ≡ Failed →
+            (self.old.phase ≡ Failed) ⊎ (length (received self.old.consumer) < length (received self.new.consumer)) }
     {
         self.go_on(rt);
         let share = self.backlogs.share(rt, self.number).min(buffer.len());
@@ -281,6 +292,7 @@ impl<I: Contents> Incoming<I> {
         ensures kept { OnErr result (Keeps (rest_of I.holds self.old) (rest_of I.holds self.new)) }
         ensures failed { OnErr result ((self.old.phase ≡ Failed) × (self.old.at ≡ length self.old.front.items)) }
         ensures same { OnErr result (self.new ≡ self.old) }
+        ensures stands { StandsByLast (received self.old.consumer) (received self.new.consumer) self.old.phase self.new.phase }
     {
         if self.at < self.front.len() {
             return Ok(self.fill(rt, buffer));
@@ -303,6 +315,7 @@ impl<I: Contents> Incoming<I> {
         ensures some { 0 < length buffer.new → 0 < result }
         ensures full { (result ≡ length buffer.new) ⊎ (length self.new.front.items ≤ self.new.at) }
         ensures gave { Consumes (rest_of I.holds self.old) (rest_of I.holds self.new) (take result buffer.new) }
+        ensures stands { StandsByLast (received self.old.consumer) (received self.new.consumer) self.old.phase self.new.phase }
     {
         let mut given = 0;
         while given < buffer.len() && self.at < self.front.len() {

@@ -1,5 +1,5 @@
 //! What the thread of an input does.
-ghost use Rattle.std.specs.Prelude.{◌≡◌, ◌<◌, Ok, length, IfOk};
+ghost use Rattle.std.specs.Prelude.{◌≡◌, ◌<◌, Ok, length, IfOk, OnErr};
 ghost use Rattle.std.specs.Io.KnownBytes.{IsAtEnd};
 ghost use Rattle.rtrb.specs.Ring.{sent};
 ghost use Rattle.read_ahead.specs.Messages.{Asks, IsOpen, Tells};
@@ -106,9 +106,12 @@ fn copy_by<R: Wait + Clock, I: Input>(
 
 /// A copy of these bytes.
 fn copy_of(alloc: Global, bytes: &[u8]) -> Result<Vec<u8>, AllocError>
-    ensures { IfOk result (λ block. block.items ≡ bytes.now) }
+    ensures ok { IfOk result (λ block. block.items ≡ bytes.now) }
+    ensures scarce { OnErr result (0 < length bytes.now) }
 {
-    bytes.to_vec(alloc)
+    let mut block = Vec::with_capacity(alloc, bytes.len())?;
+    block.extend_from_slice(bytes)?;
+    Ok(block)
 }
 
 /// Reads an input to its end or a failure.

@@ -10,13 +10,13 @@ pub send-requires : goal.send-requires
 send-requires g c =
     let remaining = g.I.Reader.Read.remaining in
     may_tell g.I.Contents.holds (sent c.loop.sender.producer) c.in-Ok.block.items (remaining c.loop.reader) (remaining c.read_some-read.new.reader) c.loop.invariant.1
-    (some_taken c.in_ok-count.count c.read_some-read.new.buffer c.in-Ok.block.items c.if-count-eq0.false c.in_ok-count.ensures.within c.in-Ok.ensures)
-    (subst (λ (bs : List ℕ). Consumes (remaining c.loop.reader) (remaining c.read_some-read.new.reader) bs) (sym c.in-Ok.ensures) c.in_ok-count.ensures.gave)
+    (some_taken c.in_ok-count.count c.read_some-read.new.buffer c.in-Ok.block.items c.if-count-eq0.false c.in_ok-count.ensures.within c.in-Ok.ensures.ok)
+    (subst (λ (bs : List ℕ). Consumes (remaining c.loop.reader) (remaining c.read_some-read.new.reader) bs) (sym c.in-Ok.ensures.ok) c.in_ok-count.ensures.gave)
 
 pub loop-preserved : goal.loop-preserved
 loop-preserved g c =
     let remaining = g.I.Reader.Read.remaining in (
       omega (arith, c.requires.room, c.loop.invariant.0),
       rw c.send.ensures (tells_more g.I.Contents.holds (sent c.loop.sender.producer) (Bytes c.in-Ok.block) (remaining c.loop.reader) (remaining c.read_some-read.new.reader) c.loop.invariant.1 refl
-          (subst (λ (bs : List ℕ). Consumes (remaining c.loop.reader) (remaining c.read_some-read.new.reader) bs) (sym c.in-Ok.ensures) c.in_ok-count.ensures.gave)),
+          (subst (λ (bs : List ℕ). Consumes (remaining c.loop.reader) (remaining c.read_some-read.new.reader) bs) (sym c.in-Ok.ensures.ok) c.in_ok-count.ensures.gave)),
     )

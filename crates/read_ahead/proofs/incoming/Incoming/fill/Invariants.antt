@@ -1,6 +1,7 @@
 use Rattle.std.proofs.Common.{length, take, ◌-◌, ◌≡◌, ◌≢◌, ◌<◌, ◌≤◌}
 use Rattle.std.specs.Io.KnownBytes.{Consumes}
-use Rattle.read_ahead.specs.Sources.{IsSound, rest_of}
+use Rattle.rtrb.specs.Ring.{received}
+use Rattle.read_ahead.specs.Sources.{IsSound, StandsByLast, rest_of}
 use Rattle.read_ahead.specs.declared.incoming.Phase.TheVariants.{Opening}
 use Rattle.read_ahead.proofs.incoming.Incoming.fill.Given as goal
 
@@ -11,6 +12,7 @@ invariant-loop-given g l = record {
   number : l.self.number ≡ l.initial.self.number;
   backlogs : l.self.backlogs ≡ l.initial.self.backlogs;
   within : l.given ≤ length l.initial.buffer;
+  stands : StandsByLast (received l.initial.self.consumer) (received l.self.consumer) l.initial.self.phase l.self.phase;
   first : l.given ≡ 0 → l.self.at < length l.self.front.items;
   gave : Consumes (rest_of g.I.Contents.holds l.initial.self) (rest_of g.I.Contents.holds l.self) (take l.given l.buffer);
 }
