@@ -1,6 +1,6 @@
 //! A metric of all renditions.
 
-ghost use Rattle.std.specs.Prelude.{◌≡◌, ◌≢◌, ◌<◌, ◌++◌, length, map, option_map, Any, IsErr, IsOk, None, OnErr, OnOk};
+ghost use Rattle.std.specs.Prelude.{◌≡◌, ◌≢◌, ◌<◌, ◌+◌, ◌++◌, length, map, vec_len, vec_capacity, option_map, Any, IsErr, IsOk, None, OnErr, OnOk};
 ghost use Rattle.metrics.specs.Format.{head_text, sample_line, fault_line};
 ghost use Rattle.metrics.specs.Samples.{facts_of, value_of, column_text, fault_of, faults_text};
 
@@ -17,7 +17,8 @@ pub(crate) fn push_head(
     kind: &str,
     help: &str,
 ) -> Result<(), AllocError>
-    ensures { OnOk result (out.new.items ≡ out.old.items ++ head_text name.now kind.now help.now) }
+    ensures ok { OnOk result (out.new.items ≡ out.old.items ++ head_text name.now kind.now help.now) }
+    ensures full { OnErr result (vec_capacity out.old < vec_len out.old + length (head_text name.now kind.now help.now)) }
 {
     push(out, "# HELP ")?;
     push(out, name)?;
@@ -33,7 +34,8 @@ pub(crate) fn push_head(
 /// Appends the sample of a rendition.
 #[tactic(auto, unfolding(crate::specs::Format::sample_line))]
 fn push_line(out: &mut Vec<u8>, name: &str, label: &str, value: &str) -> Result<(), AllocError>
-    ensures { OnOk result (out.new.items ≡ out.old.items ++ sample_line name.now label.now value.now) }
+    ensures ok { OnOk result (out.new.items ≡ out.old.items ++ sample_line name.now label.now value.now) }
+    ensures full { OnErr result (vec_capacity out.old < vec_len out.old + length (sample_line name.now label.now value.now)) }
 {
     push(out, name)?;
     push(out, "{rendition=\"")?;
@@ -63,7 +65,8 @@ pub(crate) fn push_column(
 /// Appends the sample of a rendition's fault.
 #[tactic(auto, unfolding(crate::specs::Format::fault_line))]
 fn push_fault(out: &mut Vec<u8>, name: &str, label: &str, fault: &str) -> Result<(), AllocError>
-    ensures { OnOk result (out.new.items ≡ out.old.items ++ fault_line name.now label.now fault.now) }
+    ensures ok { OnOk result (out.new.items ≡ out.old.items ++ fault_line name.now label.now fault.now) }
+    ensures full { OnErr result (vec_capacity out.old < vec_len out.old + length (fault_line name.now label.now fault.now)) }
 {
     push(out, name)?;
     push(out, "{rendition=\"")?;

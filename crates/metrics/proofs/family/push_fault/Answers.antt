@@ -4,9 +4,9 @@ use Rattle.metrics.specs.Format.{escaped, fault_line}
 use Rattle.metrics.proofs.Appends.{more}
 use Rattle.metrics.proofs.family.push_fault.Goals as goal
 
-pub returns : goal.returns
+pub returns-clause-ok : goal.returns-clause-ok
 unfolding fault_line
-returns c =
+returns-clause-ok c =
     let name : List ℕ = c.args.name.now in
     let before : List ℕ = codes "{rendition=\"" in
     let label : List ℕ = escaped c.args.label.now in
