@@ -1,7 +1,7 @@
 //! One rendition's playlists are read back, by its name and the files of its segments.
 ghost use Rattle.std.specs.Prelude.{◌≡◌, ◌≢◌, ◌<◌, ◌⊎◌, ℕ, List, IfOk, IfErr, IsErr, IsErrOf, Contains, length};
 ghost use Rattle.std.specs.Str.{IsUtf8};
-ghost use Rattle.media_reading.specs.MediaTexts.{IsListing, MayWantMemory, listing_text};
+ghost use Rattle.media_reading.specs.MediaTexts.{IsListing, MayWantMemory, WantsMemory, listing_text};
 ghost use Rattle.playlist_text.specs.MediaLines;
 ghost use Rattle.resume.specs.Wanting.{IsAsWanted};
 ghost use Rattle.resume.specs.Restoring.{IsRestored, RestoredValue};
@@ -32,6 +32,7 @@ pub(crate) fn restored_from<F: FolderReader>(
         IfErr result (IsStopFrom (F.refuses folder.now) (F.gives folder.now) (F.lacks folder.now) asked.now) }
     ensures no_text { ¬ (IsUtf8 media.now × IsUtf8 frames.now) → IsErrOf result (Stop.Why WhyNot.Foreign) }
     ensures scarce { IsErrOf result Stop.NoMemory → MayWantMemory media.now }
+    ensures wants { IsErrOf result Stop.NoMemory → WantsMemory media.now }
 {
     let Ok(media) = str::from_utf8(media) else {
         return Err(Stop::Why(WhyNot::Foreign));
@@ -47,6 +48,7 @@ pub(crate) fn restored_from<F: FolderReader>(
 fn listing_of(alloc: Global, text: &str) -> Result<Listing, Stop>
     ensures ok { IfOk result (λ l. IsListing l × (text.now ≡ listing_text l)) }
     ensures err { IfErr result (IsListStop text.now) }
+    ensures scarce { IsErrOf result Stop.NoMemory → WantsMemory text.now }
 {
     match read_media(alloc, text) {
         Ok(listing) => Ok(listing),

@@ -1,6 +1,6 @@
 use Rattle.std.proofs.Common.{rules, ◌≡◌, ◌∙◌, sym, subst}
-use Rattle.media_reading.specs.MediaTexts.{MayWantMemory}
-use Rattle.channel_folder.proofs.Wanting.{listing-wants}
+use Rattle.media_reading.specs.MediaTexts.{MayWantMemory, WantsMemory}
+use Rattle.channel_folder.proofs.Wanting.{listing-wants, listing-wants-so}
 use Rattle.channel_folder.proofs.reading_back.restored_from.Goals as goal
 
 pub returns-clause-scarce : goal.returns-clause-scarce
@@ -8,3 +8,9 @@ returns-clause-scarce g c = λ _.
     let text : c.in-Ok.media.now ≡ c.args.media.now = search rules in
     let read = c.in_ok-listing.ensures.ok in
     subst MayWantMemory (sym read.1 ∙ text) (listing-wants _ read.0)
+
+pub returns-clause-wants : goal.returns-clause-wants
+returns-clause-wants g c = λ _.
+    let text : c.in-Ok.media.now ≡ c.args.media.now = search rules in
+    let read = c.in_ok-listing.ensures.ok in
+    subst WantsMemory (sym read.1 ∙ text) (listing-wants-so _ read.0)
