@@ -12,6 +12,11 @@ pub none-decoded : (text bytes : List ℕ) → length text ≡ 0 → bytes ≡ [
 none-decoded [] bytes none is = decoded-none ∙ ap Ok (sym is)
 none-decoded (x ∷ text) bytes none is = absurd (omega (arith, none))
 
+-- a text isn't empty where it isn't without its last LF
+pub behind_digits : (line : List ℕ) → 0 < length (without_end line) → 0 < length line
+behind_digits [] some = some
+behind_digits (x ∷ line) some = omega arith
+
 -- what no text stands for isn't more than nothing
 pub some-line : (line sealed : List ℕ) → decode_of (without_end line) ≡ Ok sealed → 0 < length sealed → 0 < length line
 some-line [] sealed is some = absurd (

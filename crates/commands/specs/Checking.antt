@@ -9,8 +9,10 @@ use Rattle.playlist_text.specs.MediaLines.{Listing}
 use Rattle.item_io.specs.FileNames.{segment_file_name}
 use Rattle.hls_check.specs.declared.checking.Checked.{Checked}
 use Rattle.hls_check.specs.declared.checking.CheckFault.TheVariants.{Text, Segments}
-use Rattle.media_reading.specs.MediaTexts.{IsListing, listing_text, IsUnread}
-use Rattle.hls_check.specs.Checks.{AreWhole, IsFaulty}
+use Rattle.media_reading.specs.declared.list_fault.ListFault.TheVariants.{NoMemory as NoMemoryForText}
+use Rattle.media_reading.specs.MediaTexts.{IsListing, listing_text, IsUnread, WantsMemory}
+use Rattle.hls_check.specs.declared.fault.UnpackFault.TheVariants.{NoMemory as NoMemoryForSegments}
+use Rattle.hls_check.specs.Checks.{AreWhole, IsFaulty, WantsBytes}
 use Rattle.commands.specs.declared.checking.CheckingFault.{CheckingFault}
 use Rattle.commands.specs.declared.checking.CheckingFault.TheVariants.{Unread, Faulty, Unwritten, NoMemory}
 use Rattle.item_io.specs.Writing.{WritesBeginning}
@@ -70,12 +72,15 @@ pub record LacksSegment (gives : List ℕ → List ℕ → Type 0) (refuses : Li
   pub playlist_is : GivesListing gives playlist text listing
   pub lacks : RefusesOne refuses (segment_paths playlist listing)
 
--- why a playlist wasn't checked to its end, or isn't whole
+-- why a playlist wasn't checked to its end, or isn't whole. Its text wants memory only for a line that is kept, and its segments only for one
+-- that opens to some bytes.
 abbrev pub IsCheckFault : (List ℕ → List ℕ → Type 0) → (List ℕ → Type 0) → (List ℕ → Type 0) → List (List ℕ) → List ℕ → CheckingFault → Type 0
 IsCheckFault gives refuses wants keys playlist Unread = IsNoText gives refuses playlist ⊎ LacksSegment gives refuses playlist
-IsCheckFault gives refuses wants keys playlist (Faulty (Text why)) = (text : List ℕ) × gives playlist text × IsUnread text why
+IsCheckFault gives refuses wants keys playlist (Faulty (Text why)) =
+    (text : List ℕ) × gives playlist text × IsUnread text why × (why ≡ NoMemoryForText → WantsMemory text)
 IsCheckFault gives refuses wants keys playlist (Faulty (Segments why)) =
     (text : List ℕ) × (segments : List (List ℕ)) × GivesAll gives playlist text segments × IsFaulty text segments keys (Segments why)
+    × (why ≡ NoMemoryForSegments → WantsBytes text segments keys)
 IsCheckFault gives refuses wants keys playlist Unwritten = ⊥
 IsCheckFault gives refuses wants keys playlist NoMemory = wants playlist ⊎ ((text : List ℕ) × (listing : Listing) × GivesListing gives playlist text listing)
 

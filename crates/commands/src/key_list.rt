@@ -96,7 +96,8 @@ pub(crate) fn key_texts<'a>(alloc: Global, text: &'a str) -> Result<Vec<&'a str>
 
 /// Each text, told by its place, counted from 1.
 fn counted<'a>(alloc: Global, texts: &[&'a str]) -> Result<Vec<KeyWord<'a>>, AllocError>
-    ensures { IfOk result (λ words. map told words.items ≡ counted 1 (map (λ t. t.now) texts.now)) }
+    ensures ok { IfOk result (λ words. map told words.items ≡ counted 1 (map (λ t. t.now) texts.now)) }
+    ensures scarce { OnErr result (0 < length texts.now) }
 {
     let mut words = Vec::new(alloc);
     for place in 0..texts.len() {

@@ -16,7 +16,8 @@ fn push_texts<'a>(
     number: usize,
     texts: &[&'a str],
 ) -> Result<(), AllocError>
-    ensures { OnOk result (map told words.new.items ≡ map told words.old.items ++ numbered number (map (λ t. t.now) texts.now)) }
+    ensures ok { OnOk result (map told words.new.items ≡ map told words.old.items ++ numbered number (map (λ t. t.now) texts.now)) }
+    ensures scarce { OnErr result (0 < length texts.now) }
 {
     for text in texts {
         words.push(KeyWord { number, text })?;

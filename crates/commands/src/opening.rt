@@ -94,8 +94,8 @@ fn decode_line(alloc: Global, line: &[u8]) -> Result<Vec<u8>, OpeningFault>
     ensures no_memory { IsErrOf result OpeningFault.NoMemory → length (without_end line.now) % 2 ≢ 1 }
     ensures only { IfErr result (λ fault. (fault ≡ OpeningFault.BadHex) ⊎ (fault ≡ OpeningFault.NoMemory)) }
 
-    // No digits take no memory.
-    ensures some { IsErrOf result OpeningFault.NoMemory → 0 < length line.now }
+    // No digits take no memory, with an LF behind them or without.
+    ensures some { IsErrOf result OpeningFault.NoMemory → 0 < length (without_end line.now) }
 {
     let digits = without_end(line);
     if digits.is_empty() {

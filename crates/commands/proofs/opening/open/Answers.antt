@@ -1,8 +1,8 @@
-use Rattle.std.proofs.Common.{◌≡◌, ap, Err}
+use Rattle.std.proofs.Common.{rules, ◌≡◌, ap, Err}
 use Rattle.std.proofs.lemmas.Result.{err_from_is_err_and}
 use Rattle.commands.specs.Told.{opening_of, opening_of_reading}
 use Rattle.commands.specs.declared.opening.OpeningFault.TheVariants.{NoMemory, NotBlocks}
-use Rattle.commands.proofs.Decoding.{some-line}
+use Rattle.commands.proofs.Decoding.{behind_digits, some-line}
 use Rattle.commands.proofs.SealedTexts.{opening_of-NoMemory, opening_of-NotBlocks, opening_of_reading-NoMemory, some-sealed}
 use Rattle.commands.proofs.opening.open.Goals as goal
 
@@ -26,6 +26,9 @@ returns-in_err-line-clause-scarce g c = λ told.
     let p = err_from_is_err_and c.from_residual.result c.from_residual.ensures.1 in
     let same : opening_of_reading c.in_err-line.field-0.0 ≡ NoMemory = cc (told, p.1, p.2) in
     c.in_err-line.ensures.scarce (ap Err (opening_of_reading-NoMemory _ same))
+
+pub returns-in_err-sealed-clause-scarce : goal.returns-in_err-sealed-clause-scarce
+returns-in_err-sealed-clause-scarce g c = search (rules, behind_digits)
 
 pub returns-in_err-plain-clause-scarce : goal.returns-in_err-plain-clause-scarce
 returns-in_err-plain-clause-scarce g c = λ told.
