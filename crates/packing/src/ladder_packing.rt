@@ -1,4 +1,4 @@
-ghost use Rattle.std.specs.Prelude.{◌≡◌, ◌⊎◌, ◌<◌, ◌^◌, IfOk, IfErr, OnOk, length};
+ghost use Rattle.std.specs.Prelude.{◌≡◌, ◌⊎◌, ◌<◌, ◌^◌, IfOk, IfErr, IsErrOf, OnOk, length};
 ghost use Rattle.std.specs.Io.KnownBytes.{Keeps};
 ghost use Rattle.std.specs.Option.{unwrap_or};
 ghost use Rattle.ladder_items.specs.Runs.{run_of};
@@ -112,6 +112,9 @@ fn write_summary<W: Write>(
     ensures fault { IfErr result (λ fault. ((fault ≡ Unwritten) ×
         BeginsSummary settings.now report (W.contents output.old) (W.contents output.new)) ⊎
         ((fault ≡ NoMemory) × Keeps (W.contents output.old) (W.contents output.new))) }
+
+    // The summary of a ladder without renditions wants no memory.
+    ensures scarce { IsErrOf result NoMemory → 0 < length settings.now.renditions }
 {
     let Ok(text) = summary(alloc, settings, &report) else {
         return Err(LadderPackingFault::NoMemory);
