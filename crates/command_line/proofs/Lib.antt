@@ -1,3 +1,4 @@
 pub mod Adding
 mod Matched
 mod Refusals
+mod EntryNames

@@ -101,7 +101,7 @@ key-list-fault files text keys.NoMemory bad only unread file = are (are_keys tex
 pub ladder-fault : (files : FilesView) (asked : Asked) (why : LadderFault) →
     ((n : ℕ) → why ≡ ladder.BadEntry n → IsBadEntry asked n) → (why ≡ ladder.BadVector → HasBadSalt asked) → (why ≡ ladder.TooMany → HasTooMany asked) →
     (why ≡ ladder.ZeroPeriod → HasNoPeriod asked) → (why ≡ ladder.Settings → IsOutside asked) → (why ≡ ladder.Unread → HasUnreadKey files.gives files.refuses asked) →
-    ((n : ℕ) → why ≡ ladder.BadKeyFile n → HasBadKeyFile files.gives asked n) → (why ≡ ladder.NoMemory → HasTurns asked × FitsCut asked.numbers × IsPool asked.pool) →
+    ((n : ℕ) → why ≡ ladder.BadKeyFile n → HasBadKeyFile files.gives asked n) → (why ≡ ladder.NoMemory → HasTurns asked × FitsCut asked.numbers × IsPool asked.pool × (0 < length asked.entries)) →
     IsLadderFault files asked why
 ladder-fault files asked (ladder.BadEntry n) entry vector many period outside unread file memory = entry n refl
 ladder-fault files asked ladder.BadVector entry vector many period outside unread file memory = vector refl
@@ -127,7 +127,7 @@ no-keys files usage matched found fault is (why, told, says) = subst (λ (f : Fa
 
 pub no-ladder : (files : FilesView) (usage : Type 0) (matched : Option (Text × List Row)) (found : Found) (fault : Fault) →
     IsMatched matched (codes "pack") found → IsNoLadder files found fault → IsNoJob files usage matched fault
-no-ladder files usage matched found fault is (inl told) = subst (λ (f : Fault). IsNoJob files usage matched f) (sym told) tt
+no-ladder files usage matched found fault is (inl (told, some)) = subst (λ (f : Fault). IsNoJob files usage matched f) (sym told) tt
 no-ladder files usage matched found fault is (inr (why, told, says)) = subst (λ (f : Fault). IsNoJob files usage matched f) (sym told) (found, is, says)
 
 -- a line that isn't one tells no job

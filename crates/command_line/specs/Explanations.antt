@@ -1,10 +1,12 @@
 -- What an explanation says of numbers that aren't allowed, as docs/COMMANDS.md has it.
-use Rattle.std.specs.Prelude.{ℕ, ◌≤◌, List, ◌++◌, codes}
+use Rattle.std.specs.Prelude.{◌≡◌, ◌==◌, ◌<◌, ◌⊎◌, ℕ, ◌≤◌, true, false, length, List, ◌++◌, codes}
+use Rattle.std.specs.List.{position_or_len}
+use Rattle.playlist_text.specs.Names.{is_codecs, is_name}
 use Rattle.limits.specs.declared.TheConstants.{MOST_PIXELS}
 use Rattle.std.specs.Fmt.{HasWritten, IsPlainFormatter}
 use Rattle.std.specs.declared.fmt.Formatter.{Formatter}
 use Rattle.commands.specs.Ranges.{AreWithinBefore, IsWithin}
-use Rattle.commands.specs.Sizes.{IsNumber}
+use Rattle.commands.specs.Sizes.{IsNumber, before_x, behind_x}
 use Rattle.commands.specs.declared.numbers.Numbers.{Numbers}
 use Rattle.commands.specs.declared.pool.Pool.{Pool}
 use Rattle.commands.specs.declared.outside.Ranged.{Ranged}
@@ -54,3 +56,23 @@ pub record TellsFirstOutside {W : Type 0} (took : W → List ℕ → W → Type 
 -- a number of pixels that a side may have; what isn't a number is told elsewhere
 abbrev pub MayBeSide : List ℕ → Type 0
 MayBeSide text = (n : ℕ) → IsNumber text n → (1 ≤ n) × (n ≤ MOST_PIXELS)
+
+-- a size whose sides round its first x may be
+pub record MayBeSize (text : List ℕ) : Type 0 where
+  pub parted : position_or_len (λ b. b == 120) text < length text
+  pub width : MayBeSide (before_x text)
+  pub height : MayBeSide (behind_x text)
+
+-- what a rendition may be listed by
+pub record IsListable (name codecs size : List ℕ) : Type 0 where
+  pub name_is : is_name name ≡ true
+  pub codecs_are : is_codecs codecs ≡ true
+  pub size_is : MayBeSize size
+
+-- why one can't be listed: by its name, else by its codecs, else by its size
+abbrev pub TellsUnlistable : List ℕ → List ℕ → List ℕ → List ℕ → Type 0
+TellsUnlistable name codecs size why =
+    ((is_name name ≡ false) × (why ≡ codes "the name is not 1 to 64 bytes without control bytes, '/', '.' and ':', or it is 'master'"))
+    ⊎ ((is_name name ≡ true) × (is_codecs codecs ≡ false)
+    × (why ≡ codes "the codecs are not 1 to 128 printable ASCII bytes without a quotation mark"))
+    ⊎ ((is_name name ≡ true) × (is_codecs codecs ≡ true) × (¬ MayBeSize size) × (why ≡ codes "a side of the size is outside 1 to 16384 pixels"))

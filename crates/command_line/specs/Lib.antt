@@ -5,3 +5,5 @@ pub mod Options
 pub mod Jobs
 pub mod Refusals
 pub mod Explanations
+pub mod Reasons
+pub mod EntryTexts

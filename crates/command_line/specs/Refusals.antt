@@ -75,7 +75,7 @@ IsLadderFault files asked ladder.ZeroPeriod = HasNoPeriod asked
 IsLadderFault files asked ladder.Settings = IsOutside asked
 IsLadderFault files asked ladder.Unread = HasUnreadKey files.gives files.refuses asked
 IsLadderFault files asked (ladder.BadKeyFile n) = HasBadKeyFile files.gives asked n
-IsLadderFault files asked ladder.NoMemory = HasTurns asked × FitsCut asked.numbers × IsPool asked.pool
+IsLadderFault files asked ladder.NoMemory = HasTurns asked × FitsCut asked.numbers × IsPool asked.pool × (0 < length asked.entries)
 
 -- the words of `one`, of what was found for its options
 pub record AreStreamWords (found : Found) (words : Words) : Type 0 where
@@ -122,7 +122,7 @@ pub record RefusesLadder (files : FilesView) (found : Found) (fault : LadderFaul
   pub asked_is : IsAskedBy found asked
   pub is : IsLadderFault files asked fault
 
--- What each command is told: its own faults, and of `pack` that there is no memory for its entries.
+-- What each command is told: its own faults, and of `pack` that there is no memory for its entries, of which there are some.
 abbrev pub IsNoCipher : FilesView → Found → Fault → Type 0
 IsNoCipher files found fault = (why : CipherFault) × (fault ≡ Cipher why) × RefusesCipher files found why
 
@@ -133,7 +133,7 @@ abbrev pub AreNoKeys : FilesView → Found → Fault → Type 0
 AreNoKeys files found fault = (why : KeyListFault) × (fault ≡ KeyList why) × RefusesKeys files found why
 
 abbrev pub IsNoLadder : FilesView → Found → Fault → Type 0
-IsNoLadder files found fault = (fault ≡ NoMemory) ⊎ ((why : LadderFault) × (fault ≡ Ladder why) × RefusesLadder files found why)
+IsNoLadder files found fault = ((fault ≡ NoMemory) × (0 < length (texts_of found (codes "entries")))) ⊎ ((why : LadderFault) × (fault ≡ Ladder why) × RefusesLadder files found why)
 
 -- Why a line tells no job: that it isn't a call, only where that may be; want of memory; or what the command that was matched is told of its
 -- options, each only its own. Nothing else was read but files of keys, and nothing written.

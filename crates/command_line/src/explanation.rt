@@ -1,11 +1,25 @@
 //! What a fault means, in words, for whoever reads it at a terminal: which option, entry or path is meant, and why.
-ghost use Rattle.std.specs.Prelude.{◌≡◌, ◌≢◌, IfOk, IfSome, IsSome, None, Ok, map, true};
+ghost use Rattle.std.specs.Prelude.{◌≡◌, ◌≢◌, ◌++◌, IfOk, IfSome, IsSome, None, Ok, Some, codes, map, option_map, true};
+ghost use Rattle.std.specs.Fmt.{DisplaysOnOk};
 ghost use Rattle.std.specs.String.{string_bytes};
-ghost use Rattle.clap.specs.Words.{subcommand_of, takes};
+ghost use Rattle.clap.specs.Words.{found_of, subcommand_of, takes};
 ghost use Rattle.clap.specs.declared.error.Error.{Error};
+ghost use Rattle.commands.specs.Entries.{entry_value};
+ghost use Rattle.command_line.specs.EntryTexts.{
+  bad_entry_text,
+  bad_key_file_text,
+  entry_at,
+  entry_numbered,
+  entry_text,
+  packing_words,
+  rendition_text,
+  resuming_words,
+  segment_text,
+};
 ghost use Rattle.command_line.specs.Faults.{IsIndentedLine};
 ghost use Rattle.command_line.specs.Jobs.{IsCommand};
 ghost use Rattle.command_line.specs.Options.{tshls};
+ghost use Rattle.command_line.specs.Words.{texts_of};
 
 use crate::fault::Fault;
 use crate::job::program;
@@ -123,8 +137,11 @@ fn write_bad_entry<W: fmt::Write>(
     f: &mut fmt::Formatter<W>,
     options: &ArgMatches<'_>,
     number: usize,
-) -> fmt::Result {
-    match entry_at(options, number.wrapping_sub(1)) {
+) -> fmt::Result
+    ensures { DisplaysOnOk W.write_str_gives f.old result
+        (Some (bad_entry_text (entry_numbered (texts_of (found_of options.now) (codes "entries")) number) number)) f.new }
+{
+    match entry_numbered(options, number) {
         Some(words) => write!(
             f,
             "entry {number}, {}: its size is not WIDTHxHEIGHT, or a key is not 32 hex digits",
@@ -142,18 +159,51 @@ fn write_bad_key_file<W: fmt::Write>(
     f: &mut fmt::Formatter<W>,
     options: &ArgMatches<'_>,
     number: usize,
-) -> fmt::Result {
-    write!(f, "entry {number}")?;
-    if let Some(words) = entry_at(options, number.wrapping_sub(1)) {
-        write!(f, ", {}", words.name)?;
+) -> fmt::Result
+    ensures { DisplaysOnOk W.write_str_gives f.old result
+        (Some (bad_key_file_text (entry_numbered (texts_of (found_of options.now) (codes "entries")) number) number)) f.new }
+{
+    write_entry(f, options, number, NO_KEY_FILE)
+}
+
+const NO_KEY_FILE: &str =
+    "a key file is neither 16 bytes nor 32 hex digits with at most one line end";
+
+/// Writes a reason that speaks of the entry of this number, counted from 1.
+fn write_entry<W: fmt::Write>(
+    f: &mut fmt::Formatter<W>,
+    options: &ArgMatches<'_>,
+    number: usize,
+    why: &str,
+) -> fmt::Result
+    ensures { DisplaysOnOk W.write_str_gives f.old result
+        (Some (entry_text (entry_numbered (texts_of (found_of options.now) (codes "entries")) number) number why.now)) f.new }
+{
+    match entry_numbered(options, number) {
+        Some(words) => write!(f, "entry {number}, {}: {why}", words.name),
+        None => write!(f, "entry {number}: {why}"),
     }
-    f.write_str(": a key file is neither 16 bytes nor 32 hex digits with at most one line end")
 }
 
 /// The parts of the entry at a place; None where there is none, or where it has fewer.
-fn entry_at<'a>(options: &ArgMatches<'a>, place: usize) -> Option<EntryWords<'a>> {
+fn entry_at<'a>(options: &ArgMatches<'a>, place: usize) -> Option<EntryWords<'a>>
+    ensures { option_map entry_value result ≡ entry_at (texts_of (found_of options.now) (codes "entries")) place }
+{
     let entries = options.get_strs("entries")?;
-    cut_entry(*entries.get(place)?)
+    if place >= entries.len() {
+        return None;
+    }
+    cut_entry(entries[place])
+}
+
+/// Those of the entry of this number, counted from 1.
+fn entry_numbered<'a>(options: &ArgMatches<'a>, number: usize) -> Option<EntryWords<'a>>
+    ensures { option_map entry_value result ≡ entry_numbered (texts_of (found_of options.now) (codes "entries")) number }
+{
+    if number == 0 {
+        return None;
+    }
+    entry_at(options, number - 1)
 }
 
 /// Writes which rendition of a ladder is meant, by its entry and its path; nothing of `one`.
@@ -161,7 +211,9 @@ fn write_rendition<W: fmt::Write>(
     f: &mut fmt::Formatter<W>,
     options: &ArgMatches<'_>,
     r: usize,
-) -> fmt::Result {
+) -> fmt::Result
+    ensures { DisplaysOnOk W.write_str_gives f.old result (Some (rendition_text (entry_at (texts_of (found_of options.now) (codes "entries")) r))) f.new }
+{
     if let Some(words) = entry_at(options, r) {
         return write!(f, "{}, from {}: ", words.name, words.path);
     }
@@ -173,7 +225,9 @@ fn write_resuming<W: fmt::Write>(
     f: &mut fmt::Formatter<W>,
     options: &ArgMatches<'_>,
     fault: ResumingFault,
-) -> fmt::Result {
+) -> fmt::Result
+    ensures { DisplaysOnOk W.write_str_gives f.old result (Some (resuming_words (texts_of (found_of options.now) (codes "entries")) fault)) f.new }
+{
     if let ResumingFault::Not(r, _) | ResumingFault::OtherKeys(r, _) = fault {
         write_rendition(f, options, r)?;
     }
@@ -194,7 +248,9 @@ fn write_packing<W: fmt::Write>(
     f: &mut fmt::Formatter<W>,
     options: &ArgMatches<'_>,
     fault: PackFault,
-) -> fmt::Result {
+) -> fmt::Result
+    ensures { DisplaysOnOk W.write_str_gives f.old result (packing_words (texts_of (found_of options.now) (codes "entries")) fault) f.new }
+{
     match fault {
         PackFault::Settings => write_settings(f, options),
         PackFault::Read(r) if pool_words(options).stall.is_some() => write_stream(
@@ -205,18 +261,9 @@ fn write_packing<W: fmt::Write>(
         PackFault::NoProgram(r) => write_stream(f, options, r, NO_PROGRAM),
         PackFault::NoStart(r) => write_stream(f, options, r, NO_START),
         PackFault::Limit(r) => write_stream(f, options, r, LIMIT),
-        PackFault::LongSegment(r, n) => {
-            write_rendition(f, options, r)?;
-            write!(f, "segment {n} {LONG_SEGMENT}")
-        }
-        PackFault::BigSegment(r, n) => {
-            write_rendition(f, options, r)?;
-            write!(f, "segment {n} has more packets than --most")
-        }
-        PackFault::Held(r, n) => {
-            write_rendition(f, options, r)?;
-            write!(f, "segment {n} was held back")
-        }
+        PackFault::LongSegment(r, n) => write_segment(f, options, r, n, LONG_SEGMENT),
+        PackFault::BigSegment(r, n) => write_segment(f, options, r, n, BIG_SEGMENT),
+        PackFault::Held(r, n) => write_segment(f, options, r, n, "was held back"),
         PackFault::Outlet => f.write_str(OUTLET),
         PackFault::NoMemory => f.write_str("out of memory"),
     }
@@ -231,6 +278,8 @@ const NO_START: &str =
 const LONG_SEGMENT: &str =
     "would last longer than --target: if the GOP doesn't divide it, set --segment to the target minus one GOP";
 
+const BIG_SEGMENT: &str = "has more packets than --most";
+
 const OUTLET: &str = "the output can't be written: missing, not writable, closed, or full";
 
 /// Writes a reason that speaks of one rendition's stream.
@@ -239,7 +288,25 @@ fn write_stream<W: fmt::Write>(
     options: &ArgMatches<'_>,
     r: usize,
     why: &str,
-) -> fmt::Result {
+) -> fmt::Result
+    ensures { DisplaysOnOk W.write_str_gives f.old result
+        (Some (rendition_text (entry_at (texts_of (found_of options.now) (codes "entries")) r) ++ why.now)) f.new }
+{
     write_rendition(f, options, r)?;
     f.write_str(why)
+}
+
+/// Writes a reason that speaks of one of its segments.
+fn write_segment<W: fmt::Write>(
+    f: &mut fmt::Formatter<W>,
+    options: &ArgMatches<'_>,
+    r: usize,
+    n: u64,
+    why: &str,
+) -> fmt::Result
+    ensures { DisplaysOnOk W.write_str_gives f.old result
+        (Some (rendition_text (entry_at (texts_of (found_of options.now) (codes "entries")) r) ++ segment_text n why.now)) f.new }
+{
+    write_rendition(f, options, r)?;
+    write!(f, "segment {n} {why}")
 }

@@ -1,7 +1,9 @@
 //! The command line: which command it asks for, with its options as values.
 ghost use Rattle.std.specs.Prelude.{◌≡◌, ⊤, codes, false, map, IfErr, IfOk};
+ghost use Rattle.clap.specs.Values.{kind_of};
 ghost use Rattle.clap.specs.Words.{app_of, found_of, subcommand_of, subcommand_rows_of};
 ghost use Rattle.clap.specs.declared.builder.command.Command.TheViews.{out-Command};
+ghost use Rattle.clap.specs.declared.error.Error.{Error};
 ghost use Rattle.command_line.specs.Faults.{IsRefused};
 ghost use Rattle.command_line.specs.Jobs.{AreCheckOptions, AreCipherOptions, AreSettings, IsCommand, IsJobOf, IsLadderJob, IsNoCall};
 ghost use Rattle.command_line.specs.Refusals.{AreNoKeys, AreNoSettings, IsNoCipher, IsNoJob, IsNoLadder, files_view};
@@ -121,7 +123,8 @@ fn job_of<'a, F: FileReader>(
 
 /// What a line without a command is told.
 fn no_command(command: &mut Command<'_>) -> Fault
-    ensures { IsRefused ⊤ result }
+    ensures refused { IsRefused ⊤ result }
+    ensures told { (error : Error) → result ≡ Fault.Usage error → kind_of error ≡ ErrorKind.MissingSubcommand }
 {
     match command.error(ErrorKind::MissingSubcommand, "a command is wanted") {
         Ok(error) => Fault::from(error),

@@ -1,5 +1,5 @@
 //! The options of each command: how help shows them, and the words that were given.
-ghost use Rattle.std.specs.Prelude.{◌≡◌, codes, false, map, option_map, IfOk};
+ghost use Rattle.std.specs.Prelude.{◌≡◌, ◌<◌, codes, false, length, map, option_map, IfOk, OnErr};
 ghost use Rattle.clap.specs.Words.{first_value, found_of, rule_of};
 ghost use Rattle.command_line.specs.Options.{GetsOptions, check_options, cipher_options, form_options, number_option, numbered};
 ghost use Rattle.command_line.specs.Options.{rendition_options, stream_options, text_option};
@@ -178,7 +178,8 @@ pub(crate) fn with_numbers<'a>(
     command: Command<'a>,
     numbers: &[NumberOption],
 ) -> Result<Command<'a>, AllocError>
-    ensures { IfOk result (λ made. GetsOptions command.entry (map numbered numbers.now) made) }
+    ensures ok { IfOk result (λ made. GetsOptions command.entry (map numbered numbers.now) made) }
+    ensures scarce { OnErr result (0 < length numbers.now) }
 {
     let mut command = command;
     for &option in numbers {

@@ -62,7 +62,8 @@ fn with_flags<'a>(
     command: Command<'a>,
     flags: &[FlagOption],
 ) -> Result<Command<'a>, AllocError>
-    ensures { IfOk result (λ made. GetsOptions command.entry (map flagged flags.now) made) }
+    ensures ok { IfOk result (λ made. GetsOptions command.entry (map flagged flags.now) made) }
+    ensures scarce { OnErr result (0 < length flags.now) }
 {
     let mut command = command;
     for &option in flags {

@@ -1,4 +1,18 @@
 //! The words of faults that name no option, entry or path of their own.
+ghost use Rattle.std.specs.Prelude.{◌≡◌};
+ghost use Rattle.command_line.specs.Reasons.{
+  checking_reason,
+  cipher_reason,
+  key_list_reason,
+  ladder_reason,
+  opening_reason,
+  resuming_reason,
+  sealing_reason,
+  settings_reason,
+  unopened_reason,
+  why_not,
+};
+
 use channel::ResumingFault;
 use channel_folder::WhyNot;
 use commands::{
@@ -30,7 +44,9 @@ const BAD_KEY_FILE: &str =
 
 const BAD_KEYS: &str = "a key of --keys is not 32 hex digits";
 
-pub(crate) fn cipher_reason(fault: CipherFault) -> &'static str {
+pub(crate) fn cipher_reason(fault: CipherFault) -> &'static str
+    ensures { result.now ≡ cipher_reason fault }
+{
     match fault {
         CipherFault::BadKey => "--key is not 32 hex digits",
         CipherFault::BadVector => {
@@ -42,7 +58,9 @@ pub(crate) fn cipher_reason(fault: CipherFault) -> &'static str {
     }
 }
 
-pub(crate) fn key_list_reason(fault: KeyListFault) -> &'static str {
+pub(crate) fn key_list_reason(fault: KeyListFault) -> &'static str
+    ensures { result.now ≡ key_list_reason fault }
+{
     match fault {
         KeyListFault::BadKey => BAD_KEYS,
         KeyListFault::Unread => UNREAD_KEY,
@@ -51,7 +69,9 @@ pub(crate) fn key_list_reason(fault: KeyListFault) -> &'static str {
     }
 }
 
-pub(crate) fn settings_reason(fault: SettingsFault) -> &'static str {
+pub(crate) fn settings_reason(fault: SettingsFault) -> &'static str
+    ensures { result.now ≡ settings_reason fault }
+{
     match fault {
         SettingsFault::BadKey => BAD_KEYS,
         SettingsFault::BadSize => "--size is not WIDTHxHEIGHT in pixels, as 1280x720",
@@ -65,7 +85,9 @@ pub(crate) fn settings_reason(fault: SettingsFault) -> &'static str {
     }
 }
 
-pub(crate) fn ladder_reason(fault: LadderFault) -> &'static str {
+pub(crate) fn ladder_reason(fault: LadderFault) -> &'static str
+    ensures { result.now ≡ ladder_reason fault }
+{
     match fault {
         LadderFault::BadEntry(_) => "an entry is not NAME:CODECS:WxH:KEY[+KEY..]:PATH",
         LadderFault::BadVector => BAD_SALT,
@@ -78,7 +100,9 @@ pub(crate) fn ladder_reason(fault: LadderFault) -> &'static str {
     }
 }
 
-pub(crate) fn sealing_reason(fault: SealingFault) -> &'static str {
+pub(crate) fn sealing_reason(fault: SealingFault) -> &'static str
+    ensures { result.now ≡ sealing_reason fault }
+{
     match fault {
         SealingFault::Unread => UNREAD,
         SealingFault::ReadLimit => READ_LIMIT,
@@ -87,7 +111,9 @@ pub(crate) fn sealing_reason(fault: SealingFault) -> &'static str {
     }
 }
 
-pub(crate) fn opening_reason(fault: OpeningFault) -> &'static str {
+pub(crate) fn opening_reason(fault: OpeningFault) -> &'static str
+    ensures { result.now ≡ opening_reason fault }
+{
     match fault {
         OpeningFault::Unread => UNREAD,
         OpeningFault::ReadLimit => READ_LIMIT,
@@ -100,7 +126,9 @@ pub(crate) fn opening_reason(fault: OpeningFault) -> &'static str {
 }
 
 /// Why a rendition doesn't go on.
-pub(crate) fn why_not(why: WhyNot) -> &'static str {
+pub(crate) fn why_not(why: WhyNot) -> &'static str
+    ensures { result.now ≡ why_not why }
+{
     match why {
         WhyNot::Foreign => {
             "its playlists in --out are not what tshls writes for a rendition of this name, or one of the two is missing"
@@ -125,7 +153,9 @@ pub(crate) fn why_not(why: WhyNot) -> &'static str {
 }
 
 /// Why a ladder doesn't go on, where no rendition is told.
-pub(crate) fn resuming_reason(fault: ResumingFault) -> &'static str {
+pub(crate) fn resuming_reason(fault: ResumingFault) -> &'static str
+    ensures { result.now ≡ resuming_reason fault }
+{
     match fault {
         ResumingFault::Unread => "--out, or a file in it, can't be read; nothing was written",
         ResumingFault::Outlet => "a file in --out can't be renamed or removed",
@@ -137,14 +167,18 @@ pub(crate) fn resuming_reason(fault: ResumingFault) -> &'static str {
     }
 }
 
-pub(crate) fn unopened_reason(fault: InputFault) -> &'static str {
+pub(crate) fn unopened_reason(fault: InputFault) -> &'static str
+    ensures { result.now ≡ unopened_reason fault }
+{
     match fault {
         InputFault::Unread => "the path of an entry can't be opened; nothing was written",
         InputFault::NoMemory => NO_MEMORY,
     }
 }
 
-pub(crate) fn checking_reason(fault: CheckingFault) -> &'static str {
+pub(crate) fn checking_reason(fault: CheckingFault) -> &'static str
+    ensures { result.now ≡ checking_reason fault }
+{
     match fault {
         CheckingFault::Unread => {
             "the playlist, or a segment that it lists, can't be read, or the playlist is not UTF-8"

@@ -1,10 +1,11 @@
 //! Why settings aren't allowed: the option, or the entry of a ladder, that is outside its limits.
-ghost use Rattle.std.specs.Prelude.{◌≡◌, Decides, IfOk, Some, false, true};
+ghost use Rattle.std.specs.Prelude.{◌≡◌, Any, Decides, IfOk, MatchOption, Some, false, map, true};
 ghost use Rattle.std.specs.Fmt.{DisplaysOnOk};
 ghost use Rattle.commands.specs.Defaults.{numbers_of};
 ghost use Rattle.commands.specs.Pools.{pool_of};
 ghost use Rattle.commands.specs.Ranges.{AreWithin};
-ghost use Rattle.command_line.specs.Explanations.{MayBeSide, TellsFirstOutside, option_word, outside_text, range_text};
+ghost use Rattle.command_line.specs.Explanations.{IsListable, MayBeSide, MayBeSize, TellsFirstOutside, TellsUnlistable, option_word, outside_text, range_text};
+ghost use Rattle.command_line.specs.EntryTexts.{IsNamed};
 
 use commands::{NumberWords, PoolWords, Ranged, cut_entry, first_outside};
 use limits::{MOST_PIXELS, MOST_RENDITIONS};
@@ -68,8 +69,20 @@ fn is_side(text: &str) -> bool
     }
 }
 
+/// Whether both sides round the first x of a size may be sides.
+fn may_be_size(text: &str) -> bool
+    ensures { Decides result (MayBeSize text.now) }
+{
+    let Some((width, height)) = text.split_once('x') else {
+        return false;
+    };
+    is_side(width) && is_side(height)
+}
+
 /// What a rendition can't be listed by, if there is such a thing.
-fn unlistable(name: &str, codecs: &str, size: &str) -> Option<&'static str> {
+fn unlistable(name: &str, codecs: &str, size: &str) -> Option<&'static str>
+    ensures { MatchOption result (IsListable name.now codecs.now size.now) (λ why. TellsUnlistable name.now codecs.now size.now why.now) }
+{
     if !is_name(name) {
         return Some(
             "the name is not 1 to 64 bytes without control bytes, '/', '.' and ':', or it is 'master'",
@@ -78,10 +91,10 @@ fn unlistable(name: &str, codecs: &str, size: &str) -> Option<&'static str> {
     if !is_codecs(codecs) {
         return Some("the codecs are not 1 to 128 printable ASCII bytes without a quotation mark");
     }
-    match size.split_once('x') {
-        Some((width, height)) if is_side(width) && is_side(height) => None,
-        _ => Some("a side of the size is outside 1 to 16384 pixels"),
+    if !may_be_size(size) {
+        return Some("a side of the size is outside 1 to 16384 pixels");
     }
+    None
 }
 
 /// Writes why the rendition of `one` can't be listed.
@@ -122,13 +135,23 @@ pub(crate) fn write_unlistable_entries<W: fmt::Write>(
 }
 
 /// Whether one of these entries has the name.
-fn is_among(name: &str, entries: &[&str]) -> bool {
-    for text in entries {
-        if let Some(words) = cut_entry(text)
-            && words.name == name
-        {
+fn is_among(name: &str, entries: &[&str]) -> bool
+    ensures { Decides result (Any (IsNamed name.now) (map (λ t. t.now) entries.now)) }
+{
+    for place in 0..entries.len() {
+        if is_named(entries[place], name) {
             return true;
         }
     }
     false
+}
+
+/// Whether an entry has the name.
+fn is_named(text: &str, name: &str) -> bool
+    ensures { Decides result (IsNamed name.now text.now) }
+{
+    let Some(words) = cut_entry(text) else {
+        return false;
+    };
+    words.name == name
 }

@@ -48,7 +48,7 @@ returns-in_default-name-clause-fault g c =
     let no_check : name ≡ codes "check" → ⊥ = search rules in
     let matched = is_matched c.args.matches.now name name rows refl c.in-Some.ensures.name c.in-Some.ensures.rows in
     let files = files_view (g.F.FileReader.gives c.args.files.now) (g.F.FileReader.refuses c.args.files.now) (g.F.FileReader.wants c.args.files.now) in
-    no-line files (subcommand_rows_of c.args.matches.now) c.no_command-in_default-name.result (λ _. not_command (subcommand_rows_of c.args.matches.now) name rows matched no_seal no_open no_one no_pack no_check) c.no_command-in_default-name.ensures
+    no-line files (subcommand_rows_of c.args.matches.now) c.no_command-in_default-name.result (λ _. not_command (subcommand_rows_of c.args.matches.now) name rows matched no_seal no_open no_one no_pack no_check) c.no_command-in_default-name.ensures.refused
 
 pub returns-in_err-options-in-seal-clause-fault : goal.returns-in_err-options-in-seal-clause-fault
 returns-in_err-options-in-seal-clause-fault g c =

@@ -9,4 +9,4 @@ returns c =
     let command = c.args.command in
     IfOk-weaker c.with_numbers.result _ _ (λ made gets.
     gets-both command _ made (rendition_options ++ form_options) packing_options
-    (gets-both command _ _ rendition_options form_options c.in_ok-command.ensures c.in_ok-command-2.ensures) gets) c.with_numbers.ensures
+    (gets-both command _ _ rendition_options form_options c.in_ok-command.ensures c.in_ok-command-2.ensures) gets) c.with_numbers.ensures.ok

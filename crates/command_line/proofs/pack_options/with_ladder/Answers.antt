@@ -14,10 +14,10 @@ returns c =
     let folder : List Rule = needed (text_option (codes "out")) ∷ [] in
     let flags : List Rule = needed (text_option (codes "out")) ∷ folder_options in
     let first = gets-more command _ _ _ _ _ (gets-none command) c.in_ok-command.ensures alone out in
-    let second = gets-both command _ _ folder folder_options first c.in_ok-command-2.ensures in
+    let second = gets-both command _ _ folder folder_options first c.in_ok-command-2.ensures.ok in
     let watched : List Rule = flags ++ text_option (codes "metrics") ∷ [] in
     let third = gets-both command _ _ flags (text_option (codes "metrics") ∷ []) second c.in_ok-command-3.ensures in
-    let pool = gets-both command _ _ watched pool_options third c.in_ok-command-4.ensures in
+    let pool = gets-both command _ _ watched pool_options third c.in_ok-command-4.ensures.ok in
     let entered = gets-both command _ _ (watched ++ pool_options) (entries ∷ []) pool c.in_ok-command-5.ensures in
     let formed = gets-both command _ _ (watched ++ pool_options ++ entries ∷ []) form_options entered c.in_ok-command-6.ensures in
-    IfOk-weaker c.with_numbers-2.result _ _ (λ made gets. gets-both command _ made (watched ++ pool_options ++ entries ∷ form_options) packing_options formed gets) c.with_numbers-2.ensures
+    IfOk-weaker c.with_numbers-2.result _ _ (λ made gets. gets-both command _ made (watched ++ pool_options ++ entries ∷ form_options) packing_options formed gets) c.with_numbers-2.ensures.ok
