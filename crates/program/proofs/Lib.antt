@@ -1,3 +1,4 @@
 mod Ending
 mod Naming
+mod Opened
 mod Slashes

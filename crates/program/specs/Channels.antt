@@ -1,5 +1,5 @@
 -- A ladder that goes on in its folder.
-use Rattle.std.specs.Prelude.{◌≡◌, ⊤, ℕ, List, []}
+use Rattle.std.specs.Prelude.{◌≡◌, ◌<◌, ⊤, ℕ, List, [], length}
 use Rattle.folder.specs.FileFolders.{file_moves, folder_path}
 use Rattle.folder.specs.declared.file_folder.FileFolder.{FileFolder}
 use Rattle.channel.specs.Resuming.{IsNotResumed, IsResumed}
@@ -8,6 +8,12 @@ use Rattle.channel.specs.declared.fault.ResumingFault.{ResumingFault}
 use Rattle.command_line.specs.declared.fault.Fault.{Fault}
 use Rattle.command_line.specs.declared.fault.Fault.TheVariants.{Resuming}
 use Rattle.command_line.specs.declared.job.LadderJob.{LadderJob}
+
+-- one file at least may be found in a folder
+pub record MayHoldFile (lists : List (List ℕ) → Type 0) : Type 0 where
+  pub files : List (List ℕ)
+  pub listed : lists files
+  pub some : 0 < length files
 
 -- behind an earlier run it is the one that was asked for, under other settings
 pub record IsJobBehind (asked now : LadderJob) : Type 0 where

@@ -25,6 +25,7 @@ use Rattle.packing.specs.LadderPacking.{LadderSays}
 use Rattle.packing.specs.declared.destination.Destination.{Destination}
 use Rattle.removal.specs.Removing.{AreAllCleared, LeavesKept, kept_run, new_keeping}
 use Rattle.removal.specs.Retaining.{AreKeptFor}
+use Rattle.program.specs.Asked.{IsAsAsked}
 use Rattle.program.specs.declared.ladder.LadderOutlet.{LadderOutlet}
 use Rattle.program.specs.declared.ladder.LadderOutlet.TheVariants.{Pruned, Whole}
 use Rattle.program.specs.declared.ladder.LadderRun.{LadderRun}
@@ -33,10 +34,11 @@ use Rattle.program.specs.declared.ladder.LadderRun.{LadderRun}
 abbrev pub ahead_input : SourceView Seen
 ahead_input = source_view (λ s. s.left) (λ s. s.reads) (λ s. s.failures)
 
--- inputs that were just opened, of which these bytes are left, in this order
-pub record AreOpened (left : List (Option (List ℕ))) (inputs : List Seen) : Type 0 where
+-- inputs that were just opened, of which these bytes are left, in this order; they are read ahead as was asked
+pub record AreOpened (job : LadderJob) (left : List (Option (List ℕ))) (inputs : List Seen) : Type 0 where
   pub left_is : map (λ (s : Seen). s.left) inputs ≡ left
   pub unread : All (λ (s : Seen). (s.reads ≡ 0) × (s.failures ≡ 0)) inputs
+  pub limits : All (λ (s : Seen). IsAsAsked job.options.pool.stall job.options.pool.ahead (length job.options.paths.items) s.stall s.room) inputs
 
 -- the folder that was asked for, to which nothing was done yet
 pub record IsAskedFor {R : Type 0} (job : LadderJob) (into : Destination (FileFolder R)) : Type 0 where
@@ -57,7 +59,7 @@ pub record EndsSo {Y V : Type 0} (run : Run Seen Y) (job : LadderJob) (held held
 -- each rendition was read from its own input, and put into the folder
 pub record IsWholeRun {R : Type 0} (left : List (Option (List ℕ))) (job : LadderJob) (held held_then : Option (List ℕ)) (run : LadderRun Seen (FileFolder R)) : Type 0 where
   pub inputs : List Seen
-  pub opened : AreOpened left inputs
+  pub opened : AreOpened job left inputs
   pub into : Destination (FileFolder R)
   pub asked : IsAskedFor job into
   pub outlet : FolderState (FileFolder R)
@@ -68,7 +70,7 @@ pub record IsWholeRun {R : Type 0} (left : List (Option (List ℕ))) (job : Ladd
 -- the same, and its segments are kept for as long as the settings, and what earlier runs left, ask for
 pub record IsPrunedRun {R : Type 0} (left : List (Option (List ℕ))) (job : LadderJob) (older : List (List ℕ)) (held held_then : Option (List ℕ)) (run : LadderRun Seen (FileFolder R)) : Type 0 where
   pub inputs : List Seen
-  pub opened : AreOpened left inputs
+  pub opened : AreOpened job left inputs
   pub into : Destination (FileFolder R)
   pub asked : IsAskedFor job into
   pub kept : List KeepingValue

@@ -1,5 +1,5 @@
 -- The metrics of a run at one time of it.
-use Rattle.std.specs.Prelude.{◌≡◌, ℕ, ◌-◌, List, Option, None, fold, length, map, option_copied, replicate, sum}
+use Rattle.std.specs.Prelude.{◌≡◌, ◌⊎◌, ℕ, ◌-◌, List, [], Option, None, Some, fold, length, map, option_copied, replicate, sum}
 use Rattle.std.specs.List.{range_with_len}
 use Rattle.ladder_items.specs.declared.fault.PackFault.{PackFault}
 use Rattle.metrics.specs.Metrics.{metrics_text}
@@ -10,6 +10,8 @@ use Rattle.metrics.specs.declared.known.InputSample.{InputSample}
 use Rattle.metrics.specs.declared.known.Known.{Known}
 use Rattle.metrics.specs.declared.sample.RunSample.{RunSample}
 use Rattle.metrics.specs.declared.seen.Seen.{Seen}
+use Rattle.read_ahead.specs.Sources.{inputs_of}
+use Rattle.read_ahead.specs.declared.view.InputsView.{InputsView}
 use Rattle.program.specs.Faulted.{named_in}
 use Rattle.program.specs.declared.told.Told.{Told}
 use Rattle.program.specs.declared.told.TheConstants.{RENDITIONS}
@@ -17,6 +19,15 @@ use Rattle.program.specs.declared.told.TheConstants.{RENDITIONS}
 -- what was seen of each rendition, once they are seen again with these counts
 abbrev pub seen_then : List Seen → List ℕ → ℕ → List Seen
 seen_then seen counts now = map (again_at seen counts now) (range_with_len 0 (length seen))
+
+-- what was seen stands, or was seen again at some time with these counts
+abbrev pub IsSeenOn : List Seen → List ℕ → List Seen → Type 0
+IsSeenOn seen counts next = (next ≡ seen) ⊎ ((now : ℕ) × (next ≡ seen_then seen counts now))
+
+-- one sample of each input that a view shows; none where there is no view
+abbrev pub AreSamplesOf : Option InputsView → List InputSample → Type 0
+AreSamplesOf None inputs = inputs ≡ []
+AreSamplesOf (Some view) inputs = length inputs ≡ inputs_of view
 
 -- how a run stands: how many of the segments that are complete aren't shown yet, and how many were removed
 abbrev pub run_sample : ℕ → Told → Glance → RunSample

@@ -1,11 +1,11 @@
 -- What a command does that reads in the calling thread alone.
-use Rattle.std.specs.Prelude.{◌≡◌, ◌≢◌, ◌⊎◌, ℕ, List, Option, length}
+use Rattle.std.specs.Prelude.{◌≡◌, ◌≢◌, ◌⊎◌, ◌<◌, ℕ, List, Option, length}
 use Rattle.std.specs.String.{string_bytes}
 use Rattle.ladder_items.specs.Ladder.{IsAllowed, Ladder}
 use Rattle.packing.specs.StreamPacking.{CountsSay, PackingSays, WritesPacked}
 use Rattle.commands.specs.Checking.{BeginsChecked, IsCheckFault, WritesChecked}
 use Rattle.commands.specs.Counts.{OpeningCounts, SealingCounts}
-use Rattle.commands.specs.Streams.{BeginsOpened, BeginsSealed, ReadsNoBlocks, ReadsNoSealed, ReadsOther, WritesOpened, WritesSealed}
+use Rattle.commands.specs.Streams.{BeginsOpened, BeginsSealed, HasBegun, ReadsNoBlocks, ReadsNoSealed, ReadsOther, WritesOpened, WritesSealed}
 use Rattle.commands.specs.declared.check_options.CheckOptions.{CheckOptions}
 use Rattle.commands.specs.declared.checking.CheckingFault.{CheckingFault}
 use Rattle.commands.specs.declared.checking.CheckingFault.TheVariants as checking
@@ -58,12 +58,15 @@ pub record FileView : Type 1 where
   pub wants : List ℕ → Type 0
 
 -- Why nothing was sealed: each fault says how often was read. Where a write failed a prefix of the line was written, else nothing.
+-- Memory is wanted only for bytes that a read gave, or once the end has come.
 pub record FailsSealing (options : CipherOptions) (p : Passed) (why : SealingFault) : Type 0 where
   pub counts : SealingCounts 0 p.reads 0 p.failures why
   pub begun : why ≡ sealing.Unwritten → BeginsSealed options.key options.vector p.left p.left_then p.held p.held_then
   pub untouched : why ≢ sealing.Unwritten → p.held_then ≡ p.held
+  pub scarce : why ≡ sealing.NoMemory → HasBegun 0 p.reads p.left p.left_then
 
--- Why nothing was opened: the same, and what was read is no hex digits, no blocks, or no sealed text, as the fault says.
+-- Why nothing was opened: the same, and what was read is no hex digits, no blocks, or no sealed text, as the fault says. Memory is
+-- wanted only for bytes that a read gave.
 pub record FailsOpening (options : CipherOptions) (p : Passed) (why : OpeningFault) : Type 0 where
   pub counts : OpeningCounts 0 p.reads 0 p.failures why
   pub begun : why ≡ opening.Unwritten → BeginsOpened options.key options.vector p.left p.left_then p.held p.held_then
@@ -71,6 +74,7 @@ pub record FailsOpening (options : CipherOptions) (p : Passed) (why : OpeningFau
   pub not_blocks : why ≡ opening.NotBlocks → ReadsNoBlocks p.left p.left_then
   pub bad_padding : why ≡ opening.BadPadding → ReadsNoSealed options.key options.vector p.left p.left_then
   pub untouched : why ≢ opening.Unwritten → p.held_then ≡ p.held
+  pub scarce : why ≡ opening.NoMemory → 0 < p.reads
 
 -- Why a stream wasn't packed to its end: each fault says what was read and written by then, and how often was read. Settings that
 -- aren't those of one rendition are refused, unless there is no memory before anything is read.

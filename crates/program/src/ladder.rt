@@ -1,14 +1,18 @@
-ghost use Rattle.std.specs.Prelude.{OnErr, ◌≡◌, ◌⊎◌, ◌*◌, ◌<◌, ◌↔◌, [], All, IfErr, IfOk, IsErrOf, IsOk, IsSome, OnOk, false, length, map, option_map, true};
+ghost use Rattle.std.specs.Prelude.{OnErr, ◌≡◌, ◌⊎◌, ◌*◌, ◌<◌, ◌↔◌, [], All, Any, IfErr};
+ghost use Rattle.std.specs.Prelude.{IfOk, IfSome, IsErrOf, IsOk, IsSome, OnOk, false, length, map, option_map, true};
 ghost use Rattle.std.specs.List.{range_with_len};
 ghost use Rattle.std.specs.Duration.{as_nanos};
 ghost use Rattle.folder.specs.FileFolders.{file_moves, folder_path, may_sync};
 ghost use Rattle.channel.specs.Resuming.{IsNotResumed, IsResumed};
 ghost use Rattle.channel.specs.Views.{folder_view};
 ghost use Rattle.channel.specs.declared.fault.ResumingFault.{ResumingFault};
+ghost use Rattle.channel.specs.declared.fault.ResumingFault.TheVariants as resuming;
 ghost use Rattle.command_line.specs.declared.fault.Fault.TheVariants.{LadderPacking, NoMemory, Resuming, Unopened};
 ghost use Rattle.packing.specs.LadderPacking.{WritesSummary};
+ghost use Rattle.read_ahead.specs.Sources.{inputs_of};
+ghost use Rattle.read_ahead.specs.declared.starting.InputFault.TheVariants.{Unread};
 ghost use Rattle.program.specs.Asked.{IsAsAsked};
-ghost use Rattle.program.specs.Channels.{GoesNotOn, GoesOn, IsJobBehind};
+ghost use Rattle.program.specs.Channels.{GoesNotOn, GoesOn, IsJobBehind, MayHoldFile};
 ghost use Rattle.program.specs.LadderEnds.{FailsLadder, IsUnbegun};
 ghost use Rattle.program.specs.LadderRuns.{IsPrunedRun, IsWholeRun};
 
@@ -72,6 +76,13 @@ fn go_on<'a, F: Folder + FolderReader>(
     ensures err { let view = folder_view F.lists F.gives F.lacks F.refuses F.made in
         IfErr result (λ fault. (why : ResumingFault) × (fault ≡ Resuming why) ×
         IsNotResumed view job.entry.options.settings folder.old folder.new why) }
+
+    // What can't be changed was tried.
+    ensures failed { IsErrOf result (Resuming resuming.Outlet) → (found : F) × F.fails found folder.new }
+
+    // Memory is wanted to look at the folder, for a rendition, or for a file.
+    ensures scarce { IsErrOf result (Resuming resuming.NoMemory) → F.wants folder.old ⊎ (0 < length job.entry.options.settings.renditions)
+        ⊎ MayHoldFile (F.lists folder.old) }
 {
     let LadderJob {
         options,
@@ -244,7 +255,11 @@ where
     ensures limits { IfOk result (λ inputs. All (λ source.
         IsAsAsked options.now.pool.stall options.now.pool.ahead (length options.now.paths.items) source.stall source.room) inputs.sources.items) }
     ensures view { IfOk result (λ inputs. IsSome inputs.view ↔ 0 < length options.now.paths.items) }
+
+    // The view is of all of them.
+    ensures shown { IfOk result (λ inputs. IfSome inputs.view (λ view. inputs_of view ≡ length options.now.paths.items)) }
     ensures fault { IfErr result (λ fault. (fault ≡ NoMemory) ⊎ ((why : _) × (fault ≡ Unopened why))) }
+    ensures none { IsErrOf result (Unopened Unread) → 0 < length options.now.paths.items }
 {
     let limits = limits_of(options.pool);
     let sources = open_paths(rt, alloc, rt, options.paths.as_slice(), limits)?;
@@ -259,6 +274,9 @@ fn view_of<R: InputFiles + Clock + Threads + Wait + Copy + Send + Drop + 'static
 where
     R::Reader: Send + 'static,
     ensures ok { IfOk result (λ view. IsSome view ↔ 0 < length sources.now) }
+
+    // It shows as many as were opened with them.
+    ensures shown { IfOk result (λ view. IfSome view (λ shown. Any (λ source. inputs_of shown ≡ source.inputs) sources.now)) }
     ensures scarce { OnErr result (0 < length sources.now) }
 {
     match sources.first() {

@@ -1,6 +1,8 @@
 //! What a command does that reads in the calling thread alone.
 ghost use Rattle.std.specs.Prelude.{◌≡◌, IfErr, OnOk};
+ghost use Rattle.commands.specs.declared.check_options.CheckOptions.{CheckOptions};
 ghost use Rattle.command_line.specs.declared.fault.Fault.TheVariants.{Checking, Opening, Packing, Sealing};
+ghost use Rattle.command_line.specs.declared.job.StreamJob.TheVariants.{Check};
 ghost use Rattle.program.specs.Streaming.{Checks, DoesStream, FailsChecking, FailsOpening, FailsPacking, FailsSealing};
 ghost use Rattle.program.specs.Streaming.{FileView, IsOfStream, Opens, Packs, Passed, Seals};
 
@@ -39,6 +41,10 @@ pub fn stream<R: Read + Drop, W: Write + Drop, F: FileReader>(
           held_then = W.contents result.output;
         } in
         IfErr result.answer (IsOfStream files_are job passed) }
+
+    // A check leaves its input alone.
+    ensures unread { (options : CheckOptions) → job ≡ Check options →
+        (result.source.reader ≡ input) × (result.source.reads ≡ 0) × (result.source.failures ≡ 0) }
 {
     match job {
         StreamJob::Seal(options) => sealed(alloc, options, input, output),
@@ -185,6 +191,9 @@ fn checked<R: Read + Drop, W: Write, F: FileReader>(
           held_then = W.contents result.output;
         } in
         IfErr result.answer (λ fault. (why : _) × (fault ≡ Checking why) × FailsChecking files_are options passed why) }
+
+    // Its input is left alone.
+    ensures unread { (result.source.reader ≡ input) × (result.source.reads ≡ 0) × (result.source.failures ≡ 0) }
 {
     let source = ReaderSource::new(input);
     let mut output = output;

@@ -1,12 +1,14 @@
 //! Watches a run: a thread with a viewer of its board writes its metrics to a file. The run waits for nothing of it.
-ghost use Rattle.std.specs.Prelude.{◌≡◌, ◌<◌, ℕ, [], IfOk, IfSome, IsErr, IsSome, List, None, OnErr, false, true};
+ghost use Rattle.std.specs.Prelude.{◌≡◌, ◌<◌, ◌⊎◌, ◌++◌, ℕ, IfOk, IfSome, IsErr, IsSome, List, None, OnErr, false, true};
 ghost use Rattle.std.specs.Prelude.{fold, length, map, option_copied, option_map, replicate};
 ghost use Rattle.std.specs.String.{string_bytes};
+ghost use Rattle.live_board.specs.Snapshots.{SnapshotFacts};
+ghost use Rattle.metrics.specs.Glances.{IsOfTheLast};
 ghost use Rattle.metrics.specs.Seens.{unseen};
-ghost use Rattle.read_ahead.specs.Sources.{inputs_of};
+ghost use Rattle.metrics.specs.declared.glance.Glance.{Glance};
 ghost use Rattle.program.specs.Asked.{input_sample};
 ghost use Rattle.program.specs.Faulted.{last_fault, name_of, named_in, rendition_of};
-ghost use Rattle.program.specs.Metered.{IsMetered, seen_then};
+ghost use Rattle.program.specs.Metered.{AreSamplesOf, IsMetered, IsSeenOn, seen_then};
 
 use crate::metrics_file::replace;
 use crate::told::{RENDITIONS, Tellings, Told};
@@ -127,6 +129,9 @@ impl Writer {
 
         // What was told once stays told.
         ensures told { self.old.has_told ≡ true → self.new.has_told ≡ true }
+
+        // What was seen stands, or is seen again with what a board shows.
+        ensures seen { IsSeenOn self.old.seen.items glance.now.counts.items self.new.seen.items }
     {
         let written = match self.text(rt, alloc, glance, fault) {
             Ok(text) => replace(rt, alloc, &self.path, &text),
@@ -145,10 +150,11 @@ impl Writer {
         glance: &Glance,
         fault: Option<PackFault>,
     ) -> Result<Vec<u8>, AllocError>
-        ensures ok { IfOk result (λ text. (now : ℕ) × (told : Told) × (inputs : List InputSample) ×
+        ensures ok { IfOk result (λ text. (now : ℕ) × (told : Told) × (inputs : List InputSample) × AreSamplesOf self.old.inputs inputs ×
             (self.new.seen.items ≡ seen_then self.old.seen.items glance.now.counts.items now) ×
             IsMetered (map string_bytes self.old.names.items) self.old.start glance.now told self.new.seen.items inputs fault now text.items) }
         ensures kept { self.new ≡ record self.old { seen = self.new.seen } }
+        ensures seen { IsSeenOn self.old.seen.items glance.now.counts.items self.new.seen.items }
     {
         let now = since(rt, self.begun);
         self.seen = seen_again(alloc, &self.seen, &glance.counts, now)?;
@@ -165,7 +171,7 @@ impl Writer {
         fault: Option<PackFault>,
         now: u128,
     ) -> Result<Vec<u8>, AllocError>
-        ensures { IfOk result (λ text. (told : Told) × (inputs : List InputSample) ×
+        ensures { IfOk result (λ text. (told : Told) × (inputs : List InputSample) × AreSamplesOf self.now.inputs inputs ×
             IsMetered (map string_bytes self.now.names.items) self.now.start glance.now told self.now.seen.items inputs fault now text.items) }
     {
         let told = self.told.so_far(rt);
@@ -213,10 +219,8 @@ impl Writer {
         rt: &R,
         alloc: Global,
     ) -> Result<Vec<InputSample>, AllocError>
-        ensures none { self.now.inputs ≡ None → IfOk result (λ all. all.items ≡ []) }
-
         // There is one of each input.
-        ensures some { IfOk result (λ all. IfSome self.now.inputs (λ inputs. length all.items ≡ inputs_of inputs)) }
+        ensures each { IfOk result (λ all. AreSamplesOf self.now.inputs all.items) }
         ensures scarce { OnErr result (IsSome self.now.inputs) }
     {
         match &self.inputs {
@@ -262,7 +266,8 @@ fn none_seen(alloc: Global, count: usize) -> Result<Vec<Seen>, AllocError>
 
 /// Names, as texts that are borrowed.
 fn texts_of<'a>(alloc: Global, names: &'a [String]) -> Result<Vec<&'a str>, AllocError>
-    ensures { IfOk result (λ texts. map (λ t. t.now) texts.items ≡ map string_bytes names.now) }
+    ensures ok { IfOk result (λ texts. map (λ t. t.now) texts.items ≡ map string_bytes names.now) }
+    ensures scarce { OnErr result (0 < length names.now) }
 {
     let mut texts: Vec<&str> = Vec::new(alloc);
     for name in names {
@@ -343,7 +348,19 @@ fn look_and_write<R: Files + Clock + Eprint + Wait>(
     viewer: Viewer,
     writer: &mut Writer,
     fault: Option<PackFault>,
-) -> Viewer {
+) -> Viewer
+    // It stays the writer of this run, and what was told once stays told.
+    ensures kept { writer.new ≡ record writer.old { seen = writer.new.seen; has_told = writer.new.has_told } }
+    ensures told { writer.old.has_told ≡ true → writer.new.has_told ≡ true }
+
+    // What was seen stands, or is seen again with what the board showed last.
+    ensures seen { (writer.new.seen.items ≡ writer.old.seen.items) ⊎ ((glance : Glance) × IsOfTheLast result.list glance ×
+        IsSeenOn writer.old.seen.items glance.counts.items writer.new.seen.items) }
+
+    // The viewer is the same one, and has taken what the board showed.
+    ensures board { result.board ≡ viewer.board }
+    ensures grows { (more : List SnapshotFacts) × (result.list ≡ viewer.list ++ more) }
+{
     let (viewer, seen) = look(alloc, viewer);
     match seen {
         Ok(glance) => writer.write(rt, alloc, &glance, fault),

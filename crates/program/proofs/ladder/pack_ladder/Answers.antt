@@ -17,7 +17,7 @@ returns-then-job g c =
       whole = λ stays. absurd (cc stays);
       pruned = λ goes. record {
         inputs = c.in_ok-sources.field-0.sources.items;
-        opened = record { left_is = c.in_ok-sources.ensures.left; unread = c.in_ok-sources.ensures.unread };
+        opened = record { left_is = c.in_ok-sources.ensures.left; unread = c.in_ok-sources.ensures.unread; limits = c.in_ok-sources.ensures.limits };
         into = c.in_ok-into.into;
         asked = record { fresh = c.in_ok-into.ensures.fresh; path = c.in_ok-into.ensures.folder.0; may = c.in_ok-into.ensures.folder.1; syncs = c.in_ok-into.ensures.syncs };
         kept = c.in_ok-kept.kept.items;
@@ -57,7 +57,7 @@ returns g c =
       unbegun = tt;
       whole = λ stays. record {
         inputs = c.in_ok-sources.field-0.sources.items;
-        opened = record { left_is = c.in_ok-sources.ensures.left; unread = c.in_ok-sources.ensures.unread };
+        opened = record { left_is = c.in_ok-sources.ensures.left; unread = c.in_ok-sources.ensures.unread; limits = c.in_ok-sources.ensures.limits };
         into = c.in_ok-into.into;
         asked = record { fresh = c.in_ok-into.ensures.fresh; path = c.in_ok-into.ensures.folder.0; may = c.in_ok-into.ensures.folder.1; syncs = c.in_ok-into.ensures.syncs };
         outlet = c.pack_into_folder-sources.result.outlet;
