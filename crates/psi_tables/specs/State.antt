@@ -1,9 +1,10 @@
 -- What assemblers and watches stand for, and what they keep.
-use Rattle.std.specs.Prelude.{◌≡◌, ◌⊎◌, ℕ, ◌<◌, ◌≤◌, Bool, false, true, ◌&&◌, nat_lt, if◌then◌else◌, List, [], ◌∷◌, ◌++◌, length, Option, Some, None}
+use Rattle.std.specs.Prelude.{◌≡◌, ◌≢◌, ◌⊎◌, ℕ, ◌<◌, ◌≤◌, Bool, false, true, ◌&&◌, nat_lt, if◌then◌else◌, List, [], ◌∷◌, ◌++◌, length, Option, Some, None}
 use Rattle.ts_packet.specs.Fields.{payload_unit_start_indicator}
-use Rattle.psi_tables.specs.Sections.{Carrier, carriers, follows, pointed, is_whole, is_open, first_section, begun_in, flow_behind, unfinished, bring_too_long, is_given_up, is_taken, last_counter, opening, sections_in, sections}
+use Rattle.psi_tables.specs.Sections.{Carrier, carrier, carriers, follows, pointed, behind_pointer, is_whole, is_open, first_section, begun_in, flow_behind, unfinished, bring_too_long, is_given_up, is_taken, last_counter, opening, sections_in, sections}
 use Rattle.psi_tables.specs.declared.next.Begun.{Begun}
 use Rattle.std.specs.List.{filter_map}
+use Rattle.psi_tables.specs.ProgramMap.{program_map, pmt_fault}
 use Rattle.psi_tables.specs.InForce.{InForce, choice, since_change, tables_of, tables_behind}
 use Rattle.psi_tables.specs.declared.choice.Choice.{Choice}
 
@@ -98,9 +99,30 @@ Follows g p (Some begun) = Keeps (with_packet g p) begun.counter begun.bytes.ite
 abbrev pub IsCarried : Gathered → List ℕ → Type 0
 IsCarried g p = is_taken g.pid (last_counter g.pid None g.packets) p ≡ true
 
--- sections may begin in the packet, or it comes while the front of one is kept
+-- a section stands at the front, whole or not
+abbrev pub HasSection : List ℕ → Type 0
+HasSection s = (is_whole s ≡ true) ⊎ (open_front s ≢ [])
+
+-- a section begins in the packet, whole or not
+pub record BeginsSection (p : List ℕ) : Type 0 where
+  pub starts : payload_unit_start_indicator p ≡ true
+  pub section : HasSection (behind_pointer (carrier p))
+
+-- no packet is missing between the last one with this counter and this one; there is such a one
+abbrev pub IsNext : Option ℕ → List ℕ → Type 0
+IsNext None p = ⊥
+IsNext (Some counter) p = follows counter (carrier p) ≡ true
+
+-- the front of a section is kept, and no packet is missing before this one
+pub record GoesOn (g : Gathered) (p : List ℕ) : Type 0 where
+  pub kept : ℕ
+  pub is_kept : IsKept g kept
+  pub some : 0 < kept
+  pub next : IsNext (last_counter g.pid None g.packets) p
+
+-- a section begins in the packet, or one that was begun goes on in it
 abbrev pub MayBring : Gathered → List ℕ → Type 0
-MayBring g p = (payload_unit_start_indicator p ≡ true) ⊎ ((kept : ℕ) × IsKept g kept × (0 < kept))
+MayBring g p = BeginsSection p ⊎ GoesOn g p
 
 -- .. and carries parts of this PID's sections
 abbrev pub Brings : Gathered → List ℕ → Type 0
@@ -132,6 +154,11 @@ BringsTables w p = Brings (record { pid = 0; packets = w.packets }) p ⊎ Brings
 abbrev pub tables_among : Option Choice → List (List ℕ) → List InForce
 tables_among None found = []
 tables_among (Some c) found = filter_map (tables_of c) found
+
+-- reading a section on the chosen PID takes memory: it is a good PMT that has entries, or is of the chosen program
+abbrev pub TakesMemory : Option Choice → List ℕ → Type 0
+TakesMemory None s = ⊥
+TakesMemory (Some c) s = (pmt_fault s ≡ None) × (((program_map s).entries ≢ []) ⊎ ((program_map s).program ≡ c.program))
 
 -- the sections that are gathered, the choice and the tables are those behind the packets that came
 pub record Watches (wanted : Option ℕ) (pats pmts : Gathered) (chosen : Option Choice) (tables : Option InForce) : Type 0 where

@@ -48,8 +48,8 @@ impl Assembler {
     }
 
     /// Takes the next packet, and appends the sections that it completes. Only one that carries parts of the PID's sections,
-    /// and is no repeat, takes memory: where sections may begin in it, or one was begun. A refusal leaves the assembler and
-    /// the sections as they were.
+    /// and is no repeat, takes memory: where a section begins in it, or one that was begun goes on. A refusal leaves the
+    /// assembler and the sections as they were.
     pub fn push(&mut self, packet: &Packet, out: &mut Vec<Vec<u8>>) -> Result<(), AllocError>
         ensures pushed { OnOk result (self.new ≡ with_packet self.old packet.now) }
         ensures sections { OnOk result (GrowsAlike (gathered_sections self.old) (gathered_sections self.new)

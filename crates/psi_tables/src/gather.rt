@@ -1,7 +1,6 @@
-ghost use Rattle.std.specs.Prelude.{◌≡◌, ◌≢◌, ◌≤◌, [], false, length, map, IfOk, IsOk};
-ghost use Rattle.ts_packet.specs.Fields.{payload_unit_start_indicator};
+ghost use Rattle.std.specs.Prelude.{◌≡◌, ◌≢◌, ◌≤◌, ◌⊎◌, [], length, map, IfOk, IsOk, OnErr};
 ghost use Rattle.psi_tables.specs.Sections.{carrier, begun_in, unfinished, pointed, behind_pointer};
-ghost use Rattle.psi_tables.specs.State.{whole_front, open_rest, left_open, completed, left_behind};
+ghost use Rattle.psi_tables.specs.State.{whole_front, open_rest, left_open, completed, left_behind, HasSection, BeginsSection};
 
 use crate::section::read_length;
 use std::alloc::{AllocError, Global};
@@ -53,10 +52,21 @@ fn open_front(bytes: &[u8]) -> &[u8]
     bytes
 }
 
-/// The section at the front of these bytes, whole or not.
+/// A copy of some bytes. Only where there are any it takes memory.
+fn copied(alloc: Global, bytes: &[u8]) -> Result<Vec<u8>, AllocError>
+    ensures ok { IfOk result (λ copy. copy.items ≡ bytes.now) }
+    ensures some { OnErr result (bytes.now ≢ []) }
+{
+    let mut copy = Vec::new(alloc);
+    copy.extend_from_slice(bytes)?;
+    Ok(copy)
+}
+
+/// The section at the front of these bytes, whole or not. Only where one stands there it takes memory.
 fn first_in(alloc: Global, bytes: &[u8]) -> Result<Brought, AllocError>
     ensures found { IfOk result (λ brought. map (λ section. section.items) brought.found.items ≡ whole_front bytes.now) }
     ensures begun { IfOk result (λ brought. brought.begun.items ≡ open_rest bytes.now) }
+    ensures some { OnErr result (HasSection bytes.now) }
 {
     let mut found = Vec::new(alloc);
     if is_whole(bytes) {
@@ -69,14 +79,15 @@ fn first_in(alloc: Global, bytes: &[u8]) -> Result<Brought, AllocError>
     }
     Ok(Brought {
         found,
-        begun: Vec::from_slice(alloc, open_front(bytes))?,
+        begun: copied(alloc, open_front(bytes))?,
     })
 }
 
-/// The sections that begin in these bytes, one behind another.
+/// The sections that begin in these bytes, one behind another. Only where one stands at the front it takes memory.
 fn begin_in(alloc: Global, bytes: &[u8]) -> Result<Brought, AllocError>
     ensures found { IfOk result (λ brought. map (λ section. section.items) brought.found.items ≡ begun_in 0 bytes.now []) }
     ensures begun { IfOk result (λ brought. brought.begun.items ≡ unfinished 0 bytes.now) }
+    ensures some { OnErr result (HasSection bytes.now) }
 {
     let mut found = Vec::new(alloc);
     let mut rest = bytes;
@@ -87,7 +98,7 @@ fn begin_in(alloc: Global, bytes: &[u8]) -> Result<Brought, AllocError>
     }
     Ok(Brought {
         found,
-        begun: Vec::from_slice(alloc, open_front(rest))?,
+        begun: copied(alloc, open_front(rest))?,
     })
 }
 
@@ -138,12 +149,12 @@ fn split_at_pointer<'a>(packet: &Packet<'a>) -> (&'a [u8], &'a [u8])
     (&payload[1..1 + pointer], &payload[1 + pointer..])
 }
 
-/// What a packet makes of a section that was begun.
+/// What a packet makes of a section that was begun. Only where one was begun, or begins in it, it takes memory.
 pub(crate) fn gather(alloc: Global, begun: &[u8], packet: &Packet) -> Result<Brought, AllocError>
     requires { unfinished 0 begun.now ≡ begun.now }
     ensures found { IfOk result (λ brought. map (λ section. section.items) brought.found.items ≡ completed begun.now (carrier packet.now)) }
     ensures begun { IfOk result (λ brought. brought.begun.items ≡ left_behind begun.now (carrier packet.now)) }
-    ensures idle { payload_unit_start_indicator packet.now ≡ false → begun.now ≡ [] → IsOk result }
+    ensures idle { OnErr result ((begun.now ≢ []) ⊎ BeginsSection packet.now) }
 {
     if !packet.starts() {
         return bring(alloc, begun, packet.payload());

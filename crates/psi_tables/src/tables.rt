@@ -1,7 +1,7 @@
-ghost use Rattle.std.specs.Prelude.{◌≡◌, ◌≢◌, ◌<◌, ◌^◌, ◌⊎◌, [], None, map, Any, IfOk, OnErr, IsSomeAnd, Decides};
+ghost use Rattle.std.specs.Prelude.{◌≡◌, ◌≢◌, ◌<◌, ◌^◌, ◌⊎◌, [], None, map, Any, IfOk, OnErr, Decides};
 ghost use Rattle.psi_tables.specs.ProgramMap.{program_map, pmt_fault, video_pid};
 ghost use Rattle.psi_tables.specs.InForce.{IsGood, HasPid, is_same, tables_of, last_or};
-ghost use Rattle.psi_tables.specs.State.{tables_among};
+ghost use Rattle.psi_tables.specs.State.{tables_among, TakesMemory};
 
 use crate::choice::Choice;
 use crate::fault::TableFault;
@@ -144,9 +144,7 @@ pub(crate) fn last_tables(
 ) -> Result<Option<Tables>, AllocError>
     requires { HasPid choice }
     ensures value { IfOk result (λ tables. tables ≡ last_or None (tables_among choice (map (λ section. section.items) found.now))) }
-    ensures scarce { OnErr result ((choice ≢ None) × Any (λ section. pmt_fault section.items ≡ None) found.now) }
-    ensures some { OnErr result (IsSomeAnd choice (λ c. Any (λ section. ((program_map section.items).entries ≢ [])
-        ⊎ ((program_map section.items).program ≡ c.program)) found.now)) }
+    ensures scarce { OnErr result (Any (λ section. TakesMemory choice section.items) found.now) }
 {
     let mut tables = None;
     let Some(choice) = choice else {

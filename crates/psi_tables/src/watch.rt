@@ -49,8 +49,8 @@ impl Watch {
         }
     }
 
-    /// Takes the next packet. Only one that carries parts of the tables, and is no repeat, takes memory: where sections may
-    /// begin in it, or one was begun. A refusal leaves the watch as it was.
+    /// Takes the next packet. Only one that carries parts of the tables, and is no repeat, takes memory: where a section
+    /// begins in it, or one that was begun goes on. A refusal leaves the watch as it was.
     pub fn push(&mut self, packet: &Packet) -> Result<(), AllocError>
         ensures pushed { OnOk result (self.new ≡ record self.old { packets = self.old.packets ++ packet.now ∷ [] }) }
         ensures err { OnErr result (self.new ≡ self.old) }

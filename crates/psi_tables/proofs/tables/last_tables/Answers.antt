@@ -1,9 +1,9 @@
-use Rattle.std.proofs.Common.{◌≡◌, ◌≢◌, ◌⊎◌, ℕ, List, subst, [], ◌∷◌, ◌++◌, None, map, take, sym, ◌∙◌, ap}
+use Rattle.std.proofs.Common.{ℕ, List, subst, [], ◌∷◌, ◌++◌, Some, None, map, take, sym, ◌∙◌, ap}
 use Rattle.std.proofs.lemmas.List.{take_more, map-append}
 use Rattle.std.proofs.lemmas.Result.{err_from_is_err_and}
 use Rattle.std.specs.Option.{option_or}
 use Rattle.psi_tables.specs.InForce.{tables_of}
-use Rattle.psi_tables.specs.ProgramMap.{pmt_fault, program_map}
+use Rattle.psi_tables.specs.State.{TakesMemory}
 use Rattle.psi_tables.proofs.Choosing.{last_or-none, last_or-next}
 use Rattle.psi_tables.proofs.tables.last_tables.Goals as goal
 
@@ -26,13 +26,6 @@ pub returns-in_err-read_tables-clause-scarce : goal.returns-in_err-read_tables-c
 returns-in_err-read_tables-clause-scarce c =
     let told = err_from_is_err_and c.from_residual.result c.from_residual.ensures.1 in
     let i = c.loop-section.section-index in
-    let good : pmt_fault c.section-item.result.items ≡ None = ap pmt_fault (sym c.deref.ensures.value) ∙ c.in_err-read_tables.ensures.scarce in
-    rw told.1 (λ none. absurd (let some = c.in-Some.is in cc), (i, c.section-item.result, c.loop-section-test.true, sym c.section-item.is, good))
-
-pub returns-in_err-read_tables-clause-some : goal.returns-in_err-read_tables-clause-some
-returns-in_err-read_tables-clause-some c =
-    let told = err_from_is_err_and c.from_residual.result c.from_residual.ensures.1 in
-    let i = c.loop-section.section-index in
-    let some = subst (λ (x : List ℕ). ((program_map x).entries ≢ []) ⊎ ((program_map x).program ≡ c.in-Some.choice.program)) c.deref.ensures.value
-    c.in_err-read_tables.ensures.some in
-    rw (told.1, c.in-Some.is) (i, c.section-item.result, c.loop-section-test.true, sym c.section-item.is, some)
+    let takes = subst (λ (x : List ℕ). TakesMemory (Some c.in-Some.choice) x) c.deref.ensures.value
+    (c.in_err-read_tables.ensures.scarce, c.in_err-read_tables.ensures.some) in
+    rw (told.1, c.in-Some.is) (i, c.section-item.result, c.loop-section-test.true, sym c.section-item.is, takes)

@@ -1,6 +1,5 @@
-use Rattle.std.proofs.Common.{inl, inr, sym, ap, ◌∙◌}
-use Rattle.psi_tables.specs.State.{completed}
-use Rattle.std.proofs.lemmas.Bool.{false≢true}
+use Rattle.std.proofs.Common.{◌≢◌, ◌⊎◌, ℕ, List, [], inl, inr, sym, ap, subst, ◌∙◌}
+use Rattle.psi_tables.specs.State.{BeginsSection, completed}
 use Rattle.std.proofs.lemmas.Result.{err_from_is_err_and}
 use Rattle.psi_tables.specs.Sections.{carrier}
 use Rattle.psi_tables.proofs.Flow.{front_from, front_only}
@@ -47,7 +46,7 @@ pub returns-in_err-brought-clause-idle : goal.returns-in_err-brought-clause-idle
 returns-in_err-brought-clause-idle c =
     let told = err_from_is_err_and c.from_residual.result c.from_residual.ensures.1 in
     rw (told.1, ← c.self.view_is) (may-bring _ c.args.packet.now _ _ c.self.invariant
-    (λ not none. false≢true (c.in_err-brought.ensures.idle not (c.continued.ensures ∙ none))))
+    (subst (λ (x : List ℕ). (x ≢ []) ⊎ BeginsSection c.args.packet.now) c.continued.ensures c.in_err-brought.ensures.idle))
 
 pub returns-then-not-is_taken-clause-none : goal.returns-then-not-is_taken-clause-none
 returns-then-not-is_taken-clause-none c = inl c.new.ensures.items

@@ -65,5 +65,5 @@ pub returns-in_err-tables-clause-idle : goal.returns-in_err-tables-clause-idle
 returns-in_err-tables-clause-idle c =
     let told = err_from_is_err_and c.from_residual-in_err-tables.result c.from_residual-in_err-tables.ensures.1 in
     rw (told.1, ← c.self.view_is) (pmts-bring _ _ _ _ _ c.args.packet.now c.self.invariant
-    (found-brings _ c.args.packet.now _ c.in_ok-pmts.pmts.found.items _ c.in_err-tables.ensures.scarce.1 c.deref-2.ensures.value
+    (found-brings _ c.args.packet.now _ c.in_ok-pmts.pmts.found.items _ c.in_err-tables.ensures.scarce c.deref-2.ensures.value
     c.in_ok-pmts.ensures.some c.in_ok-pmts.ensures.none))
