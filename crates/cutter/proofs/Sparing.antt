@@ -5,7 +5,7 @@ use Rattle.std.proofs.lemmas.Option.{none-some}
 use Rattle.std.proofs.lemmas.Bool.{cases_Bool, false≢true}
 use Rattle.ts_packet.specs.Fields.{random_access_indicator}
 use Rattle.psi_tables.specs.InForce.{InForce}
-use Rattle.psi_tables.specs.State.{Watched, CarriesTables}
+use Rattle.psi_tables.specs.State.{Watched, BringsTables}
 use Rattle.pes_time.specs.declared.clock.Stamp.{Stamp}
 use Rattle.cutter.specs.declared.look.Look.{Look}
 use Rattle.cutter.specs.declared.fault.CutFault.{CutFault}
@@ -13,7 +13,7 @@ use Rattle.cutter.specs.declared.fault.CutFault.TheVariants.{BigSegment, Limit, 
 use Rattle.cutter.specs.declared.settings.CutSettings.{CutSettings}
 use Rattle.cutter.specs.declared.spool_cutter.SpoolCutter.TheInside.{Inside}
 use Rattle.cutter.specs.Plans.{SegmentPlan}
-use Rattle.cutter.specs.Stream.{is_packet, packets_of, in_force, is_accepted, starts_video, is_lost, pts_at, facts, Fact}
+use Rattle.cutter.specs.Stream.{is_packet, packets_of, in_force, is_accepted, starts_video, is_lost, pts_at, facts, Fact, BringsParts}
 use Rattle.cutter.specs.Points.{Mark, mark, counted, top_after}
 use Rattle.cutter.specs.Segments.{Point, Segment, bytes_of, AddsNothing, is_cut, is_long, is_big, plan_of}
 use Rattle.cutter.specs.Framing.{Framing}
@@ -112,13 +112,13 @@ placed-accepted c v p look now t c' e is k r spared memory = elim (cases_Bool (i
       absurd (spared (leaves-all c.going t c' (mark p look c') unseen.point unseen.adds) memory)
 ]
 
--- the tables of which a packet may carry parts
-pub carried-tables : (c : Inside) (v : Spooling) (p q : List ℕ) → spooled c ≡ v → Keeps c → q ≡ p → CarriesTables c.watch q
-    → CarriesTables (record { program = v.settings.program; packets = packets_of v.list }) p
-carried-tables c v p q is k same parts =
+-- the tables to which a packet brings something
+pub brought-tables : (c : Inside) (v : Spooling) (p q : List ℕ) → spooled c ≡ v → Keeps c → q ≡ p → BringsTables c.watch q
+    → BringsParts v.settings v.list p
+brought-tables c v p q is k same parts =
     let watch : c.watch ≡ record { program = v.settings.program; packets = packets_of v.list }
     = k.watch ∙ ap (λ (x : Spooling). record { program = x.settings.program; packets = packets_of x.list }) is in
-    subst (λ (w : Watched). CarriesTables w p) watch (subst (λ (x : List ℕ). CarriesTables c.watch x) same parts)
+    subst (λ (w : Watched). BringsTables w p) watch (subst (λ (x : List ℕ). BringsTables c.watch x) same parts)
 
 -- the segment that goes on hasn't too many packets
 abbrev Fits : CutSettings → Option Segment → Type 0

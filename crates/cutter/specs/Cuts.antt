@@ -8,7 +8,7 @@ use Rattle.cutter.specs.declared.settings.CutSettings.{CutSettings}
 use Rattle.cutter.specs.declared.fault.CutFault.{CutFault}
 use Rattle.cutter.specs.declared.fault.CutFault.TheVariants.{NoProgram, NoStart, LongSegment, BigSegment, Limit}
 use Rattle.cutter.specs.Plans.{SegmentPlan}
-use Rattle.cutter.specs.Stream.{Fact, facts, in_force, MayWantMemory}
+use Rattle.cutter.specs.Stream.{Fact, facts, in_force, BringsParts, MayWantMemory}
 use Rattle.cutter.specs.Points.{Mark, mark, counted, top_after}
 use Rattle.cutter.specs.Segments.{Point, Segment, is_cut, plan_of, is_long, is_big}
 use Rattle.limits.specs.declared.TheConstants.{LAST_SEGMENT}
@@ -97,6 +97,10 @@ cuts r s ps = cut_from r s uncut (facts s ps)
 abbrev pub HasSegment : ℕ → CutSettings → List (List ℕ) → Type 0
 HasSegment r s ps = (cuts r s ps).going ≢ None
 
+-- the packet behind these may want memory: a segment goes on behind it, or it brings something to a section of the tables
+abbrev pub MayWantBody : ℕ → CutSettings → List (List ℕ) → List ℕ → Type 0
+MayWantBody r s before p = HasSegment r s (before ++ p ∷ []) ⊎ BringsParts s before p
+
 -- the plans whose next cut has come
 unfoldable pub closed : ℕ → CutSettings → List (List ℕ) → List SegmentPlan
 closed r s ps = (cuts r s ps).closed
@@ -148,6 +152,7 @@ pub record StopsAtPacket (r : ℕ) (s : CutSettings) (ps : List (List ℕ)) (old
   pub split : ps ≡ before ++ packet ∷ behind
   pub sound : (cuts r s (before ++ packet ∷ [])).fault ≡ None
   pub wants : MayWantMemory s before packet
+  pub body : MayWantBody r s before packet
   pub plans : new ≡ old ++ closed r s before
 
 -- memory is wanting at the end of a stream without a fault

@@ -1,11 +1,10 @@
 ghost use Rattle.std.specs.Prelude.{◌≡◌, ◌≢◌, ◌<◌, ◌^◌, ◌⊎◌, [], ◌∷◌, ◌++◌, ℕ, List, Ok, Err, true, false, None, length, IfSome, IfOk, IfErr, OnOk, OnErr};
 ghost use Rattle.cutter.specs.declared.fault.CutFault.TheVariants.{NoMemory, Ended};
-ghost use Rattle.cutter.specs.Cuts.{cuts, closed, fault, plans, made, Ends, HasSegment};
+ghost use Rattle.cutter.specs.Cuts.{cuts, closed, fault, plans, made, Ends, HasSegment, MayWantBody};
 ghost use Rattle.cutter.specs.Ordered.{IsPlan};
 ghost use Rattle.cutter.specs.Settings.{IsAllowed};
 ghost use Rattle.cutter.specs.Spooled.{IsOne};
-ghost use Rattle.cutter.specs.Stream.{in_force, is_accepted, is_packet, packets_of, MayWantMemory};
-ghost use Rattle.psi_tables.specs.State.{CarriesTables};
+ghost use Rattle.cutter.specs.Stream.{in_force, is_accepted, is_packet, MayWantMemory};
 
 use crate::fault::CutFault;
 use crate::plan::Plan;
@@ -83,13 +82,13 @@ impl Cutter {
         ensures err { OnErr result (self.new ≡ record self.old { ended = true }) }
         ensures dropped { is_packet packet.now ≡ false → self.old.ended ≡ false → result ≡ Ok None }
 
-        // Only a packet that a body takes closes a segment. Only such a one, or one that may carry parts of the tables, wants memory.
+        // Only a packet that a body takes closes a segment. Only such a one, or one that brings something to the tables, wants memory.
         ensures accepted { IfOk result (λ plan. plan ≢ None → is_accepted (in_force self.old.settings self.old.list) packet.now ≡ true) }
         ensures memory { IfErr result (λ e. e ≡ NoMemory → MayWantMemory self.old.settings self.old.list packet.now) }
 
-        // And so does only a packet behind which a segment goes on, or one that may carry parts of the tables.
-        ensures body { IfErr result (λ e. e ≡ NoMemory → HasSegment self.old.rendition self.old.settings (self.old.list ++ packet.now ∷ [])
-            ⊎ CarriesTables (record { program = self.old.settings.program; packets = packets_of self.old.list }) packet.now) }
+        // Behind one that closes a segment the next goes on, and so one does behind one that wants memory, but for the tables'.
+        ensures next { IfOk result (λ plan. plan ≢ None → HasSegment self.old.rendition self.old.settings (self.old.list ++ packet.now ∷ [])) }
+        ensures body { IfErr result (λ e. e ≡ NoMemory → MayWantBody self.old.rendition self.old.settings self.old.list packet.now) }
     {
         if self.ended {
             return Err(CutFault::Ended);

@@ -2,9 +2,9 @@ ghost use Rattle.std.specs.Prelude.{◌≡◌, ◌<◌, ◌^◌, ◌⊎◌, [], 
 ghost use Rattle.std.specs.Prelude.{IfOk, IfErr, IsOk, OnOk, OnErr};
 ghost use Rattle.cutter.specs.declared.fault.CutFault.TheVariants.{NoMemory, Ended};
 ghost use Rattle.cutter.specs.Plans.{SegmentPlan};
-ghost use Rattle.cutter.specs.Cuts.{cuts, closed, fault, plans, made, Ends, HasSegment};
-ghost use Rattle.cutter.specs.Stream.{in_force, is_accepted, is_packet, packet_list, packets_of, MayWantMemory};
-ghost use Rattle.psi_tables.specs.State.{CarriesTables};
+ghost use Rattle.cutter.specs.Cuts.{cuts, closed, fault, plans, made, Ends, HasSegment, MayWantBody};
+ghost use Rattle.cutter.specs.Stream.{in_force, is_accepted, is_packet, packet_list, MayWantMemory};
+ghost use Rattle.psi_tables.specs.State.{BringsTables};
 ghost use Rattle.cutter.specs.Settings.{IsAllowed};
 ghost use Rattle.cutter.specs.Spooled.{Closes, all_plans};
 
@@ -108,14 +108,13 @@ impl SpoolCutter {
         // Bytes that are no packet take no part: they bring no fault, close no plan, and want no memory.
         ensures dropped { is_packet packet.now ≡ false → self.old.ended ≡ false → result ≡ Ok false }
 
-        // Only a packet that a body takes closes a plan. Only such a one, or one that may carry parts of the tables, wants memory.
+        // Only a packet that a body takes closes a plan. Only such a one, or one that brings something to the tables, wants memory.
         ensures accepted { IfOk result (λ closed. closed ≡ true → is_accepted (in_force self.old.settings self.old.list) packet.now ≡ true) }
         ensures memory { IfErr result (λ e. e ≡ NoMemory → MayWantMemory self.old.settings self.old.list packet.now) }
 
         // Behind a packet that closes a plan a segment goes on, and so it does behind one that wants memory, but for the tables'.
         ensures next { IfOk result (λ closed. closed ≡ true → HasSegment self.old.rendition self.old.settings (self.old.list ++ packet.now ∷ [])) }
-        ensures body { IfErr result (λ e. e ≡ NoMemory → HasSegment self.old.rendition self.old.settings (self.old.list ++ packet.now ∷ [])
-            ⊎ CarriesTables (record { program = self.old.settings.program; packets = packets_of self.old.list }) packet.now) }
+        ensures body { IfErr result (λ e. e ≡ NoMemory → MayWantBody self.old.rendition self.old.settings self.old.list packet.now) }
     {
         if self.ended {
             return Err(CutFault::Ended);
@@ -226,7 +225,8 @@ fn watch_or_reopen(
     ensures err { OnErr result ((plans : List SegmentPlan) (plan : Option SegmentPlan) →
         reel.old.plans ≡ plans ++ made plan → closed ≡ is_some plan → reel.new.plans ≡ plans) }
     ensures none { is_packet arrival.now ≡ false → IsOk result }
-    ensures tables { OnErr result (CarriesTables watch.old arrival.now) }
+    ensures tables { OnErr result (BringsTables watch.old arrival.now) }
+    ensures kept { OnErr result (watch.new ≡ watch.old) }
 {
     let Err(error) = watch_packet(watch, arrival) else {
         return Ok(());

@@ -15,4 +15,4 @@ pub returns-clause-tables : goal.returns-clause-tables
 returns-clause-tables c =
     let some : as_packet c.args.arrival.now ≡ Some c.in-Some.packet.now =
     ap as_packet (sym c.arrival.view_is) ∙ sym c.arrival.invariant ∙ sym c.as_ref.ensures.value ∙ ap option_copied c.in-Some.is in
-    rw (packet_is c.args.arrival.now c.in-Some.packet.now some) c.push.ensures.none
+    rw (packet_is c.args.arrival.now c.in-Some.packet.now some) c.push.ensures.idle

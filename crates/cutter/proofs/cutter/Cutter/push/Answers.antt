@@ -35,3 +35,10 @@ returns-clause-accepted c = λ some.
       | inl closed ↦ c.in_ok-closed.ensures.accepted closed
       | inr not_closed ↦ absurd (some (let is = c.in_ok-plan.ensures.none not_closed in cc))
     ])
+
+pub returns-clause-next : goal.returns-clause-next
+returns-clause-next c = λ some.
+    rw (← c.self.view_is, ← (c.self.invariant c.if-self.false).list) (elim (cases_Bool c.in_ok-closed.closed) [
+      | inl closed ↦ c.in_ok-closed.ensures.next closed
+      | inr not_closed ↦ absurd (some (let is = c.in_ok-plan.ensures.none not_closed in cc))
+    ])

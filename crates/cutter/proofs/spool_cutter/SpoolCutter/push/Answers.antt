@@ -10,7 +10,7 @@ use Rattle.cutter.specs.Reels.{Filled}
 use Rattle.cutter.specs.Spooled.{Spooling, joined}
 use Rattle.cutter.specs.SegmentState.{held_in, taken, Places}
 use Rattle.cutter.proofs.Keeping.{few, push-lost, push-fault, push-scarce, push-closes, push-all, push-sound, push-keeps, read-of}
-use Rattle.cutter.proofs.Sparing.{read-dropped, leaves-all, closes-none, closes-accepted, closes-goes, placed-accepted, placed-goes, carried-tables, dropped-sound, never-lost}
+use Rattle.cutter.proofs.Sparing.{read-dropped, leaves-all, closes-none, closes-accepted, closes-goes, placed-accepted, placed-goes, brought-tables, dropped-sound, never-lost}
 use Rattle.cutter.proofs.spool_cutter.SpoolCutter.push.Goals as goal
 
 pub look_behind-requires : goal.look_behind-requires
@@ -121,7 +121,7 @@ returns-in_err-closed-clause-memory c =
 pub returns-in_err-watch_or_reopen-clause-memory : goal.returns-in_err-watch_or_reopen-clause-memory
 returns-in_err-watch_or_reopen-clause-memory c =
     let told = err_from_is_err_and c.from_residual-in_err-watch_or_reopen.result c.from_residual-in_err-watch_or_reopen.ensures.1 in
-    rw (told.1, told.2) (λ memory. inr (carried-tables c.self.inside c.args.self.now c.args.packet.now c.new-arrival.result c.self.view_is (c.self.invariant.keeps c.if-self.false) c.new-arrival.ensures
+    rw (told.1, told.2) (λ memory. inr (brought-tables c.self.inside c.args.self.now c.args.packet.now c.new-arrival.result c.self.view_is (c.self.invariant.keeps c.if-self.false) c.new-arrival.ensures
     c.in_err-watch_or_reopen.ensures.tables))
 
 pub returns-in_err-look-clause-body : goal.returns-in_err-look-clause-body
@@ -141,7 +141,7 @@ returns-in_err-closed-clause-body c =
 pub returns-in_err-watch_or_reopen-clause-body : goal.returns-in_err-watch_or_reopen-clause-body
 returns-in_err-watch_or_reopen-clause-body c =
     let told = err_from_is_err_and c.from_residual-in_err-watch_or_reopen.result c.from_residual-in_err-watch_or_reopen.ensures.1 in
-    rw (told.1, told.2) (λ memory. inr (carried-tables c.self.inside c.args.self.now c.args.packet.now c.new-arrival.result c.self.view_is (c.self.invariant.keeps c.if-self.false) c.new-arrival.ensures
+    rw (told.1, told.2) (λ memory. inr (brought-tables c.self.inside c.args.self.now c.args.packet.now c.new-arrival.result c.self.view_is (c.self.invariant.keeps c.if-self.false) c.new-arrival.ensures
     c.in_err-watch_or_reopen.ensures.tables))
 
 pub returns-clause-next : goal.returns-clause-next
