@@ -5,6 +5,7 @@ ghost use Rattle.segment_job.specs.Rotation.{number_of, key_index, key_of, vecto
 ghost use Rattle.playlist_text.specs.Vectors;
 
 use crate::fault::KeyFault;
+use crate::printing::write_numbers;
 use limits::MOST_KEYS;
 use std::alloc::{AllocError, Global};
 use std::fmt::{self, Debug, Formatter, Write};
@@ -35,15 +36,19 @@ impl Model for Keys {
 
 impl Debug for Keys {
     ghost use Rattle.std.specs.Prelude.{Some, length};
+    ghost use Rattle.std.specs.Fmt.{WritesStyledOnOk, decimal, formatter_spec, styled_decimal};
     ghost use Rattle.segment_job.specs.Printed.{printed_keys};
 
-    ghost debug_output = { λ k. Some (printed_keys (length k.keys) k.period) };
+    ghost debug_output = { λ k. Some (printed_keys (decimal (length k.keys)) (decimal k.period)) };
 
-    /// How many they are, and their period: a key is not to be printed.
-    fn fmt<W: Write>(&self, f: &mut Formatter<W>) -> fmt::Result {
-        let count = self.keys.len();
-        let period = self.period;
-        write!(f, "Keys {{ count: {count}, period: {period}, .. }}")
+    /// How many they are, and their period: a key is not to be printed, by any options.
+    fn fmt<W: Write>(&self, f: &mut Formatter<W>) -> fmt::Result
+        ensures styled { WritesStyledOnOk W.write_str_gives f.old result (printed_keys
+            (styled_decimal (formatter_spec f.old) (length self.now.keys))
+            (styled_decimal (formatter_spec f.old) self.now.period)) f.new }
+    {
+        let count = self.keys.len() as u64;
+        write_numbers(f, "Keys { count: ", count, ", period: ", self.period)
     }
 }
 
