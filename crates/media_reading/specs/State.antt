@@ -1,15 +1,15 @@
 -- What is kept of the lines of a media playlist that were read, and what one line more makes of it.
-use Rattle.std.specs.Prelude.{◌≡◌, Bool, true, false, Option, Some, None, option_map, ℕ, zero, suc, ◌+◌, ◌-◌, ◌^◌, ◌==◌, ◌&&◌, ◌||◌, nat_eq, nat_le, nat_lt, if◌then◌else◌, List, [], ◌∷◌, ◌++◌, length, drop, is_some, codes, not}
+use Rattle.std.specs.Prelude.{◌≡◌, ◌≢◌, ◌⊎◌, All, Bool, true, false, Option, Some, None, option_map, ℕ, zero, suc, ◌+◌, ◌-◌, ◌^◌, ◌==◌, ◌&&◌, ◌||◌, nat_eq, nat_le, nat_lt, if◌then◌else◌, List, [], ◌∷◌, ◌++◌, length, drop, is_some, codes, not}
 use Rattle.std.specs.String.{string_bytes}
 use Rattle.media_reading.specs.declared.reading.Reading.{Reading}
 use Rattle.std.specs.Fmt.{decimal}
 use Rattle.std.specs.List.{before_first, starts_with, ends_with}
-use Rattle.std.specs.Str.{bytes_eq, is_utf8}
+use Rattle.std.specs.Str.{IsUtf8, bytes_eq, is_utf8}
 use Rattle.std.specs.Option.{option_and_then, option_or}
 use Rattle.std.specs.Result.{result_ok}
 use Rattle.hex.specs.Hex.{decode_sized}
 use Rattle.playlist_text.specs.Vectors.{salted_vector}
-use Rattle.percent_encoding.specs.Percent.{percent_decode}
+use Rattle.percent_encoding.specs.Percent.{percent_decode, percent_sign}
 use Rattle.playlist_text.specs.Numbers.{rounded_seconds}
 use Rattle.playlist_text.specs.Names.{is_name}
 use Rattle.playlist_text.specs.Attributes.{hexadecimal}
@@ -77,6 +77,14 @@ discontinuity_sequence_line n = codes "#EXT-X-DISCONTINUITY-SEQUENCE:" ++ decima
 -- what the line of a key begins with, before the name
 abbrev pub key_begin : List ℕ
 key_begin = codes "#EXT-X-KEY:METHOD=AES-128,URI=\""
+
+-- the escaped text of the name that the line of a key may have
+abbrev pub escaped_in : List ℕ → List ℕ
+escaped_in line = before_first (λ b. b == 46) (drop (length key_begin) line)
+
+-- reading that name takes memory: it is UTF-8, or escapes stand in it
+abbrev pub NameTakesMemory : List ℕ → Type 0
+NameTakesMemory line = IsUtf8 (percent_decode (escaped_in line)) ⊎ (¬ All (λ b. b ≢ percent_sign) (escaped_in line))
 
 -- the name that the line of a key may have: that of the escaped text up to the first point
 unfoldable pub name_in : List ℕ → Option (List ℕ)

@@ -7,7 +7,7 @@ ghost use Rattle.playlist_text.specs.Uris.{escaped};
 ghost use Rattle.media_reading.specs.State;
 ghost use Rattle.media_reading.specs.State.{step, step_at, fresh, expect, begun, headed, key_in, salt_in, keyed, keyed_or_timed, timed};
 ghost use Rattle.media_reading.specs.State.{listed, listing_at, name_in, number_in, number_left, entered, key_begin, listing_at};
-ghost use Rattle.media_reading.specs.State.{progress_of, Moves, Tells, has_number, key_may_want, may_want};
+ghost use Rattle.media_reading.specs.State.{progress_of, Moves, NameTakesMemory, Tells, has_number, key_may_want, may_want};
 ghost use Rattle.media_reading.specs.declared.reading.Stage.TheVariants.{Versioned, Targeted, Sequenced, Headed, Timed};
 
 use crate::listing::{Entry, LAST_LISTED, Listing};
@@ -438,9 +438,10 @@ fn read_salt(line: &[u8], number: u64) -> Option<Option<[u8; 16]>>
     Some(Some(salted_vector(Some(vector), number)))
 }
 
-/// The name in the line of a key: that of the escaped text up to the first point.
+/// The name in the line of a key: that of the escaped text up to the first point. Without escapes, only UTF-8 wants memory.
 fn read_name(alloc: Global, line: &[u8]) -> Result<Option<String>, AllocError>
-    ensures { IfOk result (λ name. option_map string_bytes name ≡ name_in line.now) }
+    ensures ok { IfOk result (λ name. option_map string_bytes name ≡ name_in line.now) }
+    ensures scarce { OnErr result (NameTakesMemory line.now) }
 {
     let (_, uri) = line.split_at(usize::min(KEY_BEGIN.len(), line.len()));
     let name = match percent_decode(before_point(uri)).decode_utf8(alloc) {
