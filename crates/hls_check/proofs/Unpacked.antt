@@ -96,10 +96,10 @@ no-rest-told p texts (NoHead i) there opened told = (
 no-rest-told p texts NoMemory there opened told = (
   there,
   record {
-    place = told.0;
-    entry = omega (arith, told.2, opened.each_one);
-    opens = (get_or texts told.0 [], (opened.opens told.0 told.2).seals);
-    before = λ j lt. (get_or texts j [], (opened.opens j (omega (arith, lt, told.2))).seals);
+    place = told.place;
+    entry = omega (arith, told.text, opened.each_one);
+    opens = (get_or texts told.place [], (opened.opens told.place told.text).seals);
+    before = λ j lt. (get_or texts j [], (opened.opens j (omega (arith, lt, told.text))).seals);
   },
 )
 

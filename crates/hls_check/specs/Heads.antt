@@ -1,7 +1,7 @@
 -- Where a segment head tells what it is made of.
-use Rattle.std.specs.Prelude.{◌≡◌, ℕ, zero, suc, ◌+◌, ◌≤◌, List, [], ◌++◌, length, take, drop}
+use Rattle.std.specs.Prelude.{◌≡◌, ℕ, zero, suc, ◌+◌, ◌*◌, ◌/◌, ◌≤◌, List, [], ◌++◌, length, take, drop}
 use Rattle.psi_tables.specs.InForce.{InForce}
-use Rattle.psi_tables.specs.Section.{section_length, number_at, pid_at}
+use Rattle.psi_tables.specs.Section.{section_length, number_at, pid_at, length_at}
 use Rattle.psi_tables.specs.Head.{head, IsSendable}
 use Rattle.hls_check.specs.Unpacking.{BeginsWithHead}
 use Rattle.ts_packet.specs.declared.lengths.TheConstants.{PACKET}
@@ -19,6 +19,14 @@ told_tables pat section = record {
   pmt_pid = pid_at pat 15;
   section = section;
 }
+
+-- there are as many packets as the section takes whose length the first of them tells
+abbrev pub HasPackets : List ℕ → Type 0
+HasPackets packets = PACKET * ((3 + length_at packets 6 + 184) / 184) ≤ length packets
+
+-- a text may begin with a head: it has the packet of a PAT, and behind it as many as the section of its PMT takes
+abbrev pub MayHoldHead : List ℕ → Type 0
+MayHoldHead text = (2 * PACKET ≤ length text) × HasPackets (drop PACKET text)
 
 -- the payloads of so many packets of 188 bytes, behind headers of four bytes
 unfoldable pub payloads : ℕ → List ℕ → List ℕ

@@ -1,5 +1,5 @@
 -- What the steps of unpacking find.
-use Rattle.std.specs.Prelude.{◌≡◌, ℕ, ◌*◌, ◌<◌, ◌≤◌, ◌⊎◌, Any, List, [], length, slice_index_or, Option, Some, None}
+use Rattle.std.specs.Prelude.{◌≡◌, ℕ, ◌*◌, ◌<◌, ◌≤◌, ◌⊎◌, List, [], length, slice_index_or, Option, Some, None}
 use Rattle.std.specs.List.{concat}
 use Rattle.aes_cbc.specs.Opening.{Seals}
 use Rattle.ts_packet.specs.declared.lengths.TheConstants.{PACKET}
@@ -39,12 +39,19 @@ pub record IsFirstHeadless (texts : List (List ℕ)) (i : ℕ) : Type 0 where
   pub without : (rest : List ℕ) → ¬ BeginsWithHead (slice_index_or texts i []) rest
   pub before : (j : ℕ) → j < i → (rest : List ℕ) × BeginsWithHead (slice_index_or texts j []) rest
 
--- why there aren't all: memory is wanted for a text alone that is long enough for a head
+-- a text is long enough for a head, and each before it begins with one
+pub record IsReachedText (texts : List (List ℕ)) : Type 0 where
+  pub place : ℕ
+  pub text : place < length texts
+  pub long : 2 * PACKET ≤ length (slice_index_or texts place [])
+  pub before : (j : ℕ) → j < place → (rest : List ℕ) × BeginsWithHead (slice_index_or texts j []) rest
+
+-- why there aren't all: memory is wanted for a text alone that is long enough for a head, behind such as begin with one
 abbrev pub IsNoRest : List (List ℕ) → UnpackFault → Type 0
 IsNoRest texts (Missing i) = ⊥
 IsNoRest texts (Closed i) = ⊥
 IsNoRest texts (NoHead i) = IsFirstHeadless texts i
-IsNoRest texts NoMemory = Any (λ text. 2 * PACKET ≤ length text) texts
+IsNoRest texts NoMemory = IsReachedText texts
 
 -- what stands behind the heads of texts: so many bytes, or a first text has none
 abbrev pub HaveBytes : List (List ℕ) → Option ℕ → ℕ → Type 0

@@ -1,12 +1,11 @@
 //! The head of a segment, taken off (RFC 8216, 3.2).
 
-ghost use Rattle.std.specs.Prelude.{◌≡◌, ◌*◌, ◌+◌, ◌/◌, ◌<◌, ◌≤◌, ◌^◌, ℕ, List, ◌++◌, length, slice_index, IfOk, OnErr, IsSomeAnd, MatchOption, Decides, None};
+ghost use Rattle.std.specs.Prelude.{◌≡◌, ◌*◌, ◌<◌, ◌≤◌, ◌^◌, ℕ, List, ◌++◌, length, slice_index, IfOk, OnErr, IsSome, IsSomeAnd, MatchOption, Decides, None};
 ghost use Rattle.psi_tables.specs.ProgramMap.{pmt_fault};
 ghost use Rattle.psi_tables.specs.Head.{head, section_packets, IsSendable};
-ghost use Rattle.psi_tables.specs.Section.{length_at};
 ghost use Rattle.hls_check.specs.Unpacking.{BeginsWithHead};
 ghost use Rattle.hls_check.specs.Heads;
-ghost use Rattle.hls_check.specs.Heads.{IsSized, IsTheHead, told_tables};
+ghost use Rattle.hls_check.specs.Heads.{IsSized, IsTheHead, HasPackets, MayHoldHead, told_tables};
 
 use psi_tables::{
     PAYLOAD, Pmt, TableFault, append_section, pat_section, read_length, read_number, read_pid,
@@ -15,12 +14,12 @@ use std::alloc::{AllocError, Global};
 use ts_packet::PACKET;
 
 /// What stands behind the head that a text begins with, if it begins with one: the packet of a PAT and those of a good PMT
-/// section, with any counters. A text that is too short for a head wants no memory.
+/// section, with any counters. A text that is too short for a head, or for the section that it tells, wants no memory.
 pub fn behind_head<'a>(alloc: Global, text: &'a [u8]) -> Result<Option<&'a [u8]>, AllocError>
     ensures found { IfOk result (λ found. MatchOption found
         ((rest : List ℕ) → ¬ BeginsWithHead text.now rest)
         (λ rest. BeginsWithHead text.now rest.now)) }
-    ensures memory { OnErr result (2 * PACKET ≤ length text.now) }
+    ensures memory { OnErr result (MayHoldHead text.now) }
 {
     let Some(head) = told_head(alloc, text)? else {
         return Ok(None);
@@ -34,7 +33,7 @@ fn told_head(alloc: Global, text: &[u8]) -> Result<Option<Vec<u8>>, AllocError>
     ensures found { IfOk result (λ found. MatchOption found
         ((rest : List ℕ) → ¬ BeginsWithHead text.now rest)
         (λ bytes. IsTheHead text.now bytes.items)) }
-    ensures memory { OnErr result (2 * PACKET ≤ length text.now) }
+    ensures memory { OnErr result (MayHoldHead text.now) }
 {
     if text.len() < 2 * PACKET {
         return Ok(None);
@@ -85,7 +84,8 @@ fn carried_section(alloc: Global, packets: &[u8]) -> Result<Option<Vec<u8>>, All
     requires { PACKET ≤ length packets.now }
     ensures found { IfOk result (λ found. (pid counter : ℕ) (section rest : List ℕ) → IsSized section →
         packets.now ≡ section_packets pid counter section ++ rest → IsSomeAnd found (λ bytes. bytes.items ≡ section)) }
-    ensures memory { OnErr result (PACKET * ((3 + length_at packets.now 6 + PAYLOAD) / PAYLOAD) ≤ length packets.now) }
+    ensures whole { IfOk result (λ found. IsSome found → HasPackets packets.now) }
+    ensures memory { OnErr result (HasPackets packets.now) }
 {
     let len = 3 + read_length(packets, 6);
     let count = (len + PAYLOAD) / PAYLOAD;

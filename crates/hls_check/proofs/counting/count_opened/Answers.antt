@@ -69,7 +69,7 @@ returns-in_err-rest-clause-scarce c = λ _.
       place = c.loop-i.i;
       entry = c.loop-i-test.true;
       opens = (_, opened.seals);
-      some = λ none. absurd (omega (arith, ap length (opened.only [] none), ap length c.deref.ensures.value, c.in_err-rest.ensures.memory));
+      some = λ none. absurd (omega (arith, ap length (opened.only [] none), ap length c.deref.ensures.value, c.in_err-rest.ensures.memory.0));
       before = λ j lt. (_, (c.loop-i.invariant.opens j lt).seals);
     }
 

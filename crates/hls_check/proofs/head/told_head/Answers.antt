@@ -1,9 +1,10 @@
 use Rattle.std.proofs.Common.{◌≡◌, ◌≢◌, ℕ, List, ◌++◌, Option, Some, None, subst, refl, arith, get_or, sym, ap, ◌∙◌, rules}
 use Rattle.hls_check.proofs.TheHead.{begins-long, begins-pmt, begins-sized, begins-told, the-head-made}
-use Rattle.std.specs.Option.{IsSomeAnd}
+use Rattle.std.specs.Option.{IsSomeAnd, is_some}
+use Rattle.std.proofs.lemmas.Result.{err_from_is_err_and}
 use Rattle.psi_tables.specs.Head.{head}
 use Rattle.hls_check.specs.Unpacking.{BeginsWithHead}
-use Rattle.hls_check.specs.Heads.{told_tables}
+use Rattle.hls_check.specs.Heads.{HasPackets, told_tables}
 use Rattle.psi_tables.specs.ProgramMap.{pmt_fault}
 use Rattle.hls_check.proofs.head.told_head.Goals as goal
 
@@ -40,3 +41,19 @@ returns-clause-found c =
     the-head-made c.args.text.now c.split_at.result.0.now c.in-Some.section.items c.deref-2.result.now c.in_ok-made_head.field-0.items
     (get_or c.split_at.result.0.now 3 0) (get_or c.split_at.result.1.now 3 0) c.deref-2.ensures.value
     (c.made_head.ensures.sendable read) c.in_ok-made_head.ensures.is told
+
+-- the section was found, so its packets are there
+pub returns-in_err-section-clause-memory : goal.returns-in_err-section-clause-memory
+returns-in_err-section-clause-memory c =
+    let told = err_from_is_err_and c.from_residual.result c.from_residual.ensures.1 in
+    rw told.1 (c.if-text.false, subst HasPackets c.split_at.ensures.back c.in_err-section.ensures.memory)
+
+pub returns-in_err-is_pmt-clause-memory : goal.returns-in_err-is_pmt-clause-memory
+returns-in_err-is_pmt-clause-memory c =
+    let told = err_from_is_err_and c.from_residual-in_err-is_pmt.result c.from_residual-in_err-is_pmt.ensures.1 in
+    rw told.1 (c.if-text.false, subst HasPackets c.split_at.ensures.back (c.in_ok-section.ensures.whole (ap is_some c.in-Some.is)))
+
+pub returns-in_err-made_head-clause-memory : goal.returns-in_err-made_head-clause-memory
+returns-in_err-made_head-clause-memory c =
+    let told = err_from_is_err_and c.from_residual-in_err-made_head.result c.from_residual-in_err-made_head.ensures.1 in
+    rw told.1 (c.if-text.false, subst HasPackets c.split_at.ensures.back (c.in_ok-section.ensures.whole (ap is_some c.in-Some.is)))

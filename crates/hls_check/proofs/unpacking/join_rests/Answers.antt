@@ -1,6 +1,6 @@
-use Rattle.std.proofs.Common.{◌<◌, ◌∙◌, ◌++◌, length, map, get_or, [], ◌∷◌, sym, ap, arith, append-nil, subst, length-append}
+use Rattle.std.proofs.Common.{◌∙◌, ◌++◌, length, map, get_or, [], ◌∷◌, sym, ap, arith, append-nil, subst, length-append}
 use Rattle.std.specs.List.{concat}
-use Rattle.std.proofs.lemmas.List.{get_or_default, length-map}
+use Rattle.std.proofs.lemmas.List.{length-map}
 use Rattle.std.proofs.lemmas.List.Folds.{concat-append}
 use Rattle.std.proofs.lemmas.Option.{MatchOption-at_some}
 use Rattle.hls_check.specs.Unpacking.{BeginsWithHead}
@@ -38,17 +38,21 @@ loop-i-preserved c =
 
 pub returns-in_err-rest-clause-err : goal.returns-in_err-rest-clause-err
 returns-in_err-rest-clause-err c =
-    let texts = map (λ t. t.items) c.args.texts.now in
     let text = c.deref.ensures.value ∙ items_at c.args.texts.now c.index-texts-i.result c.loop-i.i c.loop-i-test.true c.index-texts-i.is in
-    let lt : c.loop-i.i < length texts = omega (arith, c.loop-i-test.true, length-map c.args.texts.now (λ t. t.items)) in
-    memory-told c.from_residual.result _ c.from_residual.ensures.1
-    (c.loop-i.i, get_or texts c.loop-i.i [], lt, get_or_default texts c.loop-i.i _ _ lt, omega (arith, ap length text, c.in_err-rest.ensures.memory))
+    memory-told c.from_residual.result _ c.from_residual.ensures.1 (record {
+      place = c.loop-i.i;
+      text = omega (arith, c.loop-i-test.true, length-map c.args.texts.now (λ t. t.items));
+      long = omega (arith, ap length text, c.in_err-rest.ensures.memory.0);
+      before = λ j lt. (get_or c.loop-i.invariant.rests j [], c.loop-i.invariant.begins j lt);
+    })
 
 pub returns-in_err-extend_from_slice-clause-err : goal.returns-in_err-extend_from_slice-clause-err
 returns-in_err-extend_from_slice-clause-err c =
-    let texts = map (λ t. t.items) c.args.texts.now in
     let text = c.deref.ensures.value ∙ items_at c.args.texts.now c.index-texts-i.result c.loop-i.i c.loop-i-test.true c.index-texts-i.is in
-    let lt : c.loop-i.i < length texts = omega (arith, c.loop-i-test.true, length-map c.args.texts.now (λ t. t.items)) in
     let long = begins-long _ c.in-Some.rest.now (MatchOption-at_some _ _ _ c.in-Some.is c.in_ok-rest.ensures.found) in
-    memory-told c.from_residual-in_err-extend_from_slice.result _ c.from_residual-in_err-extend_from_slice.ensures.1
-    (c.loop-i.i, get_or texts c.loop-i.i [], lt, get_or_default texts c.loop-i.i _ _ lt, omega (arith, ap length text, long))
+    memory-told c.from_residual-in_err-extend_from_slice.result _ c.from_residual-in_err-extend_from_slice.ensures.1 (record {
+      place = c.loop-i.i;
+      text = omega (arith, c.loop-i-test.true, length-map c.args.texts.now (λ t. t.items));
+      long = omega (arith, ap length text, long);
+      before = λ j lt. (get_or c.loop-i.invariant.rests j [], c.loop-i.invariant.begins j lt);
+    })
