@@ -1,6 +1,10 @@
 -- Texts of lines, one piece after another.
-use Rattle.std.proofs.Common.{◌≡◌, ℕ, ◌<◌, List, [], ◌∷◌, ◌++◌, map, length, refl, ap, ◌∙◌, arith}
-use Rattle.std.specs.Prelude.{codes}
+use Rattle.std.proofs.Common.{Bor, ◌≡◌, ℕ, ◌+◌, ◌<◌, List, [], ◌∷◌, ◌++◌, map, length, length-append, refl, ap, ◌∙◌, arith}
+use Rattle.std.specs.Prelude.{Result, Ok, Err, OnErr, codes, false}
+use Rattle.std.proofs.lemmas.List.Elements.{All-nil, All-cons}
+use Rattle.playlist_text.specs.AttributeValues.{is_hexadecimal, HaveNoHexadecimal}
+use Rattle.playlist_text.specs.declared.attribute.Attribute.{Attribute}
+use Rattle.playlist_text.specs.declared.attribute.Value.TheVariants.{Decimal, Quoted, Resolution}
 use Rattle.std.specs.List.{flat_map}
 use Rattle.std.proofs.lemmas.List.{append-nil, append_assoc}
 use Rattle.std.proofs.lemmas.List.Concat.{flat_map-append}
@@ -69,6 +73,35 @@ pub stream-is : (v : Listed) →
     ≡ ((codes "#EXT-X-STREAM-INF:" ++ attribute_list (attributes v v.peak v.average)) ++ codes "\n") ++ ((media_uri v.name ++ codes "\n") ++ [])
 unfolding text_of stream_lines
 stream-is v = refl
+
+-- a fact that holds anyhow
+pub OnErr-fact : {T E P : Type 0} (r : Result T E) → P → OnErr r P
+OnErr-fact (Ok x) p = tt
+OnErr-fact (Err e) p = p
+
+-- two numbers, a quoted value and a resolution
+pub plain-four : (a b x y text : Bor (List ℕ)) (peak average width height : ℕ) →
+    HaveNoHexadecimal (record { name = a; value = Decimal peak } ∷ record { name = b; value = Decimal average } ∷ record { name = x; value = Quoted text } ∷ record { name = y; value = Resolution width height } ∷ [])
+plain-four a b x y text peak average width height =
+    let Plain = λ (each : Attribute). is_hexadecimal each.value ≡ false in
+    let first : Attribute = record { name = a; value = Decimal peak } in
+    let second : Attribute = record { name = b; value = Decimal average } in
+    let third : Attribute = record { name = x; value = Quoted text } in
+    let fourth : Attribute = record { name = y; value = Resolution width height } in
+    All-cons Plain first (second ∷ third ∷ fourth ∷ []) refl (All-cons Plain second (third ∷ fourth ∷ []) refl
+    (All-cons Plain third (fourth ∷ []) refl (All-cons Plain fourth [] refl (All-nil Plain))))
+
+-- what was appended
+pub grown : (old new more : List ℕ) → new ≡ old ++ more → length new ≡ length old + length more
+grown old new more is = ap length is ∙ length-append old more
+
+-- how long they are
+pub stream-long : (v : Listed) →
+    length (text_of (stream_lines v))
+    ≡ length (codes "#EXT-X-STREAM-INF:") + length (attribute_list (attributes v v.peak v.average)) + 1 + length (media_uri v.name) + 1
+stream-long v =
+    let whole = simp length-append at (ap length (stream-is v)) in
+    omega (arith, whole)
 
 -- one attribute behind four
 behind_four : (a b c d u : List ℕ) → attribute_list (a ∷ b ∷ c ∷ d ∷ u ∷ []) ≡ (attribute_list (a ∷ b ∷ c ∷ d ∷ []) ++ codes ",") ++ attribute_list (u ∷ [])

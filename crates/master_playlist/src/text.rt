@@ -1,8 +1,8 @@
-ghost use Rattle.std.specs.Prelude.{◌≡◌, ◌≤◌, [], ◌∷◌, ◌++◌, map, Some, None, IfOk, IsOk, OnOk, MatchOption, IsOkUnless};
+ghost use Rattle.std.specs.Prelude.{◌≡◌, ◌+◌, ◌<◌, ◌≤◌, [], ◌∷◌, ◌++◌, length, map, Some, None, IfOk, IsOk, OnOk, OnErr, MatchOption, IsOkUnless};
 ghost use Rattle.std.specs.List.{flat_map};
-ghost use Rattle.std.specs.String.{string_bytes, string_capacity};
+ghost use Rattle.std.specs.String.{string_bytes, string_capacity, string_len};
 ghost use Rattle.playlist_text.specs.Lines.{text_of};
-ghost use Rattle.playlist_text.specs.AttributeValues.{attribute_text};
+ghost use Rattle.playlist_text.specs.AttributeValues.{attribute_text, HaveNoHexadecimal};
 ghost use Rattle.master_playlist.specs.MasterLines;
 ghost use Rattle.master_playlist.specs.MasterLines.{attributes, stream_lines, frames_line};
 ghost use Rattle.master_playlist.specs.Faults.{fault_of};
@@ -47,6 +47,8 @@ fn text_of_lines(alloc: Global, variants: &[Variant<'_>]) -> Result<String, Allo
 fn push_streams(out: &mut String, variants: &[Variant<'_>]) -> Result<(), AllocError>
     ensures ok { OnOk result
         (string_bytes out.new ≡ string_bytes out.old ++ text_of (flat_map stream_lines variants.now)) }
+    ensures full { OnErr result
+        (string_capacity out.old < string_len out.old + length (text_of (flat_map stream_lines variants.now))) }
     ensures capacity { string_capacity out.old ≤ string_capacity out.new }
 {
     for variant in variants {
@@ -58,6 +60,7 @@ fn push_streams(out: &mut String, variants: &[Variant<'_>]) -> Result<(), AllocE
 fn push_frames(out: &mut String, variants: &[Variant<'_>]) -> Result<(), AllocError>
     ensures ok { OnOk result
         (string_bytes out.new ≡ string_bytes out.old ++ text_of (map frames_line variants.now)) }
+    ensures none { variants.now ≡ [] → IsOk result }
     ensures capacity { string_capacity out.old ≤ string_capacity out.new }
 {
     for variant in variants {
@@ -69,6 +72,7 @@ fn push_frames(out: &mut String, variants: &[Variant<'_>]) -> Result<(), AllocEr
 /// Appends the line of a variant and the URI of its media playlist (RFC 8216, 4.3.4.2).
 fn push_stream(out: &mut String, variant: &Variant<'_>) -> Result<(), AllocError>
     ensures ok { OnOk result (string_bytes out.new ≡ string_bytes out.old ++ text_of (stream_lines variant.now)) }
+    ensures full { OnErr result (string_capacity out.old < string_len out.old + length (text_of (stream_lines variant.now))) }
     ensures capacity { string_capacity out.old ≤ string_capacity out.new }
 {
     let rates = attributes_of(variant, variant.peak, variant.average);
@@ -103,7 +107,8 @@ fn push_frame(out: &mut String, variant: &Variant<'_>) -> Result<(), AllocError>
 /// The attributes that both kinds of lines have.
 #[tactic(auto, unfolding(crate::specs::MasterLines::attributes))]
 fn attributes_of<'a>(variant: &Variant<'a>, peak: u64, average: u64) -> [Attribute<'a>; 4]
-    ensures { map attribute_text result ≡ attributes variant.now peak average }
+    ensures ok { map attribute_text result ≡ attributes variant.now peak average }
+    ensures plain { HaveNoHexadecimal result }
 {
     [
         Attribute {

@@ -13,7 +13,7 @@ returns-clause-ok c =
     let v : Listed = c.args.variant.now in
     let rates =
     c.in_ok-push_attribute_list.ensures.ok
-    ∙ ap (λ (xs : List (List ℕ)). string_bytes c.push_str.new.self ++ attribute_list xs) c.attributes_of-rates.ensures
+    ∙ ap (λ (xs : List (List ℕ)). string_bytes c.push_str.new.self ++ attribute_list xs) c.attributes_of-rates.ensures.ok
     ∙ ap (λ (w : Listed). string_bytes c.push_str.new.self ++ attribute_list (attributes v w.frame_peak w.frame_average)) c.variant.view_is in
     let uri : c.deref.result.now ≡ frames_uri v.name =
     c.deref.ensures ∙ c.in_ok-push_frames_uri.ensures.ok ∙ ap (λ (t : List ℕ). t ++ frames_uri c.variant.inside.name.now) c.new-uri.ensures.bytes
