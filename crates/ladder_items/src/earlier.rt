@@ -1,5 +1,5 @@
 //! The rows of earlier runs, which a rendition goes on behind.
-ghost use Rattle.std.specs.Prelude.{◌≡◌, ◌+◌, ◌*◌, ◌<◌, ◌≤◌, ◌^◌, ◌++◌, [], false, length, All, Decides, IfOk, IsOk, OnOk};
+ghost use Rattle.std.specs.Prelude.{◌≡◌, ◌+◌, ◌*◌, ◌<◌, ◌≤◌, ◌^◌, ◌++◌, [], false, length, All, Decides, IfOk, IsOk, OnOk, OnErr};
 ghost use Rattle.ladder_items.specs.Shown.{IsNextRow, IsSmallFrame, AreNextRows, known};
 
 use crate::playlists::Playlists;
@@ -42,15 +42,18 @@ fn is_small(frame: FrameRow) -> bool
 
 /// The same row once more.
 fn copy_of(alloc: Global, row: &Row) -> Result<Row, AllocError>
-    ensures { IfOk result (λ copy. copy ≡ row.now) }
+    ensures ok { IfOk result (λ copy. copy ≡ row.now) }
+    ensures scarce { OnErr result (0 < length row.now.frames) }
 {
+    let mut frames = Vec::new(alloc);
+    frames.extend_from_slice(&row.frames)?;
     Ok(Row {
         number: row.number,
         size: row.size,
         micros: row.micros,
         key: row.key,
         discontinuity: row.discontinuity,
-        frames: Vec::from_slice(alloc, &row.frames)?,
+        frames,
     })
 }
 
