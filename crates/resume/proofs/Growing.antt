@@ -1,8 +1,8 @@
 -- Rows that grow by one.
-use Rattle.std.proofs.Common.{◌≤◌, Bool, false, refl, ◌≡◌, ℕ, ◌+◌, ◌-◌, ◌<◌, inl, inr, Some, List, [], ◌∷◌, ◌++◌, length, take, map, get_or, sym, ap, subst, ◌∙◌, arith, length-append}
-use Rattle.std.specs.Prelude.{slice_get, All}
+use Rattle.std.proofs.Common.{◌≤◌, zero, suc, ◌⊎◌, Bool, false, add-zero, refl, ◌≡◌, ℕ, ◌+◌, ◌-◌, ◌<◌, inl, inr, Some, List, [], ◌∷◌, ◌++◌, length, take, map, get_or, sym, ap, subst, ◌∙◌, arith, length-append}
+use Rattle.std.specs.Prelude.{slice_get, All, Result, Ok, Err, OnErr}
 use Rattle.std.proofs.lemmas.Bool.{cases_lt}
-use Rattle.std.proofs.lemmas.List.{take_all, take_more, map-append, get_or-map, get_or_append_left, get_or-append_right}
+use Rattle.std.proofs.lemmas.List.{get_or_default, take_all, take_more, map-append, get_or-map, get_or_append_left, get_or-append_right}
 use Rattle.std.proofs.lemmas.List.Elements.{All-nil, All-cons, All-append}
 use Rattle.std.proofs.lemmas.Option.{slice_get_within, slice_get-get_or, get_or_from_slice_get}
 use Rattle.playlist_text.specs.MediaLines.{Entry, Listing}
@@ -11,7 +11,8 @@ use Rattle.media_playlist.specs.Rows.{SegmentRow}
 use Rattle.media_playlist.specs.Lines.{entry_of}
 use Rattle.ladder_items.specs.Shown.{IsNextRow, AreNextRows}
 use Rattle.resume.specs.Restoring.{LiesWithin}
-use Rattle.resume.specs.Reading.{AreRowsOf}
+use Rattle.resume.specs.Picking.{Picks}
+use Rattle.resume.specs.Reading.{AreRowsOf, MayBegin, frames_at}
 
 -- what rows tell, one row further
 pub told-more : {A : Type 0} (f : SegmentRow → A) (rows new : List SegmentRow) (row : SegmentRow) (told : List A) (i : ℕ) (d : A) →
@@ -46,6 +47,24 @@ no_row = record { number = 0; size = 0; micros = 0; key = 0; discontinuity = fal
 abbrev made : ℕ → ℕ → ℕ → ℕ → Bool → List FrameRow → SegmentRow
 made number size micros key discontinuity frames =
     record { number = number; size = size; micros = micros; key = key; discontinuity = discontinuity; frames = frames }
+
+-- a fact that holds anyhow
+pub OnErr-fact : {T E P : Type 0} (r : Result T E) → P → OnErr r P
+OnErr-fact (Ok x) p = tt
+OnErr-fact (Err e) p = p
+
+-- a row that has an I-frame, or may come next: where it is the first, rows may begin
+pub may-begin : (l : Listing) (sizes : List ℕ) (p : Picks) (row : SegmentRow) (i : ℕ) (e : Entry) → i ≡ 0 → i < length l.entries → i < length sizes →
+    entry_of row ≡ get_or l.entries i e → row.size ≡ get_or sizes i 0 → row.frames ≡ frames_at p i →
+    (0 < length row.frames) ⊎ (IsNextRow l.target (l.sequence + i) row × All (LiesWithin row.size) row.frames) → MayBegin l sizes p
+may-begin l sizes p row (suc i) e first within sized entry size frames may = absurd (omega (arith, first))
+may-begin l sizes p row zero e first within sized entry size frames may = record {
+  row = row;
+  entry_is = λ d. entry ∙ get_or_default l.entries 0 e d within;
+  size_is = λ d. size ∙ get_or_default sizes 0 0 d sized;
+  frames_are = frames;
+  may = rw add-zero at may;
+}
 
 -- a row is what its playlists and its file tell
 pub row-same : (a b : SegmentRow) → entry_of a ≡ entry_of b → a.size ≡ b.size → a.frames ≡ b.frames → a ≡ b

@@ -1,14 +1,14 @@
 //! The I-frames of an I-frame playlist. What is read here is trusted only once the whole text was written again.
 
 ghost use Rattle.std.specs.Prelude.{◌≡◌, ◌==◌, ◌++◌, ◌-◌, ◌<◌, ◌≤◌, ◌⊎◌, ◌^◌, List, ℕ, All, true, length, take, drop, slice_index_or};
-ghost use Rattle.std.specs.Prelude.{IfOk, IsNone, IsSomeAnd, OnErr, OnOk};
+ghost use Rattle.std.specs.Prelude.{IfOk, IfSome, IsNone, IsSomeAnd, OnErr, OnOk};
 ghost use Rattle.std.specs.List.{before_first};
 ghost use Rattle.playlist_text.specs.Lines.{text_of};
 ghost use Rattle.media_reading.specs.MediaTexts.{IsLine};
 ghost use Rattle.resume.specs.Picking.{MayWantMemory, may_want, no_picks, pick_line, pick_lines, len_in, offset_in};
 ghost use Rattle.media_playlist.specs.Rows.{SegmentRow};
 ghost use Rattle.resume.specs.Picked.{picks_of};
-ghost use Rattle.resume.specs.Reading.{ArePicked};
+ghost use Rattle.resume.specs.Reading.{ArePicked, frames_at, frames_between};
 
 use ladder_items::FrameRow;
 use media_reading::{read_duration, read_tagged, split_line};
@@ -66,8 +66,9 @@ impl Picked {
     /// The I-frames of the segment at a place.
     pub fn at(&self, place: usize) -> Option<&[FrameRow]>
         requires { place < 2 ^ 32 }
-        ensures { (first : ℕ) (rows : List SegmentRow) (d : SegmentRow) → ArePicked (picks_of self.now) first rows → place < length rows →
+        ensures ok { (first : ℕ) (rows : List SegmentRow) (d : SegmentRow) → ArePicked (picks_of self.now) first rows → place < length rows →
             IsSomeAnd result (λ frames. frames.now ≡ (slice_index_or rows place d).frames) }
+        ensures picked { IfSome result (λ frames. frames.now ≡ frames_at (picks_of self.now) place) }
     {
         let count = self.frames.len();
         let start = number_at(&self.starts, place, count);
@@ -87,6 +88,7 @@ fn number_at(numbers: &[usize], place: usize, other: usize) -> usize
 fn part(frames: &[FrameRow], start: usize, end: usize) -> Option<&[FrameRow]>
     ensures some { start ≤ end → end ≤ length frames.now → IsSomeAnd result (λ part. part.now ≡ take (end - start) (drop start frames.now)) }
     ensures none { (end < start) ⊎ (length frames.now < end) → IsNone result }
+    ensures picked { IfSome result (λ part. part.now ≡ frames_between frames.now start end) }
 {
     if end < start || frames.len() < end {
         return None;

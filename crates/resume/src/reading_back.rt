@@ -10,7 +10,7 @@ ghost use Rattle.limits.specs.declared.TheConstants.{LAST_SEGMENT};
 ghost use Rattle.media_playlist.specs.Lines.{entry_of};
 ghost use Rattle.ladder_items.specs.Shown.{IsNextRow, IsSmallFrame};
 ghost use Rattle.resume.specs.Picking.{MayWantMemory};
-ghost use Rattle.resume.specs.Reading.{ArePicked, AreRowsOf, IsFirstFrame, IsReadBack, MayBeOf};
+ghost use Rattle.resume.specs.Reading.{ArePicked, AreRowsOf, IsFirstFrame, IsReadBack, MayBeOf, MayBegin, MayBeginWith};
 
 use crate::picking::{Picked, pick};
 use crate::restored::Restored;
@@ -38,6 +38,7 @@ pub fn read_back(
     // Memory is wanted for a line of the text that adds to what is picked, and for rows only where they may be had.
     ensures scarce { OnErr result (MayWantMemory frames.now ⊎ MayBeOf listing.now frames.now sizes.now) }
     ensures some { OnErr result (MayWantMemory frames.now ⊎ (0 < length listing.now.entries)) }
+    ensures begun { OnErr result (MayWantMemory frames.now ⊎ MayBeginWith listing.now frames.now sizes.now) }
 {
     let picked = pick(alloc, frames)?;
     if picked.first >= 1 << 63 {
@@ -69,6 +70,7 @@ fn read_rows(
         ArePicked (picks_of picked.now) first rows → IfOk result (λ found. IsSomeAnd found (λ it. it.items ≡ rows)) }
     ensures scarce { OnErr result (length sizes.now ≡ length listing.now.entries) }
     ensures some { OnErr result (0 < length listing.now.entries) }
+    ensures begun { OnErr result (MayBegin listing.now sizes.now (picks_of picked.now)) }
 {
     if sizes.len() != listing.entries.len() {
         return Ok(None);

@@ -40,3 +40,8 @@ returns-in_err-earlier-clause-scarce c =
       is_first = record { told = λ lines each is. ap (λ (p : Picks). p.first) (c.in_ok-picked.ensures.picked lines each is) };
       small = omega (arith, c.if-picked.false);
     }))
+
+pub returns-in_err-earlier-clause-begun : goal.returns-in_err-earlier-clause-begun
+returns-in_err-earlier-clause-begun c =
+    let told = err_from_is_err_and c.from_residual-in_err-earlier.result c.from_residual-in_err-earlier.ensures.1 in
+    rw told.1 (inr (record { picks = picks_of c.in_ok-picked.picked; are_of = c.in_ok-picked.ensures.picked; begin = c.in_err-earlier.ensures.begun }))

@@ -1,13 +1,15 @@
 use Rattle.std.proofs.Common.{◌≡◌, ℕ, suc, ◌+◌, ◌-◌, List, [], length, take, drop, get_or, refl, ap, subst, ◌∙◌, arith}
-use Rattle.std.specs.Prelude.{IsSomeAnd}
+use Rattle.std.specs.Prelude.{IfSome, IsSomeAnd}
 use Rattle.media_playlist.specs.declared.row.FrameRow.{FrameRow}
 use Rattle.media_playlist.specs.Sequences.{frames_of}
+use Rattle.resume.specs.Picked.{picks_of}
+use Rattle.resume.specs.Reading.{frames_at, frames_between}
 use Rattle.resume.specs.Starts.{starts_from}
 use Rattle.resume.proofs.Between.{between}
 use Rattle.resume.proofs.picking.Picked.at.Goals as goal
 
-pub returns : goal.returns
-returns c = λ first rows d picked lt.
+pub returns-clause-ok : goal.returns-clause-ok
+returns-clause-ok c = λ first rows d picked lt.
     let i = c.args.place in
     let total = c.len-count.result in
     let s = c.number_at-start.result in
@@ -27,3 +29,20 @@ returns c = λ first rows d picked lt.
     ap (λ (k : ℕ). take k (drop s c.deref-3.result.now)) long ∙ ap (λ (xs : List FrameRow). take (length frames) (drop s xs)) all
     ∙ ap (λ (k : ℕ). take (length frames) (drop k (frames_of rows))) start ∙ is.are [] refl in
     subst (λ (zs : List FrameRow). IsSomeAnd c.part.result (λ part. part.now ≡ zs)) are found
+
+pub returns-clause-picked : goal.returns-clause-picked
+returns-clause-picked c =
+    let p = picks_of c.args.self.now in
+    let i = c.args.place in
+    let total = c.len-count.result in
+    let s = c.number_at-start.result in
+    let e = c.number_at-end.result in
+    let count : total ≡ length p.frames = omega (arith, c.len-count.ensures) in
+    let start : s ≡ get_or p.starts i (length p.frames) =
+    c.number_at-start.ensures ∙ ap (λ (xs : List ℕ). get_or xs i total) c.deref.ensures.value ∙ ap (λ (k : ℕ). get_or p.starts i k) count in
+    let end : e ≡ get_or p.starts (i + 1) (length p.frames) =
+    c.number_at-end.ensures ∙ ap (λ (xs : List ℕ). get_or xs (i + 1) total) c.deref-2.ensures.value ∙ ap (λ (k : ℕ). get_or p.starts (i + 1) k) count in
+    let same : frames_between c.deref-3.result.now s e ≡ frames_at p i =
+    ap (λ (xs : List FrameRow). frames_between xs s e) c.deref-3.ensures.value ∙ ap (λ (k : ℕ). frames_between p.frames k e) start
+    ∙ ap (λ (k : ℕ). frames_between p.frames (get_or p.starts i (length p.frames)) k) end in
+    subst (λ (zs : List FrameRow). IfSome c.part.result (λ part. part.now ≡ zs)) same c.part.ensures.picked
