@@ -8,9 +8,10 @@ use Rattle.cutter.specs.declared.fault.CutFault.TheVariants.{NoMemory}
 use Rattle.cutter.specs.Spooled.{Spooling, Closes}
 use Rattle.cutter.specs.Plans.{SegmentPlan}
 use Rattle.cutter.specs.Cuts.{cuts, closed, made, Ends}
+use Rattle.cutter.specs.Stream.{MayWantMemory}
 use Rattle.cutter.specs.Ordered.{IsPlan}
 use Rattle.std.specs.Prelude.{Option, Some, None, IfSome, ◌+◌}
-use Rattle.ingest.specs.Streams.{AreNext, GrowsAlike, Stops, StopsAtPacket}
+use Rattle.ingest.specs.Streams.{AreNext, GrowsAlike, Stops, LacksMemoryAtPacket}
 
 pub grows-none : (r : ℕ) (s : CutSettings) (a b old new : List SegmentPlan) → b ≡ a → new ≡ old → GrowsAlike r s a b old new
 grows-none r s a b old new e f = record { more = []; grown = e ∙ sym (append-nil a); given = f ∙ sym (append-nil old); order = tt }
@@ -83,30 +84,34 @@ stops-at v start ps i d e is going below grown told =
 -- want of memory at packet i
 pub wants-at : (v start : Spooling) (ps : List (List ℕ)) (i : ℕ) (d : List ℕ)
     → v ≡ record start { list = start.list ++ take i ps; filled = v.filled } → i < length ps
-    → (cuts v.rendition v.settings (v.list ++ get_or ps i d ∷ [])).fault ≡ None → StopsAtPacket start ps
-wants-at v start ps i d is below sound = record {
+    → (cuts v.rendition v.settings (v.list ++ get_or ps i d ∷ [])).fault ≡ None → MayWantMemory v.settings v.list (get_or ps i d)
+    → LacksMemoryAtPacket start.rendition start.settings start.list ps
+wants-at v start ps i d is below sound wants = record {
   before = take i ps;
   packet = get_or ps i d;
   behind = drop (suc i) ps;
   split = split_at ps i d below;
   sound = ap (λ (l : List (List ℕ)). (cuts start.rendition start.settings l).fault) (sym (append_assoc start.list (take i ps) (get_or ps i d ∷ [])))
       ∙ subst (λ (u : Spooling). (cuts u.rendition u.settings (u.list ++ get_or ps i d ∷ [])).fault ≡ None) is sound;
+  wants = subst (λ (u : Spooling). MayWantMemory u.settings u.list (get_or ps i d)) is wants;
 }
 
 -- it was wanting in front, or behind
-pub wants-front : (v : Spooling) (ps qs : List (List ℕ)) → StopsAtPacket v ps → StopsAtPacket v (ps ++ qs)
-wants-front v ps qs w = record {
+pub wants-front : (r : ℕ) (s : CutSettings) (list ps qs : List (List ℕ)) → LacksMemoryAtPacket r s list ps → LacksMemoryAtPacket r s list (ps ++ qs)
+wants-front r s list ps qs w = record {
   before = w.before;
   packet = w.packet;
   behind = w.behind ++ qs;
-  split = ap (λ list. list ++ qs) w.split ∙ append_assoc w.before (w.packet ∷ w.behind) qs;
+  split = ap (λ l. l ++ qs) w.split ∙ append_assoc w.before (w.packet ∷ w.behind) qs;
   sound = w.sound;
+  wants = w.wants;
 }
 
-pub wants-behind : (v u : Spooling) (ps qs : List (List ℕ)) → u ≡ record v { list = v.list ++ ps; filled = u.filled } → StopsAtPacket u qs → StopsAtPacket v (ps ++ qs)
-wants-behind v u ps qs is wants = behind (subst (λ (x : Spooling). StopsAtPacket x qs) is wants)
+pub wants-behind : (v u : Spooling) (ps qs : List (List ℕ)) → u ≡ record v { list = v.list ++ ps; filled = u.filled }
+    → LacksMemoryAtPacket u.rendition u.settings u.list qs → LacksMemoryAtPacket v.rendition v.settings v.list (ps ++ qs)
+wants-behind v u ps qs is wants = behind (subst (λ (x : Spooling). LacksMemoryAtPacket x.rendition x.settings x.list qs) is wants)
   where
-    behind : StopsAtPacket (record v { list = v.list ++ ps; filled = u.filled }) qs → StopsAtPacket v (ps ++ qs)
+    behind : LacksMemoryAtPacket v.rendition v.settings (v.list ++ ps) qs → LacksMemoryAtPacket v.rendition v.settings v.list (ps ++ qs)
     behind w = record {
       before = ps ++ w.before;
       packet = w.packet;
@@ -114,6 +119,7 @@ wants-behind v u ps qs is wants = behind (subst (λ (x : Spooling). StopsAtPacke
       split = ap (λ list. ps ++ list) w.split ∙ sym (append_assoc ps w.before (w.packet ∷ w.behind));
       sound = ap (λ (l : List (List ℕ)). (cuts v.rendition v.settings l).fault)
           (ap (λ list. v.list ++ list) (append_assoc ps w.before (w.packet ∷ [])) ∙ sym (append_assoc v.list ps (w.before ++ w.packet ∷ []))) ∙ w.sound;
+      wants = subst (λ (l : List (List ℕ)). MayWantMemory v.settings l w.packet) (append_assoc v.list ps w.before) w.wants;
     }
 
 pub more-of : (front ps : List (List ℕ)) (i : ℕ) (d : List ℕ) → i < length ps → front ++ take (i + 1) ps ≡ (front ++ take i ps) ++ get_or ps i d ∷ []

@@ -5,14 +5,15 @@ use Rattle.std.proofs.lemmas.Grind.{flat_map-append}
 use Rattle.ghost_list.specs.Lists.{IsBeginning}
 use Rattle.ts_packet.specs.Packets.{packets, decided}
 use Rattle.ts_packet.specs.State as Reading
+use Rattle.ts_packet.specs.State.{LacksRoomBehind}
 use Rattle.cutter.specs.declared.fault.CutFault.{CutFault}
-use Rattle.cutter.specs.declared.fault.CutFault.TheVariants.{NoMemory}
+use Rattle.cutter.specs.declared.fault.CutFault.TheVariants.{Ended, NoMemory}
 use Rattle.cutter.specs.Spooled.{Spooling, Closes, joined}
 use Rattle.cutter.specs.declared.settings.CutSettings.{CutSettings}
 use Rattle.cutter.specs.Plans.{SegmentPlan}
 use Rattle.std.specs.Prelude.{OnOk, Result, Ok, Err}
 use Rattle.cutter.specs.Cuts.{closed, plans, fault, made, Ends}
-use Rattle.ingest.specs.Streams.{Taken, AreNext, GrowsAlike, Stops, Faults, Stays, plans_of, fault_of, closed_of}
+use Rattle.ingest.specs.Streams.{Taken, AreNext, GrowsAlike, Stops, LacksMemoryAtPacket, LacksMemoryBehind, Faults, Stays, plans_of, fault_of, closed_of}
 use Rattle.ingest.proofs.Growing.{StopsAll, grows-more, next-made}
 
 pub few-packets : (ps more : List (List ℕ)) (next : List ℕ) → decided next ≡ ps ++ more → IsBeginning (decided next) (packets next)
@@ -185,3 +186,29 @@ turned-out ended v w stream is =
 pub OnOk-map : {T E P Q : Type 0} (r : Result T E) → (P → Q) → OnOk r P → OnOk r Q
 OnOk-map (Ok x) f p = f p
 OnOk-map (Err e) f p = tt
+
+-- want of room that lacks behind no packets lacks where there is none
+pub no-room : (fed piece : List ℕ) (count room : ℕ) → count ≡ 0 → LacksRoomBehind fed piece count room → LacksRoomBehind fed piece 0 0
+no-room fed piece count room none lacks = (lacks.0, lacks.1, omega (arith, lacks.2, none))
+
+-- want of memory at packets that the bytes don't decide
+pub wants-behind : (ended : Bool) (v : Spooling) (stream : List ℕ) (all ps : List (List ℕ)) → v.list ≡ decided stream → all ≡ decided stream ++ ps
+    → LacksMemoryAtPacket v.rendition v.settings v.list ps → LacksMemoryBehind (intake_of ended v stream) all
+wants-behind ended v stream all ps is grown wants = record {
+  more = ps;
+  grown = grown;
+  stops = subst (λ list. LacksMemoryAtPacket v.rendition v.settings list ps) is wants;
+}
+
+-- what is told in place of a stream's fault is want of memory
+pub scarce-piece : (taken : Taken) (whole : List ℕ) (e : CutFault) (filled : List SegmentPlan) (B : Type 0) → (fault_of taken.rendition taken.settings whole ≡ Some Ended → ⊥)
+    → (e ≡ NoMemory) ⊎ (Faults taken whole e filled × B) → (e ≡ NoMemory) ⊎ (e ≡ Ended) → e ≡ NoMemory
+scarce-piece taken whole e filled B never (inl none) told = none
+scarce-piece taken whole e filled B never (inr both) (inl none) = none
+scarce-piece taken whole e filled B never (inr both) (inr ended) = absurd (never (both.0.fault ∙ ap (λ (f : CutFault). Some f) ended))
+
+pub scarce-end : (taken : Taken) (whole : List ℕ) (e : CutFault) (filled : List SegmentPlan) → (fault_of taken.rendition taken.settings whole ≡ Some Ended → ⊥)
+    → (e ≡ NoMemory) ⊎ Faults taken whole e filled → (e ≡ NoMemory) ⊎ (e ≡ Ended) → e ≡ NoMemory
+scarce-end taken whole e filled never (inl none) told = none
+scarce-end taken whole e filled never (inr faults) (inl none) = none
+scarce-end taken whole e filled never (inr faults) (inr ended) = absurd (never (faults.fault ∙ ap (λ (f : CutFault). Some f) ended))

@@ -1,11 +1,11 @@
 -- What a source tells of its rendition's way.
-use Rattle.std.specs.Prelude.{◌≡◌, ℕ, ◌+◌, ◌≤◌, List, length, Option, Some, None, ◌⊎◌}
+use Rattle.std.specs.Prelude.{◌≡◌, ℕ, ◌+◌, ◌<◌, ◌≤◌, List, [], length, Option, Some, None, ◌⊎◌}
 use Rattle.std.specs.Io.KnownBytes.{Consumes, IsAtEnd}
 use Rattle.ghost_list.specs.Bytes.{AreBytes}
 use Rattle.cutter.specs.declared.settings.CutSettings.{CutSettings}
 use Rattle.ingest.specs.declared.lane.Stop.{Stop}
 use Rattle.ingest.specs.declared.lane.Stop.TheVariants.{Good, Cut, Read}
-use Rattle.ingest.specs.Streams.{Stays, as_cut}
+use Rattle.ingest.specs.Streams.{LacksMemory, LacksMemoryAtEnd, Stays, Taken, as_cut}
 use Rattle.item_io.specs.Views.{SourceView}
 use Rattle.item_io.specs.declared.limits.TheConstants.{PIECE}
 
@@ -23,3 +23,13 @@ pub record IsRead {X : Type 0} (input : SourceView X) (old new : X) (piece : Lis
   pub short : length piece ≤ PIECE
   pub bytes : AreBytes piece
   pub counted : input.reads new ≤ input.reads old + 1
+
+-- a read brought a piece that may want memory, or came to an end that may
+abbrev pub BringsWant : {X : Type 0} → SourceView X → X → Taken → List ℕ → Type 0
+BringsWant input now taken piece = (0 < length piece) × LacksMemory taken piece ⊎ ((piece ≡ []) × IsAtEnd (input.left now) × LacksMemoryAtEnd taken)
+
+-- a turn that was cut off for want of memory: one read, and what it brought may want memory
+pub record IsCutOff {X : Type 0} (input : SourceView X) (old new : X) (taken : Taken) : Type 0 where
+  pub piece : List ℕ
+  pub read : IsRead input old new piece
+  pub wants : BringsWant input new taken piece

@@ -1,5 +1,5 @@
 -- A rendition on its way: what its bytes have closed, and why it stopped.
-use Rattle.std.specs.Prelude.{◌≡◌, ℕ, ◌+◌, true, false, Bool, List, ◌++◌, Option, Some, None}
+use Rattle.std.specs.Prelude.{◌≡◌, ℕ, ◌+◌, true, false, Bool, List, ◌++◌, Option, Some, None, slice_get}
 use Rattle.ts_packet.specs.Packets.{skipped}
 use Rattle.cutter.specs.declared.settings.CutSettings.{CutSettings}
 use Rattle.cutter.specs.Plans.{SegmentPlan}
@@ -78,3 +78,11 @@ pub record IsTurned {X : Type 0} (input : SourceView X) (source source_now : X) 
   pub takes : Takes old new (old.intake.stream ++ piece)
   pub says : SourceSays input old.intake.rendition old.intake.settings (old.intake.stream ++ piece) new.stop source source_now
   pub counted : new.stop ≡ None → input.reads source_now ≡ input.reads source + 1
+
+-- memory was wanting in the turn of some rendition: its intake has ended, though it hasn't stopped
+pub record HasBroken (lanes : List Lane) : Type 0 where
+  pub rendition : ℕ
+  pub lane : Lane
+  pub there : slice_get lanes rendition ≡ Some lane
+  pub going : lane.stop ≡ None
+  pub ended : lane.intake.ended ≡ true

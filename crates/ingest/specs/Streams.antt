@@ -1,6 +1,8 @@
 -- What comes of the bytes that a rendition's input gave: its packets, the plans of its segments, and its fault.
-use Rattle.std.specs.Prelude.{◌≡◌, ℕ, ◌+◌, Bool, false, List, [], ◌∷◌, ◌++◌, length, Option, Some, None}
-use Rattle.ts_packet.specs.Packets.{packets, decided}
+use Rattle.std.specs.Prelude.{◌≡◌, ◌⊎◌, ℕ, ◌+◌, ◌≤◌, Bool, false, List, [], ◌∷◌, ◌++◌, length, Option, Some, None}
+use Rattle.ts_packet.specs.Packets.{packets, decided, rest_of}
+use Rattle.ts_packet.specs.State.{LacksRoomBehind}
+use Rattle.ts_packet.specs.declared.lengths.TheConstants.{PACKET}
 use Rattle.cutter.specs.declared.settings.CutSettings.{CutSettings}
 use Rattle.cutter.specs.declared.fault.CutFault.{CutFault}
 use Rattle.cutter.specs.declared.fault.CutFault.TheVariants.{NoProgram as HasNoProgram, NoStart as HasNoStart, LongSegment as IsLong, BigSegment as IsBig, Limit as PassesLimit}
@@ -9,6 +11,7 @@ use Rattle.ingest.specs.declared.fault.StreamFault.TheVariants.{NoProgram, NoSta
 use Rattle.cutter.specs.Plans.{SegmentPlan}
 use Rattle.cutter.specs.Ordered.{IsPlan}
 use Rattle.cutter.specs.Cuts.{cuts, closed, plans, fault}
+use Rattle.cutter.specs.Stream.{MayWantMemory}
 use Rattle.cutter.specs.Spooled.{Spooling}
 
 -- a fault of a stream, as a cutter tells it
@@ -62,13 +65,35 @@ pub record Stops (pushed : Spooling) (whole : List (List ℕ)) (told : CutFault)
   pub fault : fault pushed.rendition pushed.settings whole ≡ Some told
   pub plans : GrowsAlike pushed.rendition pushed.settings (closed pushed.rendition pushed.settings pushed.list) (plans pushed.rendition pushed.settings whole) pushed.filled filled
 
--- memory was wanting at one of these packets, and neither it nor those before it bring a fault
-pub record StopsAtPacket (pushed : Spooling) (packets : List (List ℕ)) : Type 0 where
+-- no segment goes on behind what these bytes decide
+abbrev pub HasNoneOpen : Taken → Type 0
+HasNoneOpen taken = (cuts taken.rendition taken.settings (decided taken.stream)).going ≡ None
+
+-- behind the packets of a list, memory is wanting at one of these, which may want it, and neither it nor those before it bring a fault
+pub record LacksMemoryAtPacket (r : ℕ) (s : CutSettings) (list packets : List (List ℕ)) : Type 0 where
   pub before : List (List ℕ)
   pub packet : List ℕ
   pub behind : List (List ℕ)
   pub split : packets ≡ before ++ packet ∷ behind
-  pub sound : (cuts pushed.rendition pushed.settings (pushed.list ++ (before ++ packet ∷ []))).fault ≡ None
+  pub sound : (cuts r s (list ++ (before ++ packet ∷ []))).fault ≡ None
+  pub wants : MayWantMemory s (list ++ before) packet
+
+-- behind the bytes that were taken, memory is wanting at a packet of these that the bytes don't decide
+pub record LacksMemoryBehind (taken : Taken) (all : List (List ℕ)) : Type 0 where
+  pub more : List (List ℕ)
+  pub grown : all ≡ decided taken.stream ++ more
+  pub stops : LacksMemoryAtPacket taken.rendition taken.settings (decided taken.stream) more
+
+-- Memory may be wanting for a piece: for the packets in it that aren't lent, or at one of those that it decides.
+abbrev pub LacksMemory : Taken → List ℕ → Type 0
+LacksMemory taken piece = LacksRoomBehind taken.stream piece 0 0 ⊎ LacksMemoryBehind taken (decided (taken.stream ++ piece))
+
+-- Memory may be wanting at the end of a stream: for a packet of the bytes that are kept, at one of the packets that the end
+-- decides, or for the last plan where the stream has no fault.
+abbrev pub LacksMemoryAtEnd : Taken → Type 0
+LacksMemoryAtEnd taken =
+    (PACKET ≤ length (rest_of taken.stream).bytes) ⊎ (LacksMemoryBehind taken (packets taken.stream)
+    ⊎ (fault_of taken.rendition taken.settings taken.stream ≡ None))
 
 -- a stream of these bytes has this fault, and the plans that come before it were closed in the spool
 pub record Faults (taken : Taken) (whole : List ℕ) (told : CutFault) (filled : List SegmentPlan) : Type 0 where

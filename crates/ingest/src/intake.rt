@@ -3,9 +3,10 @@ ghost use Rattle.ghost_list.specs.Lists.{IsBeginning};
 ghost use Rattle.ts_packet.specs.Packets.{packets, decided, skipped};
 ghost use Rattle.cutter.specs.declared.settings.CutSettings.{CutSettings};
 ghost use Rattle.cutter.specs.declared.fault.CutFault.TheVariants.{NoMemory};
-ghost use Rattle.cutter.specs.Cuts.{closed, cuts};
+ghost use Rattle.cutter.specs.Cuts.{closed};
 ghost use Rattle.cutter.specs.Settings.{IsAllowed};
-ghost use Rattle.ingest.specs.Streams.{untaken, plans_of, fault_of, closed_of, GrowsAlike, Stops, StopsAtPacket, Faults, Stays};
+ghost use Rattle.ingest.specs.Streams.{untaken, plans_of, fault_of, closed_of, GrowsAlike, Stops, LacksMemoryAtPacket, Faults, Stays};
+ghost use Rattle.ingest.specs.Streams.{HasNoneOpen, LacksMemory, LacksMemoryAtEnd};
 
 use cutter::{CutFault, CutSettings, Spool, SpoolCutter};
 use std::alloc::Global;
@@ -71,6 +72,7 @@ impl Intake {
         ensures fault { IfErr result (λ e. (e ≡ NoMemory)
             ⊎ (Faults self.old (self.old.stream ++ piece.now) e self.new.filled
             × Stays self.old.rendition self.old.settings (self.old.stream ++ piece.now) e)) }
+        ensures scarce { IfErr result (λ e. e ≡ NoMemory → LacksMemory self.old piece.now) }
         ensures err { OnErr result (self.new ≡ record self.old { stream = self.new.stream; ended = true; filled = self.new.filled }) }
     {
         decided_begin();
@@ -94,6 +96,7 @@ impl Intake {
         ensures skipped { IfOk result (λ gone. gone.bytes ≡ skipped self.old.stream) }
         ensures fault { IfErr result (λ e. (e ≡ NoMemory)
             ⊎ Faults self.old self.old.stream e self.new.filled) }
+        ensures scarce { IfErr result (λ e. e ≡ NoMemory → LacksMemoryAtEnd self.old) }
         ensures ended { self.new ≡ record self.old { stream = self.new.stream; ended = true; filled = self.new.filled } }
     {
         decided_begin();
@@ -121,7 +124,7 @@ impl Intake {
         ensures err { OnErr result (self.new ≡ self.old) }
 
         // Where no segment goes on there is nothing to copy, and so no memory is wanted.
-        ensures none { self.old.ended ≡ false → (cuts self.old.rendition self.old.settings (decided self.old.stream)).going ≡ None → IsOk result }
+        ensures none { self.old.ended ≡ false → HasNoneOpen self.old → IsOk result }
         ensures ended { self.old.ended ≡ true → IsOk result }
     {
         if self.ended {
@@ -164,7 +167,8 @@ fn push_both(
         cutter.old.filled cutter.new.filled) }
     ensures fault { IfErr result (λ e. (e ≡ NoMemory) ⊎ ((more : List (List ℕ)) →
         Stops cutter.old ((cutter.old.list ++ (front.now ++ back.now)) ++ more) e cutter.new.filled)) }
-    ensures scarce { IfErr result (λ e. e ≡ NoMemory → StopsAtPacket cutter.old (front.now ++ back.now)) }
+    ensures scarce { IfErr result (λ e. e ≡ NoMemory → LacksMemoryAtPacket cutter.old.rendition cutter.old.settings cutter.old.list (front.now ++ back.now)) }
+    ensures ended { OnErr result (cutter.new.ended ≡ true) }
     ensures kept { (cutter.new.rendition ≡ cutter.old.rendition) × (cutter.new.settings ≡ cutter.old.settings) × (cutter.new.turned ≡ cutter.old.turned) }
 {
     push_all(cutter, front)?;
@@ -183,7 +187,8 @@ fn push_all(cutter: &mut SpoolCutter, packets: &[[u8; 188]]) -> Result<(), CutFa
         cutter.old.filled cutter.new.filled) }
     ensures fault { IfErr result (λ e. (e ≡ NoMemory) ⊎ ((more : List (List ℕ)) →
         Stops cutter.old ((cutter.old.list ++ packets.now) ++ more) e cutter.new.filled)) }
-    ensures scarce { IfErr result (λ e. e ≡ NoMemory → StopsAtPacket cutter.old packets.now) }
+    ensures scarce { IfErr result (λ e. e ≡ NoMemory → LacksMemoryAtPacket cutter.old.rendition cutter.old.settings cutter.old.list packets.now) }
+    ensures ended { OnErr result (cutter.new.ended ≡ true) }
     ensures kept { (cutter.new.rendition ≡ cutter.old.rendition) × (cutter.new.settings ≡ cutter.old.settings) × (cutter.new.turned ≡ cutter.old.turned) }
 {
     for packet in packets {

@@ -1,7 +1,10 @@
-ghost use Rattle.std.specs.Prelude.{◌≡◌, ◌≢◌, ◌+◌, ◌<◌, ◌≤◌, ◌^◌, ◌++◌, ℕ, List, None, Some, true, false, length, IfOk, OnOk, OnErr};
+ghost use Rattle.std.specs.Prelude.{◌≡◌, ◌≢◌, ◌+◌, ◌<◌, ◌≤◌, ◌^◌, ◌++◌, ℕ, List, None, Some, true, false, length, OnOk, OnErr};
 ghost use Rattle.ghost_list.specs.Bytes.{AreBytes};
 ghost use Rattle.cutter.specs.Settings.{IsAllowed};
-ghost use Rattle.ingest.specs.Inputs.{IsRead};
+ghost use Rattle.cutter.specs.declared.settings.CutSettings.{CutSettings};
+ghost use Rattle.cutter.specs.declared.fault.CutFault.TheVariants.{Ended};
+ghost use Rattle.ingest.specs.Inputs.{IsCutOff};
+ghost use Rattle.ingest.specs.Streams.{LacksMemory, LacksMemoryAtEnd, fault_of};
 ghost use Rattle.ingest.specs.declared.lane.Stop.TheVariants.{Read};
 ghost use Rattle.ingest.specs.Lanes.{is_good, IsFirst, IsOfPiece, IsOfEnd, Takes, IsTurned};
 ghost use Rattle.item_io.specs.declared.limits.TheConstants.{PIECE};
@@ -64,7 +67,8 @@ impl Lane {
         requires few { length self.old.intake.stream + PIECE < 2 ^ 63 }
         ensures ok { OnOk result (IsTurned S.input source.old source.new self.old self.new) }
         ensures unread { OnOk result (self.new.stop ≡ Some Read → self.new.intake ≡ record self.old.intake { ended = true }) }
-        ensures err { OnErr result ((piece : List ℕ) × IsRead S.input source.old source.new piece) }
+        ensures err { OnErr result (IsCutOff S.input source.old source.new self.old.intake) }
+        ensures broken { OnErr result (self.new.intake.ended ≡ true) }
         ensures no_read_failed { OnErr result (S.input.failures source.new ≡ S.input.failures source.old) }
         ensures stop { OnErr result (self.new.stop ≡ self.old.stop) }
         ensures ended { OnOk result (self.new.stop ≢ None → self.new.intake.ended ≡ true) }
@@ -87,7 +91,8 @@ impl Lane {
         requires few { length self.old.intake.stream + PIECE < 2 ^ 63 }
         ensures ok { OnOk result (IsTurned S.input source.old source.new self.old self.new) }
         ensures unread { OnOk result (self.new.stop ≡ Some Read → self.new.intake ≡ record self.old.intake { ended = true }) }
-        ensures err { OnErr result ((piece : List ℕ) × IsRead S.input source.old source.new piece) }
+        ensures err { OnErr result (IsCutOff S.input source.old source.new self.old.intake) }
+        ensures broken { OnErr result (self.new.intake.ended ≡ true) }
         ensures no_read_failed { OnErr result (S.input.failures source.new ≡ S.input.failures source.old) }
         ensures stop { OnErr result (self.new.stop ≡ self.old.stop) }
         ensures ended { OnOk result (self.new.stop ≢ None → self.new.intake.ended ≡ true) }
@@ -115,8 +120,11 @@ impl Lane {
         ensures takes { OnOk result (Takes self.old self.new (self.old.intake.stream ++ piece.now)) }
         ensures stays { OnOk result (IsOfPiece self.new.stop self.old.intake.rendition self.old.intake.settings (self.old.intake.stream ++ piece.now)) }
         ensures stop { OnErr result (self.new.stop ≡ self.old.stop) }
+        ensures broken { OnErr result (self.new.intake.ended ≡ true) }
+        ensures scarce { OnErr result (LacksMemory self.old.intake piece.now) }
         ensures ended { OnOk result (self.new.stop ≢ None → self.new.intake.ended ≡ true) }
     {
+        no_stream_has_ended();
         if let Err(fault) = self.intake.take(piece) {
             self.stop = Some(Stop::Cut(of_stream(fault)?));
         }
@@ -131,8 +139,11 @@ impl Lane {
         ensures takes { OnOk result (Takes self.old self.new self.old.intake.stream) }
         ensures ends { OnOk result (IsOfEnd self.new.stop) }
         ensures stop { OnErr result (self.new.stop ≡ self.old.stop) }
+        ensures broken { OnErr result (self.new.intake.ended ≡ true) }
+        ensures scarce { OnErr result (LacksMemoryAtEnd self.old.intake) }
         ensures ended { OnOk result (self.new.stop ≢ None → self.new.intake.ended ≡ true) }
     {
+        no_stream_has_ended();
         self.stop = match self.intake.finish() {
             Ok(skipped) => Some(Stop::Good(skipped.bytes)),
             Err(fault) => Some(Stop::Cut(of_stream(fault)?)),
@@ -145,3 +156,10 @@ impl Lane {
 fn pieces_are_bytes(piece: &[u8])
     ensures { AreBytes piece.now }
 {}
+
+/// No fault of a stream says that its cutter has ended.
+fn no_stream_has_ended()
+    ensures { (r : ℕ) (s : CutSettings) (stream : List ℕ) → fault_of r s stream ≢ Some Ended }
+{
+    cutter::faults_stand_at_the_least_packet();
+}

@@ -14,7 +14,7 @@ pub returns-in_err-push-clause-scarce : goal.returns-in_err-push-clause-scarce
 returns-in_err-push-clause-scarce c =
     let told = err_from_is_err_and c.from_residual.result c.from_residual.ensures.1 in
     rw (told.1, told.2) (λ none. wants-at c.loop-packet.cutter c.args.cutter.now c.args.packets.now c.loop-packet.packet-index _
-    c.loop-packet.invariant.cutter c.loop-packet-test.true (c.in_err-push.ensures.scarce none))
+    c.loop-packet.invariant.cutter c.loop-packet-test.true (c.in_err-push.ensures.scarce none) (c.in_err-push.ensures.memory none))
 
 pub loop-packet-preserved : goal.loop-packet-preserved
 loop-packet-preserved c =

@@ -17,7 +17,7 @@ returns-in_err-push_all-2-clause-fault c =
 pub returns-in_err-push_all-clause-scarce : goal.returns-in_err-push_all-clause-scarce
 returns-in_err-push_all-clause-scarce c =
     let told = err_from_is_err_and c.from_residual.result c.from_residual.ensures.1 in
-    rw (told.1, told.2) (λ none. wants-front c.args.cutter.now c.args.front.now c.args.back.now (c.in_err-push_all.ensures.scarce none))
+    rw (told.1, told.2) (λ none. wants-front c.args.cutter.now.rendition c.args.cutter.now.settings c.args.cutter.now.list c.args.front.now c.args.back.now (c.in_err-push_all.ensures.scarce none))
 
 pub returns-in_err-push_all-2-clause-scarce : goal.returns-in_err-push_all-2-clause-scarce
 returns-in_err-push_all-2-clause-scarce c =

@@ -57,7 +57,7 @@ returns-in_err-turn-clause-err g c =
     rw told.1 (read-cut _ _ _ _ _ _ c.loop.counter c.loop-r.r _ _ _ _ _ _ c.index_mut.result.now c.turn.new.source c.index_mut-lane.result.now _
     (slice_get_read c.loop-r.sources.items _ c.loop-r.r c.index_mut.result.now (sym w.same_now) below c.index_mut.ensures.value)
     (slice_get_read c.loop-r.lanes.items _ c.loop-r.r c.index_mut-lane.result.now (sym w.same_lanes) below c.index_mut-lane.ensures.value)
-    (none-there _ (sym c.if-is_some.ensures)) c.in_err-turn.ensures.err.1 c.in_err-turn.ensures.no_read_failed
+    (none-there _ (sym c.if-is_some.ensures)) c.in_err-turn.ensures.err.read c.in_err-turn.ensures.no_read_failed
     (closed_of-grow c.loop-r.r c.args.settings.now.cut) c.loop-test.true c.requires.allowed c.loop-r.invariant.due)
 
 pub give_due-requires-clause-next : goal.give_due-requires-clause-next

@@ -1,5 +1,7 @@
 use Rattle.std.proofs.lemmas.Result.{err_from_is_err_and}
-use Rattle.ingest.proofs.Taking.{appended, faults-at-end, faults-behind, sound-end, grown-to-end}
+use Rattle.std.proofs.Common.{◌∙◌, inl, inr, length, ap, arith}
+use Rattle.ts_packet.specs.Packets.{packets}
+use Rattle.ingest.proofs.Taking.{appended, faults-at-end, faults-behind, sound-end, grown-to-end, wants-behind}
 use Rattle.ingest.proofs.intake.Intake.finish.Goals as goal
 
 pub returns-in_err-push_all-clause-fault : goal.returns-in_err-push_all-clause-fault
@@ -31,3 +33,25 @@ returns-clause-plans c =
     let grown = appended _ _ _ _ c.deref.result.now c.in_ok-skipped.ensures.packets c.clear.ensures.items c.deref.ensures.value in
     rw (← c.self.view_is) (grown-to-end c.self.inside.cutter c.push_all.new.cutter c.self.inside.reader c.deref.result.now _ c.finish-2.new.self.filled
     (c.self.invariant.list going) grown c.in_ok-push_all.ensures.pushed c.in_ok-push_all.ensures.plans c.in_ok-finish.ensures.closes)
+
+pub returns-in_err-skipped-clause-scarce : goal.returns-in_err-skipped-clause-scarce
+returns-in_err-skipped-clause-scarce c =
+    let told = err_from_is_err_and c.from_residual.result c.from_residual.ensures.1 in
+    let none = c.clear.new.self.ok.0 ∙ ap length c.clear.ensures.items in
+    rw (told.1, told.2, ← c.self.view_is) (λ scarce. inl (omega (arith, c.in_err-skipped.ensures.room, none)))
+
+pub returns-in_err-push_all-clause-scarce : goal.returns-in_err-push_all-clause-scarce
+returns-in_err-push_all-clause-scarce c =
+    let told = err_from_is_err_and c.from_residual-in_err-push_all.result c.from_residual-in_err-push_all.ensures.1 in
+    let going = rw (← c.self.view_is) at c.requires.going in
+    let grown = appended _ _ _ _ c.deref.result.now c.in_ok-skipped.ensures.packets c.clear.ensures.items c.deref.ensures.value in
+    rw (told.1, told.2, ← c.self.view_is) (λ none. inr (inl (wants-behind c.self.inside.ended c.self.inside.cutter c.self.inside.reader (packets c.self.inside.reader) c.deref.result.now
+    (c.self.invariant.list going) grown (c.in_err-push_all.ensures.scarce none))))
+
+pub returns-in_err-finish-clause-scarce : goal.returns-in_err-finish-clause-scarce
+returns-in_err-finish-clause-scarce c =
+    let told = err_from_is_err_and c.from_residual-in_err-finish.result c.from_residual-in_err-finish.ensures.1 in
+    let going = rw (← c.self.view_is) at c.requires.going in
+    let grown = appended _ _ _ _ c.deref.result.now c.in_ok-skipped.ensures.packets c.clear.ensures.items c.deref.ensures.value in
+    rw (told.1, told.2, ← c.self.view_is) (λ none. inr (inr (sound-end c.self.inside.cutter c.push_all.new.cutter c.self.inside.reader c.deref.result.now
+    (c.self.invariant.list going) grown c.in_ok-push_all.ensures.pushed (c.in_err-finish.ensures.scarce none))))
