@@ -2,6 +2,7 @@
 use Rattle.std.proofs.Common.{◌≡◌, ◌∙◌, ◌⊎◌, ◌<◌, ◌≤◌, inl, inr, ℕ, List, refl, sym, subst, arith}
 use Rattle.cutter.specs.Plans.{SegmentPlan}
 use Rattle.flow_core.specs.Gatherings.{Gathering, awaited}
+use Rattle.rounds.proofs.Dues.{lacks-awaited}
 use Rattle.ingest.specs.declared.lane.Lane.{Lane}
 use Rattle.ladder_items.specs.declared.fault.PackFault.{PackFault}
 use Rattle.ladder_items.specs.declared.fault.PackFault.TheVariants.{Held, NoMemory, Settings}
@@ -99,3 +100,9 @@ own-less m n A less k (inr other) = inr other
 pub own-then : (lets stops : ℕ → ℕ → Type 0) (f g h : Gathering) (fault : PackFault) → awaited g.sequences ≤ awaited f.sequences
     → IsOwnFault lets stops g h fault → IsOwnFault lets stops f h fault
 own-then lets stops f g h fault less own unheld = own-less _ _ _ less _ (own unheld)
+
+-- where a plan is left, segments are awaited
+pub left-awaited : (lets stops : ℕ → ℕ → Type 0) (g : Gathering) (fault : PackFault) → IsHeldBack stops fault ⊎ IsLeft lets stops g fault → IsUnheld fault
+    → 0 < awaited g.sequences
+left-awaited lets stops g fault (inl held) unheld = held-own stops _ fault held unheld
+left-awaited lets stops g fault (inr left) unheld = lacks-awaited g left.0.rendition left.0 left.1

@@ -1,6 +1,7 @@
 pub mod Snapshots
 pub mod Steps
 pub mod Collecting
+pub mod Dues
 pub mod Gates
 pub mod Running
 pub mod Rounding

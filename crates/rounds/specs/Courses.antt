@@ -232,6 +232,13 @@ HasGoodEnds ladder course =
     (k : ℕ) (lane : Lane) → k < length ladder.renditions → slice_get course.lanes.items k ≡ Some lane → lane.intake.filled ≡ []
     → slice_index_or course.ended.items k false ≡ is_good lane.stop
 
+-- A run was stopped at a place between two rounds where the end of a rendition was due, or plans were closed, and nothing was shown since.
+pub record StopsAt {X Y R : Type 0} (input : SourceView X) (out : OutletView Y) (ladder : Ladder) (old new : Broadcast X Y R) : Type 0 where
+  pub before : Broadcast X Y R
+  pub stays : StaysBetween input out ladder old before
+  pub due : HasEndDue ladder before.course ⊎ HasClosed before.course.lanes.items
+  pub unshown : new.held.publisher.list ≡ before.held.publisher.list
+
 -- all that was read and closed was given, each good end too, and no rendition is read any further
 pub record IsAllGiven {X Y : Type 0} (course : Course X Y) : Type 0 where
   pub rests : Rests course

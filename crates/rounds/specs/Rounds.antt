@@ -1,5 +1,5 @@
 -- A round: plans are expected, and segments come for them.
-use Rattle.std.specs.Prelude.{◌≡◌, ◌≢◌, ℕ, ◌+◌, ◌-◌, ◌<◌, ◌≤◌, sum, List, [], ◌∷◌, ◌++◌, map, length, Some, slice_get, slice_index_or, slice_set, false}
+use Rattle.std.specs.Prelude.{◌≡◌, ◌≢◌, ◌⊎◌, ℕ, ◌+◌, ◌-◌, ◌<◌, ◌≤◌, sum, List, [], ◌∷◌, ◌++◌, map, length, Some, slice_get, slice_index_or, slice_set, false}
 use Rattle.cutter.specs.Plans.{SegmentPlan}
 use Rattle.flow_core.specs.declared.slot.Slot.{Slot}
 use Rattle.flow_core.specs.Slots.{leading, one_more}
@@ -7,7 +7,7 @@ use Rattle.flow_core.specs.Gatherings.{Gathering, awaited, missing_in, sequence_
 use Rattle.flow_core.specs.Sequences.{SequenceValue}
 use Rattle.live_board.specs.Snapshots.{Known}
 use Rattle.ingest.specs.declared.lane.Lane.{Lane}
-use Rattle.ingest.specs.Lanes.{is_good}
+use Rattle.ingest.specs.Lanes.{HasBroken, is_good}
 use Rattle.item_io.specs.Views.{OutletView, SourceView}
 use Rattle.ladder_items.specs.declared.fault.PackFault.{PackFault}
 use Rattle.ladder_items.specs.declared.fault.PackFault.TheVariants.{NoMemory}
@@ -18,6 +18,7 @@ use Rattle.rounds.specs.declared.run.between.BetweenRounds.{BetweenRounds}
 use Rattle.rounds.specs.declared.run.course.Course.{Course}
 use Rattle.rounds.specs.declared.run.pace.Pace.{Pace}
 use Rattle.rounds.specs.Courses.{Start, HadOneAtMost, IsBetween, IsOn, IsStopped, ReadsMore, ReadsNone, turns_in}
+use Rattle.rounds.specs.Gated.{IsUnheld}
 use Rattle.rounds.specs.Paces.{HasEnough, wanted}
 use Rattle.rounds.specs.Showing.{counts_of}
 
@@ -246,3 +247,25 @@ pub record IsRound {X Y R : Type 0} (input : SourceView X) (out : OutletView Y) 
 abbrev pub IsBroken : {X Y R : Type 0} → SourceView X → OutletView Y → Ladder → List (List SegmentPlan) → Broadcast X Y R → Broadcast X Y R → PackFault → Type 0
 IsBroken {X} {Y} input out ladder spools old new fault =
     (start : Start X Y) → IsFull input out ladder start spools old → IsStopped input out ladder start new.course new.held.publisher fault
+
+-- how many plans there are in some spools
+abbrev pub plans_in : List (List SegmentPlan) → ℕ
+plans_in [] = 0
+plans_in (spool ∷ spools) = length spool + plans_in spools
+
+-- how many snapshots were shown
+abbrev pub snapshots_in : {X Y R : Type 0} → Broadcast X Y R → ℕ
+snapshots_in at = length at.held.publisher.list
+
+-- how many there will be once all that is awaited in a round was given
+abbrev pub due_in : {X Y L M R : Type 0} → Round X Y L M R → ℕ
+due_in at = snapshots_in at.broadcast + awaited at.collector.sequences
+
+-- fewer snapshots than so many were shown, unless the fault names a segment as held back
+abbrev pub ShowsFewer : {X Y R : Type 0} → Broadcast X Y R → ℕ → PackFault → Type 0
+ShowsFewer at many fault = IsUnheld fault → snapshots_in at < many
+
+-- A run was stopped in a round with these full spools: memory was wanting in the turn of a rendition, or fewer snapshots were shown
+-- than the spools have plans.
+abbrev pub StopsShort : {X Y R : Type 0} → List (List SegmentPlan) → Broadcast X Y R → Broadcast X Y R → PackFault → Type 0
+StopsShort spools old new fault = HasBroken new.course.lanes.items ⊎ ShowsFewer new (snapshots_in old + plans_in spools) fault

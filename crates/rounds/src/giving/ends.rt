@@ -3,7 +3,7 @@
 ghost use Rattle.std.specs.Prelude.{◌≡◌, ◌≢◌, ◌<◌, [], ℕ, IfErr, OnErr, OnOk, Some, false, length, slice_get, slice_index_or};
 ghost use Rattle.ingest.specs.Lanes.{is_good};
 ghost use Rattle.ingest.specs.declared.lane.Lane.{Lane};
-ghost use Rattle.rounds.specs.Courses.{HasEndDue, HasGoodEnds, IsEndDue, IsSomeBetween, ReadsNone, StaysBetween, StopsBetween};
+ghost use Rattle.rounds.specs.Courses.{HasEndDue, HasGoodEnds, IsEndDue, IsSomeBetween, ReadsNone, StaysBetween, StopsAt, StopsBetween};
 ghost use Rattle.rounds.specs.Gated.{IsUnheld};
 
 use crate::giving::broadcast::Broadcast;
@@ -27,6 +27,7 @@ impl<'r, S: Source, O: Outlet, R: Wait> Broadcast<'r, S, O, R> {
         ensures others { OnOk result ((k : ℕ) → k ≢ r
             → slice_index_or self.new.course.ended.items k false ≡ slice_index_or self.old.course.ended.items k false) }
         ensures none { OnErr result (IsEndDue r self.old.course) }
+        ensures unshown { OnErr result (self.new.held.publisher.list ≡ self.old.held.publisher.list) }
     {
         let lane = &self.course.lanes[r];
         if lane.intake.plans() > 0 {
@@ -49,6 +50,7 @@ impl<'r, S: Source, O: Outlet, R: Wait> Broadcast<'r, S, O, R> {
         ensures playlists { self.new.course.playlists ≡ self.old.course.playlists }
         ensures ended { OnOk result (HasGoodEnds settings.now self.new.course) }
         ensures none { OnErr result (HasEndDue settings.now self.old.course) }
+        ensures left { OnErr result (StopsAt S.input O.output settings.now self.old self.new) }
     {
         for r in 0..settings.renditions.len() {
             self.give_end_of(alloc, settings, r)?;

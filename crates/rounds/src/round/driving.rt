@@ -1,12 +1,14 @@
 //! Driving: the calling thread feeds the full spools, reads the next round, and gives what is expected.
 
-ghost use Rattle.std.specs.Prelude.{◌≡◌, ◌<◌, ◌≤◌, IfErr, IfOk, OnErr, OnOk, length, map};
+ghost use Rattle.std.specs.Prelude.{◌≡◌, ◌⊎◌, ◌+◌, ◌<◌, ◌≤◌, IfErr, IfOk, OnErr, OnOk, length, map};
+ghost use Rattle.ingest.specs.Lanes.{HasBroken};
 ghost use Rattle.flow_core.specs.Gatherings.{awaited, sequences_from};
 ghost use Rattle.ladder_items.specs.Ladder.{RenditionValue};
 ghost use Rattle.rounds.specs.Courses.{ReadsMore, turns_in};
 ghost use Rattle.rounds.specs.Gated.{IsGatesWord};
 ghost use Rattle.rounds.specs.Paces.{HasEnough, wanted};
 ghost use Rattle.rounds.specs.Rounds.{Breaks, IsBehind, IsBroken, IsDriven, IsExact, IsSomeFull, IsSomewhere, Moves, NoneReady, StopsInTime};
+ghost use Rattle.rounds.specs.Rounds.{ShowsFewer, StopsShort, due_in};
 ghost use Rattle.rounds.specs.Showing.{counts_of};
 ghost use Rattle.item_io.specs.declared.limits.TheConstants.{PIECE};
 
@@ -30,10 +32,11 @@ pub fn collector_behind<'s>(
     settings: &Settings,
     playlists: &[Playlists],
 ) -> Result<Collector<'s>, AllocError>
-    ensures { IfOk result (λ collector. collector ≡ record {
+    ensures ok { IfOk result (λ collector. collector ≡ record {
       most = settings.now.queue;
       sequences = sequences_from 0 (map (λ (r : RenditionValue). r.keys) settings.now.renditions) (counts_of playlists.now);
     }) }
+    ensures scarce { OnErr result ((0 < length settings.now.renditions) ⊎ (0 < length playlists.now)) }
 {
     let keys = copy_keys(alloc, &settings.renditions)?;
     let starts = counts(alloc, playlists)?;
@@ -66,6 +69,7 @@ impl<'d, 's, 'r, S: Source, O: Outlet, L: Ledger, M: Ledger, R: Wait> Round<
             self.old.broadcast self.old.taker.right self.new.broadcast self.new.taker.right) }
         ensures err { IfErr result (IsBroken S.input O.output settings.now spools.now self.old.broadcast self.new.broadcast) }
         ensures held { IfErr result (IsGatesWord (G.stops sealer.now.gate.now)) }
+        ensures left { IfErr result (StopsShort spools.now self.old.broadcast self.new.broadcast) }
     {
         let mut buffer = [0; PIECE];
         self.feed_all(sealer, settings, spools)?;
@@ -90,6 +94,8 @@ impl<'d, 's, 'r, S: Source, O: Outlet, L: Ledger, M: Ledger, R: Wait> Round<
         ensures held { IfErr result (IsGatesWord (G.stops sealer.now.gate.now)) }
         ensures further { OnOk result (ReadsMore self.old.broadcast.course self.new.broadcast.course) }
         ensures exact { OnOk result (IsExact self.old self.new) }
+        ensures due { OnOk result (due_in self.new ≡ due_in self.old) }
+        ensures left { IfErr result (λ fault. HasBroken self.new.broadcast.course.lanes.items ⊎ ShowsFewer self.new.broadcast (due_in self.old) fault) }
         ensures dry { OnOk result (turns_in self.old.broadcast.course < turns_in self.new.broadcast.course → NoneReady self.new.collector) }
         ensures soon { OnOk result (turns_in self.old.broadcast.course < turns_in self.new.broadcast.course
             → StopsInTime S.input O.output settings.now pace self.old self.new) }

@@ -1,13 +1,13 @@
 //! Feeding: the collector expects each plan of the full spools, and the plan goes to the desk or is sealed on this thread.
 
-ghost use Rattle.std.specs.Prelude.{◌≡◌, ◌≢◌, ◌⊎◌, ◌<◌, ◌≤◌, [], ℕ, IfErr, IfOk, OnErr, OnOk, length};
+ghost use Rattle.std.specs.Prelude.{◌≡◌, ◌≢◌, ◌⊎◌, ◌+◌, ◌<◌, ◌≤◌, [], ℕ, IfErr, IfOk, OnErr, OnOk, length};
 ghost use Rattle.cutter.specs.Lent.{lent};
 ghost use Rattle.flow_core.specs.Gatherings.{awaited, sequence_at, with_sequence};
 ghost use Rattle.flow_core.specs.Sequences.{following, with_plan};
 ghost use Rattle.ladder_items.specs.declared.fault.PackFault.TheVariants.{NoMemory};
 ghost use Rattle.rounds.specs.Rounds.{Breaks, BreaksAll, BreaksSpool, FeedsAll, FeedsPlan, FeedsSpool, HasAllUnfed, IsFirstUnfed, IsUnfed, unfed_of};
 ghost use Rattle.rounds.specs.Gated.{IsGatesWord, IsHandedOn, IsUnsealed};
-ghost use Rattle.rounds.specs.Rounds.{HasKeys, IsFair, Keeps, ReadsNoneIn, gathered};
+ghost use Rattle.rounds.specs.Rounds.{HasKeys, IsFair, Keeps, ReadsNoneIn, ShowsFewer, due_in, gathered, plans_in};
 ghost use Rattle.limits.specs.declared.TheConstants.{LAST_SEGMENT};
 
 use crate::round::machine::Round;
@@ -42,6 +42,8 @@ impl<'d, 's, 'r, S: Source, O: Outlet, L: Ledger, M: Ledger, R: Wait> Round<
         ensures err { IfErr result (BreaksAll S.input O.output settings.now spools.now self.old self.new) }
         ensures held { IfErr result (IsGatesWord (G.stops sealer.now.gate.now)) }
         ensures none_read { ReadsNoneIn self.old self.new }
+        ensures due { OnOk result (due_in self.new ≡ due_in self.old + plans_in spools.now) }
+        ensures short { IfErr result (ShowsFewer self.new.broadcast (due_in self.old + plans_in spools.now)) }
         ensures fair { OnOk result (IsFair self.old self.new) }
         ensures none { OnErr result ((k : ℕ) × (unfed_of spools.now k ≢ [])) }
     {
@@ -65,6 +67,8 @@ impl<'d, 's, 'r, S: Source, O: Outlet, L: Ledger, M: Ledger, R: Wait> Round<
         ensures err { IfErr result (BreaksSpool S.input O.output settings.now r spool.now self.old self.new) }
         ensures held { IfErr result (IsGatesWord (G.stops sealer.now.gate.now)) }
         ensures none_read { ReadsNoneIn self.old self.new }
+        ensures due { OnOk result (due_in self.new ≡ due_in self.old + length spool.now) }
+        ensures short { IfErr result (ShowsFewer self.new.broadcast (due_in self.old + length spool.now)) }
         ensures fair { OnOk result (IsFair self.old self.new) }
         ensures none { OnErr result (spool.now ≢ []) }
     {
@@ -93,6 +97,8 @@ impl<'d, 's, 'r, S: Source, O: Outlet, L: Ledger, M: Ledger, R: Wait> Round<
         ensures err { IfErr result (Breaks S.input O.output settings.now self.old self.new) }
         ensures held { IfErr result (IsGatesWord (G.stops sealer.now.gate.now)) }
         ensures none_read { ReadsNoneIn self.old self.new }
+        ensures due { OnOk result (due_in self.new ≡ due_in self.old + 1) }
+        ensures short { IfErr result (ShowsFewer self.new.broadcast (due_in self.old + 1)) }
         ensures fair { OnOk result (IsFair self.old self.new) }
     {
         self.make_room(sealer, settings)?;

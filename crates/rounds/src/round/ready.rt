@@ -3,7 +3,7 @@
 ghost use Rattle.std.specs.Prelude.{◌<◌, ◌≡◌, ◌≤◌, IfErr, IfOk, OnErr, OnOk, false, true};
 ghost use Rattle.flow_core.specs.Gatherings.{awaited};
 ghost use Rattle.rounds.specs.Gated.{IsUnheld};
-ghost use Rattle.rounds.specs.Rounds.{Breaks, IsDry, IsSomewhere, KeepsCounts, KeepsOthers, Moves, NoneReady, ReadsNoneIn};
+ghost use Rattle.rounds.specs.Rounds.{Breaks, IsDry, IsSomewhere, KeepsCounts, KeepsOthers, Moves, NoneReady, ReadsNoneIn, due_in, snapshots_in};
 
 use crate::round::machine::Round;
 use item_io::{Outlet, Source};
@@ -29,6 +29,8 @@ impl<'d, 's, 'r, S: Source, O: Outlet, L: Ledger, M: Ledger, R: Wait> Round<
         ensures err { IfErr result (Breaks S.input O.output settings.now self.old self.new) }
         ensures unheld { IfErr result IsUnheld }
         ensures none_read { ReadsNoneIn self.old self.new }
+        ensures due { OnOk result (due_in self.new ≡ due_in self.old) }
+        ensures short { OnErr result (snapshots_in self.new.broadcast < due_in self.old) }
         ensures counts { OnOk result (KeepsCounts self.old self.new) }
         ensures dry { OnOk result (NoneReady self.new.collector) }
         ensures none { OnErr result (NoneReady self.old.collector → ⊥) }
@@ -48,6 +50,8 @@ impl<'d, 's, 'r, S: Source, O: Outlet, L: Ledger, M: Ledger, R: Wait> Round<
         ensures err { IfErr result (Breaks S.input O.output settings.now self.old self.new) }
         ensures unheld { IfErr result IsUnheld }
         ensures none_read { ReadsNoneIn self.old self.new }
+        ensures due { OnOk result (due_in self.new ≡ due_in self.old) }
+        ensures short { OnErr result (snapshots_in self.new.broadcast < due_in self.old) }
         ensures counts { OnOk result (KeepsCounts self.old self.new) }
         ensures dry { OnOk result (IsDry r self.new) }
         ensures others { OnOk result (KeepsOthers r self.old self.new) }
@@ -67,6 +71,8 @@ impl<'d, 's, 'r, S: Source, O: Outlet, L: Ledger, M: Ledger, R: Wait> Round<
         ensures err { IfErr result (Breaks S.input O.output settings.now self.old self.new) }
         ensures unheld { IfErr result IsUnheld }
         ensures none_read { ReadsNoneIn self.old self.new }
+        ensures due { OnOk result (due_in self.new ≡ due_in self.old) }
+        ensures short { OnErr result (snapshots_in self.new.broadcast < due_in self.old) }
         ensures counts { OnOk result (KeepsCounts self.old self.new) }
         ensures fewer { IfOk result (λ any. any ≡ true → awaited self.new.collector.sequences < awaited self.old.collector.sequences) }
         ensures dry { IfOk result (λ any. any ≡ false → IsDry r self.new) }

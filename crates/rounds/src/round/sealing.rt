@@ -5,7 +5,7 @@ ghost use Rattle.cutter.specs.Lent.{lent};
 ghost use Rattle.flow_core.specs.Gatherings.{sequence_at, missing_in};
 ghost use Rattle.flow_core.specs.Sequences.{IsRight, Lacks};
 ghost use Rattle.flow_core.specs.declared.outcome.Outcome.TheVariants.{Held as HeldBack};
-ghost use Rattle.ladder_items.specs.declared.fault.PackFault.TheVariants.{Held};
+ghost use Rattle.ladder_items.specs.declared.fault.PackFault.TheVariants.{Held, NoMemory};
 ghost use Rattle.rounds.specs.Collected.{Collects, TakesIn};
 ghost use Rattle.rounds.specs.Gated.{Follows, IsLeft, IsUnsealed, SealsOwn};
 ghost use Rattle.rounds.specs.Rounds.{HasKeys, Keeps, gathered};
@@ -96,6 +96,7 @@ impl<'g, G: Gate> Sealer<'g, G> {
         ensures ok { OnOk result (SealsOwn (G.lets self.now.gate.now) (lent plan.entry) collector.old collector.new) }
         ensures err { OnErr result (collector.new ≡ collector.old) }
         ensures fault { IfErr result (IsUnsealed (G.lets self.now.gate.now) (G.stops self.now.gate.now) (lent plan.entry)) }
+        ensures within { IfErr result (λ fault. fault ≡ NoMemory → plan.entry.rendition < length settings.now.renditions) }
     {
         if !self.gate.pass(plan.rendition, plan.number) {
             return Err(PackFault::Held(plan.rendition, plan.number));

@@ -4,6 +4,7 @@ ghost use Rattle.std.specs.Prelude.{◌≡◌, ◌≢◌, ◌⊎◌, ◌+◌, �
 ghost use Rattle.flow_core.specs.Gatherings.{awaited, missing_in};
 ghost use Rattle.rounds.specs.Gated.{IsGatesWord, IsHeldBack, IsLeft, IsOwnFault, IsUnheld};
 ghost use Rattle.rounds.specs.Rounds.{Breaks, HasKeys, IsExact, IsFair, IsSomewhere, Keeps, LosesNone, Moves, NoneReady, ReadsNoneIn, gathered};
+ghost use Rattle.rounds.specs.Rounds.{ShowsFewer, due_in};
 
 use crate::round::machine::Round;
 use crate::round::sealer::Sealer;
@@ -37,6 +38,8 @@ impl<'d, 's, 'r, S: Source, O: Outlet, L: Ledger, M: Ledger, R: Wait> Round<
         ensures err { IfErr result (Breaks S.input O.output settings.now self.old self.new) }
         ensures held { IfErr result (IsGatesWord (G.stops sealer.now.gate.now)) }
         ensures none_read { ReadsNoneIn self.old self.new }
+        ensures due { OnOk result (due_in self.new ≡ due_in self.old) }
+        ensures short { IfErr result (ShowsFewer self.new.broadcast (due_in self.old)) }
         ensures fair { OnOk result (IsFair self.old self.new) }
         ensures room { OnOk result (awaited self.new.collector.sequences < self.new.collector.most) }
         ensures none { OnErr result (awaited self.old.collector.sequences < self.old.collector.most → ⊥) }
@@ -62,6 +65,8 @@ impl<'d, 's, 'r, S: Source, O: Outlet, L: Ledger, M: Ledger, R: Wait> Round<
         ensures err { IfErr result (Breaks S.input O.output settings.now self.old self.new) }
         ensures held { IfErr result (IsGatesWord (G.stops sealer.now.gate.now)) }
         ensures none_read { ReadsNoneIn self.old self.new }
+        ensures due { OnOk result (due_in self.new ≡ due_in self.old) }
+        ensures short { IfErr result (ShowsFewer self.new.broadcast (due_in self.old)) }
         ensures fair { OnOk result (IsFair self.old self.new) }
         ensures all { OnOk result (awaited self.new.collector.sequences ≡ 0) }
         ensures none { OnErr result (awaited self.old.collector.sequences ≢ 0) }
@@ -87,6 +92,8 @@ impl<'d, 's, 'r, S: Source, O: Outlet, L: Ledger, M: Ledger, R: Wait> Round<
         ensures err { IfErr result (Breaks S.input O.output settings.now self.old self.new) }
         ensures held { IfErr result (IsGatesWord (G.stops sealer.now.gate.now)) }
         ensures none_read { ReadsNoneIn self.old self.new }
+        ensures due { OnOk result (due_in self.new ≡ due_in self.old) }
+        ensures short { IfErr result (ShowsFewer self.new.broadcast (due_in self.old)) }
         ensures fair { OnOk result (IsFair self.old self.new) }
         ensures further { OnOk result ((self.old.taker.pass.count < self.new.taker.pass.count) ⊎ (missing_in self.new.collector.sequences ≡ [])) }
         ensures dry { OnOk result (NoneReady self.new.collector) }
@@ -116,6 +123,8 @@ impl<'d, 's, 'r, S: Source, O: Outlet, L: Ledger, M: Ledger, R: Wait> Round<
         ensures err { IfErr result (Breaks S.input O.output settings.now self.old self.new) }
         ensures held { IfErr result (IsGatesWord (G.stops sealer.now.gate.now)) }
         ensures none_read { ReadsNoneIn self.old self.new }
+        ensures due { OnOk result (due_in self.new ≡ due_in self.old) }
+        ensures short { IfErr result (ShowsFewer self.new.broadcast (due_in self.old)) }
         ensures exact { OnOk result (IsExact self.old self.new) }
         ensures kept { OnOk result (LosesNone self.old self.new) }
         ensures dry { OnOk result (NoneReady self.new.collector) }
@@ -214,6 +223,9 @@ fn wait_or_seal<'s, G: Gate, L: Ledger, M: Ledger, R: Wait>(
     requires keys { HasKeys settings.now collector.old }
     ensures keeps { Keeps collector.old collector.new }
     ensures fair { taker.new.right + gathered collector.old.sequences ≤ taker.old.right + gathered collector.new.sequences }
+    ensures exact { taker.old.pass.count < taker.new.pass.count
+        → taker.new.right + gathered collector.old.sequences ≡ taker.old.right + gathered collector.new.sequences }
+    ensures untaken { taker.new.pass.count ≡ taker.old.pass.count → OnOk result (taker.new.right ≡ taker.old.right) }
     ensures further { OnOk result ((taker.old.pass.count < taker.new.pass.count) ⊎ (missing_in collector.new.sequences ≡ [])) }
     ensures fault { IfErr result (λ fault. IsHeldBack (G.stops sealer.now.gate.now) fault
         ⊎ IsLeft (G.lets sealer.now.gate.now) (G.stops sealer.now.gate.now) collector.new fault) }

@@ -24,6 +24,7 @@ impl Books {
     pub fn new(alloc: Global, workers: usize) -> Result<Books, AllocError>
         ensures none { IfOk result (λ books. (books.right ≡ 0) × (books.thrown ≡ 0) × (books.rounds ≡ 0)) }
         ensures each { IfOk result (λ books. length books.workers.items ≡ workers) }
+        ensures scarce { OnErr result (0 < workers) }
     {
         Ok(Books {
             workers: no_counts(alloc, workers)?,

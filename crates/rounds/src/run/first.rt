@@ -1,6 +1,6 @@
 //! What a run begins with.
 
-ghost use Rattle.std.specs.Prelude.{◌≡◌, IfOk, false, length, map, replicate};
+ghost use Rattle.std.specs.Prelude.{◌≡◌, ◌<◌, IfOk, OnErr, false, length, map, replicate};
 ghost use Rattle.ladder_items.specs.Ladder.{IsAllowed, RenditionValue};
 ghost use Rattle.rounds.specs.Begun.{IsBegun};
 
@@ -46,6 +46,7 @@ pub fn beginning(alloc: Global, settings: &Settings, workers: usize) -> Result<F
 fn open_ends(alloc: Global, renditions: usize) -> Result<(Vec<bool>, Vec<Spool>), AllocError>
     ensures ended { IfOk result (λ made. made.0.items ≡ replicate renditions false) }
     ensures spare { IfOk result (λ made. length made.1.items ≡ renditions) }
+    ensures scarce { OnErr result (0 < renditions) }
 {
     let mut ended = Vec::new(alloc);
     let mut spare = Vec::new(alloc);
@@ -58,14 +59,19 @@ fn open_ends(alloc: Global, renditions: usize) -> Result<(Vec<bool>, Vec<Spool>)
 
 /// For each rendition, that it had no turn.
 fn no_turns(alloc: Global, renditions: usize) -> Result<Vec<u64>, AllocError>
-    ensures { IfOk result (λ turns. turns.items ≡ replicate renditions 0) }
+    ensures ok { IfOk result (λ turns. turns.items ≡ replicate renditions 0) }
+    ensures scarce { OnErr result (0 < renditions) }
 {
+    if renditions == 0 {
+        return Ok(Vec::new(alloc));
+    }
     vec![in alloc; 0; renditions]
 }
 
 /// A copy of the keys of each rendition.
 pub fn copy_keys(alloc: Global, renditions: &[Rendition]) -> Result<Vec<Keys>, AllocError>
-    ensures { IfOk result (λ keys. keys.items ≡ map (λ (r : RenditionValue). r.keys) renditions.now) }
+    ensures ok { IfOk result (λ keys. keys.items ≡ map (λ (r : RenditionValue). r.keys) renditions.now) }
+    ensures scarce { OnErr result (0 < length renditions.now) }
 {
     let mut keys = Vec::new(alloc);
     for rendition in renditions {

@@ -1,6 +1,7 @@
 //! Reading: a turn is one read of a rendition's source. Each rendition has its turns when its source is ready.
 
 ghost use Rattle.std.specs.Prelude.{◌≡◌, ◌+◌, ◌<◌, ◌≤◌, ◌^◌, [], ℕ, Decides, IfOk, OnErr, OnOk, None, Some, true, false, length, slice_get, slice_set};
+ghost use Rattle.ingest.specs.Lanes.{HasBroken};
 ghost use Rattle.ingest.specs.declared.lane.Lane.{Lane};
 ghost use Rattle.rounds.specs.Courses.{HadOne, HadOneAtMost, HasClosed, IsRun, OthersStay, ReadsMore, ReadsOn, ReadsShort, Rests, turns_at, turns_in};
 ghost use Rattle.rounds.specs.Paces.{HasEnough, StopsSoon, closed_in, wanted};
@@ -75,6 +76,7 @@ impl<S: Source, O: Outlet> Course<S, O> {
             → slice_get self.new.sources.items r ≡ Some now → S.input.failures now ≡ S.input.failures source) }
         ensures unstopped { OnErr result ((lane now : Lane) → slice_get self.old.lanes.items r ≡ Some lane
             → slice_get self.new.lanes.items r ≡ Some now → now.stop ≡ lane.stop) }
+        ensures broken { OnErr result (HasBroken self.new.lanes.items) }
     {
         self.lanes[r].turn(&mut self.sources[r], buffer)?;
         self.count_turn(r);
@@ -98,6 +100,7 @@ impl<S: Source, O: Outlet> Course<S, O> {
         ensures one { OnOk result (HadOneAtMost S.input r self.old self.new) }
         ensures none { OnErr result ((lane : Lane) → slice_get self.old.lanes.items r ≡ Some lane → lane.stop ≡ None) }
         ensures unread { OnErr result (turns_at self.old r < self.old.reads) }
+        ensures broken { OnErr result (HasBroken self.new.lanes.items) }
     {
         if !self.goes_on(r) {
             return Ok(false);
@@ -122,6 +125,7 @@ impl<S: Source, O: Outlet> Course<S, O> {
         ensures once { OnOk result (turns_in self.new ≤ turns_in self.old + length self.old.lanes.items) }
         ensures each { OnOk result ((k : ℕ) → HadOneAtMost S.input k self.old self.new) }
         ensures none { OnErr result (Rests self.old → ⊥) }
+        ensures broken { OnErr result (HasBroken self.new.lanes.items) }
     {
         let mut any = false;
         for r in 0..self.lanes.len() {
@@ -149,6 +153,7 @@ impl<S: Source, O: Outlet> Course<S, O> {
         ensures some { OnOk result (HasEnough 1 self.new) }
         ensures soon { OnOk result (turns_in self.old < turns_in self.new → StopsSoon S.input O.output pace self.old self.new) }
         ensures none { OnErr result (HasEnough (wanted pace 0 0) self.old → ⊥) }
+        ensures broken { OnErr result (HasBroken self.new.lanes.items) }
     {
         let before = self.turns_had();
         for _ in rt.forever() {

@@ -1,6 +1,6 @@
 //! The answer of a run that has given everything: its report, or the fault that stands.
 
-ghost use Rattle.std.specs.Prelude.{◌≡◌, ◌⊎◌, ◌+◌, ◌≤◌, All, IfErr, IfOk, false, length, map, sum};
+ghost use Rattle.std.specs.Prelude.{◌≡◌, ◌⊎◌, ◌+◌, ◌<◌, ◌≤◌, All, IfErr, IfOk, OnErr, false, length, map, sum};
 ghost use Rattle.ingest.specs.declared.lane.Lane.{Lane};
 ghost use Rattle.ladder_items.specs.Packed.{IsReport, gone_of};
 ghost use Rattle.ladder_items.specs.declared.fault.PackFault.TheVariants.{NoMemory};
@@ -31,6 +31,7 @@ fn report_with(
     ensures own { IfOk result (λ report. report.own + books.right ≡ sum report.counts.items) }
     ensures thrown { IfOk result (λ report. report.thrown ≡ books.thrown) }
     ensures rounds { IfOk result (λ report. report.rounds ≡ books.rounds) }
+    ensures scarce { OnErr result (0 < length playlists.now) }
 {
     let Books {
         workers,
@@ -59,7 +60,7 @@ pub fn answer_of(
     requires right { books.right ≤ sum (counts_of playlists.now) }
     ensures ok { IfOk result (IsTold playlists.now lanes.now books) }
     ensures fault { IfErr result (λ fault. (fault ≡ NoMemory) ⊎ IsFirstStanding lanes.now fault) }
-    ensures scarce { IfErr result (λ fault. IsStanding lanes.now fault ⊎ NoneStands lanes.now) }
+    ensures scarce { IfErr result (λ fault. IsStanding lanes.now fault ⊎ (NoneStands lanes.now × (0 < length playlists.now))) }
 {
     if let Some(fault) = standing(lanes) {
         return Err(fault);

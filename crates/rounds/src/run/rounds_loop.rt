@@ -1,6 +1,7 @@
 //! From round to round, until everything is given.
 
 ghost use Rattle.std.specs.Prelude.{◌≡◌, ◌+◌, ◌<◌, ◌≤◌, IfErr, IfOk, OnErr, OnOk, length, sum};
+ghost use Rattle.ingest.specs.Lanes.{HasBroken};
 ghost use Rattle.rounds.specs.Begun.{keys_of};
 ghost use Rattle.rounds.specs.Courses.{HasGoodEnds, IsAllGiven, IsSomeBetween, NoneClosed, ReadsNone, StaysBetween, StopsBetween};
 ghost use Rattle.rounds.specs.Courses.{HasEndDue, IsRun, ReadsMore, ReadsOn, ReadsShort, turns_in};
@@ -89,6 +90,7 @@ fn read_between<'r, S: Source, O: Outlet, R: Wait, H: Herald>(
     ensures soon { OnOk result.1 (turns_in between.entry.broadcast.course < turns_in result.0.broadcast.course
         → StopsSoon S.input O.output pace between.entry.broadcast.course result.0.broadcast.course) }
     ensures none { OnErr result.1 (HasEnough (wanted pace 0 0) between.entry.broadcast.course → ⊥) }
+    ensures broken { OnErr result.1 (HasBroken result.0.broadcast.course.lanes.items) }
     ensures held { result.0.broadcast.held.publisher ≡ between.entry.broadcast.held.publisher }
     ensures books { result.0.books ≡ between.entry.books }
 {

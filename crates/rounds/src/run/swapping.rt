@@ -1,6 +1,7 @@
 //! Swapping: the full spools of all renditions are swapped for spare ones.
 
-ghost use Rattle.std.specs.Prelude.{◌≡◌, ◌≢◌, ◌<◌, [], ℕ, true, IfOk, IsOk, OnErr, OnOk, Some, length, slice_get};
+ghost use Rattle.std.specs.Prelude.{◌≡◌, ◌≢◌, ◌<◌, [], ℕ, false, true, IfOk, IsOk, OnErr, OnOk, Some, length, slice_get};
+ghost use Rattle.ingest.specs.Streams.{HasNoneOpen};
 ghost use Rattle.ingest.specs.declared.lane.Lane.{Lane};
 ghost use Rattle.rounds.specs.Courses.{NoneClosed};
 ghost use Rattle.rounds.specs.Rounds.{SwapsOne, SwapsOut, SwapsShort, TakesClosed};
@@ -41,6 +42,8 @@ impl<S: Source, O: Outlet> Course<S, O> {
         ensures others { OnOk result ((k : ℕ) → k ≢ r → slice_get self.new.lanes.items k ≡ slice_get self.old.lanes.items k) }
         ensures err { OnErr result (self.new.lanes.items ≡ self.old.lanes.items) }
         ensures ended { (lane : Lane) → slice_get self.old.lanes.items r ≡ Some lane → lane.intake.ended ≡ true → IsOk result }
+        ensures none { (lane : Lane) → slice_get self.old.lanes.items r ≡ Some lane → lane.intake.ended ≡ false
+            → HasNoneOpen lane.intake → IsOk result }
         ensures same { self.new ≡ record self.old { lanes = self.new.lanes } }
         ensures count { length self.new.lanes.items ≡ length self.old.lanes.items }
     {

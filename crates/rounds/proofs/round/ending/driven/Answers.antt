@@ -12,7 +12,7 @@ returns-in_default-clause-err g c start on = stopped-here _ _ _ _ _ start _ _ _ 
 
 pub drive-answer-requires-clause-behind : goal.drive-answer-requires-clause-behind
 drive-answer-requires-clause-behind g c =
-    ap (λ (x : Gathering). x.sequences) (IfOk-at_ok _ c.in-Ok.is c.collector_behind-collector.ensures)
+    ap (λ (x : Gathering). x.sequences) (IfOk-at_ok _ c.in-Ok.is c.collector_behind-collector.ensures.ok)
     ∙ ap (λ l. sequences_from 0 (keys_of c.args.setup.now.settings.now) (counts_of l)) c.deref.ensures.value
 
 pub returns-in_default-clause-held : goal.returns-in_default-clause-held

@@ -135,3 +135,18 @@ returns-in_err-give_its_end-clause-none g c =
       ap (λ (l : Lane). l.intake.filled) (sym same) ∙ nil_from_length c.index-lane.result.now.intake.filled (omega (arith, empty)),
       not-ended _ _ due.3 differs,
     ))
+
+pub returns-in_err-give_its_end-clause-unshown : goal.returns-in_err-give_its_end-clause-unshown
+returns-in_err-give_its_end-clause-unshown g c =
+    let told = err_from_is_err_and c.from_residual.result c.from_residual.ensures.1 in
+    let r = c.args.r in
+    let ended = c.args.self.now.course.ended.items in
+    let inside : r < length ended = omega (arith, c.requires.within, ap length c.requires.on.1.ends, length-map (parts-of c.args.settings.now c.requires.on.1.world.events) (λ (part : Part). part.ended), parts-length c.args.settings.now c.requires.on.1.world.events) in
+    let at0 = slice_get_read c.args.self.now.course.lanes.items _ r c.index-lane.result.now refl (omega (arith, c.requires.within, c.requires.on.1.world.same_lanes)) c.index-lane.ensures in
+    let here : slice_index_or ended r false ≡ c.index.result.now = get_or_default ended r false c.index.result.now inside ∙ sym c.index.ensures in
+    let empty : length c.index-lane.result.now.intake.filled ≤ 0 = omega (arith, c.plans.ensures, c.if-plans-gt0.false) in
+    let differs : is_good c.index-lane.result.now.stop ≡ slice_index_or ended r false → ⊥ = λ e. beq-apart _ _ c.if-is_good-index.false (c.is_good.ensures ∙ (e ∙ here)) in
+    let some = c.requires.on in
+    let due = end-due _ _ _ _ _ some.0 _ _ some.1 r c.requires.within c.index-lane.result.now at0 empty differs in
+    let gave = c.in_err-give_its_end.ensures.err (parts-of c.args.settings.now some.1.world.events) (is-going _ _ _ _ _ some.0 _ _ (λ k. []) some.1 r c.requires.within due.0) in
+    rw told.1 gave.unshown

@@ -47,3 +47,15 @@ returns-in_err-give_end_of-clause-none g c =
           let due = c.in_err-give_end_of.ensures.none lane (ap (λ l. slice_get l.items r) c.loop-r.invariant.none_read.lanes ∙ at) in
           (due.0, due.1, sym (c.loop-r.invariant.left r (omega arith)) ∙ due.2),
     )
+
+pub returns-in_err-give_end_of-clause-left : goal.returns-in_err-give_end_of-clause-left
+returns-in_err-give_end_of-clause-left g c =
+    let told = err_from_is_err_and c.from_residual.result c.from_residual.ensures.1 in
+    let r = c.loop-r.r in
+    let below : r < length c.args.settings.now.renditions = search rules in
+    rw told.1 (record {
+      before = c.loop-r.self;
+      stays = c.loop-r.invariant.ok;
+      due = inl (r, below, c.in_err-give_end_of.ensures.none);
+      unshown = c.in_err-give_end_of.ensures.unshown;
+    })

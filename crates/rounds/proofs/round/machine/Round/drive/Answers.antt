@@ -1,7 +1,8 @@
-use Rattle.std.proofs.Common.{ap, arith, subst, ℕ, ◌-◌}
+use Rattle.std.proofs.Common.{◌∙◌, inl, inr, ap, arith, subst, ℕ, ◌-◌}
 use Rattle.std.specs.Prelude.{sum}
 use Rattle.std.proofs.lemmas.Result.{err_from_is_err_and}
 use Rattle.rounds.proofs.Driven.{in-first, in-begun, in-last, in-given}
+use Rattle.rounds.proofs.Dues.{awaits-first}
 use Rattle.flow_core.specs.Gatherings.{awaited}
 use Rattle.rounds.specs.Courses.{turns_in}
 use Rattle.rounds.specs.Paces.{HasEnough, wanted}
@@ -89,3 +90,24 @@ pub returns-in_err-give_expected-clause-held : goal.returns-in_err-give_expected
 returns-in_err-give_expected-clause-held g c =
     let told = err_from_is_err_and c.from_residual-in_err-give_expected.result c.from_residual-in_err-give_expected.ensures.1 in
     rw (told.1, told.2) c.in_err-give_expected.ensures.held
+
+pub returns-in_err-feed_all-clause-left : goal.returns-in_err-feed_all-clause-left
+returns-in_err-feed_all-clause-left g c =
+    let told = err_from_is_err_and c.from_residual.result c.from_residual.ensures.1 in
+    let none = ap awaited c.requires.behind ∙ awaits-first 0 _ _ in
+    rw (told.1, told.2) (inr (λ unheld. omega (arith, none, c.in_err-feed_all.ensures.short unheld)))
+
+pub returns-in_err-read_on-clause-left : goal.returns-in_err-read_on-clause-left
+returns-in_err-read_on-clause-left g c =
+    let told = err_from_is_err_and c.from_residual-in_err-read_on.result c.from_residual-in_err-read_on.ensures.1 in
+    let none = ap awaited c.requires.behind ∙ awaits-first 0 _ _ in
+    rw (told.1, told.2) (elim c.in_err-read_on.ensures.left [
+      | inl broken ↦ inl broken
+      | inr short ↦ inr (λ unheld. omega (arith, none, c.in_ok-feed_all.ensures.due, short unheld))
+    ])
+
+pub returns-in_err-give_expected-clause-left : goal.returns-in_err-give_expected-clause-left
+returns-in_err-give_expected-clause-left g c =
+    let told = err_from_is_err_and c.from_residual-in_err-give_expected.result c.from_residual-in_err-give_expected.ensures.1 in
+    let none = ap awaited c.requires.behind ∙ awaits-first 0 _ _ in
+    rw (told.1, told.2) (inr (λ unheld. omega (arith, none, c.in_ok-feed_all.ensures.due, c.in_ok-read_on.ensures.due, c.in_err-give_expected.ensures.short unheld)))

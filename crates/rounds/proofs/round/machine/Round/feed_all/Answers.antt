@@ -1,7 +1,8 @@
-use Rattle.std.proofs.Common.{◌∙◌, ◌<◌, ◌≤◌, sym, arith, rules, [], length}
+use Rattle.std.proofs.Common.{◌∙◌, ◌+◌, ◌<◌, ◌≤◌, ap, sym, arith, rules, [], length}
 use Rattle.std.specs.List.{slice_set}
 use Rattle.std.proofs.lemmas.List.{get_or_default}
 use Rattle.std.proofs.lemmas.Result.{err_from_is_err_and}
+use Rattle.rounds.proofs.Dues.{plans-all, plans-front, plans-more}
 use Rattle.rounds.proofs.Running.{reads-then}
 use Rattle.rounds.proofs.Expecting.{fed-before, unfed-behind, all-fed}
 use Rattle.rounds.proofs.round.machine.Round.feed_all.Goals as goal
@@ -35,6 +36,9 @@ loop-r-preserved g c =
           );
       none_read = reads-then _ _ _ c.loop-r.invariant.none_read c.in_ok-feed_spool.ensures.none_read;
       fair = omega (arith, c.loop-r.invariant.fair, c.in_ok-feed_spool.ensures.fair);
+      due =
+          let here = ap length (get_or_default spools r [] c.index-spools-r.result (search rules) ∙ sym c.index-spools-r.is) in
+          omega (arith, c.loop-r.invariant.due, c.in_ok-feed_spool.ensures.due, plans-more spools r within, here);
     }
 
 pub returns-clause-ok : goal.returns-clause-ok
@@ -53,3 +57,18 @@ returns-in_err-feed_spool-clause-none g c =
     let told = err_from_is_err_and c.from_residual.result c.from_residual.ensures.1 in
     let here = get_or_default c.args.spools.now c.loop-r.r [] c.index-spools-r.result (search rules) ∙ sym c.index-spools-r.is in
     rw told.1 (c.loop-r.r, λ none. c.in_err-feed_spool.ensures.none (sym here ∙ none))
+
+pub returns-clause-due : goal.returns-clause-due
+returns-clause-due g c =
+    let done : length c.args.spools.now ≤ c.loop-r.r = search rules in
+    omega (arith, c.loop-r.invariant.due, plans-all c.args.spools.now c.loop-r.r done)
+
+pub returns-in_err-feed_spool-clause-short : goal.returns-in_err-feed_spool-clause-short
+returns-in_err-feed_spool-clause-short g c =
+    let told = err_from_is_err_and c.from_residual.result c.from_residual.ensures.1 in
+    let r = c.loop-r.r in
+    let spools = c.args.spools.now in
+    let within : r < length spools = search rules in
+    let here = ap length (get_or_default spools r [] c.index-spools-r.result (search rules) ∙ sym c.index-spools-r.is) in
+    rw (told.1, told.2) (λ unheld.
+    omega (arith, c.loop-r.invariant.due, c.in_err-feed_spool.ensures.short unheld, plans-more spools r within, plans-front spools (r + 1), here))

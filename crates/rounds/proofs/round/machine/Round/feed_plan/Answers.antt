@@ -7,6 +7,8 @@ use Rattle.flow_core.specs.Gatherings.{sequence_at, with_sequence}
 use Rattle.ladder_items.proofs.Worlds.{InOrder}
 use Rattle.rounds.proofs.Gates.{none-word, offered-sudden, offered-word}
 use Rattle.rounds.proofs.Rounding.{in-keeps, in-stopped}
+use Rattle.rounds.proofs.Collecting.{keeps-awaited}
+use Rattle.rounds.proofs.Dues.{expects-awaited}
 use Rattle.rounds.proofs.Expecting.{plan-follows, in-expect, expects-gathered}
 use Rattle.rounds.proofs.round.machine.Round.feed_plan.Goals as goal
 
@@ -94,3 +96,27 @@ pub returns-in_err-fed-clause-held : goal.returns-in_err-fed-clause-held
 returns-in_err-fed-clause-held g c =
     let told = err_from_is_err_and c.from_residual-in_err-fed.result c.from_residual-in_err-fed.ensures.1 in
     rw (told.1, told.2) (offered-word (g.G.Gate.lets c.args.sealer.now.gate.now) _ (lent c.args.plan) _ c.in_err-fed.ensures.fault)
+
+pub returns-clause-due : goal.returns-clause-due
+returns-clause-due g c =
+    let some = c.requires.somewhere in
+    let order : InOrder c.args.settings.now = λ stop r. made_of-at stop r c.args.settings.now.cut in
+    let now = c.in_ok-make_room.ensures.ok some.0 some.1 some.3 in
+    let p = plan-follows _ _ _ _ _ some.0 some.1 _ _ _ now c.args.r c.requires.within (lent c.args.plan) some.2 some.4 order in
+    let one = expects-awaited _ _ _ _ (omega (arith, p.rendition, c.requires.within, now.each)) c.in_ok-expect.ensures.ok in
+    omega (arith, c.in_ok-make_room.ensures.due, one, keeps-awaited _ _ c.in_ok-fed.ensures.keeps)
+
+pub returns-in_err-make_room-clause-short : goal.returns-in_err-make_room-clause-short
+returns-in_err-make_room-clause-short g c =
+    let told = err_from_is_err_and c.from_residual.result c.from_residual.ensures.1 in
+    rw (told.1, told.2) (λ unheld. omega (arith, c.in_err-make_room.ensures.short unheld))
+
+pub returns-in_err-expect-clause-short : goal.returns-in_err-expect-clause-short
+returns-in_err-expect-clause-short g c =
+    let told = err_from_is_err_and c.from_residual-in_err-expect.result c.from_residual-in_err-expect.ensures.1 in
+    rw (told.1, told.2) (λ unheld. omega (arith, c.in_ok-make_room.ensures.due))
+
+pub returns-in_err-fed-clause-short : goal.returns-in_err-fed-clause-short
+returns-in_err-fed-clause-short g c =
+    let told = err_from_is_err_and c.from_residual-in_err-fed.result c.from_residual-in_err-fed.ensures.1 in
+    rw (told.1, told.2) (λ unheld. omega (arith, c.in_ok-make_room.ensures.due))

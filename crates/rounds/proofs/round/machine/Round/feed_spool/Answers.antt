@@ -39,6 +39,7 @@ loop-i-preserved g c =
           (c.in_ok-feed_plan.ensures.ok start (slice_set unfed r (drop i spool)) (drop (i + 1) spool) next (c.loop-i.invariant.ok start unfed is old));
       none_read = reads-then _ _ _ c.loop-i.invariant.none_read c.in_ok-feed_plan.ensures.none_read;
       fair = omega (arith, c.loop-i.invariant.fair, c.in_ok-feed_plan.ensures.fair);
+      due = omega (arith, c.loop-i.invariant.due, c.in_ok-feed_plan.ensures.due);
     }
 
 pub returns-in_err-feed_plan-clause-held : goal.returns-in_err-feed_plan-clause-held
@@ -51,3 +52,9 @@ returns-in_err-feed_plan-clause-none g c =
     let told = err_from_is_err_and c.from_residual.result c.from_residual.ensures.1 in
     let within = slice_get_within c.args.spool.now c.loop-i.i _ c.in-Some.ensures.some in
     rw told.1 (λ is. absurd (omega (arith, within, ap length is)))
+
+pub returns-in_err-feed_plan-clause-short : goal.returns-in_err-feed_plan-clause-short
+returns-in_err-feed_plan-clause-short g c =
+    let told = err_from_is_err_and c.from_residual.result c.from_residual.ensures.1 in
+    let within = slice_get_within c.args.spool.now c.loop-i.i _ c.in-Some.ensures.some in
+    rw (told.1, told.2) (λ unheld. omega (arith, within, c.loop-i.invariant.due, c.in_err-feed_plan.ensures.short unheld))

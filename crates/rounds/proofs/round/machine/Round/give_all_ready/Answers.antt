@@ -50,9 +50,15 @@ loop-r-preserved g c =
           let same = i.idle none in
           e.idle (subst (IsDry c.loop-r.r) (sym same) (none c.loop-r.r)) ∙ same;
       fewer = omega (arith, i.fewer, e.fewer);
+      due = e.due ∙ i.due;
       dry = λ k below.
           elim (cases_eq k c.loop-r.r) as (λ _. IsDry k c.give_ready.new.self) [
             | inl q ↦ subst (λ (j : ℕ). IsDry j c.give_ready.new.self) (sym q) e.dry
             | inr q ↦ ap (λ (l : SequenceValue). leading l.slots) (e.others k q) ∙ i.dry k (omega (arith, below, q))
           ];
     }
+
+pub returns-in_err-give_ready-clause-short : goal.returns-in_err-give_ready-clause-short
+returns-in_err-give_ready-clause-short g c =
+    let told = err_from_is_err_and c.from_residual.result c.from_residual.ensures.1 in
+    rw told.1 (omega (arith, c.loop-r.invariant.due, c.in_err-give_ready.ensures.short))

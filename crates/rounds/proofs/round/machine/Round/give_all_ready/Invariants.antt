@@ -1,6 +1,6 @@
 use Rattle.std.proofs.Common.{◌≡◌, ◌<◌, ◌≤◌, ℕ}
 use Rattle.flow_core.specs.Gatherings.{awaited}
-use Rattle.rounds.specs.Rounds.{IsDry, KeepsCounts, Moves, NoneReady, ReadsNoneIn}
+use Rattle.rounds.specs.Rounds.{IsDry, KeepsCounts, Moves, NoneReady, ReadsNoneIn, due_in}
 use Rattle.rounds.proofs.round.machine.Round.give_all_ready.Given as goal
 
 abbrev pub invariant-loop-r : goal.invariant-loop-r
@@ -11,4 +11,5 @@ invariant-loop-r g l = record {
   idle : NoneReady l.fn.self.collector → l.self ≡ l.fn.self;
   fewer : awaited l.self.collector.sequences ≤ awaited l.fn.self.collector.sequences;
   dry : (k : ℕ) → k < l.r → IsDry k l.self;
+  due : due_in l.self ≡ due_in l.fn.self;
 }

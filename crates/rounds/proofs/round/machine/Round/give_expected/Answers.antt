@@ -1,4 +1,4 @@
-use Rattle.std.proofs.Common.{ap, arith}
+use Rattle.std.proofs.Common.{◌∙◌, ap, arith}
 use Rattle.std.proofs.lemmas.Result.{err_from_is_err_and}
 use Rattle.flow_core.specs.Gatherings.{awaited}
 use Rattle.rounds.specs.declared.round.machine.Round.{Round}
@@ -32,6 +32,7 @@ loop-preserved g c = record {
   ok = λ start unfed now. c.in_ok-wait_and_give.ensures.ok start unfed (c.loop.invariant.ok start unfed now);
   none_read = reads-then _ _ _ c.loop.invariant.none_read c.in_ok-wait_and_give.ensures.none_read;
   fair = omega (arith, c.loop.invariant.fair, c.in_ok-wait_and_give.ensures.fair);
+  due = c.in_ok-wait_and_give.ensures.due ∙ c.loop.invariant.due;
   fewer = omega (arith, c.loop.invariant.fewer, c.in_ok-wait_and_give.ensures.fewer);
   idle = λ has.
       let same = c.loop.invariant.idle has in
@@ -43,3 +44,8 @@ pub returns-in_err-wait_and_give-clause-told : goal.returns-in_err-wait_and_give
 returns-in_err-wait_and_give-clause-told g c =
     let told = err_from_is_err_and c.from_residual.result c.from_residual.ensures.1 in
     rw (told.1, told.2) (own-then (g.G.Gate.lets c.args.sealer.now.gate.now) (g.G.Gate.stops c.args.sealer.now.gate.now) c.args.self.now.collector c.loop.self.collector c.wait_and_give.new.self.collector _ c.loop.invariant.fewer c.in_err-wait_and_give.ensures.told)
+
+pub returns-in_err-wait_and_give-clause-short : goal.returns-in_err-wait_and_give-clause-short
+returns-in_err-wait_and_give-clause-short g c =
+    let told = err_from_is_err_and c.from_residual.result c.from_residual.ensures.1 in
+    rw (told.1, told.2) (λ unheld. omega (arith, c.loop.invariant.due, c.in_err-wait_and_give.ensures.short unheld))

@@ -1,4 +1,4 @@
-use Rattle.std.proofs.Common.{◌∙◌, refl, ap, arith, length}
+use Rattle.std.proofs.Common.{◌∙◌, refl, ap, arith, length, length-append}
 use Rattle.std.proofs.lemmas.Result.{err_from_is_err_and}
 use Rattle.ingest.proofs.Ordered.{made_of-at}
 use Rattle.flow_core.specs.Gatherings.{Gathering, awaited, missing_in}
@@ -70,3 +70,24 @@ returns-in_err-give_segment-clause-fell g c =
     let now = ap (λ (x : Gathering). awaited x.sequences) c.in-Some.ensures.some in
     let less = passed-fewer c.args.self.now.collector c.args.r c.in-Some.sealed.plan c.in-Some.sealed c.in-Some.ensures.first in
     rw told.1 (omega (arith, now, less))
+
+pub returns-clause-due : goal.returns-clause-due
+returns-clause-due g c =
+    let some = c.requires.somewhere in
+    let order : InOrder c.args.settings.now = λ stop r. made_of-at stop r c.args.settings.now.cut in
+    let next = in-next _ _ _ _ _ some.0 some.1 _ _ _ some.2 order c.args.r c.in-Some.sealed c.in-Some.ensures.first in
+    let gave = c.in_ok-give_segment.ensures.ok (parts-of c.args.settings.now some.2.on.world.events) next some.2.on.ends in
+    let now = ap (λ (x : Gathering). awaited x.sequences) c.in-Some.ensures.some in
+    let less = passed-fewer c.args.self.now.collector c.args.r c.in-Some.sealed.plan c.in-Some.sealed c.in-Some.ensures.first in
+    let more = ap length gave.shows ∙ length-append c.args.self.now.broadcast.held.publisher.list _ in
+    omega (arith, now, less, more)
+
+pub returns-in_err-give_segment-clause-short : goal.returns-in_err-give_segment-clause-short
+returns-in_err-give_segment-clause-short g c =
+    let told = err_from_is_err_and c.from_residual.result c.from_residual.ensures.1 in
+    let some = c.requires.somewhere in
+    let order : InOrder c.args.settings.now = λ stop r. made_of-at stop r c.args.settings.now.cut in
+    let next = in-next _ _ _ _ _ some.0 some.1 _ _ _ some.2 order c.args.r c.in-Some.sealed c.in-Some.ensures.first in
+    let gave = c.in_err-give_segment.ensures.err (parts-of c.args.settings.now some.2.on.world.events) next in
+    let less = passed-fewer c.args.self.now.collector c.args.r c.in-Some.sealed.plan c.in-Some.sealed c.in-Some.ensures.first in
+    rw told.1 (omega (arith, less, ap length gave.unshown))

@@ -25,3 +25,8 @@ pub returns-in_err-give_next-clause-fell : goal.returns-in_err-give_next-clause-
 returns-in_err-give_next-clause-fell g c =
     let told = err_from_is_err_and c.from_residual.result c.from_residual.ensures.1 in
     rw told.1 (omega (arith, c.loop.invariant.fewer, c.in_err-give_next.ensures.fell))
+
+pub returns-in_err-give_next-clause-short : goal.returns-in_err-give_next-clause-short
+returns-in_err-give_next-clause-short g c =
+    let told = err_from_is_err_and c.from_residual.result c.from_residual.ensures.1 in
+    rw told.1 (omega (arith, c.loop.invariant.due, c.in_err-give_next.ensures.short))

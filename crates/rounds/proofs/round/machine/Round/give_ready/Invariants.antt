@@ -1,6 +1,6 @@
 use Rattle.std.proofs.Common.{◌≡◌, ◌≤◌}
 use Rattle.flow_core.specs.Gatherings.{awaited}
-use Rattle.rounds.specs.Rounds.{IsDry, KeepsCounts, KeepsOthers, Moves, ReadsNoneIn}
+use Rattle.rounds.specs.Rounds.{IsDry, KeepsCounts, KeepsOthers, Moves, ReadsNoneIn, due_in}
 use Rattle.rounds.proofs.round.machine.Round.give_ready.Given as goal
 
 abbrev pub invariant-loop : goal.invariant-loop
@@ -11,6 +11,7 @@ invariant-loop g l = record {
   idle : IsDry l.r l.fn.self → l.self ≡ l.fn.self;
   fewer : awaited l.self.collector.sequences ≤ awaited l.fn.self.collector.sequences;
   others : KeepsOthers l.r l.fn.self l.self;
+  due : due_in l.self ≡ due_in l.fn.self;
 }
 
 abbrev pub decreases-loop : goal.decreases-loop

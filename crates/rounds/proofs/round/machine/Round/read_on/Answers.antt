@@ -1,4 +1,4 @@
-use Rattle.std.proofs.Common.{◌≡◌, ◌∙◌, ◌-◌, refl, sym, ap, arith, rules}
+use Rattle.std.proofs.Common.{◌≡◌, ◌∙◌, ◌-◌, inl, inr, refl, sym, ap, arith, rules}
 use Rattle.std.proofs.lemmas.Bool.{false≢true}
 use Rattle.std.proofs.lemmas.Result.{err_from_is_err_and}
 use Rattle.rounds.specs.declared.run.course.Course.{Course}
@@ -67,6 +67,7 @@ loop-preserved g c =
           (in-read _ _ _ _ _ start unfed _ _ _ _ (λ waiting on. c.in_ok-read_ready.ensures.ok c.args.settings.now start c.loop.self.broadcast.held.publisher waiting on) same (c.loop.invariant.ok start unfed old));
       further = more-then _ _ _ c.loop.invariant.further (more-then _ _ _ c.in_ok-read_ready.ensures.further (more-unread _ _ c.in_ok-take_and_give.ensures.none_read));
       exact = omega (arith, c.loop.invariant.exact, c.in_ok-take_and_give.ensures.exact);
+      due = c.in_ok-take_and_give.ensures.due ∙ c.loop.invariant.due;
       dry = λ more. c.in_ok-take_and_give.ensures.dry;
       idle = λ enough. let at = c.loop.invariant.idle enough in
           let course = ap (λ (s : Round _ _ _ _ _). s.broadcast.course) at in
@@ -138,3 +139,13 @@ returns-then-not-branch-clause-soon g c more = record {
       false≢true (c.if-is_enough.ensures.1 (enough-as c.args.pace c.loop.self.broadcast.course _ _ _ _ c.awaited-awaited.ensures had enough));
   last = c.in_ok-read_ready.ensures.each;
 }
+
+pub returns-in_err-read_ready-clause-left : goal.returns-in_err-read_ready-clause-left
+returns-in_err-read_ready-clause-left g c =
+    let told = err_from_is_err_and c.from_residual.result c.from_residual.ensures.1 in
+    rw (told.1, told.2) (inl c.in_err-read_ready.ensures.broken)
+
+pub returns-in_err-take_and_give-clause-left : goal.returns-in_err-take_and_give-clause-left
+returns-in_err-take_and_give-clause-left g c =
+    let told = err_from_is_err_and c.from_residual-in_err-take_and_give.result c.from_residual-in_err-take_and_give.ensures.1 in
+    rw (told.1, told.2) (inr (λ unheld. omega (arith, c.loop.invariant.due, c.in_err-take_and_give.ensures.short unheld)))

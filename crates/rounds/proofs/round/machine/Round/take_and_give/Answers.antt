@@ -53,3 +53,16 @@ pub returns-in_err-give_all_ready-clause-told : goal.returns-in_err-give_all_rea
 returns-in_err-give_all_ready-clause-told g c =
     let told = err_from_is_err_and c.from_residual-in_err-give_all_ready.result c.from_residual-in_err-give_all_ready.ensures.1 in
     rw (told.1, told.2) (λ unheld. omega (arith, keeps-awaited _ _ c.in_ok-take_all.ensures.keeps, c.in_err-give_all_ready.ensures.fell))
+
+pub returns-clause-due : goal.returns-clause-due
+returns-clause-due g c = omega (arith, keeps-awaited _ _ c.in_ok-take_all.ensures.keeps, c.in_ok-give_all_ready.ensures.due)
+
+pub returns-in_err-take_all-clause-short : goal.returns-in_err-take_all-clause-short
+returns-in_err-take_all-clause-short g c =
+    let told = err_from_is_err_and c.from_residual.result c.from_residual.ensures.1 in
+    rw (told.1, told.2) (held-own (g.G.Gate.stops c.args.sealer.now.gate.now) _ _ c.in_err-take_all.ensures.fault)
+
+pub returns-in_err-give_all_ready-clause-short : goal.returns-in_err-give_all_ready-clause-short
+returns-in_err-give_all_ready-clause-short g c =
+    let told = err_from_is_err_and c.from_residual-in_err-give_all_ready.result c.from_residual-in_err-give_all_ready.ensures.1 in
+    rw (told.1, told.2) (λ unheld. omega (arith, keeps-awaited _ _ c.in_ok-take_all.ensures.keeps, c.in_err-give_all_ready.ensures.short))

@@ -1,7 +1,7 @@
 use Rattle.std.proofs.Common.{inl, arith}
 use Rattle.std.proofs.lemmas.Result.{err_from_is_err_and}
 use Rattle.rounds.proofs.Collecting.{got-on, keeps-awaited}
-use Rattle.rounds.proofs.Gates.{awaited-own, awaited-sudden, awaited-word}
+use Rattle.rounds.proofs.Gates.{awaited-own, awaited-sudden, awaited-word, left-awaited}
 use Rattle.rounds.proofs.Rounding.{in-keeps, in-stopped}
 use Rattle.rounds.proofs.round.machine.Round.wait_and_give.Goals as goal
 
@@ -52,3 +52,18 @@ pub returns-in_err-take_and_give-clause-told : goal.returns-in_err-take_and_give
 returns-in_err-take_and_give-clause-told g c =
     let told = err_from_is_err_and c.from_residual-in_err-take_and_give.result c.from_residual-in_err-take_and_give.ensures.1 in
     rw (told.1, told.2) (λ unheld. inl (omega (arith, keeps-awaited _ _ c.in_ok-wait_or_seal.ensures.keeps, c.in_err-take_and_give.ensures.told unheld)))
+
+pub returns-clause-due : goal.returns-clause-due
+returns-clause-due g c = omega (arith, keeps-awaited _ _ c.in_ok-wait_or_seal.ensures.keeps, c.in_ok-take_and_give.ensures.due)
+
+pub returns-in_err-wait_or_seal-clause-short : goal.returns-in_err-wait_or_seal-clause-short
+returns-in_err-wait_or_seal-clause-short g c =
+    let told = err_from_is_err_and c.from_residual.result c.from_residual.ensures.1 in
+    rw (told.1, told.2) (λ unheld.
+    let some = left-awaited (g.G.Gate.lets c.args.sealer.now.gate.now) (g.G.Gate.stops c.args.sealer.now.gate.now) c.wait_or_seal.new.collector _ c.in_err-wait_or_seal.ensures.fault unheld in
+    omega (arith, some, keeps-awaited _ _ c.in_err-wait_or_seal.ensures.keeps))
+
+pub returns-in_err-take_and_give-clause-short : goal.returns-in_err-take_and_give-clause-short
+returns-in_err-take_and_give-clause-short g c =
+    let told = err_from_is_err_and c.from_residual-in_err-take_and_give.result c.from_residual-in_err-take_and_give.ensures.1 in
+    rw (told.1, told.2) (λ unheld. omega (arith, keeps-awaited _ _ c.in_ok-wait_or_seal.ensures.keeps, c.in_err-take_and_give.ensures.short unheld))

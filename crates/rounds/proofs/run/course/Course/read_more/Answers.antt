@@ -89,3 +89,8 @@ returns-then-has_closed-clause-soon g c more = record {
   few = λ enough. false≢true (c.if-is_enough.ensures.1 (enough-since c.args.pace c.loop.self c.args.self.now _ _ c.turns_had.ensures.is c.turns_had-before.ensures.is enough));
   last = c.in_ok-read_ready.ensures.each;
 }
+
+pub returns-in_err-read_ready-clause-broken : goal.returns-in_err-read_ready-clause-broken
+returns-in_err-read_ready-clause-broken g c =
+    let told = err_from_is_err_and c.from_residual.result c.from_residual.ensures.1 in
+    rw told.1 c.in_err-read_ready.ensures.broken

@@ -97,3 +97,8 @@ returns-then-not-is_ready-clause-one g c = inl (none-looked c.args.r _ _ c.if-no
 pub returns-clause-one : goal.returns-clause-one
 returns-clause-one g c =
     inr (one-behind _ c.args.r _ _ _ (none-looked c.args.r _ _ c.if-not-is_ready.ensures.sources c.if-not-is_ready.ensures.same) c.in_ok-take_turn.ensures.had)
+
+pub returns-in_err-take_turn-clause-broken : goal.returns-in_err-take_turn-clause-broken
+returns-in_err-take_turn-clause-broken g c =
+    let told = err_from_is_err_and c.from_residual.result c.from_residual.ensures.1 in
+    rw told.1 c.in_err-take_turn.ensures.broken

@@ -52,3 +52,8 @@ returns-in_err-any-clause-none g c =
     rw told.1 (λ rests.
     let all = rests r some.0 (sym was.lanes ∙ some.1) (c.in_err-any.ensures.none some.0 some.1) in
     absurd (omega (arith, all, was.turns, c.in_err-any.ensures.unread, ap (λ (d : Course _ _). d.reads) c.loop-r.invariant.same)))
+
+pub returns-in_err-any-clause-broken : goal.returns-in_err-any-clause-broken
+returns-in_err-any-clause-broken g c =
+    let told = err_from_is_err_and c.from_residual.result c.from_residual.ensures.1 in
+    rw told.1 c.in_err-any.ensures.broken

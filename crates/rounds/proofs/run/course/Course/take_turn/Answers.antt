@@ -5,7 +5,7 @@ use Rattle.std.proofs.lemmas.Option.{slice_get_read, same_Some}
 use Rattle.std.proofs.lemmas.Result.{err_from_is_err_and}
 use Rattle.ingest.proofs.Ordered.{closed_of-grow}
 use Rattle.ingest.specs.declared.lane.Lane.{Lane}
-use Rattle.ladder_items.proofs.Elsewhere.{set-here}
+use Rattle.ladder_items.proofs.Elsewhere.{set-here, set-there}
 use Rattle.ladder_items.proofs.Worlds.{stage-at, reads-fit}
 use Rattle.rounds.proofs.Soon.{had-one}
 use Rattle.rounds.proofs.Turning.{on-read, on-unread, counts-sum, counts-elsewhere, others-turned}
@@ -62,7 +62,7 @@ returns-in_err-turn-clause-err g c =
     let below : c.args.r < length ladder.renditions = omega (arith, c.requires.within, on.world.same_lanes) in
     on-unread _ _ _ _ _ start c.args.r _ _ shows waiting c.index_mut-2.result.now c.turn.new.source c.index_mut.result.now _
     (slice_get_read c.args.self.now.sources.items _ c.args.r c.index_mut-2.result.now (sym on.world.same_now) below c.index_mut-2.ensures.value)
-    at none c.in_err-turn.ensures.err.1 c.in_err-turn.ensures.no_read_failed
+    at none c.in_err-turn.ensures.err.read c.in_err-turn.ensures.no_read_failed
     (λ s more. closed_of-grow c.args.r ladder.cut s more) refl refl c.requires.below on)
 
 pub returns-clause-ok : goal.returns-clause-ok
@@ -124,3 +124,15 @@ returns-in_err-turn-clause-unstopped g c =
     let old = same_Some _ _ (sym at ∙ was) in
     let new = set-here c.args.self.now.lanes.items c.args.r c.turn.new.self now is in
     ap (λ (l : Lane). l.stop) (sym new) ∙ (c.in_err-turn.ensures.stop ∙ ap (λ (l : Lane). l.stop) old))
+
+pub returns-in_err-turn-clause-broken : goal.returns-in_err-turn-clause-broken
+returns-in_err-turn-clause-broken g c =
+    let told = err_from_is_err_and c.from_residual.result c.from_residual.ensures.1 in
+    let at = slice_get_read c.args.self.now.lanes.items _ c.args.r c.index_mut.result.now refl c.requires.within c.index_mut.ensures.value in
+    rw told.1 (record {
+      rendition = c.args.r;
+      lane = c.turn.new.self;
+      there = set-there c.args.self.now.lanes.items c.args.r c.turn.new.self c.requires.within;
+      going = c.in_err-turn.ensures.stop ∙ c.requires.going c.index_mut.result.now at;
+      ended = c.in_err-turn.ensures.broken;
+    })
