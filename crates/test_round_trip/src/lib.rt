@@ -1,4 +1,4 @@
-//! Tests of whole runs, from the bytes of streams to items and back.
+//! Tests of whole runs, from the bytes of streams to items and back, and of runs that go on from what an earlier one wrote.
 #![tactic(auto)]
 
 #[cfg(test)]
@@ -17,6 +17,8 @@ mod failing;
 mod forms;
 #[cfg(test)]
 mod gates;
+#[cfg(test)]
+mod going_on;
 #[cfg(test)]
 mod ladder;
 #[cfg(test)]

@@ -1,7 +1,9 @@
-//! Tests of `work_desk`, `rounds` and `live_board`: runs of a desk with up to sixteen workers, whole runs on many threads, their
-//! gates, their stops and their viewers, and what the viewers of a board see beside a publisher in another thread.
+//! Tests of what a run on many threads is made of: `read_ahead` before it, a `work_desk` with up to sixteen workers, `rounds` with
+//! its gates, stops and viewers, a `live_board` beside a publisher in another thread, and the `metrics` that are read off it.
 #![tactic(auto)]
 
+#[cfg(test)]
+mod ahead;
 #[cfg(test)]
 mod asserts;
 #[cfg(test)]
@@ -16,6 +18,8 @@ mod fixtures;
 mod gates;
 #[cfg(test)]
 mod herald_tests;
+#[cfg(test)]
+mod metrics_tests;
 #[cfg(test)]
 mod pause_tests;
 #[cfg(test)]

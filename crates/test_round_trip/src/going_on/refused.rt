@@ -1,5 +1,7 @@
 //! Playlists that a run doesn't go on from.
-use crate::rows::{EVENT, LIVE, SALT, SALTED, Texts, give, restored, sizes, texts_of, window};
+use crate::going_on::rows::{
+    EVENT, LIVE, SALT, SALTED, Texts, give, restored, sizes, texts_of, window,
+};
 use ladder_items::Gone;
 use media_reading::read_media;
 use resume::{ResumeFault, Wanted, restore};

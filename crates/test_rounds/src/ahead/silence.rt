@@ -1,7 +1,7 @@
 ghost use Rattle.std.specs.Prelude.{◌≡◌};
 
+use crate::ahead::fixtures::{Event, Given, Pattern, UNBOUNDED, drain, pattern_of, pop_unread};
 use crate::asserts::assert_same;
-use crate::fixtures::{Event, Given, Pattern, UNBOUNDED, drain, pattern_of, pop_unread};
 use item_io::Source;
 use read_ahead::{Contents, Input, InputFault, Limits, OpenInput, open_all};
 use std::alloc::Global;

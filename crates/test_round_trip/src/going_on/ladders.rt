@@ -1,5 +1,5 @@
 //! The discontinuities of a ladder's renditions.
-use crate::rows::row;
+use crate::going_on::rows::row;
 use ladder_items::{Gone, Kind};
 use resume::{Restored, UnevenFault, begin, common_breaks};
 use std::alloc::{AllocError, Global};

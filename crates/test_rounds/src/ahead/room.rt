@@ -1,5 +1,5 @@
+use crate::ahead::fixtures::{Pattern, pattern_of};
 use crate::asserts::assert_same;
-use crate::fixtures::{Pattern, pattern_of};
 use read_ahead::{InputsView, Limits, OpenInput, open_all};
 use std::alloc::{AllocError, Global};
 use std::io::Read;

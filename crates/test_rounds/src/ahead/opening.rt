@@ -1,5 +1,5 @@
+use crate::ahead::fixtures::{UNBOUNDED, drain};
 use crate::asserts::assert_same;
-use crate::fixtures::{UNBOUNDED, drain};
 use read_ahead::{InputFault, open_paths};
 use std::fs;
 use std::test::Fail;

@@ -1,5 +1,5 @@
 //! Renditions that go on.
-use crate::rows::{
+use crate::going_on::rows::{
     EVENT, LIVE, SALT, SALTED, give, restored, resumed, row, size, texts_of, window,
 };
 use ladder_items::{Gone, Kind};
