@@ -43,6 +43,11 @@ fn defaults(rt: HostRuntime) -> Result<(), Fail> {
         named,
         [6, 5, 3600, 900_000, 1_000_000, 1],
     );
+    Ok(())
+}
+
+#[test]
+fn a_default_name_and_segment(rt: HostRuntime) -> Result<(), Fail> {
     let settings = settings(rt.alloc(), "1x1")?;
     let name = settings
         .renditions
