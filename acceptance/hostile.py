@@ -1,9 +1,10 @@
-"""Hands a program damaged input of each kind that it reads: hostile.py PROGRAM COUNT [SEED]; with s behind COUNT, for so many seconds.
+"""Hands a program damaged input of each kind that it reads: hostile.py PROGRAM COUNT [SEED [KIND]]; with s behind COUNT, for so many
+seconds; with a kind, of that alone.
 
-The kinds are streams, playlists and segments for `check`, the folder of a channel for `pack --resume`, key files, and the words of
-entries and options. Each is good input, damaged at random. Whatever it is given, the program has to end by itself with status 0, 1
-or 2, in time, within its memory, and tell a fault by its name, a line each; and `check` has to count no more than is there. What
-went wrong is told with its seed, and its folder is kept.
+The kinds are `stream`, playlists and segments for `check`, the folder of a channel for `pack --resume` (`resume`), key files (`key`),
+and the `words` of entries and options. Each is good input, damaged at random. Whatever it is given, the program has to end by itself
+with status 0, 1 or 2, in time, within its memory, and tell a fault by its name, a line each; and `check` has to count no more than is
+there. What went wrong is told with its seed, and its folder is kept.
 """
 
 import collections
@@ -238,18 +239,20 @@ def try_key_file(channel, chance, room):
     return command, code, told
 
 
-KINDS = ((try_check, 4), (try_resume, 4), (try_stream, 3), (try_words, 3), (try_key_file, 1))
+# Of each kind how it is played, and how often beside the others.
+KINDS = {"check": (try_check, 4), "resume": (try_resume, 4), "stream": (try_stream, 3), "words": (try_words, 3), "key": (try_key_file, 1)}
 
 
-def play(channel, seed, room):
+def play(channel, seed, room, kinds):
     chance = random.Random(seed)
-    kind = chance.choices([it for it, _ in KINDS], [it for _, it in KINDS])[0]
+    kind = chance.choices([it for it, _ in kinds], [it for _, it in kinds])[0]
     return kind(channel, chance, room)
 
 
 def main():
     program, count = os.path.realpath(sys.argv[1]), sys.argv[2]
     first = int(sys.argv[3]) if len(sys.argv) > 3 else 1
+    kinds = [KINDS[it] for it in sys.argv[4:5] or KINDS]
     until = time.monotonic() + int(count[:-1]) if count.endswith("s") else None
     # A core file of each killed run would fill the disk.
     resource.setrlimit(resource.RLIMIT_CORE, (0, 0))
@@ -259,7 +262,7 @@ def main():
         while time.monotonic() < until if until else played < int(count):
             room = pathlib.Path(tempfile.mkdtemp(prefix=f"hostile-{first + played}-"))
             try:
-                command, code, err = play(channel, first + played, room)
+                command, code, err = play(channel, first + played, room, kinds)
                 name = err.split(b"\n")[0].split(b" ")[1].decode() if code == 1 and b" " in err else {0: "well", 2: "usage"}.get(code, "?")
                 told[f"{command} {name}"] += 1
                 shutil.rmtree(room)
