@@ -44,4 +44,5 @@ promtool_takes_them() {
         promtool check metrics <"$work/metrics/$text.prom" || return
     done
     promtool check rules "$here/../samples/origin/alerts.yml" >"$work/rules" || { cat "$work/rules"; return 1; }
+    promtool test rules "$here/alerts.test.yml" >"$work/rules" 2>&1 || { cat "$work/rules"; return 1; }
 }
