@@ -53,20 +53,24 @@ class Rendition:
 
     def __init__(self, entry):
         self.entry, self.rows, self.bytes, self.behind, self.ended = entry, [], [], 0, False
-        # The first row that is listed, and the options of the run that last wrote a playlist.
-        self.first, self.wrote = 0, None
+        # The first row that is listed, the options of the run that last wrote a playlist, and how many rows there were when it began.
+        self.first, self.wrote, self.began = 0, None, 0
         self.before = {playlists.media: {}, playlists.iframes: {}}
 
     def breaks(self):
         return self.behind + sum(row.discontinuity for row in self.rows)
 
-    def begin(self, ladder, common):
-        """The next run begins: what it is to make of the input that its entry has now."""
+    def begin(self, ladder, most):
+        """The next run begins: what it is to make of the input that its entry has now. Whether it begins its list anew."""
         self.options = fuzz_wanted.options_of(ladder, self.entry)
         if not self.rows:
-            self.behind = 0 if common is None else common + 1
+            self.behind = 0 if most is None else most + 1
         self.options.known, self.options.behind = self.first, self.behind
+        anew = self.rows and self.breaks() < most
+        if anew:
+            self.options.known, self.options.behind = len(self.rows), self.behind + most - self.breaks()
         self.new, self.new_bytes = rows_of(self.entry.data, self.options, len(self.rows))
+        return bool(anew)
 
     def end(self, folder):
         """The run is over: how many segments it came to, one that a kill left unlisted among them. What is wrong."""
@@ -86,6 +90,7 @@ class Rendition:
         self.rows, self.bytes = all_rows[:count], all_bytes[:count]
         if count > old:
             self.first, self.wrote = playlists.first_listed(self.rows, self.options), self.options
+            self.began, self.behind = old, self.options.behind
         lost = [row.number for row in self.rows[self.first :] if not (folder / f"{name}.{row.number}.ts").is_file()]
         return wrong + [f"segment {number} of {name} isn't there" for number in lost]
 
@@ -101,9 +106,12 @@ class Rendition:
 
     def keep(self):
         """What its playlists may be until the next run has written its own: of all rows, or of all but one that a kill left unlisted."""
-        counts = range(max(1, len(self.rows) - 1), len(self.rows) + 1) if self.rows else ()
-        for make in self.before:
-            self.before[make] = {text(make(self.rows[:count], self.wrote, False)): count for count in counts}
+        last = len(self.rows)
+        counts = range(max(self.began + 1, last - 1), last + 1) if self.rows else ()
+        for make, before in self.before.items():
+            # the one before the first row of a run is of the run before
+            older = {it: count for it, count in before.items() if last - 1 == self.began == count}
+            self.before[make] = older | {text(make(self.rows[:count], self.wrote, False)): count for count in counts}
 
 
 def numbered(folder, name):
@@ -119,12 +127,9 @@ def refusal(renditions, event):
     for r, one in enumerate(renditions):
         if one.ended:
             return f"Ended {r}"
-    for r, one in enumerate(renditions):
+    for r, one in enumerate(renditions if event else ()):
         for other in renditions[:r]:
-            if bool(one.rows) != bool(other.rows):
-                if event:
-                    return f"Uneven {r}"
-            elif one.rows and one.breaks() != other.breaks():
+            if bool(one.rows) != bool(other.rows) or one.rows and one.breaks() != other.breaks():
                 return f"Uneven {r}"
     return None
 
@@ -176,7 +181,7 @@ class Restarts:
     def play(self):
         last = self.chance.randint(1, RUNS)
         for number in range(last + 1):
-            common = next((one.breaks() for one in self.renditions if one.rows), None)
+            most = max((one.breaks() for one in self.renditions if one.rows), default=None)
             if number:
                 self.draw()
                 for one in self.renditions:
@@ -185,8 +190,7 @@ class Restarts:
                 if why:
                     self.refused(why, number)
                     return self
-            for one in self.renditions:
-                one.begin(self.ladder, common)
+            self.told["anew"] += sum([one.begin(self.ladder, most) for one in self.renditions])
             at = 0 if number == last else self.chance.randint(1, 24 * sum(len(one.new) for one in self.renditions) + 8)
             status, error = self.run(at)
             self.told["killed" if status == -9 else "ended"] += 1

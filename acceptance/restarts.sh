@@ -9,6 +9,7 @@ check_restarts() {
     check 'pack: --resume with nothing there is a first run' resumes_nothing
     check 'pack: a channel that does not go on is told by name, and nothing is changed' tells_each_refusal
     check 'pack: a rendition that is new begins behind a discontinuity' adds_a_rendition
+    check 'pack: a rendition that gave nothing in one run goes on in the next' goes_on_behind_a_fault
     check 'pack: a fault of a run that goes on names the number that players see' names_seen_number
     check 'pack: segments go by the rule, over four runs' removes_by_the_rule "${REMOVAL_HOURS:-1}"
     check 'pack: of an event nothing goes' keeps_an_event
@@ -20,7 +21,7 @@ restarts_random_ladders() {
 
 ended_in_each_way() {
     local way
-    for way in Ended Uneven ended killed; do
+    for way in Ended Uneven anew ended killed; do
         grep -qE "$way [1-9]" "$work/restarts" || { echo "no $way"; return 1; }
     done
 }
@@ -81,6 +82,23 @@ adds_a_rendition() {
     grep -q '^#EXT-X-DISCONTINUITY-SEQUENCE:1$' "$work/channel/w.m3u8" || { head -5 "$work/channel/w.m3u8"; return 1; }
     grep -q '^#EXT-X-DISCONTINUITY$' "$work/channel/v.m3u8" && ! grep -q '^#EXT-X-DISCONTINUITY$' "$work/channel/w.m3u8" || return
     writes check --keys "$key" "$work/channel/v.m3u8" && writes check --keys "$second_key" "$work/channel/w.m3u8"
+}
+
+# One rendition gives no segment in the second run, so that it has one discontinuity less; in the third one its list begins anew, and its
+# first segment has the discontinuity number of the other's.
+goes_on_behind_a_fault() {
+    local second="w:avc1.4d401e:320x180:$second_key" last name
+    begins_channel --window 40 "$second:$work/open.ts" && last=$(sed -nE 's/^w\.([0-9]+)\.ts$/\1/p' "$work/channel/w.m3u8" | tail -1) || return
+    head -c 188000 /dev/zero >"$work/silent.ts"
+    ends 1 pack --out "$work/channel" --target 6 --window 40 --resume "$ladder_of_one:$work/open.ts" "$second:$work/silent.ts" || return
+    grep -qE '^tshls: NoProgram 1$' "$work/err" || { cat "$work/err"; return 1; }
+    goes_on --window 40 "$ladder_of_one:$work/open.ts" "$second:$work/open.ts" || return
+    grep -q '^#EXT-X-DISCONTINUITY-SEQUENCE:0$' "$work/channel/v.m3u8" && [ "$(grep -c '^#EXT-X-DISCONTINUITY$' "$work/channel/v.m3u8")" -eq 2 ] || return
+    grep -q "^#EXT-X-MEDIA-SEQUENCE:$((last + 1))$" "$work/channel/w.m3u8" && grep -q '^#EXT-X-DISCONTINUITY-SEQUENCE:1$' "$work/channel/w.m3u8" || { head -8 "$work/channel/w.m3u8"; return 1; }
+    for name in w w.iframes; do
+        [ "$(grep -c '^#EXT-X-DISCONTINUITY$' "$work/channel/$name.m3u8")" -eq 1 ] || return
+    done
+    [ -e "$work/channel/w.$last.ts" ] && writes check --keys "$key" "$work/channel/v.m3u8" && writes check --keys "$second_key" "$work/channel/w.m3u8"
 }
 
 names_seen_number() {

@@ -107,7 +107,7 @@ module _ {F : Type 0} (folder : FolderView F) (ladder : Ladder) where
 
   -- one would begin past the last number
   pub not-begun : (before now : F) (scan : ScanValue) (reopened : ReopenedValue) (fault : ResumingFault) → IsScan (folder.lists before) (names_of ladder.renditions) scan →
-      RollsEach folder (names_of ladder.renditions) before now → IsReadBack folder now ladder scan reopened → IsPastFault reopened.found reopened.common fault → IsNotResumed folder ladder before now fault
+      RollsEach folder (names_of ladder.renditions) before now → IsReadBack folder now ladder scan reopened → IsPastFault reopened.found reopened.most fault → IsNotResumed folder ladder before now fault
   not-begun before now scan reopened Unread scanned rolls back past = absurd past
   not-begun before now scan reopened Outlet scanned rolls back past = absurd past
   not-begun before now scan reopened NoMemory scanned rolls back past = absurd past

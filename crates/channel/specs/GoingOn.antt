@@ -3,7 +3,7 @@ use Rattle.std.specs.Prelude.{◌≡◌, ◌≢◌, ℕ, ◌<◌, Option, Some, 
 use Rattle.ladder_items.specs.Ladder.{RenditionValue, Ladder}
 use Rattle.resume.specs.Restoring.{RestoredValue}
 use Rattle.channel_folder.specs.declared.fault.WhyNot.TheVariants.{Limit}
-use Rattle.channel_folder.specs.Reopened.{ReopenedValue, MayBegin, gone_on}
+use Rattle.channel_folder.specs.Reopened.{ReopenedValue, MayGo, gone_on}
 use Rattle.channel.specs.declared.fault.ResumingFault.{ResumingFault}
 use Rattle.channel.specs.declared.fault.ResumingFault.TheVariants.{Unread, Outlet, NoMemory, Not, OtherKeys}
 
@@ -17,24 +17,26 @@ all_behind renditions [] = renditions
 all_behind [] (one ∷ each) = []
 all_behind (rendition ∷ renditions) (one ∷ each) = behind_of rendition one ∷ all_behind renditions each
 
--- a ladder whose renditions go on behind what was found of them, each of its own; one without playlists begins beside the others
+-- A ladder whose renditions go on behind what was found of them, each of its own. One without playlists begins beside the others, and
+-- one that had fewer discontinuities than another begins its list anew.
 abbrev pub ladder_behind : Ladder → ReopenedValue → Ladder
-ladder_behind ladder reopened = record ladder { renditions = all_behind ladder.renditions (map (gone_on reopened.common) reopened.found) }
+ladder_behind ladder reopened = record ladder { renditions = all_behind ladder.renditions (map (gone_on reopened.most) reopened.found) }
 
--- each rendition without playlists begins within the last number
-abbrev pub AllBegin : List (Option RestoredValue) → Option ℕ → Type 0
-AllBegin found common = (r : ℕ) → slice_get found r ≡ Some None → MayBegin common
+-- the numbers of each rendition aren't past the last
+abbrev pub AllGo : List (Option RestoredValue) → Option ℕ → Type 0
+AllGo found most = (r : ℕ) (one : Option RestoredValue) → slice_get found r ≡ Some one → MayGo most one
 
--- rendition r is the first without playlists, and would begin past the last number
-pub record IsPastLimit (found : List (Option RestoredValue)) (common : Option ℕ) (r : ℕ) : Type 0 where
-  pub none : slice_get found r ≡ Some None
-  pub past : ¬ MayBegin common
-  pub first : (k : ℕ) → k < r → slice_get found k ≢ Some None
+-- rendition r is the first of which they would be
+pub record IsPastLimit (found : List (Option RestoredValue)) (most : Option ℕ) (r : ℕ) : Type 0 where
+  pub one : Option RestoredValue
+  pub is : slice_get found r ≡ Some one
+  pub past : ¬ MayGo most one
+  pub first : (k : ℕ) (other : Option RestoredValue) → k < r → slice_get found k ≡ Some other → MayGo most other
 
 -- that is why the ladder doesn't go on
 abbrev pub IsPastFault : List (Option RestoredValue) → Option ℕ → ResumingFault → Type 0
-IsPastFault found common (Not r why) = (why ≡ Limit) × IsPastLimit found common r
-IsPastFault found common Unread = ⊥
-IsPastFault found common Outlet = ⊥
-IsPastFault found common NoMemory = ⊥
-IsPastFault found common (OtherKeys r key) = ⊥
+IsPastFault found most (Not r why) = (why ≡ Limit) × IsPastLimit found most r
+IsPastFault found most Unread = ⊥
+IsPastFault found most Outlet = ⊥
+IsPastFault found most NoMemory = ⊥
+IsPastFault found most (OtherKeys r key) = ⊥

@@ -69,4 +69,4 @@ IsReadFault folder at ladder scan (OtherKeys r key) = IsShut folder at ladder sc
 pub record IsPast {F : Type 0} (folder : FolderView F) (at : F) (ladder : Ladder) (scan : ScanValue) (fault : ResumingFault) : Type 0 where
   pub reopened : ReopenedValue
   pub back : IsReadBack folder at ladder scan reopened
-  pub past : IsPastFault reopened.found reopened.common fault
+  pub past : IsPastFault reopened.found reopened.most fault

@@ -1,18 +1,19 @@
 //! A ladder behind what its renditions go on behind.
 
-ghost use Rattle.std.specs.Prelude.{◌≡◌, ◌≢◌, None, IfOk, IfErr, OnOk, MatchOption, length, map};
-ghost use Rattle.channel_folder.specs.Reopened.{MayBegin, gone_on};
+ghost use Rattle.std.specs.Prelude.{◌≡◌, IfOk, IfErr, OnOk, MatchOption, length, map};
+ghost use Rattle.channel_folder.specs.Reopened.{MayGo, gone_on};
 ghost use Rattle.channel.specs.GoingOn;
-ghost use Rattle.channel.specs.GoingOn.{behind_of, all_behind, AllBegin, IsPastFault};
+ghost use Rattle.channel.specs.GoingOn.{behind_of, all_behind, AllGo, IsPastFault};
 
 use crate::fault::ResumingFault;
 use channel_folder::{Reopened, WhyNot};
 use ladder_items::{Rendition, Settings};
-use resume::{Restored, begin};
+use resume::{Restored, begin, go_on_beside};
 use std::alloc::Global;
 
 /// The settings of a ladder whose renditions go on behind these, rendition r behind the one at place r. One without playlists
-/// begins beside the others; that is Limit where it would begin past the last number.
+/// begins beside the others, and one that had fewer discontinuities than another begins its list anew; that is Limit where a
+/// number would be past the last.
 pub(crate) fn ladder_behind(
     alloc: Global,
     settings: Settings,
@@ -20,12 +21,12 @@ pub(crate) fn ladder_behind(
 ) -> Result<Settings, ResumingFault>
     requires { length reopened.found ≡ length settings.renditions }
     ensures ok { IfOk result (λ behind. behind ≡ GoingOn.ladder_behind settings reopened) }
-    ensures begins { OnOk result (AllBegin reopened.found reopened.common) }
-    ensures err { IfErr result (IsPastFault reopened.found reopened.common) }
+    ensures within { OnOk result (AllGo reopened.found reopened.most) }
+    ensures err { IfErr result (IsPastFault reopened.found reopened.most) }
 {
-    let Reopened { found, common } = reopened;
+    let Reopened { found, most } = reopened;
     let mut behind = settings;
-    each_behind(alloc, &mut behind.renditions, found, common)?;
+    each_behind(alloc, &mut behind.renditions, found, most)?;
     Ok(behind)
 }
 
@@ -34,16 +35,16 @@ fn each_behind(
     alloc: Global,
     renditions: &mut [Rendition],
     found: Vec<Option<Restored>>,
-    common: Option<u128>,
+    most: Option<u128>,
 ) -> Result<(), ResumingFault>
     requires { length found.items ≡ length renditions.old }
-    ensures ok { OnOk result (renditions.new ≡ all_behind renditions.old (map (gone_on common) found.items)) }
-    ensures begins { OnOk result (AllBegin found.items common) }
-    ensures err { IfErr result (IsPastFault found.items common) }
+    ensures ok { OnOk result (renditions.new ≡ all_behind renditions.old (map (gone_on most) found.items)) }
+    ensures within { OnOk result (AllGo found.items most) }
+    ensures err { IfErr result (IsPastFault found.items most) }
 {
     let mut r = 0;
     for one in found {
-        let Some(begun) = one_of(alloc, one, common) else {
+        let Some(begun) = one_of(alloc, one, most) else {
             return Err(ResumingFault::Not(r, WhyNot::Limit));
         };
         go_on(&mut renditions[r], begun);
@@ -52,13 +53,13 @@ fn each_behind(
     Ok(())
 }
 
-/// What a rendition goes on behind. None where it would begin past the last number.
-fn one_of(alloc: Global, found: Option<Restored>, common: Option<u128>) -> Option<Restored>
-    ensures { MatchOption result ((found ≡ None) × ¬ MayBegin common) (λ r. (r ≡ gone_on common found) × (found ≡ None → MayBegin common)) }
+/// What a rendition goes on behind. None where a number would be past the last.
+fn one_of(alloc: Global, found: Option<Restored>, most: Option<u128>) -> Option<Restored>
+    ensures { MatchOption result (¬ MayGo most found) (λ r. (r ≡ gone_on most found) × MayGo most found) }
 {
     match found {
-        Some(restored) => Some(restored),
-        None => begin(alloc, common),
+        Some(restored) => go_on_beside(alloc, restored, most),
+        None => begin(alloc, most),
     }
 }
 

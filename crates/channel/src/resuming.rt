@@ -15,7 +15,7 @@ use crate::rolling::roll_each;
 use channel_folder::{Asked, Reopened, Scan, let_unfinished_go, reopen, scan_files};
 use folder::{Folder, FolderReader};
 use ladder_items::Settings;
-use resume::{Restored, Wanted};
+use resume::{Restored, Wanted, lags};
 use std::alloc::{AllocError, Global};
 
 /// A ladder that goes on in its folder: its settings, and for each rendition the numbers of segments whose files are there
@@ -26,7 +26,8 @@ pub struct Resumed {
     pub older: Vec<Vec<u64>>,
 }
 
-/// A ladder behind what an earlier run left in its folder; where nothing was left it is a first run.
+/// A ladder behind what an earlier run left in its folder; where nothing was left it is a first run. A rendition of a live ladder
+/// that had fewer discontinuities than another begins its list anew, so that their next ones have one number again (RFC 8216, 6.2.4).
 ///
 /// The folder is looked at once. A block that a kill cut off is placed. Then each rendition's playlists are read back, written
 /// again and compared, and the keys are looked at: of each key that is listed the last segment has to open. At last unfinished
@@ -126,22 +127,22 @@ fn asked_of(alloc: Global, settings: &Settings) -> Result<Vec<Asked<'_>>, AllocE
     Ok(asked)
 }
 
-/// The number of the first segment that a rendition's playlists list; 0 where it has none.
-fn base_of(found: &Option<Restored>) -> u64
-    ensures { result ≡ Resuming.base_of found.now }
+/// The number of the first segment that a rendition's playlists list; 0 where it has none, or begins its list anew.
+fn base_of(found: &Option<Restored>, most: Option<u128>) -> u64
+    ensures { result ≡ Resuming.base_of most found.now }
 {
     match found {
-        Some(restored) => restored.gone.rows,
-        None => 0,
+        Some(restored) if !lags(restored, most) => restored.gone.rows,
+        _ => 0,
     }
 }
 
 /// For each rendition the numbers of its segments that come before those listed.
 fn older_of(alloc: Global, scan: &Scan, reopened: &Reopened) -> Result<Vec<Vec<u64>>, AllocError>
-    ensures ok { IfOk result (λ older. map (λ n. n.items) older.items ≡ older_from scan.now 0 reopened.now.found) }
+    ensures ok { IfOk result (λ older. map (λ n. n.items) older.items ≡ older_from scan.now reopened.now.most 0 reopened.now.found) }
     ensures scarce { OnErr result (0 < length reopened.now.found) }
 {
-    older_of_each(alloc, scan, &reopened.found)
+    older_of_each(alloc, scan, &reopened.found, reopened.most)
 }
 
 /// The same, by what was found of each.
@@ -149,14 +150,15 @@ fn older_of_each(
     alloc: Global,
     scan: &Scan,
     found: &[Option<Restored>],
+    most: Option<u128>,
 ) -> Result<Vec<Vec<u64>>, AllocError>
-    ensures ok { IfOk result (λ older. map (λ n. n.items) older.items ≡ older_from scan.now 0 found.now) }
+    ensures ok { IfOk result (λ older. map (λ n. n.items) older.items ≡ older_from scan.now most 0 found.now) }
     ensures scarce { OnErr result (0 < length found.now) }
 {
     let mut older = Vec::new(alloc);
     for r in 0..found.len() {
         let one = found_at(found, r);
-        older.push(scan.older(alloc, r, base_of(one))?)?;
+        older.push(scan.older(alloc, r, base_of(one, most))?)?;
     }
     Ok(older)
 }

@@ -8,7 +8,7 @@ use Rattle.media_reading.specs.MediaTexts.{IsListing, listing_text}
 use Rattle.ladder_items.specs.declared.settings.Kind.{Kind}
 use Rattle.resume.specs.declared.restored.Wanted.{Wanted}
 use Rattle.resume.specs.Restoring.{RestoredValue, IsRestored}
-use Rattle.resume.specs.Evening.{AreEven, first_breaks, gone_at_first}
+use Rattle.resume.specs.Evening.{AreEven, beside, gone_at_first, most_breaks, MayGoBeside}
 use Rattle.channel_folder.specs.declared.asked.Asked.{Asked}
 use Rattle.channel_folder.specs.Files.{media_file, frames_file}
 use Rattle.channel_folder.specs.Scans.{ScanValue, numbers_at}
@@ -71,24 +71,26 @@ pub record AllStand (Gives : List ℕ → List ℕ → Type 0) (Lacks : List ℕ
 
 -- what a rendition without playlists begins behind
 abbrev pub begun : Option ℕ → RestoredValue
-begun common = record { gone = gone_at_first common; earlier = []; next = 0 }
+begun most = record { gone = gone_at_first most; earlier = []; next = 0 }
 
+-- what a rendition goes on behind, beside the others, of which one had the most discontinuities
 abbrev pub gone_on : Option ℕ → Option RestoredValue → RestoredValue
-gone_on common None = begun common
-gone_on common (Some r) = r
+gone_on most None = begun most
+gone_on most (Some r) = beside most r
 
--- a rendition without playlists begins within the last number
-abbrev pub MayBegin : Option ℕ → Type 0
-MayBegin common = (gone_at_first common).discontinuities ≤ LAST_SEGMENT
+-- its numbers aren't past the last
+abbrev pub MayGo : Option ℕ → Option RestoredValue → Type 0
+MayGo most None = (gone_at_first most).discontinuities ≤ LAST_SEGMENT
+MayGo most (Some r) = MayGoBeside most r
 
--- what was found of each rendition, and how many discontinuities those with playlists had
+-- what was found of each rendition, and the most discontinuities that one of those with playlists had
 pub record ReopenedValue : Type 0 where
   pub found : List (Option RestoredValue)
-  pub common : Option ℕ
+  pub most : Option ℕ
 
 -- each stands by itself, and all go together
 pub record AreReopened (Gives : List ℕ → List ℕ → Type 0) (Lacks : List ℕ → Type 0) (scan : ScanValue) (kind : Kind) (asked : List Asked)
     (r : ReopenedValue) : Type 0 where
   pub all : AllStand Gives Lacks scan asked r.found
   pub even : AreEven kind r.found
-  pub common_is : r.common ≡ first_breaks r.found
+  pub most_is : r.most ≡ most_breaks r.found

@@ -1,12 +1,12 @@
 use resume::Restored;
 use std::marker::Model;
 
-/// What the renditions of a ladder go on behind: for each what its playlists list, or that it has none; and how many
-/// discontinuities those with playlists had so far, if any has.
+/// What the renditions of a ladder go on behind: for each what its playlists list, or that it has none; and the most
+/// discontinuities that one with playlists had so far, if any has.
 #[derive(Drop)]
 pub struct Reopened {
     pub found: Vec<Option<Restored>>,
-    pub common: Option<u128>,
+    pub most: Option<u128>,
 }
 
 impl Model for Reopened {
@@ -14,5 +14,5 @@ impl Model for Reopened {
 
     ghost Value = { ReopenedValue };
 
-    ghost view = { λ r. record { found = r.found.items; common = r.common } };
+    ghost view = { λ r. record { found = r.found.items; most = r.most } };
 }

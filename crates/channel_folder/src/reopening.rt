@@ -10,7 +10,7 @@ use crate::reopened::Reopened;
 use crate::scanned::Scan;
 use folder::FolderReader;
 use ladder_items::Kind;
-use resume::common_breaks;
+use resume::most_breaks;
 use std::alloc::Global;
 
 /// What each rendition of a ladder of this kind goes on behind, by what stands in the folder once a block that was cut off is
@@ -18,7 +18,8 @@ use std::alloc::Global;
 ///
 /// The least rendition that doesn't go on is told, first by what it is itself: its playlists aren't read back, or aren't gone
 /// on from; the file of a listed segment isn't there; the playlists don't fit the files; a file is there of a segment that
-/// comes next or later. Then that it doesn't go with one before it.
+/// comes next or later. Then, of an event, that it had another number of discontinuities than one before it, or one of the two
+/// has no playlists.
 pub fn reopen<F: FolderReader>(
     alloc: Global,
     folder: &F,
@@ -33,8 +34,8 @@ pub fn reopen<F: FolderReader>(
     ensures none { IsErr result → 0 < length asked.now }
 {
     let found = find_each(alloc, folder, scan, asked)?;
-    match common_breaks(kind, &found) {
-        Ok(common) => Ok(Reopened { found, common }),
+    match most_breaks(kind, &found) {
+        Ok(most) => Ok(Reopened { found, most }),
         Err(fault) => Err(ReopenFault::Of(fault.0, WhyNot::Uneven)),
     }
 }

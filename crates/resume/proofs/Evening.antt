@@ -1,28 +1,28 @@
 -- Renditions that go on together.
-use Rattle.std.proofs.Common.{◌≡◌, ◌≢◌, ◌<◌, ◌≤◌, ℕ, suc, ◌+◌, Option, Some, None, inl, inr, List, ◌∷◌, length, drop, get_or, refl, sym, ap, subst, ◌∙◌, arith}
-use Rattle.std.specs.Prelude.{slice_get}
+use Rattle.std.proofs.Common.{◌≡◌, ◌<◌, ◌≤◌, ℕ, zero, suc, ◌+◌, ◌-◌, Bool, true, false, Option, Some, None, inl, inr, List, [], ◌∷◌, length, drop, get_or, refl, sym, ap, subst, ◌∙◌, arith}
+use Rattle.std.specs.Prelude.{slice_get, max, nat_lt, unwrap_or}
 use Rattle.std.proofs.Math.ListN.{drop_of_length-le}
 use Rattle.std.proofs.Math.Seq.{drop-cons}
-use Rattle.std.proofs.lemmas.Bool.{cases_lt}
-use Rattle.std.proofs.lemmas.Option.{same_Some}
+use Rattle.std.proofs.lemmas.Bool.{cases_lt, ltb-false}
+use Rattle.std.proofs.lemmas.Option.{none-some, same_Some}
 use Rattle.ladder_items.specs.declared.settings.Kind.{Kind}
 use Rattle.ladder_items.specs.declared.settings.Kind.TheVariants.{Live, Event}
 use Rattle.resume.specs.Restoring.{RestoredValue}
-use Rattle.resume.specs.Evening.{breaks, GoTogether, first_breaks}
+use Rattle.resume.specs.Evening.{breaks, GoTogether, most_with, most_breaks, lags, anew, beside}
 
 -- whichever comes first
 pub together-turned : (kind : Kind) (a b : Option RestoredValue) → GoTogether kind a b → GoTogether kind b a
-together-turned kind (Some r) (Some s) is = sym is
-together-turned kind None None is = is
-together-turned Live (Some r) None is = is
-together-turned Live None (Some s) is = is
+together-turned Live a b is = tt
+together-turned Event (Some r) (Some s) is = sym is
+together-turned Event None None is = tt
 together-turned Event (Some r) None is = is
 together-turned Event None (Some s) is = is
 
 -- each with itself
 pub together-self : (kind : Kind) (a : Option RestoredValue) → GoTogether kind a a
-together-self kind (Some r) = refl
-together-self kind None = tt
+together-self Live a = tt
+together-self Event (Some r) = refl
+together-self Event None = tt
 
 abbrev pub AreEvenTo : Kind → List (Option RestoredValue) → ℕ → Type 0
 AreEvenTo kind found n = (i j : ℕ) (a b : Option RestoredValue) → i < n → j < n → slice_get found i ≡ Some a → slice_get found j ≡ Some b → GoTogether kind a b
@@ -44,29 +44,66 @@ even-more kind found n before last i j a b lt_i lt_j is_a is_b = elim (cases_lt 
   ]
 ]
 
-nothing : (x : Option RestoredValue) → ((r : RestoredValue) → x ≢ Some r) → x ≡ None
-nothing None none = refl
-nothing (Some r) none = absurd (none r refl)
+-- the most of those from place i on, by the one there and those behind it
+pub most-next : (found : List (Option RestoredValue)) (i : ℕ) (x : Option RestoredValue) → i < length found → x ≡ get_or found i x →
+    most_breaks (drop i found) ≡ most_with x (most_breaks (drop (suc i) found))
+unfolding most_breaks
+most-next found i x lt at =
+    ap most_breaks (drop-cons found i x lt) ∙ ap (λ (y : Option RestoredValue). most_with y (most_breaks (drop (suc i) found))) (sym at)
 
--- how many the first of the rest had, where the next has playlists
-pub first-some : (found : List (Option RestoredValue)) (i : ℕ) (x : Option RestoredValue) (r : RestoredValue) → i < length found → x ≡ get_or found i x →
-    x ≡ Some r → first_breaks (drop i found) ≡ Some (breaks r)
-unfolding first_breaks
-first-some found i x r lt at is =
-    let one : get_or found i x ≡ Some r = sym at ∙ is in
-    ap first_breaks (drop-cons found i x lt) ∙ ap (λ (y : Option RestoredValue). first_breaks (y ∷ drop (suc i) found)) one
+-- there is none past the last
+pub most-past : (found : List (Option RestoredValue)) (i : ℕ) → length found ≤ i → most_breaks (drop i found) ≡ None
+unfolding most_breaks
+most-past found i past = ap most_breaks (drop_of_length-le found past)
 
--- the same where it has none
-pub first-none : (found : List (Option RestoredValue)) (i : ℕ) (x : Option RestoredValue) → i < length found → x ≡ get_or found i x →
-    ((r : RestoredValue) → x ≢ Some r) → first_breaks (drop i found) ≡ first_breaks (drop (i + 1) found)
-unfolding first_breaks
-first-none found i x lt at none =
-    let one : get_or found i x ≡ None = sym at ∙ nothing x none in
-    let next : suc i ≡ i + 1 = omega arith in
-    ap first_breaks (drop-cons found i x lt) ∙ ap (λ (y : Option RestoredValue). first_breaks (y ∷ drop (suc i) found)) one
-    ∙ ap (λ (j : ℕ). first_breaks (drop j found)) next
+-- some had the most, and this one no more
+record HasMost (found : List (Option RestoredValue)) (r : RestoredValue) : Type 0 where
+  pub most : ℕ
+  pub is : most_breaks found ≡ Some most
+  pub up_to : breaks r ≤ most
 
--- where there is no rendition any more
-pub first-past : (found : List (Option RestoredValue)) (i : ℕ) → length found ≤ i → first_breaks (drop i found) ≡ None
-unfolding first_breaks
-first-past found i past = ap first_breaks (drop_of_length-le found past)
+most-more : (one : Option RestoredValue) (found : List (Option RestoredValue)) (r : RestoredValue) → HasMost found r → HasMost (one ∷ found) r
+unfolding most_breaks
+most-more None found r has = record { most = has.most; is = has.is; up_to = has.up_to }
+most-more (Some s) found r has = record {
+  most = max (breaks s) has.most;
+  is = ap (λ (m : Option ℕ). Some (max (breaks s) (unwrap_or m 0))) has.is;
+  up_to = omega (arith, has.up_to);
+}
+
+most-here : (one : Option RestoredValue) (found : List (Option RestoredValue)) (r : RestoredValue) → one ≡ Some r → HasMost (one ∷ found) r
+unfolding most_breaks
+most-here None found r is = absurd (none-some r is)
+most-here (Some s) found r is =
+    let same : s ≡ r = same_Some s r is in
+    record {
+      most = max (breaks s) (unwrap_or (most_breaks found) 0);
+      is = refl;
+      up_to = subst (λ (x : RestoredValue). breaks x ≤ max (breaks s) (unwrap_or (most_breaks found) 0)) same (omega arith);
+    }
+
+has-most : (found : List (Option RestoredValue)) (place : ℕ) (r : RestoredValue) → slice_get found place ≡ Some (Some r) → HasMost found r
+has-most [] place r is = absurd (none-some (Some r) is)
+has-most (one ∷ found) zero r is = most-here one found r (same_Some one (Some r) is)
+has-most (one ∷ found) (suc k) r is = most-more one found r (has-most found k r is)
+
+even-by : (most : ℕ) (r : RestoredValue) (lag : Bool) → nat_lt (breaks r) most ≡ lag → breaks r ≤ most → breaks (beside (Some most) r) ≡ most
+even-by most r true is up_to = rw is (omega arith)
+even-by most r false is up_to = let least = ltb-false (breaks r) most is in rw is (omega (arith, up_to, least))
+
+-- each had as many once it goes on beside the others
+pub even-beside : (found : List (Option RestoredValue)) (place : ℕ) (r : RestoredValue) → slice_get found place ≡ Some (Some r) →
+    most_breaks found ≡ Some (breaks (beside (most_breaks found) r))
+even-beside found place r is =
+    let has = has-most found place r is in
+    has.is ∙ ap Some (sym (even-by has.most r (nat_lt (breaks r) has.most) refl has.up_to)) ∙ ap (λ (m : Option ℕ). Some (breaks (beside m r))) (sym has.is)
+
+-- one more, from the last one on
+pub most-step : (found : List (Option RestoredValue)) (k i : ℕ) (x : Option RestoredValue) (old : Option ℕ) → k < length found → i ≡ length found - 1 - k →
+    x ≡ get_or found i x → old ≡ most_breaks (drop (length found - k) found) → most_with x old ≡ most_breaks (drop (length found - (k + 1)) found)
+most-step found k i x old lt at is so_far =
+    let within : i < length found = omega (arith, lt, at) in
+    let behind : suc i ≡ length found - k = omega (arith, lt, at) in
+    let here : i ≡ length found - (k + 1) = omega (arith, lt, at) in
+    ap (λ (m : Option ℕ). most_with x m) (so_far ∙ ap (λ (n : ℕ). most_breaks (drop n found)) (sym behind))
+    ∙ sym (most-next found i x within is) ∙ ap (λ (n : ℕ). most_breaks (drop n found)) here

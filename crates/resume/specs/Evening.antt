@@ -1,22 +1,22 @@
 -- The numbers of discontinuities in the renditions of a ladder (RFC 8216, 6.2.4: those of matching content match).
-use Rattle.std.specs.Prelude.{◌≡◌, ⊤, ℕ, ◌+◌, ◌<◌, List, [], ◌∷◌, Option, Some, None, slice_get}
+use Rattle.std.specs.Prelude.{◌≡◌, ⊤, ℕ, ◌+◌, ◌<◌, ◌≤◌, ◌^◌, max, nat_lt, Bool, true, false, if◌then◌else◌, List, [], ◌∷◌, Option, Some, None, slice_get, unwrap_or}
 use Rattle.media_playlist.specs.declared.row.Gone.{Gone}
-use Rattle.media_playlist.specs.Listed.{discontinuity_count, nothing_gone}
+use Rattle.media_playlist.specs.Listed.{discontinuity_count, frame_count, nothing_gone}
 use Rattle.ladder_items.specs.declared.settings.Kind.{Kind}
 use Rattle.ladder_items.specs.declared.settings.Kind.TheVariants.{Live, Event}
+use Rattle.limits.specs.declared.TheConstants.{LAST_SEGMENT}
 use Rattle.resume.specs.Restoring.{RestoredValue}
 
 -- how many discontinuities a rendition had so far
 abbrev pub breaks : RestoredValue → ℕ
 breaks r = r.gone.discontinuities + discontinuity_count r.earlier
 
--- Two renditions of a ladder go on together: if both have playlists they had as many discontinuities. One without playlists goes
--- with any, but not in an event, whose playlists number their discontinuities from 0 on.
+-- Two renditions of a ladder go on together. Those of a live ladder always do. An event lists all segments and numbers their
+-- discontinuities from 0 on: either both have playlists, and had as many discontinuities, or neither has.
 abbrev pub GoTogether : Kind → Option RestoredValue → Option RestoredValue → Type 0
-GoTogether kind (Some r) (Some s) = breaks r ≡ breaks s
-GoTogether kind None None = ⊤
-GoTogether Live (Some r) None = ⊤
-GoTogether Live None (Some s) = ⊤
+GoTogether Live a b = ⊤
+GoTogether Event (Some r) (Some s) = breaks r ≡ breaks s
+GoTogether Event None None = ⊤
 GoTogether Event (Some r) None = ⊥
 GoTogether Event None (Some s) = ⊥
 
@@ -36,11 +36,40 @@ pub record IsUneven (kind : Kind) (found : List (Option RestoredValue)) (r : ℕ
   pub r_is : slice_get found r ≡ Some at_r
   pub apart : ¬ GoTogether kind at_other at_r
 
--- how many discontinuities the first rendition had that has playlists
-unfoldable pub first_breaks : List (Option RestoredValue) → Option ℕ
-first_breaks [] = None
-first_breaks (Some r ∷ found) = Some (breaks r)
-first_breaks (None ∷ found) = first_breaks found
+-- the most discontinuities that some renditions had, and one more rendition
+abbrev pub most_with : Option RestoredValue → Option ℕ → Option ℕ
+most_with None most = most
+most_with (Some r) most = Some (max (breaks r) (unwrap_or most 0))
+
+-- the most discontinuities that a rendition had of those with playlists
+unfoldable pub most_breaks : List (Option RestoredValue) → Option ℕ
+most_breaks [] = None
+most_breaks (one ∷ found) = most_with one (most_breaks found)
+
+-- a rendition had fewer than another
+abbrev pub lags : Option ℕ → RestoredValue → Bool
+lags None r = false
+lags (Some most) r = nat_lt (breaks r) most
+
+-- The rendition begins its list anew: its next segment keeps its number and is the first that is listed, and as many discontinuities
+-- came before it as before those of the others.
+abbrev pub anew : ℕ → RestoredValue → RestoredValue
+anew most r = record {
+  gone = record { rows = r.next; frames = r.gone.frames + frame_count r.earlier; discontinuities = most };
+  earlier = [];
+  next = r.next;
+}
+
+-- what a rendition goes on behind, beside others of which one had the most discontinuities
+abbrev pub beside : Option ℕ → RestoredValue → RestoredValue
+beside most r = if lags most r then anew (unwrap_or most 0) r else r
+
+-- the numbers of a list that begins anew aren't past the last
+abbrev pub MayBeAnew : ℕ → RestoredValue → Type 0
+MayBeAnew most r = (most ≤ LAST_SEGMENT) × (r.gone.frames + frame_count r.earlier ≤ 2 ^ 126)
+
+abbrev pub MayGoBeside : Option ℕ → RestoredValue → Type 0
+MayGoBeside most r = lags most r ≡ true → MayBeAnew (unwrap_or most 0) r
 
 -- What came before the first segment of a rendition without playlists: nothing in a first run; else no segment, but a
 -- discontinuity more than the others had so far, so that its first one has the number of the others' next ones.

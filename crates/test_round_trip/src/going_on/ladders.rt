@@ -1,19 +1,19 @@
 //! The discontinuities of a ladder's renditions.
 use crate::going_on::rows::row;
 use ladder_items::{Gone, Kind};
-use resume::{Restored, UnevenFault, begin, common_breaks};
+use resume::{Restored, UnevenFault, begin, go_on_beside, lags, most_breaks};
 use std::alloc::{AllocError, Global};
 use std::process::Abort;
 
 /// How many discontinuities are gone and how many of the earlier rows are some, of each rendition that has playlists; and the
-/// number that they have in common, or the first that doesn't go with one before it.
+/// most that one had, or the first that doesn't go with one before it.
 type Case = (
     Kind,
     [Option<(u64, u64)>; 3],
     Result<Option<u128>, UnevenFault>,
 );
 
-const LADDERS: [Case; 9] = [
+const LADDERS: [Case; 12] = [
     (Kind::Live, [None, None, None], Ok(None)),
     (
         Kind::Live,
@@ -24,18 +24,25 @@ const LADDERS: [Case; 9] = [
     (
         Kind::Live,
         [Some((3, 1)), Some((3, 2)), Some((4, 0))],
-        Err(UnevenFault(1)),
+        Ok(Some(5)),
     ),
-    (
-        Kind::Live,
-        [Some((0, 0)), None, Some((0, 1))],
-        Err(UnevenFault(2)),
-    ),
+    (Kind::Live, [Some((0, 0)), None, Some((0, 1))], Ok(Some(1))),
+    (Kind::Live, [Some((9, 0)), None, Some((0, 1))], Ok(Some(9))),
     (Kind::Event, [None, None, None], Ok(None)),
     (
         Kind::Event,
         [Some((0, 1)), Some((0, 1)), Some((0, 1))],
         Ok(Some(1)),
+    ),
+    (
+        Kind::Event,
+        [Some((0, 1)), Some((0, 2)), Some((0, 2))],
+        Err(UnevenFault(1)),
+    ),
+    (
+        Kind::Event,
+        [Some((0, 2)), Some((0, 2)), Some((0, 1))],
+        Err(UnevenFault(2)),
     ),
     (
         Kind::Event,
@@ -59,7 +66,7 @@ fn restored(alloc: Global, gone: u64, listed: u64) -> Result<Restored, AllocErro
             discontinuities: gone,
         },
         earlier,
-        next: 0,
+        next: 104,
     })
 }
 
@@ -81,7 +88,7 @@ fn ladder(
 fn discontinuities_are_even(rt: HostRuntime) -> Result<(), AllocError> {
     for (kind, renditions, wanted) in LADDERS {
         let found = ladder(rt.alloc(), &renditions)?;
-        assert!(&rt; common_breaks(kind, &found) == wanted);
+        assert!(&rt; most_breaks(kind, &found) == wanted);
     }
     Ok(())
 }
@@ -97,8 +104,37 @@ const BEGUN: [(Option<u128>, Option<u64>); 5] = [
 
 #[test]
 fn renditions_begin(rt: HostRuntime) {
-    for (common, wanted) in BEGUN {
-        let begun = begin(rt.alloc(), common);
+    for (most, wanted) in BEGUN {
+        let begun = begin(rt.alloc(), most);
         assert!(&rt; begun.map(|one| one.gone.discontinuities) == wanted);
     }
+}
+
+/// A rendition that had 5 discontinuities: the most that one had, whether it had fewer, and what came before its next list, where
+/// it may be: how many rows, I-frames and discontinuities, and how many rows are listed still.
+const BESIDE: [(Option<u128>, bool, Option<(u64, u128, u64, usize)>); 6] = [
+    (None, false, Some((100, 200, 3, 4))),
+    (Some(5), false, Some((100, 200, 3, 4))),
+    (Some(6), true, Some((104, 208, 6, 0))),
+    (Some(0xFFFF_FFFE), true, Some((104, 208, 0xFFFF_FFFE, 0))),
+    (Some(0xFFFF_FFFF), true, None),
+    (Some(1 << 64), true, None),
+];
+
+#[test]
+fn renditions_go_on_beside_others(rt: HostRuntime) -> Result<(), AllocError> {
+    for (most, behind, wanted) in BESIDE {
+        let restored = restored(rt.alloc(), 3, 2)?;
+        assert!(&rt; lags(&restored, most) == behind);
+        let found = go_on_beside(rt.alloc(), restored, most).map(|one| {
+            (
+                one.gone.rows,
+                one.gone.frames,
+                one.gone.discontinuities,
+                one.earlier.len(),
+            )
+        });
+        assert!(&rt; found == wanted);
+    }
+    Ok(())
 }

@@ -2,7 +2,7 @@ use Rattle.std.proofs.Common.{rules, arith, ◌≡◌, ◌∙◌, refl, sym, ap,
 use Rattle.std.specs.Vec.Iter.{into_iter_items}
 use Rattle.resume.specs.Restoring.{RestoredValue}
 use Rattle.channel.specs.GoingOn.{IsPastLimit}
-use Rattle.channel.proofs.Behind.{begin-more, one-behind, past-here}
+use Rattle.channel.proofs.Behind.{go-more, one-behind, past-here}
 use Rattle.channel.proofs.going_on.each_behind.Goals as goal
 
 pub loop-one-preserved : goal.loop-one-preserved
@@ -16,9 +16,9 @@ loop-one-preserved c =
       rest = append_assoc ys (x ∷ []) rest ∙ sym all;
       count = omega (arith, c.loop-one.invariant.count, length-append ys (x ∷ []));
       so_far =
-          one-behind c.args.renditions.now c.loop-one.renditions ys c.args.common x c.in-Some-one_of.begun c.loop-one.r c.go_on.new.rendition c.index-renditions-r.result
+          one-behind c.args.renditions.now c.loop-one.renditions ys c.args.most x c.in-Some-one_of.begun c.loop-one.r c.go_on.new.rendition c.index-renditions-r.result
           c.loop-one.invariant.so_far c.loop-one.invariant.count lt c.in-Some-one_of.ensures.0 c.go_on.ensures;
-      begin_within = begin-more ys c.args.common x c.loop-one.invariant.begin_within c.in-Some-one_of.ensures.1;
+      go_within = go-more ys c.args.most x c.loop-one.invariant.go_within c.in-Some-one_of.ensures.1;
     }
 
 pub returns-in_default-clause-err : goal.returns-in_default-clause-err
@@ -27,8 +27,8 @@ returns-in_default-clause-err c =
     let ys = c.loop-one.yielded in
     let rest = into_iter_items c.next.new.self in
     let all : c.args.found.items ≡ ys ++ x ∷ rest = search rules in
-    let past : IsPastLimit (ys ++ x ∷ rest) c.args.common (length ys) = past-here ys rest c.args.common x c.loop-one.invariant.begin_within c.in_default.ensures.0 c.in_default.ensures.1 in (
+    let past : IsPastLimit (ys ++ x ∷ rest) c.args.most (length ys) = past-here ys rest c.args.most x c.loop-one.invariant.go_within c.in_default.ensures in (
       refl,
-      subst (λ (l : List (Option RestoredValue)). IsPastLimit l c.args.common c.loop-one.r) (sym all)
-          (subst (λ (k : ℕ). IsPastLimit (ys ++ x ∷ rest) c.args.common k) (sym c.loop-one.invariant.count) past),
+      subst (λ (l : List (Option RestoredValue)). IsPastLimit l c.args.most c.loop-one.r) (sym all)
+          (subst (λ (k : ℕ). IsPastLimit (ys ++ x ∷ rest) c.args.most k) (sym c.loop-one.invariant.count) past),
     )

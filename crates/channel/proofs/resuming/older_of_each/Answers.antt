@@ -12,11 +12,11 @@ loop-r-preserved c =
     let one = c.found_at-one.result.now in
     let made : map (λ n. n.items) c.push.new.self.items ≡ map (λ n. n.items) c.loop-r.older.items ++ c.in_ok-older.field-0.items ∷ [] =
     ap (λ l. map (λ n. n.items) l) c.in_ok-push.ensures.items ∙ map-more (λ n. n.items) c.loop-r.older.items c.in_ok-older.field-0 in
-    let is : c.in_ok-older.field-0.items ≡ older_at c.args.scan.now c.loop-r.r one =
+    let is : c.in_ok-older.field-0.items ≡ older_at c.args.scan.now c.args.most c.loop-r.r one =
     c.in_ok-older.ensures ∙ ap (λ (b : ℕ). filter (λ n. nat_lt n b) (numbers_at c.args.scan.now c.loop-r.r)) c.base_of.ensures in
-    older-on c.args.scan.now c.args.found.now c.loop-r.r one (map (λ n. n.items) c.loop-r.older.items) (map (λ n. n.items) c.push.new.self.items) c.in_ok-older.field-0.items c.found_at-one.ensures
+    older-on c.args.scan.now c.args.most c.args.found.now c.loop-r.r one (map (λ n. n.items) c.loop-r.older.items) (map (λ n. n.items) c.push.new.self.items) c.in_ok-older.field-0.items c.found_at-one.ensures
     c.loop-r.invariant made is
 
 pub returns-clause-ok : goal.returns-clause-ok
 returns-clause-ok c =
-    c.loop-r.invariant ∙ ap (λ (l : List (Option RestoredValue)). older_from c.args.scan.now 0 l) (take_all c.loop-r.r c.args.found.now (omega (arith, c.loop-r-test.false)))
+    c.loop-r.invariant ∙ ap (λ (l : List (Option RestoredValue)). older_from c.args.scan.now c.args.most 0 l) (take_all c.loop-r.r c.args.found.now (omega (arith, c.loop-r-test.false)))

@@ -68,7 +68,7 @@ returns-clause-ok g c = record {
   rolls = c.in_ok-roll_each.ensures.ok;
   reopened = c.in_ok-reopened.reopened;
   back = c.in_ok-reopened.ensures.ok;
-  begin_within = c.in_ok-settings.ensures.begins;
+  go_within = c.in_ok-settings.ensures.within;
   settings_are = c.in_ok-settings.ensures.ok;
   older_are = c.in_ok-older.ensures.ok;
   removed = c.in-Ok.ensures.ok;
@@ -96,7 +96,7 @@ pub returns-in_err-settings-clause-failed : goal.returns-in_err-settings-clause-
 returns-in_err-settings-clause-failed g c = λ is.
     let told = err_from_is_err_and c.from_residual-in_err-settings.result c.from_residual-in_err-settings.ensures.1 in
     let outlet : c.in_err-settings.field-0.0 ≡ Outlet = cc (is, told.1, told.2) in
-    absurd (subst (λ (fault : ResumingFault). IsPastFault c.in_ok-reopened.reopened.found c.in_ok-reopened.reopened.common fault) outlet c.in_err-settings.ensures.err)
+    absurd (subst (λ (fault : ResumingFault). IsPastFault c.in_ok-reopened.reopened.found c.in_ok-reopened.reopened.most fault) outlet c.in_err-settings.ensures.err)
 
 pub returns-in_err-scan-clause-scarce : goal.returns-in_err-scan-clause-scarce
 returns-in_err-scan-clause-scarce g c = λ is.
@@ -122,4 +122,4 @@ pub returns-in_err-settings-clause-scarce : goal.returns-in_err-settings-clause-
 returns-in_err-settings-clause-scarce g c = λ is.
     let told = err_from_is_err_and c.from_residual-in_err-settings.result c.from_residual-in_err-settings.ensures.1 in
     let memory : c.in_err-settings.field-0.0 ≡ NoMemory = cc (is, told.1, told.2) in
-    absurd (subst (λ (fault : ResumingFault). IsPastFault c.in_ok-reopened.reopened.found c.in_ok-reopened.reopened.common fault) memory c.in_err-settings.ensures.err)
+    absurd (subst (λ (fault : ResumingFault). IsPastFault c.in_ok-reopened.reopened.found c.in_ok-reopened.reopened.most fault) memory c.in_err-settings.ensures.err)

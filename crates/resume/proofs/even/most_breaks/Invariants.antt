@@ -2,7 +2,7 @@ use Rattle.std.proofs.Common.{◌≡◌, ◌<◌, ℕ, Option, Some}
 use Rattle.std.specs.Prelude.{slice_get}
 use Rattle.resume.specs.Restoring.{RestoredValue}
 use Rattle.resume.specs.Evening.{GoTogether}
-use Rattle.resume.proofs.even.common_breaks.Given as goal
+use Rattle.resume.proofs.even.most_breaks.Given as goal
 
 abbrev pub invariant-loop-r : goal.invariant-loop-r
 invariant-loop-r l = (i j : ℕ) (a b : Option RestoredValue) → i < l.r → j < l.r → slice_get l.found i ≡ Some a → slice_get l.found j ≡ Some b → GoTogether l.kind a b

@@ -1,7 +1,7 @@
 use Rattle.std.proofs.Common.{arith}
 use Rattle.std.proofs.lemmas.Option.{slice_get_within}
 use Rattle.resume.proofs.Evening.{even-more}
-use Rattle.resume.proofs.even.common_breaks.Goals as goal
+use Rattle.resume.proofs.even.most_breaks.Goals as goal
 
 pub loop-r-preserved : goal.loop-r-preserved
 loop-r-preserved c =
