@@ -13,10 +13,11 @@ use ghost_list::GhostList;
 use std::alloc::{AllocError, Global};
 use std::fs::{File, Files, OpenFile};
 use std::io::Write;
+use std::os::unix::fs::MetadataExt;
 use std::path::{Path, PathBuf};
 use std::{fs, io};
 
-/// A folder of the file system, which has to be there.
+/// A folder of the file system, which has to be there. Another one that is put in its place isn't written to.
 ///
 /// **Trusted**: each method does to the folder what it notes in the ghost list, and nothing else. No contract of the
 /// standard library says what files hold, so this is read and tested, and not proved.
@@ -26,6 +27,8 @@ pub struct FileFolder<R> {
     alloc: Global,
     path: String,
     syncs: bool,
+    // of the folder that was first written to: its device and its inode
+    node: Option<(u64, u64)>,
     made: GhostList<GhostMove>,
 }
 
@@ -43,6 +46,7 @@ impl<R> FileFolder<R> {
             alloc,
             path,
             syncs: false,
+            node: None,
             made: GhostList::new(),
         }
     }
@@ -58,6 +62,7 @@ impl<R> FileFolder<R> {
             alloc,
             path,
             syncs: true,
+            node: None,
             made: GhostList::new(),
         }
     }
@@ -82,6 +87,23 @@ impl<R> FileFolder<R> {
     }
 }
 
+impl<R: Files> FileFolder<R> {
+    ghost use Rattle.folder.specs.FileFolders.{file_moves, may_sync};
+
+    /// Whether the folder at the path is still the one that was first written to.
+    fn is_same(&mut self) -> bool
+        ensures made { file_moves self.new ≡ file_moves self.old }
+        ensures syncs { may_sync self.new ≡ may_sync self.old }
+        ensures path { folder_path self.new ≡ folder_path self.old }
+    {
+        let Ok(found) = fs::metadata(&self.files, self.path.as_str()) else {
+            return false;
+        };
+        let node = (found.dev(), found.ino());
+        *self.node.get_or_insert(node) == node
+    }
+}
+
 impl<R: Files> Folder for FileFolder<R> {
     ghost use Rattle.folder.specs.FileFolders.{file_moves, may_sync};
 
@@ -99,6 +121,9 @@ impl<R: Files> Folder for FileFolder<R> {
         ensures path { folder_path self.new ≡ folder_path self.old }
     {
         let path = self.path_of(name)?;
+        if !self.is_same() {
+            return Err(FolderFault);
+        }
         match write_anew(&self.files, path.as_path(), bytes, self.syncs) {
             Ok(()) => {
                 note_write(&mut self.made, name, bytes);
