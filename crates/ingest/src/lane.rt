@@ -72,6 +72,8 @@ impl Lane {
         ensures no_read_failed { OnErr result (S.input.failures source.new ≡ S.input.failures source.old) }
         ensures stop { OnErr result (self.new.stop ≡ self.old.stop) }
         ensures ended { OnOk result (self.new.stop ≢ None → self.new.intake.ended ≡ true) }
+        ensures left { OnOk result (self.new.stop ≢ None → S.input.is_left source.new ≡ true) }
+        ensures unleft { OnOk result (self.new.stop ≡ None → S.input.is_left source.new ≡ false) }
     {
         self.read(source, buffer)?;
         if self.stop.is_some() {
@@ -96,6 +98,7 @@ impl Lane {
         ensures no_read_failed { OnErr result (S.input.failures source.new ≡ S.input.failures source.old) }
         ensures stop { OnErr result (self.new.stop ≡ self.old.stop) }
         ensures ended { OnOk result (self.new.stop ≢ None → self.new.intake.ended ≡ true) }
+        ensures unleft { S.input.is_left source.new ≡ false }
     {
         match source.read(buffer) {
             Err(_) => {
