@@ -4,7 +4,7 @@ ghost use Rattle.std.specs.Prelude.{◌≡◌, IfOk, IfErr};
 ghost use Rattle.segment_job.specs.Segments.{sealed_from};
 ghost use Rattle.flow_core.specs.declared.outcome.Outcome.TheVariants.{Sealed as IsSealed};
 ghost use Rattle.flow_core.specs.Queues.{IsOwnOutcome};
-ghost use Rattle.work_desk.specs.Works.{IsBegun, IsTurnedAway};
+ghost use Rattle.work_desk.specs.Works.{IsBegun, IsTurnedAway, outcome_of};
 
 use crate::gate::Gate;
 use flow_core::{Claim, Outcome};
@@ -49,6 +49,39 @@ impl<'s> Worked<'s> {
     }
 }
 
+/// Why a claimed plan isn't sealed.
+#[derive(Clone, Copy, Debug, PartialEq, Eq)]
+pub(crate) enum Why {
+    /// The gate doesn't let it through.
+    Held,
+    /// Its rendition has no keys.
+    NoKeys,
+    /// There is no memory for its segment.
+    NoMemory,
+}
+
+/// A claimed plan that isn't sealed, and why.
+pub(crate) struct TurnedAway<'s> {
+    pub claim: Claim<'s>,
+    pub why: Why,
+}
+
+impl<'s> TurnedAway<'s> {
+    /// What is handed in: Held, or Refused.
+    pub(crate) fn into_worked(self) -> Worked<'s>
+        ensures claim { result.claim ≡ self.entry.claim }
+        ensures outcome { result.outcome ≡ outcome_of self.entry.why }
+        ensures own { IsOwnOutcome self.entry.claim.plan result.outcome }
+    {
+        let TurnedAway { claim, why } = self;
+        let outcome = match why {
+            Why::Held => Outcome::Held,
+            Why::NoKeys | Why::NoMemory => Outcome::Refused,
+        };
+        Worked { claim, outcome }
+    }
+}
+
 /// What a worker has to seal with: the keys of each rendition, by its number, and the gate that it asks.
 #[derive(Drop)]
 pub(crate) struct Means<'k, G> {
@@ -58,33 +91,32 @@ pub(crate) struct Means<'k, G> {
 }
 
 impl<'k, G: Gate> Means<'k, G> {
-    /// Asks the gate about a claimed plan, and makes its segment ready to be sealed. What the gate doesn't let through is
-    /// Held; Refused is a plan that there is no memory to seal, or of a rendition that has no keys.
-    pub(crate) fn begin<'s>(&self, claim: Claim<'s>) -> Result<Begun<'s>, Worked<'s>>
+    /// Asks the gate about a claimed plan, and makes its segment ready to be sealed. Where that can't be, says why.
+    pub(crate) fn begin<'s>(&self, claim: Claim<'s>) -> Result<Begun<'s>, TurnedAway<'s>>
         ensures claim { IfOk result (λ begun. begun.claim ≡ claim.entry) }
         ensures begun { IfOk result (λ begun. IsBegun (G.lets self.now.gate.now) self.now.keys.now claim.entry.plan begun.segment) }
-        ensures same { IfErr result (λ worked. worked.claim ≡ claim.entry) }
-        ensures own { IfErr result (λ worked. IsOwnOutcome claim.entry.plan worked.outcome) }
-        ensures away { IfErr result (λ worked. IsTurnedAway (G.lets self.now.gate.now) (G.stops self.now.gate.now) claim.entry.plan worked.outcome) }
+        ensures same { IfErr result (λ away. away.claim ≡ claim.entry) }
+        ensures away { IfErr result (λ away. IsTurnedAway (G.lets self.now.gate.now) (G.stops self.now.gate.now) self.now.keys.now
+            claim.entry.plan away.why) }
     {
         let plan = claim.plan();
         if !self.gate.pass(plan.rendition, plan.number) {
-            return Err(Worked {
+            return Err(TurnedAway {
                 claim,
-                outcome: Outcome::Held,
+                why: Why::Held,
             });
         }
         let Some(own) = self.keys.get(plan.rendition) else {
-            return Err(Worked {
+            return Err(TurnedAway {
                 claim,
-                outcome: Outcome::Refused,
+                why: Why::NoKeys,
             });
         };
         match Unsealed::of(self.alloc, plan, own) {
             Ok(segment) => Ok(Begun { claim, segment }),
-            Err(_) => Err(Worked {
+            Err(_) => Err(TurnedAway {
                 claim,
-                outcome: Outcome::Refused,
+                why: Why::NoMemory,
             }),
         }
     }

@@ -1,6 +1,6 @@
 //! A worker's run.
 
-ghost use Rattle.std.specs.Prelude.{◌≡◌, IfSome};
+ghost use Rattle.std.specs.Prelude.{◌≡◌, IfNone, IfSome};
 ghost use Rattle.flow_core.specs.Queues.{IsOwnOutcome};
 ghost use Rattle.work_desk.specs.Works.{IsBegun};
 
@@ -60,6 +60,7 @@ fn begin_some<'s, L: Ledger, M: Ledger, G: Gate, R: Wait>(
     means: &Means<'_, G>,
 ) -> Option<Batch<'s>>
     ensures number { pass.new.number ≡ pass.old.number }
+    ensures none { IfNone result (pass.new.count ≡ pass.old.count) }
 {
     let claim = desk.claim(rt, pass)?;
     let first = begin(rt, desk, means, claim);
@@ -90,8 +91,8 @@ fn begin<'s, L: Ledger, M: Ledger, G: Gate, R: Wait>(
 {
     match means.begin(claim) {
         Ok(begun) => Some(begun),
-        Err(worked) => {
-            hand_in(rt, desk, worked);
+        Err(away) => {
+            hand_in(rt, desk, away.into_worked());
             None
         }
     }
