@@ -1,13 +1,15 @@
 -- Between two rounds: ends are given, and full spools are turned out.
-use Rattle.std.proofs.Common.{◌≡◌, ◌∙◌, ℕ, zero, suc, ◌<◌, ◌≤◌, Bool, true, false, List, [], ◌∷◌, ◌++◌, length, Some, refl, ap, sym, subst, arith}
+use Rattle.std.proofs.Common.{◌≡◌, ◌∙◌, inl, inr, Option, ℕ, zero, suc, ◌<◌, ◌≤◌, Bool, true, false, List, [], ◌∷◌, ◌++◌, length, Some, refl, ap, sym, subst, arith}
 use Rattle.std.specs.List.{slice_get, slice_index_or}
 use Rattle.std.proofs.Math.Bool.{beq}
 use Rattle.std.proofs.Math.ListN.{set}
+use Rattle.std.proofs.lemmas.Bool.{cases_eq}
 use Rattle.std.proofs.lemmas.List.{append-nil, nil_from_length, get_or-set_same}
 use Rattle.std.proofs.lemmas.Option.{same_Some, slice_get_within}
 use Rattle.cutter.specs.Plans.{SegmentPlan}
 use Rattle.live_board.specs.Snapshots.{Known}
 use Rattle.ingest.specs.declared.lane.Lane.{Lane}
+use Rattle.ingest.specs.declared.lane.Stop.{Stop}
 use Rattle.item_io.specs.Views.{OutletView, SourceView}
 use Rattle.ingest.specs.Lanes.{is_good, made_of}
 use Rattle.ingest.specs.Streams.{Taken}
@@ -17,10 +19,11 @@ use Rattle.ladder_items.specs.Weave.{End, AreLegal, after, after_all, closed_par
 use Rattle.ladder_items.specs.Lanes.{BeginsMade}
 use Rattle.ladder_items.specs.Runs.{run_of}
 use Rattle.ladder_items.specs.World.{World, Stage, stream_at}
+use Rattle.ladder_items.proofs.Elsewhere.{set-elsewhere, set-here}
 use Rattle.ladder_items.proofs.Puts.{all_none}
 use Rattle.ladder_items.proofs.Worlds.{IsMoved, parts-of, parts-length, world-gave}
 use Rattle.rounds.specs.declared.run.course.Course.{Course}
-use Rattle.rounds.specs.Courses.{Start, IsOn, turns_at}
+use Rattle.rounds.specs.Courses.{Start, IsLeftInTime, IsOn, turns_at}
 use Rattle.rounds.specs.Showing.{ends_of}
 use Rattle.rounds.specs.Rounds.{unfed_of}
 use Rattle.rounds.proofs.Running.{stage-of}
@@ -147,7 +150,16 @@ module _ (X Y : Type 0) (input : SourceView X) (out : OutletView Y) (ladder : La
       subst (λ (ls : List Lane). (u : World (run_of input out course.reads start.sources course.sources.items start.outlet course.outlet) ladder (turns_at course) ls course.playlists.items still) × (u.events ≡ w.events ++ []))
       (sym lanes) v in
       subst (λ (d : Course X Y). IsOn input out ladder start d shows still) (sym same)
-      (on-with X Y input out ladder start course (record course { lanes = now.lanes }) shows waiting still on pair.0 (pair.1 ∙ append-nil _) refl refl refl on.counted on.turns)
+      (on-with X Y input out ladder start course (record course { lanes = now.lanes }) shows waiting still on pair.0 (pair.1 ∙ append-nil _) refl refl refl on.counted on.turns
+      (λ k l source is there.
+      let lane_at : slice_get (set course.lanes.items r moved) k ≡ Some l = ap (λ (ls : List Lane). slice_get ls k) (sym lanes) ∙ is in
+      elim (cases_eq k r) as (λ _. IsLeftInTime input course.reads (turns_at course k) l.stop source) [
+        | inl q ↦
+            let same_lane : moved ≡ l = set-here course.lanes.items r moved l (subst (λ (j : ℕ). slice_get (set course.lanes.items r moved) j ≡ Some l) q lane_at) in
+            subst (λ (told : Option Stop). IsLeftInTime input course.reads (turns_at course k) told source) (sym stop ∙ ap (λ (m : Lane). m.stop) same_lane)
+            (on.left k lane source (ap (λ (j : ℕ). slice_get course.lanes.items j) q ∙ at) there)
+        | inr q ↦ on.left k l source (sym (set-elsewhere course.lanes.items r k moved q) ∙ lane_at) there
+      ]))
 
   -- it wasn't, for want of memory
   pub on-unturned : (now : Course X Y) (waiting : ℕ → List SegmentPlan) → now.lanes.items ≡ course.lanes.items → now ≡ record course { lanes = now.lanes }
@@ -158,4 +170,5 @@ module _ (X Y : Type 0) (input : SourceView X) (out : OutletView Y) (ladder : La
       subst (λ (ls : List Lane). (u : World (run_of input out course.reads start.sources course.sources.items start.outlet course.outlet) ladder (turns_at course) ls course.playlists.items waiting) × (u.events ≡ w.events))
       (sym lanes) (w, refl) in
       subst (λ (d : Course X Y). IsOn input out ladder start d shows waiting) (sym same)
-      (on-with X Y input out ladder start course (record course { lanes = now.lanes }) shows waiting waiting on pair.0 pair.1 refl refl refl on.counted on.turns)
+      (on-with X Y input out ladder start course (record course { lanes = now.lanes }) shows waiting waiting on pair.0 pair.1 refl refl refl on.counted on.turns
+      (λ k lane source at there. on.left k lane source (ap (λ (ls : List Lane). slice_get ls k) (sym lanes) ∙ at) there))

@@ -1,10 +1,12 @@
 -- How a run ends that was given and shown behind some start.
-use Rattle.std.proofs.Common.{◌≡◌, ◌∙◌, ◌⊎◌, inl, inr, ℕ, zero, suc, ◌<◌, ◌≤◌, ◌^◌, Bool, false, List, [], ◌∷◌, ◌++◌, length, map, replicate, Some, None, refl, ap, sym, subst, arith}
+use Rattle.std.proofs.Common.{◌≡◌, ◌∙◌, ◌⊎◌, inl, inr, ℕ, zero, suc, ◌<◌, ◌≤◌, ◌^◌, Bool, true, false, List, [], ◌∷◌, ◌++◌, length, map, replicate, Option, Some, None, refl, ap, sym, subst, arith}
 use Rattle.std.specs.List.{slice_get, slice_index_or}
 use Rattle.std.proofs.lemmas.List.{append-nil, length-replicate}
+use Rattle.std.proofs.lemmas.Option.{get_or_from_slice_get}
 use Rattle.live_board.specs.Snapshots.{Known}
 use Rattle.live_board.specs.Counts.{counts_shown}
 use Rattle.ingest.specs.declared.lane.Lane.{Lane}
+use Rattle.ingest.specs.declared.lane.Stop.{Stop}
 use Rattle.item_io.specs.Views.{OutletView, SourceView}
 use Rattle.ingest.specs.Lanes.{IsFirst}
 use Rattle.ingest.specs.Streams.{closed_of}
@@ -17,12 +19,13 @@ use Rattle.ladder_items.specs.Weave.{Event, none_of, after_all, blocks}
 use Rattle.ladder_items.specs.Runs.{run_of}
 use Rattle.ladder_items.specs.World.{World, NothingDue, HaveRoom}
 use Rattle.ladder_items.specs.Packed.{told_of}
+use Rattle.ladder_items.proofs.Elsewhere.{some-at}
 use Rattle.ladder_items.proofs.Puts.{all_none}
 use Rattle.ladder_items.proofs.Worlds.{parts-of, nothing-given, world-first, at-default}
 use Rattle.ladder_items.proofs.Endings.{says-as, halted-said, world-halted, world-packed}
 use Rattle.rounds.specs.declared.run.course.Course.{Course}
 use Rattle.rounds.specs.Showing.{shown_by, ends_of}
-use Rattle.rounds.specs.Courses.{Start, IsOn, IsStopped, IsCutShown, IsAllGiven, of_sudden, SaysSudden, turns_at}
+use Rattle.rounds.specs.Courses.{Start, AreLeft, IsLeftInTime, IsOn, IsStopped, IsCutShown, IsAllGiven, of_sudden, SaysSudden, turns_at}
 use Rattle.rounds.specs.declared.run.books.Books.{Books}
 use Rattle.rounds.specs.Begun.{IsTold}
 use Rattle.rounds.specs.Shown.{Fits, IsPackedShown, IsTurnedAway, FaultSaysShown, of_shown}
@@ -45,10 +48,10 @@ module _ (X Y : Type 0) (input : SourceView X) (out : OutletView Y) (ladder : La
       → length start.sources ≡ length ladder.renditions → length course.lanes.items ≡ length ladder.renditions
       → ((k : ℕ) (lane : Lane) → slice_get course.lanes.items k ≡ Some lane → IsFirst k ladder.cut lane) → course.playlists.items ≡ shown_all ladder (none_of ladder)
       → ((k : ℕ) → closed_of k ladder.cut [] ≡ []) → course.ended.items ≡ replicate (length ladder.renditions) false
-      → course.reads ≡ start.reads → counts_shown start.shows.list ≡ replicate (length ladder.renditions) 0 → IsAllowed ladder → course.reads ≤ 2 ^ 40 → HaveRoom input course.reads start.sources → out.failures start.outlet < 2 ^ 63
+      → course.reads ≡ start.reads → counts_shown start.shows.list ≡ replicate (length ladder.renditions) 0 → IsAllowed ladder → 1 ≤ course.reads → course.reads ≤ 2 ^ 40 → HaveRoom input course.reads start.sources → out.failures start.outlet < 2 ^ 63
       → IsOn input out ladder start course start.shows (λ k. [])
   unfolding after_all shown_by
-  on-first start course sources outlet turns same each first shown none ended limit counts allowed most room failures =
+  on-first start course sources outlet turns same each first shown none ended limit counts allowed least most room failures =
       let n = length ladder.renditions in
       let unturned : (k : ℕ) → turns_at course k ≡ 0 = λ k. ap (λ (l : List ℕ). slice_index_or l k 0) turns ∙ at-default (length ladder.renditions) k 0 in
       let w = world-first X Y input out course.reads ladder (turns_at course) start.sources course.lanes.items course.playlists.items start.outlet same each first shown none (λ k below. unturned k) in
@@ -67,6 +70,11 @@ module _ (X Y : Type 0) (input : SourceView X) (out : OutletView Y) (ladder : La
         counted = ap length turns ∙ length-replicate (length ladder.renditions) 0;
         turns = λ k. omega (arith, unturned k);
         most = most;
+        left = λ k lane source at there. record {
+          stops = λ stopped. absurd (stopped (first k lane at).stop);
+          rests = λ all. absurd (omega (arith, unturned k, all, least));
+          goes_on = λ going some more. absurd (omega (arith, unturned k, some));
+        };
         room = room;
         failures = failures;
       }
@@ -112,7 +120,19 @@ module _ (X Y : Type 0) (input : SourceView X) (out : OutletView Y) (ladder : La
       (of_shown (run_of input out course.reads start.sources course.sources.items start.outlet course.outlet) ladder workers start.shows.list shows.list) fault
       (λ no. absurd no) (λ r stop no. absurd no) (λ one. (stopped.cut, one)) (λ same. (stopped.cut, same)) (λ r n is same. (stopped.cut, same)) stopped.says)
 
+  stopped-left : (reads turns : ℕ) (stop : Option Stop) (source : X) → IsLeftInTime input reads turns stop source → (stop ≡ None → reads ≤ turns) → input.is_left source ≡ true
+  stopped-left reads turns None source left rests = left.rests (rests refl)
+  stopped-left reads turns (Some stop) source left rests = left.stops (λ e. cc)
+
   module _ (start : Start X Y) (course : Course X Y) (shows : Known) (on : IsOn input out ladder start course shows (λ k. [])) (all : IsAllGiven course) where
+    -- each source was left
+    pub all-left : AreLeft input course.sources.items
+    all-left k d below =
+        let s = some-at course.sources.items k below in
+        let l = some-at course.lanes.items k (omega (arith, below, on.world.same_now, on.world.same_lanes)) in
+        subst (λ (x : X). input.is_left x ≡ true) (sym (get_or_from_slice_get course.sources.items k s.0 d s.1))
+        (stopped-left course.reads (turns_at course k) l.0.stop s.0 (on.left k l.0 s.0 l.1 s.1) (all.rests k l.0 l.1))
+
     -- all that is closed was given
     abbrev nothing-due : NothingDue (run_of input out course.reads start.sources course.sources.items start.outlet course.outlet) ladder (turns_at course) course.lanes.items course.playlists.items
     nothing-due = record {

@@ -202,6 +202,7 @@ module _ (X Y : Type 0) (input : SourceView X) (out : OutletView Y) (ladder : La
           counted = on.counted;
           turns = on.turns;
           most = on.most;
+          left = on.left;
           room = on.room;
           failures = on.failures;
         },

@@ -10,7 +10,7 @@ use Rattle.ingest.specs.Lanes.{IsTurned}
 use Rattle.item_io.specs.Views.{SourceView}
 use Rattle.ladder_items.proofs.Elsewhere.{set-there}
 use Rattle.rounds.specs.declared.run.course.Course.{Course}
-use Rattle.rounds.specs.Courses.{HadNone, HadOne, HadOneAtMost, OthersStay, ReadsNone, turns_at}
+use Rattle.rounds.specs.Courses.{HadNone, HadOne, HadOneAtMost, HasTurns, OthersStay, ReadsNone, turns_at}
 
 pub had-none : {X Y : Type 0} (k : ℕ) (course : Course X Y) → HadNone k course course
 had-none k course = record { turns = refl; lanes = refl; sources = refl }
@@ -101,3 +101,16 @@ most-then {X} {Y} input r a b c each rest one others k =
 pub rest-then : {X Y : Type 0} (r : ℕ) (a b c : Course X Y) → ((k : ℕ) → r ≤ k → HadNone k a b) → OthersStay r b c → (k : ℕ) → r + 1 ≤ k → HadNone k a c
 rest-then r a b c rest others k above =
     none-then k a b c (rest k (omega (arith, above))) (none-other r k b c others (λ q. absurd (omega (arith, above, q))))
+
+-- rendition k had its turn among those before r, or has it now
+pub one-then : {X Y : Type 0} (input : SourceView X) (r k : ℕ) (a b c : Course X Y) → k < r + 1 → (k < r → HadOne input k a b) → HadNone r a b
+    → (k ≡ r → HadOne input r b c) → OthersStay r b c → HadOne input k a c
+one-then {X} {Y} input r k a b c below before none here others =
+    elim (cases_eq k r) as (λ _. HadOne input k a c) [
+      | inl q ↦ subst (λ (j : ℕ). HadOne input j a c) (sym q) (one-behind input r a b c none (here q))
+      | inr q ↦ one-before input k a b c (before (omega (arith, below, q))) (none-other r k b c others q)
+    ]
+
+-- a rendition that had no turn has those that it had
+pub turns-behind : {X Y : Type 0} (k : ℕ) (a b : Course X Y) → HadNone k a b → b.reads ≡ a.reads → HasTurns k a → HasTurns k b
+turns-behind k a b none reads has = record { lane = has.lane; there = none.lanes ∙ has.there; going = has.going; below = omega (arith, none.turns, reads, has.below) }

@@ -1,11 +1,12 @@
 -- A run under way on many threads.
-use Rattle.std.specs.Prelude.{◌≡◌, ◌≢◌, ◌⊎◌, ℕ, ◌+◌, ◌<◌, ◌≤◌, ◌^◌, List, [], ◌∷◌, ◌++◌, length, sum, None, Some, slice_get, slice_index_or, true, false}
+use Rattle.std.specs.Prelude.{◌≡◌, ◌≢◌, ◌⊎◌, ℕ, ◌+◌, ◌<◌, ◌≤◌, ◌^◌, List, [], ◌∷◌, ◌++◌, All, length, sum, Option, None, Some, slice_get, slice_set, slice_index_or, true, false}
 use Rattle.cutter.specs.Plans.{SegmentPlan}
 use Rattle.item_io.specs.Items.{ItemValue}
 use Rattle.live_board.specs.Snapshots.{SnapshotFacts, Known}
 use Rattle.live_board.specs.Counts.{counts_shown}
-use Rattle.item_io.specs.Views.{OutletView, SourceView}
+use Rattle.item_io.specs.Views.{Leaves, OutletView, SourceView}
 use Rattle.ingest.specs.declared.lane.Lane.{Lane}
+use Rattle.ingest.specs.declared.lane.Stop.{Stop}
 use Rattle.ingest.specs.Lanes.{is_good, IsTurned}
 use Rattle.ladder_items.specs.declared.fault.PackFault.{PackFault}
 use Rattle.ladder_items.specs.declared.fault.PackFault.TheVariants.{NoMemory}
@@ -89,6 +90,38 @@ pub record Start (X Y : Type 0) : Type 0 where
 abbrev pub turns_at : {X Y : Type 0} → Course X Y → ℕ → ℕ
 turns_at course k = slice_index_or course.turns.items k 0
 
+-- A rendition that stopped so, or goes on, had so many turns of at most so many. Its source was left where no turn follows, and wasn't
+-- left since its last read where one does.
+pub record IsLeftInTime {X : Type 0} (input : SourceView X) (reads turns : ℕ) (stop : Option Stop) (source : X) : Type 0 where
+  pub stops : stop ≢ None → input.is_left source ≡ true
+  pub rests : reads ≤ turns → input.is_left source ≡ true
+  pub goes_on : stop ≡ None → 0 < turns → turns < reads → input.is_left source ≡ false
+
+-- each source was left in time
+abbrev pub AreLeftInTime : {X Y : Type 0} → SourceView X → Course X Y → Type 0
+AreLeftInTime {X} input course =
+    (k : ℕ) (lane : Lane) (source : X) → slice_get course.lanes.items k ≡ Some lane → slice_get course.sources.items k ≡ Some source
+    → IsLeftInTime input course.reads (turns_at course k) lane.stop source
+
+-- each of these sources was left, and not read since
+abbrev pub AreLeft : {X : Type 0} → SourceView X → List X → Type 0
+AreLeft input sources = All (λ source. input.is_left source ≡ true) sources
+
+-- the source at r was left, and no other changed
+pub record LeavesAt {X : Type 0} (input : SourceView X) (r : ℕ) (old new : List X) : Type 0 where
+  pub source : X
+  pub source_now : X
+  pub was : slice_get old r ≡ Some source
+  pub is : new ≡ slice_set old r source_now
+  pub left : Leaves input source source_now
+
+-- rendition k hasn't stopped, nor had all its turns
+pub record HasTurns {X Y : Type 0} (k : ℕ) (course : Course X Y) : Type 0 where
+  pub lane : Lane
+  pub there : slice_get course.lanes.items k ≡ Some lane
+  pub going : lane.stop ≡ None
+  pub below : turns_at course k < course.reads
+
 -- no other rendition than r had a turn
 pub record OthersStay {X Y : Type 0} (r : ℕ) (old new : Course X Y) : Type 0 where
   pub turns : (k : ℕ) → k ≢ r → turns_at new k ≡ turns_at old k
@@ -134,6 +167,7 @@ pub record IsOn {X Y : Type 0} (input : SourceView X) (out : OutletView Y) (ladd
   pub counted : length course.turns.items ≡ length ladder.renditions
   pub turns : (k : ℕ) → turns_at course k ≤ course.reads
   pub most : course.reads ≤ READS
+  pub left : AreLeftInTime input course
   pub room : HaveRoom input course.reads start.sources
   pub failures : out.failures start.outlet < 2 ^ 63
 
@@ -183,10 +217,15 @@ ReadsShort {X} {Y} input out old new =
     (ladder : Ladder) (start : Start X Y) (shows : Known) (waiting : ℕ → List SegmentPlan)
     → IsOn input out ladder start old shows waiting → IsStopped input out ladder start new shows NoMemory
 
--- some turns more were had, or nothing was closed
+-- a rendition that has stopped stays as it stopped
+abbrev pub StayStopped : List Lane → List Lane → Type 0
+StayStopped old new = (k : ℕ) (lane : Lane) → slice_get old k ≡ Some lane → lane.stop ≢ None → (now : Lane) × (slice_get new k ≡ Some now) × (now.stop ≡ lane.stop)
+
+-- some turns more were had, or nothing was closed; what has stopped stays so
 pub record ReadsMore {X Y : Type 0} (old new : Course X Y) : Type 0 where
   pub more : turns_in old ≤ turns_in new
   pub stays : turns_in new ≡ turns_in old → new.lanes ≡ old.lanes
+  pub stopped : StayStopped old.lanes.items new.lanes.items
 
 -- the run stands here between two rounds: no plan waits
 abbrev pub IsBetween : {X Y R : Type 0} → SourceView X → OutletView Y → Ladder → Start X Y → Broadcast X Y R → Type 0

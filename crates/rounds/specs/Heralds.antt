@@ -15,8 +15,9 @@ pub record Untold (told : List Bool) (r : ℕ) (stop : Option Stop) (fault : Pac
   pub stands : fault_of r stop ≡ Some fault
   pub new : slice_index_or told r true ≡ false
 
--- rendition r counts as told from now on if it stopped by a fault, and each other one as before
-pub record TellsOne (told : List Bool) (r : ℕ) (stop : Option Stop) (told_now : List Bool) : Type 0 where
+-- rendition r counts as told from now on if it stopped by a fault, and each other one as before; a fault that wasn't told was told now
+pub record TellsOne (was_told : PackFault → Type 0) (told : List Bool) (r : ℕ) (stop : Option Stop) (told_now : List Bool) : Type 0 where
+  pub tells : (fault : PackFault) → Untold told r stop fault → was_told fault
   pub stands : (fault : PackFault) → fault_of r stop ≡ Some fault → slice_index_or told_now r true ≡ true
   pub none : fault_of r stop ≡ None → told_now ≡ told
   pub others : (k : ℕ) → k ≢ r → slice_index_or told_now k true ≡ slice_index_or told k true
@@ -25,7 +26,27 @@ pub record TellsOne (told : List Bool) (r : ℕ) (stop : Option Stop) (told_now 
 abbrev pub HasFault : ℕ → List Lane → ℕ → Type 0
 HasFault n lanes k = (lane : Lane) × (fault : PackFault) × (k < n) × (slice_get lanes k ≡ Some lane) × (fault_of k lane.stop ≡ Some fault)
 
--- of the first n renditions, those that stopped by a fault count as told from now on, and all others as before
-pub record TellsAll (n : ℕ) (told : List Bool) (lanes : List Lane) (told_now : List Bool) : Type 0 where
+-- of the first n renditions, those that stopped by a fault count as told from now on, and all others as before; each fault that wasn't
+-- told was told now
+pub record TellsAll (was_told : PackFault → Type 0) (n : ℕ) (told : List Bool) (lanes : List Lane) (told_now : List Bool) : Type 0 where
+  pub tells : (k : ℕ) (lane : Lane) (fault : PackFault) → k < n → slice_get lanes k ≡ Some lane → Untold told k lane.stop fault → was_told fault
   pub stands : (k : ℕ) → HasFault n lanes k → slice_index_or told_now k true ≡ true
   pub others : (k : ℕ) → (HasFault n lanes k → ⊥) → slice_index_or told_now k true ≡ slice_index_or told k true
+
+-- rendition k stopped by a fault that was told
+pub record IsHeard (was_told : PackFault → Type 0) (k : ℕ) (stop : Option Stop) : Type 0 where
+  pub fault : PackFault
+  pub stands : fault_of k stop ≡ Some fault
+  pub heard : was_told fault
+
+-- of the first n renditions, those that count as told stopped by faults that were told
+abbrev pub AreHeard : (PackFault → Type 0) → ℕ → List Bool → List Lane → Type 0
+AreHeard was_told n told lanes = (k : ℕ) (lane : Lane) → k < n → slice_get lanes k ≡ Some lane → slice_index_or told k true ≡ true → IsHeard was_told k lane.stop
+
+-- each rendition that stopped by a fault has told it
+abbrev pub AllHeard : (PackFault → Type 0) → List Lane → Type 0
+AllHeard was_told lanes = (k : ℕ) (lane : Lane) (fault : PackFault) → slice_get lanes k ≡ Some lane → fault_of k lane.stop ≡ Some fault → was_told fault
+
+-- if it is the fault by which some rendition stopped, it was told
+abbrev pub IsHeardOf : (PackFault → Type 0) → PackFault → Type 0
+IsHeardOf was_told fault = (k : ℕ) (stop : Stop) → fault_of k (Some stop) ≡ Some fault → was_told fault

@@ -1,11 +1,12 @@
 //! A run that fits: it goes from round to round, and answers.
 
-ghost use Rattle.std.specs.Prelude.{◌≡◌, ◌<◌, ◌≤◌, ◌^◌, ℕ, IfErr, IfOk, min};
+ghost use Rattle.std.specs.Prelude.{◌≡◌, ◌<◌, ◌≤◌, ◌^◌, ℕ, IfErr, IfOk, OnOk, min};
 ghost use Rattle.ladder_items.specs.Ladder.{Ladder};
 ghost use Rattle.ladder_items.specs.World.{HaveRoom};
 ghost use Rattle.rounds.specs.Begun.{IsBegun};
-ghost use Rattle.rounds.specs.Courses.{IsBetween};
+ghost use Rattle.rounds.specs.Courses.{AreLeft, IsBetween};
 ghost use Rattle.rounds.specs.Gated.{IsGatesWord};
+ghost use Rattle.rounds.specs.Heralds.{IsHeardOf};
 ghost use Rattle.rounds.specs.Shown.{EndsFaulted, EndsPacked, FitsStart, start_at};
 ghost use Rattle.rounds.specs.Paces.{enough_turns};
 ghost use Rattle.item_io.specs.declared.limits.TheConstants.{READS};
@@ -33,6 +34,7 @@ fn set_out<'r, S: Source, O: Outlet, R: Wait>(
     first: First,
     endpoints: Endpoints<S, O>,
 ) -> (BetweenRounds<'r, S, O, R>, Vec<Spool>, Vec<Keys>)
+    requires least { 1 ≤ endpoints.reads }
     requires most { endpoints.reads ≤ READS }
     requires room { HaveRoom S.input endpoints.reads endpoints.sources.items }
     requires failures { O.output.failures endpoints.outlet < 2 ^ 63 }
@@ -79,6 +81,7 @@ pub fn pack_fitted<
     R: Threads + Wait + Sync,
     H: Herald,
 >(setup: &Setup<'_, G, R>, first: First, endpoints: Endpoints<S, O>, herald: &H) -> Ran<S, O>
+    requires least { 1 ≤ endpoints.reads }
     requires most { endpoints.reads ≤ READS }
     requires room { HaveRoom S.input endpoints.reads endpoints.sources.items }
     requires failures { O.output.failures endpoints.outlet < 2 ^ 63 }
@@ -90,6 +93,8 @@ pub fn pack_fitted<
     ensures fault { IfErr result.answer (EndsFaulted S.input O.output setup.now.settings.now setup.now.workers (start_at endpoints) result) }
     ensures board { result.publisher.board ≡ endpoints.publisher.board }
     ensures held { IfErr result.answer (IsGatesWord (G.stops setup.now.gate.now)) }
+    ensures left { OnOk result.answer (AreLeft S.input result.sources.items) }
+    ensures told { IfErr result.answer (IsHeardOf (H.was_told herald.now)) }
 {
     let (between, spare, keys) = set_out(setup.rt, first, endpoints);
     let (between, answer) = run_rounds(setup, &keys, spare, between, herald);

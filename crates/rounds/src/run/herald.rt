@@ -1,7 +1,8 @@
 //! Faults are told when they stand, while the other renditions are packed on.
 
-ghost use Rattle.std.specs.Prelude.{◌≡◌, ◌<◌, None, Some, false, true, IfSome, replicate, slice_index_or, slice_set};
+ghost use Rattle.std.specs.Prelude.{◌≡◌, ◌<◌, ℕ, None, Some, false, true, IfSome, replicate, slice_index_or, slice_set};
 ghost use Rattle.rounds.specs.Heralds.{fault_of, TellsAll, TellsOne, Untold};
+ghost use Rattle.ladder_items.specs.declared.fault.PackFault.{PackFault};
 ghost use Rattle.ladder_items.specs.Packed.{told_of_cut};
 
 use crate::run::course::Course;
@@ -11,11 +12,19 @@ use ladder_items::PackFault;
 /// Who is told how a run goes on: each rendition's fault as soon as it stands, and how many segments are complete. What a run
 /// gives doesn't depend on it.
 pub trait Herald {
+    /// It was told this fault.
+    ghost was_told: { Self → PackFault → Type 0 } = { λ _ _. Unit {0} };
+
+    /// It was told that so many segments are complete.
+    ghost was_completed: { Self → ℕ → Type 0 } = { λ _ _. Unit {0} };
+
     /// A rendition gives no more, since it has this fault: no read of it follows. It's told once.
-    fn tell(&self, fault: PackFault);
+    fn tell(&self, fault: PackFault)
+        ensures { was_told self.now fault };
 
     /// So many segments were completed by now, of all renditions together. Those that weren't listed yet are sealed next.
-    fn completed(&self, _segments: u128) {}
+    fn completed(&self, segments: u128)
+        ensures { was_completed self.now segments };
 }
 
 /// Nobody: faults are told by the answer of the run alone.
@@ -24,6 +33,8 @@ pub struct Nobody;
 
 impl Herald for Nobody {
     fn tell(&self, _fault: PackFault) {}
+
+    fn completed(&self, _segments: u128) {}
 }
 
 /// As many renditions as a ladder has at the most.
@@ -40,6 +51,7 @@ impl<'h, H: Herald> Telling<'h, H> {
     /// Nothing was told yet.
     pub fn new(herald: &'h H) -> Telling<'h, H>
         ensures none { result.told ≡ replicate RENDITIONS false }
+        ensures herald { result.herald ≡ herald.entry }
     {
         Telling {
             herald,
@@ -50,7 +62,8 @@ impl<'h, H: Herald> Telling<'h, H> {
     /// Tells the fault of rendition `r`, if it stopped by one that wasn't told yet.
     fn tell(&mut self, r: usize, stop: Option<Stop>)
         requires { r < RENDITIONS }
-        ensures { TellsOne self.old.told r stop self.new.told }
+        ensures ok { TellsOne (H.was_told self.old.herald.now) self.old.told r stop self.new.told }
+        ensures herald { self.new.herald ≡ self.old.herald }
     {
         if let Some(fault) = self.untold(r, stop) {
             self.herald.tell(fault);
@@ -64,6 +77,7 @@ impl<'h, H: Herald> Telling<'h, H> {
         ensures told { IfSome result (λ fault. self.new.told ≡ slice_set self.old.told r true) }
         ensures none { result ≡ None → slice_index_or self.old.told r true ≡ false → fault_of r stop ≡ None }
         ensures kept { result ≡ None → self.new.told ≡ self.old.told }
+        ensures herald { self.new.herald ≡ self.old.herald }
     {
         if self.told[r] {
             return None;
@@ -102,7 +116,8 @@ fn cut_fault(r: usize, fault: StreamFault) -> PackFault
 impl<S, O> Course<S, O> {
     /// Tells the faults of all renditions that weren't told yet.
     pub fn tell_faults<H: Herald>(&self, telling: &mut Telling<'_, H>)
-        ensures { TellsAll RENDITIONS telling.old.told self.now.lanes.items telling.new.told }
+        ensures ok { TellsAll (H.was_told telling.old.herald.now) RENDITIONS telling.old.told self.now.lanes.items telling.new.told }
+        ensures herald { telling.new.herald ≡ telling.old.herald }
     {
         for r in 0..self.lanes.len().min(RENDITIONS) {
             telling.tell(r, self.lanes[r].stop);

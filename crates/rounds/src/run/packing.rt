@@ -4,7 +4,9 @@ ghost use Rattle.std.specs.Prelude.{◌≡◌, ◌<◌, ◌≤◌, ◌^◌, Err,
 ghost use Rattle.ladder_items.specs.World.{HaveRoom};
 ghost use Rattle.live_board.specs.Counts.{counts_shown};
 ghost use Rattle.rounds.specs.Begun.{IsBegun};
+ghost use Rattle.rounds.specs.Courses.{AreLeft};
 ghost use Rattle.rounds.specs.Gated.{IsGatesWord, IsUnheld};
+ghost use Rattle.rounds.specs.Heralds.{IsHeardOf};
 ghost use Rattle.rounds.specs.Shown.{EndsAway, EndsFaulted, EndsPacked, Fits, FitsStart, IsUnbegun, start_at, start_of};
 
 use crate::run::first::{First, beginning};
@@ -27,7 +29,7 @@ use work_desk::Gate;
 ///
 /// For each rendition it gives what `pack_serial` gives, in the same order; between renditions the order may differ. After the
 /// four items of each segment and the two of each end it publishes one snapshot. Sources, publisher and outlet come back with
-/// every answer.
+/// every answer. Where it's Ok, each source was left behind its last read.
 ///
 /// The publisher must have as many renditions as the settings, none of them with a segment, and there must be 1 to 64 workers;
 /// otherwise the answer is Settings. The gate is asked before a segment is sealed. It is asked again, by the calling thread, about one
@@ -52,6 +54,7 @@ pub fn pack_parallel<S: Source + Drop, O: Outlet + Drop, G: Gate + Sync, R: Thre
     ensures fits { OnOk result.answer (Fits settings.now (length sources.items) workers (counts_shown publisher.list)) }
     ensures breach { IfErr result.answer (EndsAway S.input O.output settings.now workers (start_of sources.items outlet publisher READS) result) }
     ensures held { IfErr result.answer (IsGatesWord (G.stops gate.now)) }
+    ensures left { OnOk result.answer (AreLeft S.input result.sources.items) }
 {
     pack_parallel_reads(
         rt, alloc, sources, settings, workers, gate, publisher, outlet, READS,
@@ -87,6 +90,7 @@ pub fn pack_parallel_reads<
     ensures fits { OnOk result.answer (Fits settings.now (length sources.items) workers (counts_shown publisher.list)) }
     ensures breach { IfErr result.answer (EndsAway S.input O.output settings.now workers (start_of sources.items outlet publisher reads) result) }
     ensures held { IfErr result.answer (IsGatesWord (G.stops gate.now)) }
+    ensures left { OnOk result.answer (AreLeft S.input result.sources.items) }
 {
     pack_in_batches(
         rt, alloc, sources, settings, workers, gate, publisher, outlet, reads, None,
@@ -127,6 +131,7 @@ pub fn pack_in_batches<
     ensures fits { OnOk result.answer (Fits settings.now (length sources.items) workers (counts_shown publisher.list)) }
     ensures breach { IfErr result.answer (EndsAway S.input O.output settings.now workers (start_of sources.items outlet publisher reads) result) }
     ensures held { IfErr result.answer (IsGatesWord (G.stops gate.now)) }
+    ensures left { OnOk result.answer (AreLeft S.input result.sources.items) }
 {
     pack_heralded(
         rt, alloc, sources, settings, workers, gate, publisher, outlet, reads, batch, &Nobody,
@@ -165,6 +170,8 @@ pub fn pack_heralded<
     ensures fits { OnOk result.answer (Fits settings.now (length sources.items) workers (counts_shown publisher.list)) }
     ensures breach { IfErr result.answer (EndsAway S.input O.output settings.now workers (start_of sources.items outlet publisher reads) result) }
     ensures held { IfErr result.answer (IsGatesWord (G.stops gate.now)) }
+    ensures left { OnOk result.answer (AreLeft S.input result.sources.items) }
+    ensures told { IfErr result.answer (IsHeardOf (H.was_told herald.now)) }
 {
     let endpoints = Endpoints {
         sources,

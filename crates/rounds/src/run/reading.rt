@@ -3,8 +3,11 @@
 ghost use Rattle.std.specs.Prelude.{◌≡◌, ◌+◌, ◌<◌, ◌≤◌, ◌^◌, [], ℕ, Decides, IfOk, OnErr, OnOk, None, Some, true, false, length, slice_get, slice_set};
 ghost use Rattle.ingest.specs.Lanes.{HasBroken};
 ghost use Rattle.ingest.specs.declared.lane.Lane.{Lane};
-ghost use Rattle.rounds.specs.Courses.{HadOne, HadOneAtMost, HasClosed, IsRun, OthersStay, ReadsMore, ReadsOn, ReadsShort, Rests, turns_at, turns_in};
+ghost use Rattle.rounds.specs.Courses.{HadOne, HadOneAtMost, HasClosed, HasTurns, IsRun, LeavesAt, OthersStay, ReadsMore, ReadsOn, ReadsShort};
+ghost use Rattle.rounds.specs.Courses.{Rests, turns_at, turns_in};
+ghost use Rattle.rounds.specs.Heralds.{AreHeard, TellsAll};
 ghost use Rattle.rounds.specs.Paces.{HasEnough, StopsSoon, closed_in, wanted};
+ghost use Rattle.rounds.specs.declared.run.herald.TheConstants.{RENDITIONS};
 ghost use Rattle.item_io.specs.declared.limits.TheConstants.{PIECE, READS};
 
 use crate::run::course::Course;
@@ -36,6 +39,7 @@ impl<S: Source, O: Outlet> Course<S, O> {
         requires within { r < length self.old.sources.items }
         ensures same { self.new ≡ record self.old { sources = self.new.sources } }
         ensures sources { self.new.sources.items ≡ self.old.sources.items }
+        ensures ready { (source : S) → slice_get self.old.sources.items r ≡ Some source → S.tells source ≡ false → result ≡ true }
     {
         self.sources[r].is_ready()
     }
@@ -47,7 +51,8 @@ impl<S: Source, O: Outlet> Course<S, O> {
         requires most { self.old.reads ≤ READS }
         requires source { r < length self.old.sources.items }
         ensures same { self.new ≡ record self.old { sources = self.new.sources; turns = self.new.turns } }
-        ensures sources { self.new.sources.items ≡ self.old.sources.items }
+        ensures last { self.old.reads ≤ turns_at self.old r + 1 → LeavesAt S.input r self.old.sources.items self.new.sources.items }
+        ensures sources { turns_at self.old r + 1 < self.old.reads → self.new.sources.items ≡ self.old.sources.items }
         ensures turns { self.new.turns.items ≡ slice_set self.old.turns.items r (turns_at self.old r + 1) }
     {
         let count = self.turns[r] + 1;
@@ -98,6 +103,8 @@ impl<S: Source, O: Outlet> Course<S, O> {
         ensures others { OthersStay r self.old self.new }
         ensures once { OnOk result (turns_in self.new ≤ turns_in self.old + 1) }
         ensures one { OnOk result (HadOneAtMost S.input r self.old self.new) }
+        ensures had { OnOk result ((source : S) → slice_get self.old.sources.items r ≡ Some source → S.tells source ≡ false → HasTurns r self.old
+            → HadOne S.input r self.old self.new) }
         ensures none { OnErr result ((lane : Lane) → slice_get self.old.lanes.items r ≡ Some lane → lane.stop ≡ None) }
         ensures unread { OnErr result (turns_at self.old r < self.old.reads) }
         ensures broken { OnErr result (HasBroken self.new.lanes.items) }
@@ -112,7 +119,7 @@ impl<S: Source, O: Outlet> Course<S, O> {
         Ok(true)
     }
 
-    /// Gives each rendition that goes on and is ready one turn. Returns whether any had one.
+    /// Gives each rendition that goes on and is ready one turn: each whose source can't tell is. Returns whether any had one.
     pub fn read_ready(&mut self, buffer: &mut [u8]) -> Result<bool, AllocError>
         requires some { 0 < length buffer.old }
         requires short { length buffer.old ≤ PIECE }
@@ -124,6 +131,8 @@ impl<S: Source, O: Outlet> Course<S, O> {
         ensures told { IfOk result (λ any. Decides any (turns_in self.old < turns_in self.new)) }
         ensures once { OnOk result (turns_in self.new ≤ turns_in self.old + length self.old.lanes.items) }
         ensures each { OnOk result ((k : ℕ) → HadOneAtMost S.input k self.old self.new) }
+        ensures had { OnOk result ((k : ℕ) (source : S) → slice_get self.old.sources.items k ≡ Some source → S.tells source ≡ false
+            → HasTurns k self.old → HadOne S.input k self.old self.new) }
         ensures none { OnErr result (Rests self.old → ⊥) }
         ensures broken { OnErr result (HasBroken self.new.lanes.items) }
     {
@@ -154,6 +163,9 @@ impl<S: Source, O: Outlet> Course<S, O> {
         ensures soon { OnOk result (turns_in self.old < turns_in self.new → StopsSoon S.input O.output pace self.old self.new) }
         ensures none { OnErr result (HasEnough (wanted pace 0 0) self.old → ⊥) }
         ensures broken { OnErr result (HasBroken self.new.lanes.items) }
+        ensures told { OnOk result (AreHeard (H.was_told telling.old.herald.now) RENDITIONS telling.old.told self.old.lanes.items
+            → AreHeard (H.was_told telling.old.herald.now) RENDITIONS telling.new.told self.new.lanes.items) }
+        ensures herald { telling.new.herald ≡ telling.old.herald }
     {
         let before = self.turns_had();
         for _ in rt.forever() {
@@ -167,17 +179,19 @@ impl<S: Source, O: Outlet> Course<S, O> {
             if self.has_closed(1) {
                 return Ok(());
             }
-            self.tell_faults(telling);
-            self.wait();
+            self.wait(telling);
         }
         unreachable!()
     }
 
-    /// Waits until a source is ready.
-    fn wait(&mut self)
+    /// Tells the faults that stand, and waits until a source is ready.
+    fn wait<H: Herald>(&mut self, telling: &mut Telling<'_, H>)
         ensures same { self.new ≡ record self.old { sources = self.new.sources } }
         ensures sources { self.new.sources.items ≡ self.old.sources.items }
+        ensures told { TellsAll (H.was_told telling.old.herald.now) RENDITIONS telling.old.told self.old.lanes.items telling.new.told }
+        ensures herald { telling.new.herald ≡ telling.old.herald }
     {
+        self.tell_faults(telling);
         S::wait_any(&mut self.sources);
     }
 

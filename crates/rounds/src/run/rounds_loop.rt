@@ -1,14 +1,16 @@
 //! From round to round, until everything is given.
 
-ghost use Rattle.std.specs.Prelude.{◌≡◌, ◌+◌, ◌<◌, ◌≤◌, IfErr, IfOk, OnErr, OnOk, length, sum};
+ghost use Rattle.std.specs.Prelude.{◌≡◌, ◌+◌, ◌<◌, ◌≤◌, IfErr, IfOk, OnErr, OnOk, length, sum, sum_by};
 ghost use Rattle.ingest.specs.Lanes.{HasBroken};
 ghost use Rattle.rounds.specs.Begun.{keys_of};
 ghost use Rattle.rounds.specs.Courses.{HasGoodEnds, IsAllGiven, IsSomeBetween, NoneClosed, ReadsNone, StaysBetween, StopsBetween};
 ghost use Rattle.rounds.specs.Courses.{HasEndDue, IsRun, ReadsMore, ReadsOn, ReadsShort, turns_in};
 ghost use Rattle.rounds.specs.Gated.{IsGatesWord, IsUnheld};
+ghost use Rattle.rounds.specs.Heralds.{AllHeard, AreHeard, TellsAll};
 ghost use Rattle.rounds.specs.Paces.{HasEnough, StopsSoon, wanted};
 ghost use Rattle.rounds.specs.Rounds.{SwapsOut, SwapsShort, TakesClosed};
 ghost use Rattle.rounds.specs.Showing.{counts_of};
+ghost use Rattle.rounds.specs.declared.run.herald.TheConstants.{RENDITIONS};
 
 use crate::round::starting::run_round;
 use crate::run::between::BetweenRounds;
@@ -26,11 +28,12 @@ use std::sync::Wait;
 use std::thread::Threads;
 use work_desk::Gate;
 
-/// Gives the ends that are due.
-fn give_due_ends<'r, S: Source, O: Outlet, R: Wait>(
+/// Tells the faults that stand, and gives the ends that are due.
+fn give_due_ends<'r, S: Source, O: Outlet, R: Wait, H: Herald>(
     alloc: Global,
     settings: &Settings,
     between: BetweenRounds<'r, S, O, R>,
+    telling: &mut Telling<'_, H>,
 ) -> (BetweenRounds<'r, S, O, R>, Result<(), PackFault>)
     requires on { IsSomeBetween S.input O.output settings.now between.broadcast }
     ensures ok { OnOk result.1 (StaysBetween S.input O.output settings.now between.entry.broadcast result.0.broadcast) }
@@ -41,11 +44,14 @@ fn give_due_ends<'r, S: Source, O: Outlet, R: Wait>(
     ensures ended { OnOk result.1 (HasGoodEnds settings.now result.0.broadcast.course) }
     ensures none { OnErr result.1 (HasEndDue settings.now between.entry.broadcast.course) }
     ensures books { result.0.books ≡ between.entry.books }
+    ensures told { TellsAll (H.was_told telling.old.herald.now) RENDITIONS telling.old.told between.entry.broadcast.course.lanes.items telling.new.told }
+    ensures herald { telling.new.herald ≡ telling.old.herald }
 {
     let BetweenRounds {
         mut broadcast,
         books,
     } = between;
+    broadcast.course.tell_faults(telling);
     let answer = broadcast.give_ends(alloc, settings);
     (BetweenRounds { broadcast, books }, answer)
 }
@@ -93,6 +99,9 @@ fn read_between<'r, S: Source, O: Outlet, R: Wait, H: Herald>(
     ensures broken { OnErr result.1 (HasBroken result.0.broadcast.course.lanes.items) }
     ensures held { result.0.broadcast.held.publisher ≡ between.entry.broadcast.held.publisher }
     ensures books { result.0.books ≡ between.entry.books }
+    ensures told { OnOk result.1 (AreHeard (H.was_told telling.old.herald.now) RENDITIONS telling.old.told between.entry.broadcast.course.lanes.items
+        → AreHeard (H.was_told telling.old.herald.now) RENDITIONS telling.new.told result.0.broadcast.course.lanes.items) }
+    ensures herald { telling.new.herald ≡ telling.old.herald }
 {
     let BetweenRounds {
         mut broadcast,
@@ -108,7 +117,10 @@ fn tell_completed<'r, S: Source, O: Outlet, R: Wait, H: Herald>(
     herald: &H,
     between: &BetweenRounds<'r, S, O, R>,
     full: &Vec<Spool>,
-) {
+)
+    ensures { H.was_completed herald.now (sum_by (λ shown. length shown.rows) between.now.broadcast.course.playlists.items
+        + sum_by (λ plans. length plans) full.now.items) }
+{
     herald.completed(complete_by(&between.broadcast.course.playlists, full));
 }
 
@@ -142,13 +154,13 @@ pub fn run_rounds<
     ensures right { OnOk result.1 (result.0.books.right + sum (counts_of between.entry.broadcast.course.playlists.items)
         ≤ between.entry.books.right + sum (counts_of result.0.broadcast.course.playlists.items)) }
     ensures workers { OnOk result.1 (length result.0.books.workers.items ≡ setup.now.workers) }
+    ensures told { OnOk result.1 (AllHeard (H.was_told herald.now) result.0.broadcast.course.lanes.items) }
 {
     let mut between = between;
     let mut spare = spare;
     let mut telling = Telling::new(herald);
     for _ in setup.rt.forever() {
-        between.broadcast.course.tell_faults(&mut telling);
-        let (now, answer) = give_due_ends(setup.alloc, setup.settings, between);
+        let (now, answer) = give_due_ends(setup.alloc, setup.settings, between, &mut telling);
         between = now;
         if let Err(fault) = answer {
             return (between, Err(fault));

@@ -6,7 +6,8 @@ use Rattle.ladder_items.proofs.Worlds.{parts-of, parts-length}
 use Rattle.rounds.specs.Courses.{Start}
 use Rattle.rounds.specs.Shown.{start_at}
 use Rattle.rounds.proofs.Answered.{ok-weaker}
-use Rattle.rounds.proofs.Ending.{stopped-shown, told-shown, packed-shown}
+use Rattle.rounds.proofs.Ending.{all-left, stopped-shown, told-shown, packed-shown}
+use Rattle.rounds.proofs.Telling.{heard-answered, heard-sudden}
 use Rattle.rounds.proofs.Gates.{answered-unheld, unheld-word}
 use Rattle.rounds.proofs.run.fitted.pack_fitted.Goals as goal
 
@@ -93,3 +94,27 @@ returns-clause-held g c =
 
 pub run_rounds-between-requires-clause-keys : goal.run_rounds-between-requires-clause-keys
 run_rounds-between-requires-clause-keys g c κs within = c.deref.ensures.value ∙ (ap (λ k. k.items) c.set_out-between.ensures.keys ∙ c.requires.begun.keys)
+
+pub returns-in-Err-clause-left : goal.returns-in-Err-clause-left
+returns-in-Err-clause-left g c = rw c.give_back.ensures.answer tt
+
+pub returns-clause-left : goal.returns-clause-left
+returns-clause-left g c =
+    let start : Start _ _ = start_at c.args.endpoints in
+    let on = c.set_out-between.ensures.on c.args.setup.now.settings.now c.args.setup.now.workers c.requires.fits c.requires.begun in
+    let done = IfOk-at_ok _ c.in_default.is c.run_rounds-between.ensures.ok start on in
+    let all = IfOk-at_ok _ c.in_default.is c.run_rounds-between.ensures.all in
+    rw (c.give_back-2.ensures.answer, c.give_back-2.ensures.sources)
+    (ok-weaker c.answer_of-answer.result _ _ (λ report told. all-left _ _ _ _ _ start _ _ done all) c.answer_of-answer.ensures.ok)
+
+pub returns-in-Err-clause-told : goal.returns-in-Err-clause-told
+returns-in-Err-clause-told g c =
+    let start : Start _ _ = start_at c.args.endpoints in
+    let on = c.set_out-between.ensures.on c.args.setup.now.settings.now c.args.setup.now.workers c.requires.fits c.requires.begun in
+    rw c.give_back.ensures.answer (heard-sudden (g.H.Herald.was_told c.args.herald.now) c.in-Err.fault _ _ (IfErr-at_err _ c.in-Err.is c.run_rounds-between.ensures.err start on).says)
+
+pub returns-clause-told : goal.returns-clause-told
+returns-clause-told g c =
+    let all = IfOk-at_ok _ c.in_default.is c.run_rounds-between.ensures.told in
+    rw c.give_back-2.ensures.answer
+    (IfErr-weaker c.answer_of-answer.result _ _ (λ fault told. heard-answered (g.H.Herald.was_told c.args.herald.now) _ fault all (rw (← c.deref-2.ensures.value) told)) c.answer_of-answer.ensures.fault)

@@ -1,16 +1,20 @@
-use Rattle.std.proofs.Common.{◌≡◌, ◌∙◌, ◌<◌, [], false, refl, ap, sym, subst, arith, length}
+use Rattle.std.proofs.Common.{◌≡◌, ◌∙◌, ◌<◌, inl, List, [], false, refl, ap, sym, subst, arith, length}
 use Rattle.std.specs.List.{slice_index_or}
 use Rattle.std.proofs.lemmas.Option.{slice_get-get_or}
 use Rattle.ingest.specs.Lanes.{is_good}
+use Rattle.ingest.specs.declared.lane.Lane.{Lane}
 use Rattle.std.specs.Prelude.{sum}
 use Rattle.std.proofs.lemmas.Result.{IfErr-at_err, IfOk-at_ok}
 use Rattle.live_board.specs.Snapshots.{Known}
+use Rattle.ladder_items.specs.declared.fault.PackFault.{PackFault}
 use Rattle.ladder_items.specs.declared.fault.PackFault.TheVariants.{NoMemory}
 use Rattle.rounds.specs.declared.run.books.Books.{Books}
 use Rattle.rounds.specs.declared.run.course.Course.{Course}
 use Rattle.rounds.specs.Showing.{counts_of}
 use Rattle.rounds.specs.Rounds.{unfed_of}
 use Rattle.rounds.specs.Courses.{HasClosed, IsOn, IsStopped, NoneClosed, turns_in}
+use Rattle.rounds.specs.Heralds.{AllHeard, AreHeard, TellsAll}
+use Rattle.rounds.proofs.Telling.{heard-all, heard-none, heard-stayed, heard-swapped, heard-told}
 use Rattle.rounds.proofs.Between.{counted-more, counted-read, few-rounds, counted-round, on-turns, on-as, never, all-given}
 use Rattle.rounds.proofs.Gates.{none-word, unheld-word}
 use Rattle.rounds.proofs.run.rounds_loop.run_rounds.Goals as goal
@@ -101,6 +105,12 @@ loop-preserved g c =
     let none = IfOk-at_ok _ c.in-Ok.is t.empty in
     let sums = ap (λ (d : Course _ _). sum (counts_of d.playlists.items)) t.same ∙ ap (λ p. sum (counts_of p.items)) e.playlists in
     let turns = ap (λ (d : Course _ _). turns_in d) t.same in
+    let full = IfOk-at_ok _ c.in-Ok.is t.ok c.args.setup.now.settings.now some.0 _ on1 in
+    let after = r.driven.on some.0 (on-as _ _ _ some.0 _ _ _ _ c.deref-in-loop.result.now t.held c.deref-in-loop.ensures.value full) in
+    let W : PackFault → Type 0 = g.H.Herald.was_told c.args.herald.now in
+    let told1 = heard-told W 32 c.loop.telling.told c.give_due_ends-now.new.telling.told c.loop.between.broadcast.course.lanes.items
+    (subst (λ h. TellsAll (g.H.Herald.was_told h) 32 c.loop.telling.told c.loop.between.broadcast.course.lanes.items c.give_due_ends-now.new.telling.told) c.loop.invariant.herald e.told) c.loop.invariant.told in
+    let told2 = subst (λ (ls : List Lane). AreHeard W 32 c.give_due_ends-now.new.telling.told ls) (ap (λ l. l.items) (sym e.none_read.lanes)) told1 in
     record {
       on = λ start on.
           let on1 = IfOk-at_ok _ c.in_default.is e.ok start (c.loop.invariant.on start on) in
@@ -109,6 +119,11 @@ loop-preserved g c =
       each = IfOk-at_ok _ c.in-Ok.is t.each ∙ (ap (λ l. length l.items) e.none_read.lanes ∙ before.world.same_lanes);
       workers = r.each ∙ (ap (λ (b : Books). length b.workers.items) t.books ∙ (ap (λ (b : Books). length b.workers.items) e.books ∙ c.loop.invariant.workers));
       right = omega (arith, r.driven.fair, c.loop.invariant.right, ap (λ (b : Books). b.right) t.books, ap (λ (b : Books). b.right) e.books, sums);
+      told = heard-stayed W 32 c.give_due_ends-now.new.telling.told c.swap_spools-now.result.0.broadcast.course.lanes.items c.run_round-now.result.0.broadcast.course.lanes.items
+          (after.world.same_lanes ∙ sym full.world.same_lanes) r.driven.further.stopped
+          (heard-swapped W 32 (length c.in-Ok.full.items) c.give_due_ends-now.new.telling.told c.give_due_ends-now.result.0.broadcast.course.lanes.items c.swap_spools-now.result.0.broadcast.course.lanes.items
+          (full.world.same_lanes ∙ sym on1.world.same_lanes) (sym (IfOk-at_ok _ c.in-Ok.is t.each)) (λ k lane now below at is. (IfOk-at_ok _ c.in-Ok.is t.taken k lane now below at is).1) told2);
+      herald = ap (λ h. h.now) e.herald ∙ c.loop.invariant.herald;
       counted = counted-round c.swap_spools-now.result.0.books.rounds c.run_round-now.result.0.books.rounds c.swap_spools-now.result.0.broadcast.course c.run_round-now.result.0.broadcast.course r.rounds (omega (arith, few, ap (λ (b : Books). b.rounds) t.books, turns)) r.driven.further none;
     }
 
@@ -135,6 +150,11 @@ loop-preserved-then-not-any_closed g c =
     let e = c.give_due_ends-now.ensures in
     let r = c.read_between-now.ensures in
     let sums = ap (λ p. sum (counts_of p.items)) (IfOk-at_ok _ c.in_default-read.is r.playlists) ∙ ap (λ p. sum (counts_of p.items)) e.playlists in
+    let same = ap (λ h. h.now) e.herald ∙ c.loop.invariant.herald in
+    let W : PackFault → Type 0 = g.H.Herald.was_told c.args.herald.now in
+    let told1 = heard-told W 32 c.loop.telling.told c.give_due_ends-now.new.telling.told c.loop.between.broadcast.course.lanes.items
+    (subst (λ h. TellsAll (g.H.Herald.was_told h) 32 c.loop.telling.told c.loop.between.broadcast.course.lanes.items c.give_due_ends-now.new.telling.told) c.loop.invariant.herald e.told) c.loop.invariant.told in
+    let told2 = subst (λ (ls : List Lane). AreHeard W 32 c.give_due_ends-now.new.telling.told ls) (ap (λ l. l.items) (sym e.none_read.lanes)) told1 in
     record {
       on = λ start on.
           let on1 = IfOk-at_ok _ c.in_default.is e.ok start (c.loop.invariant.on start on) in
@@ -143,6 +163,9 @@ loop-preserved-then-not-any_closed g c =
       each = c.loop.invariant.each;
       workers = ap (λ (b : Books). length b.workers.items) r.books ∙ (ap (λ (b : Books). length b.workers.items) e.books ∙ c.loop.invariant.workers);
       right = omega (arith, c.loop.invariant.right, ap (λ (b : Books). b.right) r.books, ap (λ (b : Books). b.right) e.books, sums);
+      told = subst (λ h. AreHeard (g.H.Herald.was_told h) 32 c.give_due_ends-now.new.telling.told c.give_due_ends-now.result.0.broadcast.course.lanes.items
+          → AreHeard (g.H.Herald.was_told h) 32 c.read_between-now.new.telling.told c.read_between-now.result.0.broadcast.course.lanes.items) same (IfOk-at_ok _ c.in_default-read.is r.told) told2;
+      herald = ap (λ h. h.now) r.herald ∙ same;
       counted = counted-more c.give_due_ends-now.result.0.books.rounds c.read_between-now.result.0.books.rounds _ _ (ap (λ (b : Books). b.rounds) r.books) (IfOk-at_ok _ c.in_default-read.is r.further)
           (counted-read c.loop.between.books.rounds c.give_due_ends-now.result.0.books.rounds _ _ (ap (λ (b : Books). b.rounds) e.books) e.none_read c.loop.invariant.counted);
     }
@@ -178,3 +201,29 @@ returns-in-Err-answer-clause-held g c = IfErr-at_err _ c.in-Err-answer.is c.run_
 
 pub returns-in-Err-read-clause-held : goal.returns-in-Err-read-clause-held
 returns-in-Err-read-clause-held g c = none-word _ _ refl
+
+pub loop-init : goal.loop-init
+loop-init g c = record {
+  on = λ start on. on;
+  each = c.requires.each;
+  workers = c.requires.workers;
+  right = omega arith;
+  told = subst (λ t. AreHeard (g.H.Herald.was_told c.args.herald.now) 32 t c.args.between.broadcast.course.lanes.items) (sym c.new-telling.ensures.none) (heard-none _ 32 _);
+  herald = ap (λ h. h.now) c.new-telling.ensures.herald;
+  counted = inl (omega (arith, c.requires.first));
+}
+
+pub returns-clause-told : goal.returns-clause-told
+returns-clause-told g c =
+    elim c.match-next.branch [
+      | in-None w ↦ never w.in-None.ensures.steps
+      | in-Some+in_default+then-not-any_closed+then-rests w ↦
+          let e = w.give_due_ends-now.ensures in
+          let some = c.requires.on in
+          let on = c.loop.invariant.on some.0 some.1 in
+          let most = on.allowed.within.renditions.1 in
+          let W : PackFault → Type 0 = g.H.Herald.was_told c.args.herald.now in
+          rw w.between-is (subst (λ (ls : List Lane). AllHeard W ls) (ap (λ l. l.items) (sym e.none_read.lanes))
+          (heard-all W 32 c.loop.telling.told w.give_due_ends-now.new.telling.told c.loop.between.broadcast.course.lanes.items (omega (arith, most, on.world.same_lanes))
+          (subst (λ h. TellsAll (g.H.Herald.was_told h) 32 c.loop.telling.told c.loop.between.broadcast.course.lanes.items w.give_due_ends-now.new.telling.told) c.loop.invariant.herald e.told) c.loop.invariant.told))
+    ]

@@ -1,9 +1,12 @@
-use Rattle.std.proofs.Common.{◌∙◌, refl, ap, sym, subst, rules}
+use Rattle.std.proofs.Common.{◌∙◌, List, refl, ap, sym, subst, rules}
 use Rattle.std.proofs.lemmas.Bool.{false≢true}
 use Rattle.std.proofs.lemmas.Result.{err_from_is_err_and}
 use Rattle.rounds.specs.declared.run.course.Course.{Course}
 use Rattle.rounds.proofs.Pacing.{enough-one, enough-since, still-here}
 use Rattle.rounds.proofs.Soon.{most-before, none-looked}
+use Rattle.ingest.specs.declared.lane.Lane.{Lane}
+use Rattle.rounds.specs.Heralds.{AreHeard, TellsAll}
+use Rattle.rounds.proofs.Telling.{heard-stayed, heard-told}
 use Rattle.rounds.proofs.Turning.{more-then, more-looked, on-looked}
 use Rattle.rounds.proofs.run.course.Course.read_more.Goals as goal
 
@@ -34,6 +37,12 @@ loop-preserved-then-branch g c = record {
     few = λ enough. false≢true (c.if-is_enough.ensures.1 (enough-since c.args.pace c.loop.self c.args.self.now _ _ c.turns_had.ensures.is c.turns_had-before.ensures.is enough));
     last = c.in_ok-read_ready.ensures.each;
   };
+  told = λ heard.
+      let some = c.requires.on in
+      let on = c.loop.invariant.ok some.0 some.1 some.2 some.3 some.4 in
+      let then = c.in_ok-read_ready.ensures.ok some.0 some.1 some.2 some.3 on in
+      heard-stayed _ 32 _ _ _ (then.world.same_lanes ∙ sym on.world.same_lanes) c.in_ok-read_ready.ensures.further.stopped (c.loop.invariant.told heard);
+  herald = c.loop.invariant.herald;
   buffer = search rules;
 }
 
@@ -66,6 +75,15 @@ loop-preserved g c = record {
     few = λ enough. false≢true (c.if-is_enough.ensures.1 (enough-since c.args.pace c.loop.self c.args.self.now _ _ c.turns_had.ensures.is c.turns_had-before.ensures.is enough));
     last = λ k. most-before _ k _ _ _ (c.in_ok-read_ready.ensures.each k) (none-looked k _ _ c.wait.ensures.sources c.wait.ensures.same);
   };
+  told = λ heard.
+      let some = c.requires.on in
+      let on = c.loop.invariant.ok some.0 some.1 some.2 some.3 some.4 in
+      let then = c.in_ok-read_ready.ensures.ok some.0 some.1 some.2 some.3 on in
+      let read = heard-stayed _ 32 _ _ _ (then.world.same_lanes ∙ sym on.world.same_lanes) c.in_ok-read_ready.ensures.further.stopped (c.loop.invariant.told heard) in
+      subst (λ (ls : List Lane). AreHeard (g.H.Herald.was_told c.args.telling.now.herald.now) 32 c.wait.new.telling.told ls)
+      (sym (ap (λ (d : Course _ _). d.lanes.items) c.wait.ensures.same))
+      (heard-told _ 32 _ _ _ (subst (λ h. TellsAll (g.H.Herald.was_told h.now) 32 c.loop.telling.told c.read_ready.new.self.lanes.items c.wait.new.telling.told) c.loop.invariant.herald c.wait.ensures.told) read);
+  herald = c.wait.ensures.herald ∙ c.loop.invariant.herald;
   buffer = search rules;
 }
 
@@ -94,3 +112,10 @@ pub returns-in_err-read_ready-clause-broken : goal.returns-in_err-read_ready-cla
 returns-in_err-read_ready-clause-broken g c =
     let told = err_from_is_err_and c.from_residual.result c.from_residual.ensures.1 in
     rw told.1 c.in_err-read_ready.ensures.broken
+
+pub returns-then-has_closed-clause-told : goal.returns-then-has_closed-clause-told
+returns-then-has_closed-clause-told g c heard =
+    let some = c.requires.on in
+    let on = c.loop.invariant.ok some.0 some.1 some.2 some.3 some.4 in
+    let then = c.in_ok-read_ready.ensures.ok some.0 some.1 some.2 some.3 on in
+    heard-stayed _ 32 _ _ _ (then.world.same_lanes ∙ sym on.world.same_lanes) c.in_ok-read_ready.ensures.further.stopped (c.loop.invariant.told heard)

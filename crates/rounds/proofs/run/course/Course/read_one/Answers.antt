@@ -3,8 +3,8 @@ use Rattle.std.specs.List.{slice_get}
 use Rattle.std.proofs.lemmas.Bool.{false≢true}
 use Rattle.std.proofs.lemmas.Result.{err_from_is_err_and}
 use Rattle.rounds.specs.declared.run.course.Course.{Course}
-use Rattle.rounds.specs.Courses.{turns_at, turns_in}
-use Rattle.rounds.proofs.Turning.{more-looked, none-had, on-looked, others-looked, others-none, others-then}
+use Rattle.rounds.specs.Courses.{OthersStay, turns_at, turns_in}
+use Rattle.rounds.proofs.Turning.{more-looked, none-had, on-looked, others-looked, others-none, others-then, stay-turned}
 use Rattle.rounds.proofs.Soon.{had-none, none-looked, one-behind}
 use Rattle.rounds.proofs.run.course.Course.read_one.Goals as goal
 
@@ -38,7 +38,12 @@ returns-clause-ok g c ladder start shows waiting on =
 pub returns-clause-further : goal.returns-clause-further
 returns-clause-further g c =
     let same = ap (λ (d : Course _ _). turns_in d) c.if-not-is_ready.ensures.same in
-    record { more = omega (arith, same, c.in_ok-take_turn.ensures.turns); stays = λ e. absurd (omega (arith, e, same, c.in_ok-take_turn.ensures.turns)) }
+    let others : OthersStay c.args.r c.args.self.now c.take_turn.new.self = others-then c.args.r _ _ _ (others-looked c.args.r _ _ c.if-not-is_ready.ensures.sources c.if-not-is_ready.ensures.same) c.in_ok-take_turn.ensures.others in
+    record {
+      more = omega (arith, same, c.in_ok-take_turn.ensures.turns);
+      stays = λ e. absurd (omega (arith, e, same, c.in_ok-take_turn.ensures.turns));
+      stopped = stay-turned c.args.r _ _ others (c.if-not-goes_on.ensures.going refl);
+    }
 
 pub returns-then-not-is_ready-clause-further : goal.returns-then-not-is_ready-clause-further
 returns-then-not-is_ready-clause-further g c = more-looked _ _ c.if-not-is_ready.ensures.same
@@ -102,3 +107,14 @@ pub returns-in_err-take_turn-clause-broken : goal.returns-in_err-take_turn-claus
 returns-in_err-take_turn-clause-broken g c =
     let told = err_from_is_err_and c.from_residual.result c.from_residual.ensures.1 in
     rw told.1 c.in_err-take_turn.ensures.broken
+
+pub returns-then-not-goes_on-clause-had : goal.returns-then-not-goes_on-clause-had
+returns-then-not-goes_on-clause-had g c source at tells turns =
+    absurd (omega (arith, turns.below, c.if-not-goes_on.ensures.rests refl turns.lane turns.there turns.going))
+
+pub returns-then-not-is_ready-clause-had : goal.returns-then-not-is_ready-clause-had
+returns-then-not-is_ready-clause-had g c source at tells turns = absurd (false≢true (c.if-not-is_ready.ensures.ready source at tells))
+
+pub returns-clause-had : goal.returns-clause-had
+returns-clause-had g c source at tells turns =
+    one-behind _ c.args.r _ _ _ (none-looked c.args.r _ _ c.if-not-is_ready.ensures.sources c.if-not-is_ready.ensures.same) c.in_ok-take_turn.ensures.had

@@ -1,9 +1,11 @@
-use Rattle.std.proofs.Common.{◌∙◌, ◌<◌, inl, refl, ap, sym, arith, rules, length}
+use Rattle.std.proofs.Common.{◌∙◌, ℕ, ◌<◌, inl, refl, ap, sym, subst, arith, rules, length}
+use Rattle.std.specs.List.{slice_get}
+use Rattle.std.proofs.lemmas.Option.{slice_get_within}
 use Rattle.std.proofs.lemmas.Result.{err_from_is_err_and}
 use Rattle.ladder_items.proofs.Elsewhere.{some-at}
 use Rattle.rounds.specs.declared.run.course.Course.{Course}
-use Rattle.rounds.specs.Courses.{turns_in}
-use Rattle.rounds.proofs.Soon.{had-none, most-then, rest-then}
+use Rattle.rounds.specs.Courses.{HasTurns, turns_in}
+use Rattle.rounds.proofs.Soon.{had-none, most-then, one-then, rest-then, turns-behind}
 use Rattle.rounds.proofs.Turning.{had-then, more-none, more-then, none-had}
 use Rattle.rounds.proofs.run.course.Course.read_ready.Goals as goal
 
@@ -25,6 +27,12 @@ loop-r-preserved g c = record {
   told = had-then _ _ _ _ _ c.loop-r.invariant.further.more c.in_ok-any.ensures.further.more c.loop-r.invariant.told c.in_ok-any.ensures.told;
   once = omega (arith, c.loop-r.invariant.once, c.in_ok-any.ensures.once);
   each = most-then _ c.loop-r.r _ _ _ c.loop-r.invariant.each c.loop-r.invariant.rest c.in_ok-any.ensures.one c.in_ok-any.ensures.others;
+  had = λ k source below at tells turns.
+      one-then _ c.loop-r.r k _ _ _ below (λ before. c.loop-r.invariant.had k source before at tells turns) (c.loop-r.invariant.rest c.loop-r.r (omega arith))
+      (λ here. c.in_ok-any.ensures.had source (ap (λ (j : ℕ). slice_get c.loop-r.self.sources.items j) (sym here) ∙ ((c.loop-r.invariant.rest k (omega (arith, here))).sources ∙ at)) tells
+      (turns-behind _ _ _ (c.loop-r.invariant.rest c.loop-r.r (omega arith)) (ap (λ (d : Course _ _). d.reads) c.loop-r.invariant.same)
+      (subst (λ (j : ℕ). HasTurns j c.args.self.now) here turns)))
+      c.in_ok-any.ensures.others;
   rest = rest-then c.loop-r.r _ _ _ c.loop-r.invariant.rest c.in_ok-any.ensures.others;
   buffer = search rules;
 }
@@ -38,6 +46,7 @@ loop-r-init g c = record {
   told = none-had (turns_in c.args.self.now);
   once = omega arith;
   each = λ k. inl (had-none k c.args.self.now);
+  had = λ k source below at tells turns. absurd (omega (arith, below));
   rest = λ k above. had-none k c.args.self.now;
   buffer = refl;
 }
@@ -57,3 +66,7 @@ pub returns-in_err-any-clause-broken : goal.returns-in_err-any-clause-broken
 returns-in_err-any-clause-broken g c =
     let told = err_from_is_err_and c.from_residual.result c.from_residual.ensures.1 in
     rw told.1 c.in_err-any.ensures.broken
+
+pub returns-clause-had : goal.returns-clause-had
+returns-clause-had g c k source at tells turns =
+    c.loop-r.invariant.had k source (omega (arith, slice_get_within c.args.self.now.lanes.items k turns.lane turns.there, c.loop-r-test.false, c.loop-r.auto.r-end)) at tells turns

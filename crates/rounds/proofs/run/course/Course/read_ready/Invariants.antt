@@ -1,6 +1,7 @@
-use Rattle.std.proofs.Common.{◌≡◌, ℕ, ◌+◌, ◌<◌, ◌≤◌, length}
+use Rattle.std.proofs.Common.{◌≡◌, ℕ, ◌+◌, ◌<◌, ◌≤◌, Some, false, length}
+use Rattle.std.specs.List.{slice_get}
 use Rattle.std.specs.Prelude.{Decides}
-use Rattle.rounds.specs.Courses.{HadNone, HadOneAtMost, ReadsMore, ReadsOn, turns_in}
+use Rattle.rounds.specs.Courses.{HadNone, HadOne, HadOneAtMost, HasTurns, ReadsMore, ReadsOn, turns_in}
 use Rattle.rounds.proofs.run.course.Course.read_ready.Given as goal
 
 abbrev pub invariant-loop-r : goal.invariant-loop-r
@@ -12,6 +13,7 @@ invariant-loop-r g l = record {
   told : Decides l.any (turns_in l.fn.self < turns_in l.self);
   once : turns_in l.self ≤ turns_in l.fn.self + l.r;
   each : (k : ℕ) → HadOneAtMost g.S.Source.input k l.fn.self l.self;
+  had : (k : ℕ) (source : _) → k < l.r → slice_get l.fn.self.sources.items k ≡ Some source → g.S.Source.tells source ≡ false → HasTurns k l.fn.self → HadOne g.S.Source.input k l.fn.self l.self;
   rest : (k : ℕ) → l.r ≤ k → HadNone k l.fn.self l.self;
   buffer : length l.buffer ≡ length l.fn.buffer;
 }

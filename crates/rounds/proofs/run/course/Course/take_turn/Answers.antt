@@ -1,4 +1,4 @@
-use Rattle.std.proofs.Common.{◌≡◌, ◌∙◌, ◌<◌, None, refl, ap, sym, arith, length}
+use Rattle.std.proofs.Common.{◌≡◌, ◌∙◌, ◌+◌, ◌<◌, None, refl, ap, sym, arith, length}
 use Rattle.std.specs.Prelude.{sum}
 use Rattle.std.specs.List.{slice_index_or}
 use Rattle.std.proofs.lemmas.Option.{slice_get_read, same_Some}
@@ -8,7 +8,8 @@ use Rattle.ingest.specs.declared.lane.Lane.{Lane}
 use Rattle.ladder_items.proofs.Elsewhere.{set-here, set-there}
 use Rattle.ladder_items.proofs.Worlds.{stage-at, reads-fit}
 use Rattle.rounds.proofs.Soon.{had-one}
-use Rattle.rounds.proofs.Turning.{on-read, on-unread, counts-sum, counts-elsewhere, others-turned}
+use Rattle.rounds.proofs.Turning.{on-read, on-unread, counts-sum, counts-elsewhere, others-turned, turned-counted}
+use Rattle.rounds.specs.Courses.{turns_at}
 use Rattle.rounds.specs.declared.run.course.Course.{Course}
 use Rattle.rounds.proofs.run.course.Course.take_turn.Goals as goal
 
@@ -70,14 +71,17 @@ returns-clause-ok g c ladder start shows waiting on =
     let at = slice_get_read c.args.self.now.lanes.items _ c.args.r c.index_mut.result.now refl c.requires.within c.index_mut.ensures.value in
     let none : c.index_mut.result.now.stop ≡ None = c.requires.going c.index_mut.result.now at in
     let below : c.args.r < length ladder.renditions = omega (arith, c.requires.within, on.world.same_lanes) in
-    on-read _ _ _ _ _ start c.args.r _ _ shows waiting c.index_mut-2.result.now c.turn.new.source c.index_mut.result.now c.turn.new.self
+    let k = turned-counted g.S.Source.input c.args.self.now.reads (turns_at c.args.self.now c.args.r + 1) c.args.r c.args.self.now.sources.items c.count_turn.new.self.sources.items
+    c.index_mut-2.result.now c.turn.new.source c.index_mut.result.now c.turn.new.self c.in_ok-turn.ensures.ok c.in_ok-turn.ensures.left c.in_ok-turn.ensures.unleft
+    c.count_turn.ensures.last c.count_turn.ensures.sources in
+    on-read _ _ _ _ _ start c.args.r _ _ shows waiting c.index_mut-2.result.now k.0 c.index_mut.result.now c.turn.new.self
     (slice_get_read c.args.self.now.sources.items _ c.args.r c.index_mut-2.result.now (sym on.world.same_now) below c.index_mut-2.ensures.value)
-    at none c.in_ok-turn.ensures.ok c.count_turn.ensures.sources (ap (λ (d : Course _ _). d.lanes.items) c.count_turn.ensures.same) c.count_turn.ensures.turns
+    at none k.2 k.1 (ap (λ (d : Course _ _). d.lanes.items) c.count_turn.ensures.same) c.count_turn.ensures.turns
     (c.count_turn.ensures.same ∙ (λ j. record c.args.self.now {
       sources = c.count_turn.new.self.sources;
       lanes = ap (λ (d : Course _ _). d.lanes) (sym c.count_turn.ensures.same) j;
       turns = c.count_turn.new.self.turns;
-    })) c.requires.below on
+    })) c.requires.below k.3 on
 
 pub returns-clause-turns : goal.returns-clause-turns
 returns-clause-turns g c =
@@ -93,7 +97,10 @@ returns-in_err-turn-clause-others g c = others-turned c.args.r _ _ c.turn.new.so
 
 pub returns-clause-others : goal.returns-clause-others
 returns-clause-others g c =
-    others-turned c.args.r _ _ c.turn.new.source c.turn.new.self c.count_turn.ensures.sources (ap (λ (d : Course _ _). d.lanes.items) c.count_turn.ensures.same)
+    let k = turned-counted g.S.Source.input c.args.self.now.reads (turns_at c.args.self.now c.args.r + 1) c.args.r c.args.self.now.sources.items c.count_turn.new.self.sources.items
+    c.index_mut-2.result.now c.turn.new.source c.index_mut.result.now c.turn.new.self c.in_ok-turn.ensures.ok c.in_ok-turn.ensures.left c.in_ok-turn.ensures.unleft
+    c.count_turn.ensures.last c.count_turn.ensures.sources in
+    others-turned c.args.r _ _ k.0 c.turn.new.self k.1 (ap (λ (d : Course _ _). d.lanes.items) c.count_turn.ensures.same)
     (λ k other. ap (λ l. slice_index_or l k 0) c.count_turn.ensures.turns ∙ counts-elsewhere c.args.self.now.turns.items c.args.r k _ other)
 
 pub returns-clause-had : goal.returns-clause-had
@@ -102,8 +109,11 @@ returns-clause-had g c =
     let at = slice_get_read c.args.self.now.lanes.items _ c.args.r c.index_mut.result.now refl c.requires.within c.index_mut.ensures.value in
     let below : c.args.r < length c.requires.on.0.renditions = omega (arith, c.requires.within, on.world.same_lanes) in
     let there = slice_get_read c.args.self.now.sources.items _ c.args.r c.index_mut-2.result.now (sym on.world.same_now) below c.index_mut-2.ensures.value in
-    had-one _ c.args.r _ _ c.index_mut-2.result.now c.turn.new.source c.index_mut.result.now c.turn.new.self there at c.in_ok-turn.ensures.ok
-    c.count_turn.ensures.sources (ap (λ (d : Course _ _). d.lanes.items) c.count_turn.ensures.same) c.count_turn.ensures.turns (omega (arith, below, on.counted))
+    let k = turned-counted g.S.Source.input c.args.self.now.reads (turns_at c.args.self.now c.args.r + 1) c.args.r c.args.self.now.sources.items c.count_turn.new.self.sources.items
+    c.index_mut-2.result.now c.turn.new.source c.index_mut.result.now c.turn.new.self c.in_ok-turn.ensures.ok c.in_ok-turn.ensures.left c.in_ok-turn.ensures.unleft
+    c.count_turn.ensures.last c.count_turn.ensures.sources in
+    had-one _ c.args.r _ _ c.index_mut-2.result.now k.0 c.index_mut.result.now c.turn.new.self there at k.2
+    k.1 (ap (λ (d : Course _ _). d.lanes.items) c.count_turn.ensures.same) c.count_turn.ensures.turns (omega (arith, below, on.counted))
 
 pub returns-in_err-turn-clause-unfailed : goal.returns-in_err-turn-clause-unfailed
 returns-in_err-turn-clause-unfailed g c =
