@@ -6,9 +6,11 @@ check_pack_ends() {
     check 'pack: a stream with a fault, the others go on' packs_ladder -- "a:c:1x1:$key:$work/worked/standard.ts" \
         "b:c:1x1:$key:$work/worked/eight_seconds.ts" "d:c:1x1:$key:$work/worked/bad_crc.ts" "e:c:1x1:$key:$work/worked/seven_segments.ts"
     check "pack: a path that can't be read, the others go on" packs_beside_a_folder
+    check 'pack: seven seconds of video are lost' goes_on_behind_a_hole
     check "pack: a folder that isn't there" refuses 1 Outlet pack --out "$work/absent" "$ladder_of_one:$work/worked/standard.ts"
     check 'pack: a file in its place' refuses 1 Outlet pack --out "$here/pack.sh" "$ladder_of_one:$work/worked/standard.ts"
     check 'pack: the folder goes in mid-run' tells_a_lost_folder
+    check 'pack: another folder comes in its place' tells_another_folder
     check 'pack: a full standard output' leaves_all_where_output_is_full
     check 'pack: a closed standard output' leaves_all_where_output_is_closed
     check 'pack: it ends at once when it is told to' ends_at_a_signal
@@ -16,6 +18,7 @@ check_pack_ends() {
     for workers in 1 2; do
         check "pack: each allocation refused in turn, $workers workers" packs_without_memory $workers
     done
+    check "pack: an input's memory is refused, and its writer goes on" throws_away_without_memory
     if mkdir -p "$work/small" && mount -t tmpfs -o size=256k none "$work/small" 2>"$work/mounted"; then
         check 'pack: a full disk' leaves_whole_files_on_a_full_disk
         umount "$work/small"
@@ -29,6 +32,20 @@ packs_beside_a_folder() {
     ends 1 pack --out "$work/ladder" "a:c:1x1:$key:$work/worked/standard.ts" "b:c:1x1:$key:$here" "$ladder_of_one:$work/worked/standard.ts" &&
         is_line 'standard error' "$work/err" 'tshls: Read 1' && is_empty 'standard output' "$work/out" || return
     prints 'ok 2 752' check --keys "$key" "$work/ladder/a.m3u8" && prints 'ok 2 752' check --keys "$key" "$work/ladder/v.m3u8"
+}
+
+# A segment with a hole in it is too long, but for where the hole is a discontinuity.
+goes_on_behind_a_hole() {
+    python3 -c '
+import sys
+sys.path.insert(0, sys.argv[1])
+from standard_stream import every, stream
+times = every(18_000, 100) + every(18_000, 100, 27 * 90_000)
+sys.stdout.buffer.write(stream(*(str(time) if i % 10 else time for i, time in enumerate(times))))' "$here" >"$work/hole.ts" || return
+    local words=(pack --out "$work/ladder" --target 6 --segment 4 --window 40 "$ladder_of_one:$work/hole.ts")
+    rm -rf "$work/ladder" && mkdir "$work/ladder" && refuses 1 'LongSegment 0 4' "${words[@]}" || return
+    rm -rf "$work/ladder" && mkdir "$work/ladder" && ends 0 "${words[@]}" --gap 90000 || return
+    [ "$(grep -c '^#EXT-X-DISCONTINUITY$' "$work/ladder/v.m3u8")" -eq 1 ] && writes check --keys "$key" "$work/ladder/v.m3u8"
 }
 
 # packs_from_a_pipe FOLDER: in the background, from a FIFO that is kept open at descriptor 9. The process is $packing.
@@ -60,6 +77,17 @@ tells_a_lost_folder() {
     exec 9>&-
     wait "$packing" || status=$?
     [ $status -eq 1 ] && is_line 'standard error' "$work/err" 'tshls: Outlet'
+}
+
+# Another folder in its place isn't locked, and isn't written to.
+tells_another_folder() {
+    local status=0 fed
+    packs_from_a_pipe "$work/lost" && feeds "$work/worked/seven_segments.ts" "$work/lost/master.m3u8" || return
+    rm -rf "$work/away" && mv "$work/lost" "$work/away" && mkdir "$work/lost" || return
+    tail -c +$((fed + 1)) "$work/worked/seven_segments.ts" >&9
+    exec 9>&-
+    wait "$packing" || status=$?
+    [ $status -eq 1 ] && is_line 'standard error' "$work/err" 'tshls: Outlet' && [ -z "$(ls -A "$work/lost")" ]
 }
 
 ends_at_a_signal() {
@@ -138,4 +166,26 @@ packs_without_memory() {
 # reads_back NAME KEY: what a run left of a rendition.
 reads_back() {
     [ ! -e "$work/ladder/$1.m3u8" ] || writes check --keys "$2" "$work/ladder/$1.m3u8"
+}
+
+# There is no memory for the first block of a FIFO: its rendition ends, and what is written into the FIFO is thrown away, so that an
+# encoder which writes both goes on with the other one. Of allocations of a block or more each second one is refused.
+throws_away_without_memory() {
+    local status=0 tries
+    cc -shared -fPIC -o "$work/refuse_memory.so" "$here/refuse_memory.c" -ldl || return
+    rm -rf "$work/ladder" "$work/scarce.fifo" "$work/other.fifo" "$work/was_refused" && mkdir "$work/ladder" && mkfifo "$work/scarce.fifo" "$work/other.fifo" || return
+    exec 8<>"$work/scarce.fifo"
+    head -c 65536 /dev/zero >&8
+    LARGE=65536 MARK=$work/was_refused LD_PRELOAD=$work/refuse_memory.so timeout 60 "$program" pack --out "$work/ladder" \
+        "w:c:1x1:$key:$work/scarce.fifo" "$ladder_of_one:$work/other.fifo" >"$work/out" 2>"$work/err" 8>&- &
+    packing=$!
+    for ((tries = 0; tries < 100; tries++)); do
+        [ ! -e "$work/was_refused" ] || break
+        sleep 0.1
+    done
+    timeout 20 head -c 1000000 /dev/zero >&8 || { kill "$packing"; echo 'its writer is held up'; return 1; }
+    cat "$work/worked/standard.ts" >"$work/other.fifo"
+    wait "$packing" || status=$?
+    exec 8>&-
+    [ $status -eq 1 ] && is_line 'standard error' "$work/err" 'tshls: Read 0' && prints 'ok 2 752' check --keys "$key" "$work/ladder/v.m3u8"
 }

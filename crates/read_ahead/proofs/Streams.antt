@@ -2,7 +2,7 @@
 use Rattle.std.proofs.Common.{◌≡◌, ◌+◌, ◌≤◌, ◌<◌, ◌++◌, [], ℕ, List, length, take, drop, Option, None, Some, arith, sym, ap, ◌∙◌, append_assoc, append-nil, refl, ap₂, IfSome}
 use Rattle.std.proofs.lemmas.List.{take-append-drop, drop-drop, length-take-le}
 use Rattle.std.proofs.Math.Seq.{take-append_seam, drop-append_seam}
-use Rattle.std.specs.Io.KnownBytes.{Consumes, IsAtEnd, prepend_known}
+use Rattle.std.specs.Io.KnownBytes.{Consumes, IsAtEnd, Keeps, prepend_known}
 use Rattle.std.specs.Option.{option_map}
 
 -- nothing was taken
@@ -16,6 +16,13 @@ consumes_on None b c xs ys p q = tt
 consumes_on (Some zs) None c xs ys p q = absurd p
 consumes_on (Some zs) (Some bs) None xs ys p q = absurd q
 consumes_on (Some zs) (Some bs) (Some cs) xs ys p q = p ∙ ap (λ (l : List ℕ). xs ++ l) q ∙ sym (append_assoc xs ys cs)
+
+-- behind a read that took nothing
+pub consumes_kept : (a b c : Option (List ℕ)) (xs : List ℕ) → Consumes a b xs → Keeps b c → Consumes a c xs
+consumes_kept None b c xs p q = tt
+consumes_kept (Some zs) None c xs p q = absurd p
+consumes_kept (Some zs) (Some bs) None xs p q = absurd q
+consumes_kept (Some zs) (Some bs) (Some cs) xs p q = p ∙ ap (λ (l : List ℕ). xs ++ l) (sym q)
 
 -- the front of what begins with xs
 begins_at : (zs xs : List ℕ) (ys : Option (List ℕ)) → Consumes (Some zs) ys xs → take (length xs) zs ≡ xs

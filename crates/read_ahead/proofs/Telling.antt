@@ -1,16 +1,20 @@
 -- What a thread told of an input, and what is left of it.
-use Rattle.std.proofs.Common.{◌≡◌, ◌<◌, ◌≤◌, ◌⊎◌, inl, inr, not, ◌++◌, ◌∷◌, [], ℕ, List, length, drop, true, false, Option, arith, sym, ap, ◌∙◌, append_assoc, append-nil, refl, subst, ap₂, Vec, Global}
+use Rattle.std.proofs.Common.{◌≡◌, ◌<◌, ◌≤◌, ◌⊎◌, inl, inr, not, ◌++◌, ◌∷◌, [], ℕ, List, length, drop, true, false, Option, ◌&&◌, Bool, arith, sym, ap, ◌∙◌, append_assoc, append-nil, refl, subst, ap₂, Vec, Global}
 use Rattle.std.proofs.lemmas.List.{length-append}
 use Rattle.std.proofs.lemmas.Bool.{and_from, and_parts}
-use Rattle.std.specs.Io.KnownBytes.{Consumes, IsAtEnd, prepend_known}
+use Rattle.std.specs.Io.KnownBytes.{Consumes, IsAtEnd, Keeps, prepend_known}
 use Rattle.std.specs.Option.{option_map}
 use Rattle.read_ahead.specs.declared.message.Message.{Message}
 use Rattle.read_ahead.specs.declared.message.Message.TheVariants.{Asked, Opened, Bytes, End, Failed, Refused}
-use Rattle.read_ahead.specs.Messages.{bytes_of, is_last, joined, goes_on, held, untold, Asks, AsksFor, IsFirst, RefusedBy, MayRefuse, IsOpen, Tells, MayTell, MayEnd}
+use Rattle.read_ahead.specs.Messages.{bytes_of, is_last, joined, goes_on, held, untold, Asks, AsksFor, IsFirst, RefusedBy, MayRefuse, IsOpen, LeavesOut, Tells, MayTell, MayEnd}
 use Rattle.read_ahead.specs.Sources.{StandsByLast, TakesNext, going_by}
 use Rattle.read_ahead.specs.declared.incoming.Phase.{Phase}
 use Rattle.read_ahead.specs.declared.incoming.Phase.TheVariants as phase
-use Rattle.read_ahead.proofs.Streams.{consumes_none, consumes_on, begins, whole, left_front, none_left, prepend_nil, drop_used}
+use Rattle.read_ahead.proofs.Streams.{consumes_kept, consumes_none, consumes_on, begins, whole, left_front, none_left, prepend_nil, drop_used}
+
+and_none : (b : Bool) → (b && false) ≡ false
+and_none true = refl
+and_none false = refl
 
 module _ {I : Type 0} where
   pub joined_snoc : (told : List (Message I)) (x : Message I) → joined (told ++ x ∷ []) ≡ joined told ++ bytes_of x
@@ -21,6 +25,11 @@ module _ {I : Type 0} where
   pub goes_on_snoc : (told : List (Message I)) (x : Message I) → goes_on told ≡ true → is_last x ≡ false → goes_on (told ++ x ∷ []) ≡ true
   goes_on_snoc [] x on more = and_from (not (is_last x)) true (ap not more) refl
   goes_on_snoc (y ∷ told) x on more = let both = and_parts (not (is_last y)) (goes_on told) on in and_from (not (is_last y)) (goes_on (told ++ x ∷ [])) both.0 (goes_on_snoc told x both.1 more)
+
+  -- nothing goes on behind an end, a failure or a refusal
+  pub ends_snoc : (told : List (Message I)) (x : Message I) → is_last x ≡ true → goes_on (told ++ x ∷ []) ≡ false
+  ends_snoc [] x last = ap (λ (b : Bool). not b && true) last
+  ends_snoc (y ∷ told) x last = ap (λ (b : Bool). not (is_last y) && b) (ends_snoc told x last) ∙ and_none (not (is_last y))
 
   pub held_snoc : (holds : I → Option (List ℕ)) → (told : List (Message I)) (x : Message I) → 0 < length told → held holds (told ++ x ∷ []) ≡ held holds told
   held_snoc holds [] x some = absurd (omega arith)
@@ -58,6 +67,14 @@ module _ {I : Type 0} where
     opened = open_snoc told x some t.opened.going more;
     all = rw (held_snoc holds told x some, joined_snoc told x) (consumes_on (held holds told) old new (joined told) (bytes_of x) t.all gave);
   }
+
+  -- a read that failed loses nothing
+  pub tells_kept : (holds : I → Option (List ℕ)) → (told : List (Message I)) (old new : Option (List ℕ)) → Tells holds told old → Keeps old new → Tells holds told new
+  tells_kept holds told old new t kept = record { opened = t.opened; all = consumes_kept (held holds told) old new (joined told) t.all kept }
+
+  -- a read's bytes that aren't told
+  pub leaves_out : (holds : I → Option (List ℕ)) → (told : List (Message I)) (block : List ℕ) (old new : Option (List ℕ)) → Tells holds told old → 0 < length block → Consumes old new block → LeavesOut holds told new
+  leaves_out holds told block old new t some gave = record { block = block; some = some; taken = consumes_on (held holds told) old new (joined told) block t.all gave }
 
   -- the next block of what is told may follow
   pub may_tell : (holds : I → Option (List ℕ)) → (told : List (Message I)) (block : List ℕ) (old new : Option (List ℕ)) → Tells holds told old → 0 < length block → Consumes old new block → MayTell holds told block

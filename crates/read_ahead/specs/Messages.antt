@@ -77,6 +77,10 @@ module _ {I : Type 0} where
   IsFirst input [] = ⊥
   IsFirst input (message ∷ more) = AsksFor input message
 
+  -- this message was told last
+  abbrev pub EndsWith : Message I → List (Message I) → Type 0
+  EndsWith message told = (before : List (Message I)) × (told ≡ before ++ message ∷ [])
+
   -- this input was asked for, and nothing else was told
   pub record Asks (told : List (Message I)) (input : I) : Type 0 where
     pub one : length told ≡ 1
@@ -115,3 +119,9 @@ module _ {I : Type 0} where
   pub record Tells (holds : I → Option (List ℕ)) (told : List (Message I)) (rest : Option (List ℕ)) : Type 0 where
     pub opened : IsOpen told
     pub all : Consumes (held holds told) rest (joined told)
+
+  -- a block came behind what was told, and wasn't told itself
+  pub record LeavesOut (holds : I → Option (List ℕ)) (told : List (Message I)) (rest : Option (List ℕ)) : Type 0 where
+    pub block : List ℕ
+    pub some : 0 < length block
+    pub taken : Consumes (held holds told) rest (joined told ++ block)

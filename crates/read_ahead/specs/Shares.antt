@@ -1,5 +1,5 @@
 -- Fair turns: sources that are read in turn and are behind by very different numbers of bytes catch up together.
-use Rattle.std.specs.Prelude.{ℕ, ◌+◌, ◌-◌, ◌*◌, ◌/◌, ◌^◌, List, [], ◌∷◌, Option, None, Some, min, max, nat_lt, nat_le, ◌==◌, ◌&&◌, ◌||◌, not, Bool, if◌then◌else◌}
+use Rattle.std.specs.Prelude.{ℕ, ◌+◌, ◌-◌, ◌*◌, ◌/◌, ◌^◌, List, [], ◌∷◌, Option, None, Some, min, max, nat_lt, nat_le, ◌==◌, ◌&&◌, ◌||◌, not, Bool, true, if◌then◌else◌, slice_index_or}
 use Rattle.read_ahead.specs.declared.backlog.Backlog.{Backlog}
 use Rattle.item_io.specs.declared.limits.TheConstants.{PIECE}
 use Rattle.read_ahead.specs.declared.limits.TheConstants.{BLOCK, ROOM}
@@ -7,6 +7,10 @@ use Rattle.read_ahead.specs.declared.limits.TheConstants.{BLOCK, ROOM}
 -- so many things in parts of this size: how many parts they are, the last of which may be smaller
 abbrev pub parts : ℕ → ℕ → ℕ
 parts count size = (count + (size - 1)) / size
+
+-- the backlog of the input of this number; of no input, one of which no more is given
+abbrev pub backlog_of : List Backlog → ℕ → Backlog
+backlog_of backlogs number = slice_index_or backlogs number (record { bytes = 0; blocks = 0; left = true })
 
 -- in how many turns all inputs of which more is given have given what lies ready, in reads of 18,800: one at least
 abbrev pub turns : List Backlog → ℕ
@@ -32,7 +36,8 @@ room_for (Some ahead) inputs = max BLOCK (min (ahead * 2 ^ 20) (2 ^ 64 - 1) / ma
 abbrev pub is_low : ℕ → Backlog → Bool
 is_low room backlog = nat_le backlog.bytes (room - room / 16)
 
--- the backlog with a block more
+-- the backlog with a block more; where no more of the input is given, as it was
 abbrev pub with_block : ℕ → Backlog → Backlog
 with_block count backlog =
-    record backlog { bytes = min (backlog.bytes + count) (2 ^ 64 - 1); blocks = min (backlog.blocks + 1) (2 ^ 64 - 1) }
+    if backlog.left then backlog
+    else record backlog { bytes = min (backlog.bytes + count) (2 ^ 64 - 1); blocks = min (backlog.blocks + 1) (2 ^ 64 - 1) }

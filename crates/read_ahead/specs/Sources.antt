@@ -1,12 +1,14 @@
 -- Sources that read ahead.
-use Rattle.std.specs.Prelude.{◌≡◌, ◌⊎◌, ℕ, ◌-◌, ◌<◌, ◌≤◌, Bool, true, false, List, [], ◌∷◌, ◌++◌, length, drop, Option, Some, None}
+use Rattle.std.specs.Prelude.{◌≡◌, ◌≢◌, ◌⊎◌, ℕ, zero, suc, ◌-◌, ◌<◌, ◌≤◌, Bool, true, false, List, [], ◌∷◌, ◌++◌, length, drop, max, Option, Some, None, slice_index_or}
 use Rattle.std.specs.Time.{instant_nanos}
 use Rattle.std.specs.declared.time.Duration.{Duration}
 use Rattle.std.specs.declared.time.Instant.{Instant}
 use Rattle.std.specs.Io.KnownBytes.{IsAtEnd, prepend_known}
-use Rattle.rtrb.specs.Ring.{received}
+use Rattle.rtrb.specs.Ring.{known_items, received}
 use Rattle.std.specs.Arc.{arc_value}
 use Rattle.read_ahead.specs.Messages.{untold}
+use Rattle.read_ahead.specs.Shares.{backlog_of}
+use Rattle.read_ahead.specs.declared.backlog.Backlog.{Backlog}
 use Rattle.read_ahead.specs.declared.view.InputsView.{InputsView}
 use Rattle.read_ahead.specs.declared.incoming.Incoming.{Incoming}
 use Rattle.read_ahead.specs.declared.incoming.Phase.{Phase}
@@ -26,13 +28,23 @@ pub record IsSound {I : Type 0} (holds : I → Option (List ℕ)) (i : Incoming 
   pub empty : i.phase ≡ Opening → i.front.items ≡ []
   pub ended : i.phase ≡ Ended → IsAtEnd (untold holds (received i.consumer))
 
--- a source, as its callers see it: the bytes that are left, where the input tells them, how many reads gave a byte, and how many
--- failed; its input's number, for how long that may be silent, and how many bytes of it may lie ready; how many inputs were opened
+-- where the source was left, its input is no longer opened, and no more comes of it
+abbrev pub StopsIfLeft : Bool → Phase → Type 0
+StopsIfLeft is_left phase = is_left ≡ true → (phase ≢ Opening) × (phase ≢ Going)
+
+-- nothing can be given at once: the front block is used up, and the next one doesn't lie ready, or none comes
+pub record IsDry {I : Type 0} (i : Incoming I) : Type 0 where
+  pub used : length i.front.items ≤ i.at
+  pub none : (i.phase ≡ Going) → known_items i.consumer ≡ []
+
+-- a source, as its callers see it: the bytes that are left, where the input tells them, how many reads gave a byte, how many
+-- failed, and whether it was left and not read since; its input's number, for how long that may be silent, and how many bytes of it may lie ready; how many inputs were opened
 -- together
 pub record Seen : Type 0 where
   pub left : Option (List ℕ)
   pub reads : ℕ
   pub failures : ℕ
+  pub is_left : Bool
   pub number : ℕ
   pub stall : Option Duration
   pub room : ℕ
@@ -74,6 +86,12 @@ silence_of true since now = 0
 silence_of false None now = 0
 silence_of false (Some since) None = 0
 silence_of false (Some since) (Some now) = instant_nanos now - instant_nanos since
+
+-- how long that one of the first n inputs was waited for that was waited for the longest, in nanoseconds
+abbrev pub longest_silence : Option Instant → List Backlog → List (Option Instant) → ℕ → ℕ
+longest_silence now backlogs since zero = 0
+longest_silence now backlogs since (suc n) =
+    max (longest_silence now backlogs since n) (silence_of (backlog_of backlogs n).left (slice_index_or since n None) now)
 
 -- how many inputs a view shows
 abbrev pub inputs_of : InputsView → ℕ

@@ -1,4 +1,4 @@
-ghost use Rattle.std.specs.Prelude.{◌≡◌, IfOk, length};
+ghost use Rattle.std.specs.Prelude.{◌≡◌, IfOk, false, length, true};
 ghost use Rattle.std.specs.Arc.{arc_value};
 ghost use Rattle.item_io.specs.Views.{source_view};
 ghost use Rattle.read_ahead.specs.Sources.{IsSound, inputs_of, rest_of};
@@ -21,12 +21,13 @@ pub struct Ahead<R: Wait, I: Contents> {
     incoming: Incoming<I>,
     reads: u64,
     failures: u64,
+    is_left: bool,
 }
 
 impl<R: Wait, I: Contents> Model for Ahead<R, I> {
     ghost use Rattle.std.specs.Prelude.{length};
     ghost use Rattle.std.specs.Arc.{arc_value};
-    ghost use Rattle.read_ahead.specs.Sources.{IsSound, Seen, rest_of};
+    ghost use Rattle.read_ahead.specs.Sources.{IsSound, Seen, StopsIfLeft, rest_of};
 
     ghost Value = { Seen };
 
@@ -34,13 +35,14 @@ impl<R: Wait, I: Contents> Model for Ahead<R, I> {
       left = rest_of I.holds s.incoming;
       reads = s.reads;
       failures = s.failures;
+      is_left = s.is_left;
       number = s.incoming.number;
       stall = (arc_value s.incoming.backlogs).stall;
       room = (arc_value s.incoming.backlogs).room;
       inputs = length (arc_value s.incoming.backlogs).taken.items;
     } };
 
-    ghost invariant = { λ s. IsSound I.holds s.incoming };
+    ghost invariant = { λ s. IsSound I.holds s.incoming × StopsIfLeft s.is_left s.incoming.phase };
 }
 
 impl<R: Wait + Clock, I: Contents> Ahead<R, I> {
@@ -51,6 +53,7 @@ impl<R: Wait + Clock, I: Contents> Ahead<R, I> {
         ensures left { result.left ≡ rest_of I.holds incoming }
         ensures reads { result.reads ≡ 0 }
         ensures failures { result.failures ≡ 0 }
+        ensures unleft { result.is_left ≡ false }
         ensures number { result.number ≡ incoming.number }
         ensures stall { result.stall ≡ (arc_value incoming.backlogs).stall }
         ensures room { result.room ≡ (arc_value incoming.backlogs).room }
@@ -61,6 +64,7 @@ impl<R: Wait + Clock, I: Contents> Ahead<R, I> {
             incoming,
             reads: 0,
             failures: 0,
+            is_left: false,
         }
     }
 
@@ -70,6 +74,19 @@ impl<R: Wait + Clock, I: Contents> Ahead<R, I> {
         ensures { self.new ≡ self.old }
     {
         self.incoming.is_open(&self.rt, was_awaited)
+    }
+
+    /// Whether a byte lies ready, or the end, or a failure, of a source that wasn't left.
+    fn would_answer(&mut self) -> bool
+        ensures same { self.new ≡ self.old }
+        ensures left { self.old.is_left ≡ true → result ≡ false }
+    {
+        let _ = self.is_open(true);
+        let number = self.incoming.number;
+        if self.is_left || self.incoming.backlogs.is_left(&self.rt, number) {
+            return false;
+        }
+        self.incoming.is_ready() || self.incoming.backlogs.is_silent(&self.rt, number)
     }
 
     /// A view of this input and all those that were opened with it.
@@ -93,9 +110,12 @@ impl<R: Wait + Clock, I: Contents> Ahead<R, I> {
 }
 
 impl<R: Wait + Clock + Copy, I: Contents> Source for Ahead<R, I> {
-    ghost input = { source_view (λ s. s.left) (λ s. s.reads) (λ s. s.failures) };
+    ghost input = { source_view (λ s. s.left) (λ s. s.reads) (λ s. s.failures) (λ s. s.is_left) };
+
+    ghost tells = { λ _. true };
 
     fn read(&mut self, buffer: &mut [u8]) -> Result<usize, ReadFault> {
+        self.is_left = false;
         match self.incoming.read(&self.rt, buffer) {
             Ok(count) => {
                 if count > 0 {
@@ -115,16 +135,12 @@ impl<R: Wait + Clock + Copy, I: Contents> Source for Ahead<R, I> {
     fn leave(&mut self) {
         self.incoming.stop();
         self.incoming.backlogs.leave(&self.rt, self.incoming.number);
+        self.is_left = true;
     }
 
     /// Whether a byte lies ready, or the end, or a failure.
     fn is_ready(&mut self) -> bool {
-        let _ = self.is_open(true);
-        let number = self.incoming.number;
-        if self.incoming.backlogs.is_left(&self.rt, number) {
-            return false;
-        }
-        self.incoming.is_ready() || self.incoming.backlogs.is_silent(&self.rt, number)
+        self.would_answer()
     }
 
     /// Waits until one of these sources is ready. They are of one call of `open_all`.
@@ -146,6 +162,7 @@ impl<R: Wait + Drop, I: Contents> Drop for Ahead<R, I> {
             incoming,
             reads: _,
             failures: _,
+            is_left: _,
         } = self;
         incoming.backlogs.leave(&rt, incoming.number);
     }

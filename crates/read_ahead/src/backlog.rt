@@ -35,10 +35,13 @@ impl Backlog {
         self.blocks >= blocks || self.bytes > room || count > room - self.bytes
     }
 
-    /// A block of so many bytes lies ready.
+    /// A block of so many bytes lies ready, unless no more is given.
     pub fn put(&mut self, count: usize)
         ensures { self.new ≡ with_block count self.old }
     {
+        if self.left {
+            return;
+        }
         self.bytes = self.bytes.saturating_add(count);
         self.blocks = self.blocks.saturating_add(1);
     }
@@ -52,8 +55,9 @@ impl Backlog {
         if self.is_full(room, blocks, count) {
             return None;
         }
+        let is_given = !self.left;
         self.put(count);
-        Some(!self.left)
+        Some(is_given)
     }
 
     /// Whether so few bytes lie ready that a thread may go on that waits for room.
@@ -77,10 +81,12 @@ impl Backlog {
         self.bytes = self.bytes.saturating_sub(count);
     }
 
-    /// No more of it is given.
+    /// No more of it is given, and nothing of it lies ready any more.
     pub fn leave(&mut self)
-        ensures { self.new ≡ record self.old { left = true } }
+        ensures { self.new ≡ record { bytes = 0; blocks = 0; left = true } }
     {
+        self.bytes = 0;
+        self.blocks = 0;
         self.left = true;
     }
 }

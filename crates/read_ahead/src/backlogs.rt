@@ -1,28 +1,18 @@
 //! The backlogs of all inputs under one lock, and who waits for them. No claim on bytes rests on it.
-ghost use Rattle.std.specs.Prelude.{◌≡◌, ◌<◌, None, IfOk, OnErr, false, length};
+ghost use Rattle.std.specs.Prelude.{◌≡◌, ◌<◌, ◌-◌, ◌*◌, ◌^◌, None, Some, IfOk, IfSome, OnErr, false, length, max};
 ghost use Rattle.std.specs.Arc.{arc_value};
+ghost use Rattle.std.specs.Duration.{as_nanos};
 ghost use Rattle.read_ahead.specs.Shares.{room_for};
+ghost use Rattle.read_ahead.specs.Sources.{longest_silence};
+ghost use Rattle.read_ahead.specs.declared.limits.TheConstants.{LEAST_WAIT};
 
 use crate::backlog::Backlog;
-use crate::limits::{BLOCKS, Limits};
-use crate::shares::{share_of, turns_of};
+use crate::counts::Counts;
+use crate::limits::{LEAST_WAIT, Limits};
 use crate::view::{InputState, state_of};
 use std::alloc::{AllocError, Global};
 use std::sync::{Arc, Condvar, Mutex, Wait};
 use std::time::{Clock, Duration, Instant};
-
-/// What stands under the lock.
-#[derive(Drop)]
-struct Counts {
-    backlogs: Vec<Backlog>,
-    /// Since when the thread of an input waits for its bytes, if it does.
-    since: Vec<Option<Instant>>,
-    /// How often something came of an input, from the first number on again behind the last.
-    news: u64,
-}
-
-/// The least time that is waited for news of inputs which may fall silent, in milliseconds.
-const LEAST_WAIT: u64 = 1;
 
 /// The backlogs of all inputs, by number.
 #[derive(Drop)]
@@ -83,10 +73,7 @@ impl Backlogs {
         };
         let mut counts = self.counts.lock(rt);
         for _ in rt.forever() {
-            let Some(backlog) = counts.backlogs.get_mut(number) else {
-                return false;
-            };
-            if let Some(is_given) = backlog.try_put(self.room, BLOCKS, count) {
+            if let Some(is_given) = counts.put(number, self.room, count) {
                 return is_given;
             }
             counts = taken.wait(rt, counts);
@@ -97,7 +84,7 @@ impl Backlogs {
     /// Something came of an input: wakes whoever waits for it.
     pub fn tell<R: Wait>(&self, rt: &R) {
         let mut counts = self.counts.lock(rt);
-        counts.news = counts.news.wrapping_add(1);
+        counts.tell();
         self.came.notify_all();
     }
 
@@ -133,35 +120,24 @@ impl Backlogs {
     /// How long no input falls silent that is given. None where none ever does.
     fn patience<R: Clock>(&self, rt: &R, counts: &Counts) -> Option<Duration>
         ensures never { self.now.stall ≡ None → result ≡ None }
+        ensures some { IfSome result (λ patience. (now : Instant) × IfSome self.now.stall (λ stall. as_nanos patience
+            ≡ max (LEAST_WAIT * 10 ^ 6) (as_nanos stall
+            - longest_silence (Some now) counts.now.backlogs.items counts.now.since.items (length counts.now.backlogs.items)))) }
     {
         let stall = self.stall?;
         let now = Instant::now(rt).ok()?;
-        let mut least = stall;
-        for number in 0..counts.backlogs.len() {
-            if let Some(Some(since)) = counts.since.get(number)
-                && !counts.backlogs[number].left
-            {
-                least = least.min(stall.saturating_sub(now.duration_since(*since)));
-            }
-        }
-        Some(least.max(Duration::from_millis(LEAST_WAIT)))
+        Some(time_left(stall, counts.longest_silence(Some(now))))
     }
 
     /// The thread of an input begins to wait for its next bytes, or still waits for its first ones.
     pub fn begin_wait<R: Wait + Clock>(&self, rt: &R, number: usize) {
         let now = Instant::now(rt).ok();
-        if let Some(since) = self.counts.lock(rt).since.get_mut(number)
-            && since.is_none()
-        {
-            *since = now;
-        }
+        self.counts.lock(rt).begin_wait(number, now);
     }
 
     /// Something came of the input that its thread waited for.
     pub fn end_wait<R: Wait>(&self, rt: &R, number: usize) {
-        if let Some(since) = self.counts.lock(rt).since.get_mut(number) {
-            *since = None;
-        }
+        self.counts.lock(rt).end_wait(number);
     }
 
     /// Whether an input gave nothing for too long.
@@ -204,46 +180,32 @@ impl Backlogs {
 
     /// A block of an input was begun.
     pub fn begin<R: Wait>(&self, rt: &R, number: usize) {
-        if let Some(backlog) = self.counts.lock(rt).backlogs.get_mut(number) {
-            backlog.begin();
-        }
+        self.counts.lock(rt).begin(number);
     }
 
     /// How many bytes a read of an input gives at the most.
     pub fn share<R: Wait>(&self, rt: &R, number: usize) -> usize
         ensures { 0 < result }
     {
-        let counts = self.counts.lock(rt);
-        match counts.backlogs.get(number) {
-            Some(backlog) => share_of(backlog.bytes, turns_of(&counts.backlogs)),
-            None => 1,
-        }
+        self.counts.lock(rt).share(number)
     }
 
     /// A read of an input was answered with so many bytes.
     pub fn give<R: Wait>(&self, rt: &R, number: usize, count: usize) {
         let mut counts = self.counts.lock(rt);
-        if let Some(backlog) = counts.backlogs.get_mut(number) {
-            backlog.give(count);
-            if backlog.is_low(self.room) {
-                self.wake(number);
-            }
+        if counts.give(number, count, self.room) {
+            self.wake(number);
         }
     }
 
     /// Whether no more of an input is given.
     pub fn is_left<R: Wait>(&self, rt: &R, number: usize) -> bool {
-        match self.counts.lock(rt).backlogs.get(number) {
-            Some(backlog) => backlog.left,
-            None => true,
-        }
+        self.counts.lock(rt).is_left(number)
     }
 
     /// No more of an input is given.
     pub fn leave<R: Wait>(&self, rt: &R, number: usize) {
-        if let Some(backlog) = self.counts.lock(rt).backlogs.get_mut(number) {
-            backlog.leave();
-        }
+        self.counts.lock(rt).leave(number);
         self.wake(number);
     }
 
@@ -253,4 +215,16 @@ impl Backlogs {
             taken.notify_one();
         }
     }
+}
+
+/// How much of a stall is left behind a silence, but no less than the least time that is waited.
+fn time_left(stall: Duration, silence: Duration) -> Duration
+    ensures { as_nanos result ≡ max (LEAST_WAIT * 10 ^ 6) (as_nanos stall - as_nanos silence) }
+{
+    let left = stall.saturating_sub(silence);
+    let least = Duration::from_millis(LEAST_WAIT);
+    if left.as_nanos() < least.as_nanos() {
+        return least;
+    }
+    left
 }

@@ -5,7 +5,7 @@ ghost use Rattle.std.specs.Arc.{arc_value};
 ghost use Rattle.std.specs.Io.KnownBytes.{Consumes, IsAtEnd, Keeps};
 ghost use Rattle.rtrb.specs.Ring.{known_items, received};
 ghost use Rattle.read_ahead.specs.Messages.{MayFollow};
-ghost use Rattle.read_ahead.specs.Sources.{IsSound, StandsBy, StandsByLast, TakesNext, going_by, opened_by, rest_of};
+ghost use Rattle.read_ahead.specs.Sources.{IsDry, IsSound, StandsBy, StandsByLast, TakesNext, going_by, opened_by, rest_of};
 ghost use Rattle.read_ahead.specs.declared.incoming.Phase.TheVariants.{Opening, Going, Ended, Failed};
 
 use crate::backlogs::Backlogs;
@@ -109,6 +109,7 @@ impl<I: Contents> Incoming<I> {
         ensures backlogs { self.new.backlogs ≡ self.old.backlogs }
         ensures same { rest_of I.holds self.new ≡ rest_of I.holds self.old }
         ensures phase { self.new.phase ≢ Opening }
+        ensures over { self.new.phase ≢ Going }
         ensures ended { self.old.phase ≡ Ended → self.new.phase ≡ Ended }
         ensures failed { self.old.phase ≢ Ended → self.new.phase ≡ Failed }
     {
@@ -247,6 +248,7 @@ impl<I: Contents> Incoming<I> {
         ensures gave { Consumes (rest_of I.holds self.old) (rest_of I.holds self.new) (take result buffer.new) }
         ensures stands { ((received self.new.consumer ≡ received self.old.consumer) × (self.new.phase ≡ self.old.phase))
             ⊎ TakesNext going_by (received self.old.consumer) (received self.new.consumer) self.new.phase }
+        ensures next { (self.new.at < length self.new.front.items) ⊎ IsDry self.new }
     {
         let count = self.take_front(buffer);
         if self.is_used_up() && !self.consumer.is_empty() {
@@ -292,6 +294,7 @@ impl<I: Contents> Incoming<I> {
         ensures kept { OnErr result (Keeps (rest_of I.holds self.old) (rest_of I.holds self.new)) }
         ensures failed { OnErr result ((self.old.phase ≡ Failed) × (self.old.at ≡ length self.old.front.items)) }
         ensures same { OnErr result (self.new ≡ self.old) }
+        ensures dry { IfOk result (λ count. (count ≡ length buffer.new) ⊎ IsDry self.new) }
         ensures stands { StandsByLast (received self.old.consumer) (received self.new.consumer) self.old.phase self.new.phase }
     {
         if self.at < self.front.len() {
@@ -314,6 +317,7 @@ impl<I: Contents> Incoming<I> {
         ensures within { result ≤ length buffer.new }
         ensures some { 0 < length buffer.new → 0 < result }
         ensures full { (result ≡ length buffer.new) ⊎ (length self.new.front.items ≤ self.new.at) }
+        ensures dry { (result ≡ length buffer.new) ⊎ IsDry self.new }
         ensures gave { Consumes (rest_of I.holds self.old) (rest_of I.holds self.new) (take result buffer.new) }
         ensures stands { StandsByLast (received self.old.consumer) (received self.new.consumer) self.old.phase self.new.phase }
     {

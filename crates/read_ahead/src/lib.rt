@@ -4,6 +4,7 @@
 mod ahead;
 mod backlog;
 mod backlogs;
+mod counts;
 mod incoming;
 mod input;
 mod input_files;

@@ -1,7 +1,7 @@
 //! How much is read ahead at the most, and how long an input is waited for.
-ghost use Rattle.std.specs.Prelude.{◌≡◌, ◌*◌, ◌^◌};
+ghost use Rattle.std.specs.Prelude.{◌≡◌, ◌+◌, ◌*◌, ◌^◌};
 ghost use Rattle.read_ahead.specs.Shares.{room_for};
-ghost use Rattle.read_ahead.specs.declared.limits.TheConstants.{BLOCK, ROOM};
+ghost use Rattle.read_ahead.specs.declared.limits.TheConstants.{BLOCK, BLOCKS, LEAST_WAIT, MOMENT, ROOM, SLOTS, WASTE};
 
 use std::time::Duration;
 
@@ -17,13 +17,24 @@ pub const SLOTS: usize = BLOCKS + 8;
 /// The most bytes that an input is asked for at once.
 pub const BLOCK: usize = 64 << 10;
 
+/// The most bytes that an input is asked for at once where they are thrown away.
+pub const WASTE: usize = 16 << 10;
+
 /// How long the writers of all FIFOs are waited for before it begins without them, in milliseconds.
 pub const MOMENT: u64 = 100;
 
-/// What the bounds are that clauses cite by their names.
+/// The least time that is waited for news of inputs which may fall silent, in milliseconds.
+pub const LEAST_WAIT: u64 = 1;
+
+/// What the bounds are.
 pub fn bounds_are_these()
     ensures room { ROOM ≡ 32 * 2 ^ 20 }
     ensures block { BLOCK ≡ 2 ^ 16 }
+    ensures blocks { BLOCKS ≡ 2 ^ 15 }
+    ensures slots { SLOTS ≡ 2 ^ 15 + 8 }
+    ensures waste { WASTE ≡ 2 ^ 14 }
+    ensures moment { MOMENT ≡ 100 }
+    ensures least_wait { LEAST_WAIT ≡ 1 }
 {}
 
 /// How inputs are read ahead.

@@ -1,12 +1,13 @@
 //! What the thread of an input does.
-ghost use Rattle.std.specs.Prelude.{◌≡◌, ◌<◌, Ok, length, IfOk, OnErr};
+ghost use Rattle.std.specs.Prelude.{◌≡◌, ◌≢◌, ◌<◌, ◌⊎◌, ◌++◌, ◌∷◌, [], Ok, false, true, length, IfNone, IfOk, IfSome, OnErr, OnOk};
 ghost use Rattle.std.specs.Io.KnownBytes.{IsAtEnd};
 ghost use Rattle.rtrb.specs.Ring.{sent};
-ghost use Rattle.read_ahead.specs.Messages.{Asks, IsOpen, Tells};
-ghost use Rattle.read_ahead.specs.declared.reading.Stop.TheVariants.{AtEnd};
+ghost use Rattle.read_ahead.specs.Messages.{Asks, EndsWith, IsOpen, LeavesOut, MayEnd, Tells, goes_on};
+ghost use Rattle.read_ahead.specs.declared.message.Message.TheVariants.{End, Failed};
+ghost use Rattle.read_ahead.specs.declared.reading.Stop.TheVariants.{AtEnd, Left, NoMemory};
 
 use crate::input::Input;
-use crate::limits::BLOCK;
+use crate::limits::{BLOCK, WASTE};
 use crate::message::Message;
 use crate::sender::Sender;
 use item_io::{ReadFault, read_some};
@@ -22,53 +23,97 @@ pub enum Stop {
     AtEnd,
     /// No more of it is given.
     Left,
+    /// Memory for its next bytes is refused.
+    NoMemory,
 }
 
-/// Opens an input, and tells all that it gives.
-pub fn open_and_read<R: Wait + Clock, I: Input>(rt: &R, alloc: Global, sender: Sender<I>, input: I)
-    requires { Asks (sent sender.producer) input }
+/// Opens an input, and tells all that it gives. Answers its reader where that is to be read on, so that its writer isn't held up:
+/// no more of the input is given, or memory was refused.
+#[tactic(auto, using(crate::proofs::Telling::ends_snoc))]
+pub fn open_and_read<R: Wait + Clock, I: Input>(
+    rt: &R,
+    alloc: Global,
+    sender: &mut Sender<I>,
+    input: I,
+) -> Option<I::Reader>
+    requires { Asks (sent sender.old.producer) input }
+    ensures none { IfNone result (goes_on (sent sender.new.producer) ≡ false) }
+    ensures some { IfSome result (λ reader. (goes_on (sent sender.new.producer) ≡ false)
+        ⊎ LeavesOut I.holds (sent sender.new.producer) (I.Reader.remaining reader)) }
 {
-    let mut sender = sender;
-    match input.open() {
-        Some(reader) => {
-            sender.send(rt, Message::Opened);
-            read_ahead(rt, alloc, sender, reader);
-        }
-        None => sender.send(rt, Message::Refused),
+    let Some(reader) = input.open() else {
+        sender.send(rt, Message::Refused);
+        return None;
+    };
+    sender.send(rt, Message::Opened);
+    let mut reader = reader;
+    let stop = read_ahead(rt, alloc, sender, &mut reader);
+    read_on(stop, reader)
+}
+
+/// The reader of an input that stopped so, where it is to be read on.
+fn read_on<Q: Drop>(stop: Result<Stop, ReadFault>, reader: Q) -> Option<Q>
+    ensures some { IfSome result (λ q. (q ≡ reader) × ((stop ≡ Ok Left) ⊎ (stop ≡ Ok NoMemory))) }
+    ensures none { IfNone result ((stop ≢ Ok Left) × (stop ≢ Ok NoMemory)) }
+{
+    match stop {
+        Ok(Stop::AtEnd) => None,
+        Ok(Stop::Left) => Some(reader),
+        Ok(Stop::NoMemory) => Some(reader),
+        Err(_) => None,
     }
 }
 
-/// Tells all that an open input gives, and its end or a failure. Want of memory is a failed read. Once no more of it is given, its
-/// bytes are thrown away, so that its writer isn't held up.
+/// Tells all that an open input gives, and its end or a failure. Want of memory is told as a failed read; where no more of the input
+/// is given, that isn't told.
 fn read_ahead<R: Wait + Clock, I: Input>(
     rt: &R,
     alloc: Global,
-    sender: Sender<I>,
-    reader: I::Reader,
-)
-    requires { Tells I.holds (sent sender.producer) (I.Reader.remaining reader) }
+    sender: &mut Sender<I>,
+    reader: &mut I::Reader,
+) -> Result<Stop, ReadFault>
+    requires { Tells I.holds (sent sender.old.producer) (I.Reader.remaining reader.old) }
+    ensures last { result ≢ Ok Left → goes_on (sent sender.new.producer) ≡ false }
+    ensures end { result ≡ Ok AtEnd → EndsWith End (sent sender.new.producer) }
+    ensures failed { result ≢ Ok AtEnd → result ≢ Ok Left → EndsWith Failed (sent sender.new.producer) }
+    ensures was_left { result ≡ Ok Left → sender.new.is_left ≡ true }
+    ensures left { result ≡ Ok Left → LeavesOut I.holds (sent sender.new.producer) (I.Reader.remaining reader.new) }
 {
-    let mut sender = sender;
-    let mut reader = reader;
     let Ok(mut buffer) = vec![in alloc; 0; BLOCK] else {
-        return sender.send(rt, Message::Failed);
+        tell_failure(rt, sender);
+        return Ok(Stop::NoMemory);
     };
-    match copy_by(rt, alloc, &mut sender, &mut reader, &mut buffer) {
+    let stop = copy_by(rt, alloc, sender, reader, &mut buffer);
+    tell_stop(rt, sender, stop);
+    stop
+}
+
+/// Tells the end or the failure of an input that stopped so; nothing where no more of it is given.
+#[tactic(auto, using(crate::proofs::Telling::ends_snoc))]
+fn tell_stop<R: Wait, I: Input>(rt: &R, sender: &mut Sender<I>, stop: Result<Stop, ReadFault>)
+    requires open { IsOpen (sent sender.old.producer) }
+    requires end { stop ≡ Ok AtEnd → MayEnd I.holds (sent sender.old.producer) }
+    ensures last { stop ≢ Ok Left → goes_on (sent sender.new.producer) ≡ false }
+    ensures left { stop ≡ Ok Left → sent sender.new.producer ≡ sent sender.old.producer }
+    ensures end { stop ≡ Ok AtEnd → sent sender.new.producer ≡ sent sender.old.producer ++ End ∷ [] }
+    ensures failed { stop ≢ Ok AtEnd → stop ≢ Ok Left → sent sender.new.producer ≡ sent sender.old.producer ++ Failed ∷ [] }
+    ensures same { sender.new.is_left ≡ sender.old.is_left }
+{
+    match stop {
         Ok(Stop::AtEnd) => sender.send(rt, Message::End),
-        Ok(Stop::Left) => {
-            drop(sender);
-            throw_away(rt, &mut reader, &mut buffer);
-        }
+        Ok(Stop::Left) => {}
+        Ok(Stop::NoMemory) => tell_failure(rt, sender),
         Err(_) => tell_failure(rt, sender),
     }
 }
 
 /// Tells that a read failed.
-fn tell_failure<R: Wait, I: Input>(rt: &R, sender: Sender<I>)
-    requires { IsOpen (sent sender.producer) }
+fn tell_failure<R: Wait, I: Input>(rt: &R, sender: &mut Sender<I>)
+    requires { IsOpen (sent sender.old.producer) }
+    ensures ok { sent sender.new.producer ≡ sent sender.old.producer ++ Failed ∷ [] }
+    ensures same { sender.new.is_left ≡ sender.old.is_left }
 {
-    let mut failed = sender;
-    failed.send(rt, Message::Failed);
+    sender.send(rt, Message::Failed);
 }
 
 /// Tells all that an input gives, up to its end, by reads into this buffer.
@@ -84,6 +129,15 @@ fn copy_by<R: Wait + Clock, I: Input>(
     ensures told { result ≡ Ok AtEnd → Tells I.holds (sent sender.new.producer) (I.Reader.remaining reader.new) }
     ensures end { result ≡ Ok AtEnd → IsAtEnd (I.Reader.remaining reader.new) }
     ensures open { IsOpen (sent sender.new.producer) }
+
+    // A block that came isn't told where no more is given, or memory is refused.
+    ensures left { result ≡ Ok Left → LeavesOut I.holds (sent sender.new.producer) (I.Reader.remaining reader.new) }
+    ensures scarce { result ≡ Ok NoMemory → LeavesOut I.holds (sent sender.new.producer) (I.Reader.remaining reader.new) }
+    ensures was_left { result ≡ Ok Left → sender.new.is_left ≡ true }
+    ensures was_given { result ≡ Ok NoMemory → sender.new.is_left ≡ false }
+
+    // A failed read loses nothing.
+    ensures failed { OnErr result (Tells I.holds (sent sender.new.producer) (I.Reader.remaining reader.new)) }
 {
     for _ in rt.forever() {
         sender.begin_wait(rt);
@@ -97,7 +151,7 @@ fn copy_by<R: Wait + Clock, I: Input>(
             return Ok(Stop::Left);
         }
         let Ok(block) = copy_of(alloc, &buffer[..count]) else {
-            return Err(ReadFault);
+            return Ok(Stop::NoMemory);
         };
         sender.send(rt, Message::Bytes(block));
     }
@@ -114,13 +168,15 @@ fn copy_of(alloc: Global, bytes: &[u8]) -> Result<Vec<u8>, AllocError>
     Ok(block)
 }
 
-/// Reads an input to its end or a failure.
-fn throw_away<R: Wait, Q: Read>(rt: &R, reader: &mut Q, buffer: &mut [u8]) {
+/// Reads an input to its end, and throws away what it gives. This takes no memory.
+pub fn throw_away<R: Wait, Q: Read>(rt: &R, reader: &mut Q) -> Result<(), ReadFault>
+    ensures { OnOk result (IsAtEnd (Q.remaining reader.new)) }
+{
+    let mut buffer = [0; WASTE];
     for _ in rt.forever() {
-        match read_some(reader, buffer) {
-            Ok(0) => return,
-            Ok(_) => {}
-            Err(_) => return,
+        if read_some(reader, &mut buffer)? == 0 {
+            return Ok(());
         }
     }
+    unreachable!()
 }

@@ -1,4 +1,4 @@
-ghost use Rattle.std.specs.Prelude.{◌≡◌, [], ◌∷◌, ◌++◌};
+ghost use Rattle.std.specs.Prelude.{◌≡◌, [], ◌∷◌, ◌++◌, false, not};
 ghost use Rattle.rtrb.specs.Ring.{sent};
 ghost use Rattle.read_ahead.specs.Messages.{MayFollow};
 
@@ -17,6 +17,8 @@ pub struct Sender<I: Contents> {
     pub producer: Producer<Message<I>, Global, InOrder<I>>,
     pub backlogs: Arc<Backlogs, Global>,
     pub number: usize,
+    /// Whether no more of the input was given when room was waited for last.
+    pub is_left: bool,
 }
 
 impl<I: Contents> Sender<I> {
@@ -28,18 +30,21 @@ impl<I: Contents> Sender<I> {
     ) -> Sender<I>
         ensures sent { sent result.producer ≡ sent producer }
         ensures number { result.number ≡ number }
+        ensures left { result.is_left ≡ false }
     {
         Sender {
             producer,
             backlogs,
             number,
+            is_left: false,
         }
     }
 
     /// Tells something more, once there is a slot for it.
     pub fn send<R: Wait>(&mut self, rt: &R, message: Message<I>)
         requires { MayFollow I.holds I.refuses (sent self.old.producer) message }
-        ensures { sent self.new.producer ≡ sent self.old.producer ++ message ∷ [] }
+        ensures ok { sent self.new.producer ≡ sent self.old.producer ++ message ∷ [] }
+        ensures left { self.new.is_left ≡ self.old.is_left }
     {
         push(rt, &mut self.producer, message);
         self.backlogs.tell(rt);
@@ -56,8 +61,13 @@ impl<I: Contents> Sender<I> {
     }
 
     /// Waits until there is room for a block of so many bytes. False where no more of the input is given.
-    pub fn wait_for_room<R: Wait>(&self, rt: &R, count: usize) -> bool {
-        self.backlogs.put(rt, self.number, count)
+    pub fn wait_for_room<R: Wait>(&mut self, rt: &R, count: usize) -> bool
+        ensures told { sent self.new.producer ≡ sent self.old.producer }
+        ensures left { self.new.is_left ≡ not result }
+    {
+        let is_given = self.backlogs.put(rt, self.number, count);
+        self.is_left = !is_given;
+        is_given
     }
 }
 

@@ -15,7 +15,7 @@ use crate::input::{Contents, Input};
 use crate::input_files::{InputAt, InputFiles, inputs_at};
 use crate::limits::{Limits, SLOTS};
 use crate::message::{InOrder, Message};
-use crate::reading::open_and_read;
+use crate::reading::{open_and_read, throw_away};
 use crate::sender::Sender;
 use crate::waiting::wait_open;
 use rtrb::{Producer, RingBuffer};
@@ -62,6 +62,7 @@ where
     F::Reader: Send + 'static,
     ensures left { IfOk result (λ sources. map (λ source. source.left) sources.items ≡ map (λ path. F.holds files path.now) paths.now) }
     ensures unread { IfOk result (λ sources. All (λ source. (source.reads ≡ 0) × (source.failures ≡ 0)) sources.items) }
+    ensures unleft { IfOk result (λ sources. All (λ source. source.is_left ≡ false) sources.items) }
     ensures numbers { IfOk result (λ sources. map (λ source. source.number) sources.items ≡ range_with_len 0 (length paths.now)) }
     ensures limits { IfOk result (λ sources.
         All (λ source. (source.stall ≡ limits.stall) × (source.room ≡ room_for limits.ahead (length paths.now))) sources.items) }
@@ -80,6 +81,7 @@ where
     I::Reader: Send + 'static,
     ensures left { IfOk result (λ sources. map (λ source. source.left) sources.items ≡ map I.holds inputs.items) }
     ensures unread { IfOk result (λ sources. All (λ source. (source.reads ≡ 0) × (source.failures ≡ 0)) sources.items) }
+    ensures unleft { IfOk result (λ sources. All (λ source. source.is_left ≡ false) sources.items) }
     ensures numbers { IfOk result (λ sources. map (λ source. source.number) sources.items ≡ range_with_len 0 (length inputs.items)) }
     ensures limits { IfOk result (λ sources.
         All (λ source. (source.stall ≡ limits.stall) × (source.room ≡ room_for limits.ahead (length inputs.items))) sources.items) }
@@ -117,6 +119,7 @@ where
     I::Reader: Send + 'static,
     ensures left { IfOk result (λ sources. map (λ source. source.left) sources.items ≡ map I.holds inputs.items) }
     ensures unread { IfOk result (λ sources. All (λ source. (source.reads ≡ 0) × (source.failures ≡ 0)) sources.items) }
+    ensures unleft { IfOk result (λ sources. All (λ source. source.is_left ≡ false) sources.items) }
     ensures numbers { IfOk result (λ sources. map (λ source. source.number) sources.items ≡ range_with_len 0 (length inputs.items)) }
     ensures limits { IfOk result (λ sources.
         All (λ source. (source.stall ≡ (arc_value backlogs.now).stall) × (source.room ≡ (arc_value backlogs.now).room)) sources.items) }
@@ -144,6 +147,7 @@ where
     ensures left { IfOk result (λ source. source.left ≡ I.holds input) }
     ensures reads { IfOk result (λ source. source.reads ≡ 0) }
     ensures failures { IfOk result (λ source. source.failures ≡ 0) }
+    ensures unleft { IfOk result (λ source. source.is_left ≡ false) }
     ensures number { IfOk result (λ source. source.number ≡ number) }
     ensures stall { IfOk result (λ source. source.stall ≡ (arc_value backlogs.now).stall) }
     ensures room { IfOk result (λ source. source.room ≡ (arc_value backlogs.now).room) }
@@ -175,7 +179,7 @@ where
     Ok(Ahead::new(rt, incoming))
 }
 
-/// What the thread of an input does.
+/// What the thread of an input does. What isn't told of the input is thrown away, so that its writer isn't held up.
 fn run<R: Wait + Clock, I: Input>(
     rt: &R,
     alloc: Global,
@@ -186,5 +190,11 @@ fn run<R: Wait + Clock, I: Input>(
 )
     requires { Asks (sent producer) input }
 {
-    open_and_read(rt, alloc, Sender::new(producer, backlogs, number), input);
+    let mut sender = Sender::new(producer, backlogs, number);
+    let untold = open_and_read(rt, alloc, &mut sender, input);
+    drop(sender);
+    if let Some(reader) = untold {
+        let mut reader = reader;
+        let _ = throw_away(rt, &mut reader);
+    }
 }

@@ -50,7 +50,7 @@ pub fn state_of(backlog: &Backlog, since: Option<Instant>, now: Option<Instant>)
 }
 
 /// How long it has been waited for.
-fn silence(left: bool, since: Option<Instant>, now: Option<Instant>) -> Duration
+pub fn silence(left: bool, since: Option<Instant>, now: Option<Instant>) -> Duration
     ensures { as_nanos result ≡ silence_of left since now }
 {
     if left {

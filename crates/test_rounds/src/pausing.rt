@@ -1,6 +1,6 @@
 //! Sources that aren't always ready.
 
-ghost use Rattle.std.specs.Prelude.{◌≡◌, Some};
+ghost use Rattle.std.specs.Prelude.{◌≡◌, Some, true};
 ghost use Rattle.item_io.specs.Views.{source_view};
 
 use item_io::{FailingReader, ReadFault, Source};
@@ -36,7 +36,9 @@ impl Pausing {
 }
 
 impl Source for Pausing {
-    ghost input = { source_view (λ r. Some r.left) (λ r. r.reads) (λ r. r.failures) };
+    ghost input = { source_view (λ r. Some r.left) (λ r. r.reads) (λ r. r.failures) (λ r. r.is_left) };
+
+    ghost tells = { λ _. true };
 
     fn read(&mut self, buffer: &mut [u8]) -> Result<usize, ReadFault> {
         self.reader.read(buffer)
@@ -44,6 +46,7 @@ impl Source for Pausing {
 
     fn leave(&mut self) {
         self.left = true;
+        self.reader.leave();
     }
 
     fn is_ready(&mut self) -> bool {

@@ -45,6 +45,22 @@ fn what_was_left_is_read_to_its_end(rt: HostRuntime) -> Result<(), Fail> {
 }
 
 #[test]
+fn nothing_lies_ready_of_what_was_left(rt: HostRuntime) -> Result<(), Fail> {
+    let ended = Event::new(rt.alloc())?;
+    let mut bytes = None;
+    if let Some(mut source) = source_of(rt, rt.alloc(), long(rt, &ended)?)? {
+        let view = source.view()?;
+        let _ = source.read(&mut [0; 100]);
+        source.leave();
+        ended.wait(&rt);
+        let states = view.look(&rt, rt.alloc())?;
+        bytes = states.first().map(|state| state.bytes);
+    }
+    assert_same(&rt, "nothing lies ready of what was left", bytes, Some(0));
+    Ok(())
+}
+
+#[test]
 fn what_was_dropped_is_read_to_its_end(rt: HostRuntime) -> Result<(), Fail> {
     let ended = Event::new(rt.alloc())?;
     if let Some(source) = source_of(rt, rt.alloc(), long(rt, &ended)?)? {

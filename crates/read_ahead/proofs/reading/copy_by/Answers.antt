@@ -1,22 +1,30 @@
-use Rattle.std.proofs.Common.{refl, subst, sym, List, ℕ, arith}
+use Rattle.std.proofs.Common.{refl, subst, sym, take, List, ℕ, arith}
 use Rattle.std.specs.Io.KnownBytes.{Consumes}
 use Rattle.rtrb.specs.Ring.{sent}
 use Rattle.read_ahead.specs.declared.message.Message.TheVariants.{Bytes}
 use Rattle.read_ahead.proofs.Streams.{some_taken}
-use Rattle.read_ahead.proofs.Telling.{may_tell, tells_more}
+use Rattle.read_ahead.proofs.Telling.{leaves_out, may_tell, tells_more}
 use Rattle.read_ahead.proofs.reading.copy_by.Goals as goal
 
 pub send-requires : goal.send-requires
 send-requires g c =
     let remaining = g.I.Reader.Read.remaining in
-    may_tell g.I.Contents.holds (sent c.loop.sender.producer) c.in-Ok.block.items (remaining c.loop.reader) (remaining c.read_some-read.new.reader) c.loop.invariant.1
+    rw c.wait_for_room.ensures.told (may_tell g.I.Contents.holds (sent c.loop.sender.producer) c.in-Ok.block.items (remaining c.loop.reader) (remaining c.read_some-read.new.reader) c.loop.invariant.1
     (some_taken c.in_ok-count.count c.read_some-read.new.buffer c.in-Ok.block.items c.if-count-eq0.false c.in_ok-count.ensures.within c.in-Ok.ensures.ok)
-    (subst (λ (bs : List ℕ). Consumes (remaining c.loop.reader) (remaining c.read_some-read.new.reader) bs) (sym c.in-Ok.ensures.ok) c.in_ok-count.ensures.gave)
+    (subst (λ (bs : List ℕ). Consumes (remaining c.loop.reader) (remaining c.read_some-read.new.reader) bs) (sym c.in-Ok.ensures.ok) c.in_ok-count.ensures.gave))
 
 pub loop-preserved : goal.loop-preserved
 loop-preserved g c =
     let remaining = g.I.Reader.Read.remaining in (
       omega (arith, c.requires.room, c.loop.invariant.0),
-      rw c.send.ensures (tells_more g.I.Contents.holds (sent c.loop.sender.producer) (Bytes c.in-Ok.block) (remaining c.loop.reader) (remaining c.read_some-read.new.reader) c.loop.invariant.1 refl
+      rw (c.send.ensures.ok, c.wait_for_room.ensures.told) (tells_more g.I.Contents.holds (sent c.loop.sender.producer) (Bytes c.in-Ok.block) (remaining c.loop.reader) (remaining c.read_some-read.new.reader) c.loop.invariant.1 refl
           (subst (λ (bs : List ℕ). Consumes (remaining c.loop.reader) (remaining c.read_some-read.new.reader) bs) (sym c.in-Ok.ensures.ok) c.in_ok-count.ensures.gave)),
     )
+
+pub returns-then-not-wait_for_room-clause-left : goal.returns-then-not-wait_for_room-clause-left
+returns-then-not-wait_for_room-clause-left g c _ =
+    let remaining = g.I.Reader.Read.remaining in
+    let block = take c.in_ok-count.count c.read_some-read.new.buffer in
+    rw c.wait_for_room.ensures.told (leaves_out g.I.Contents.holds (sent c.loop.sender.producer) block (remaining c.loop.reader) (remaining c.read_some-read.new.reader) c.loop.invariant.1
+    (some_taken c.in_ok-count.count c.read_some-read.new.buffer block c.if-count-eq0.false c.in_ok-count.ensures.within refl)
+    c.in_ok-count.ensures.gave)

@@ -2,6 +2,6 @@ use Rattle.rtrb.specs.Ring.{sent}
 use Rattle.read_ahead.proofs.Telling.{tells_first}
 use Rattle.read_ahead.proofs.reading.open_and_read.Goals as goal
 
-pub read_ahead-requires : goal.read_ahead-requires
-read_ahead-requires g c =
-    rw c.send.ensures (tells_first g.I.Contents.holds (sent c.args.sender.producer) c.args.input (g.I.Reader.Read.remaining c.in-Some.reader) c.requires c.in-Some.ensures.ok)
+pub read_ahead-stop-requires : goal.read_ahead-stop-requires
+read_ahead-stop-requires g c =
+    rw c.send-2.ensures.ok (tells_first g.I.Contents.holds (sent c.args.sender.now.producer) c.args.input (g.I.Reader.Read.remaining c.in-Some.reader) c.requires c.in-Some.ensures.ok)

@@ -22,6 +22,7 @@ loop-given-preserved g c =
       number = c.take_some-given.ensures.number ∙ c.loop-given.invariant.number;
       backlogs = c.take_some-given.ensures.backlogs ∙ c.loop-given.invariant.backlogs;
       stands = stands_on (received c.args.self.now.consumer) (received c.loop-given.self.consumer) (received new.self.consumer) c.args.self.now.phase c.loop-given.self.phase new.self.phase c.loop-given.invariant.stands c.take_some-given.ensures.stands;
+      next = c.take_some-given.ensures.next;
       first = λ none. absurd (search (rules, none, c.take_some-given.ensures.some));
       gave = rw grown (consumes_on (rest_of g.I.Contents.holds c.args.self.now) (rest_of g.I.Contents.holds c.loop-given.self) (rest_of g.I.Contents.holds new.self) (take given buffer) (take some new.buffer) c.loop-given.invariant.gave c.take_some-given.ensures.gave);
     }

@@ -1,0 +1,141 @@
+//! What the calls of the backlogs do to their counts, under the lock.
+ghost use Rattle.std.specs.Prelude.{◌≡◌, ◌+◌, ◌-◌, ◌<◌, ◌≤◌, ◌%◌, ◌^◌, None, Some, false, not, true, length, slice_get, slice_set, IfNone, IfSome, OnSome};
+ghost use Rattle.std.specs.Duration.{as_nanos};
+ghost use Rattle.read_ahead.specs.Shares.{backlog_of, is_full, is_low, share, turns, with_block};
+ghost use Rattle.read_ahead.specs.Sources.{longest_silence};
+ghost use Rattle.read_ahead.specs.declared.limits.TheConstants.{BLOCKS};
+
+use crate::backlog::Backlog;
+use crate::limits::BLOCKS;
+use crate::shares::{share_of, turns_of};
+use crate::view::silence;
+use std::time::{Duration, Instant};
+
+/// What stands under the lock.
+#[derive(Drop)]
+pub struct Counts {
+    pub backlogs: Vec<Backlog>,
+    /// Since when the thread of an input waits for its bytes, if it does.
+    pub since: Vec<Option<Instant>>,
+    /// How often something came of an input, from the first number on again behind the last.
+    pub news: u64,
+}
+
+impl Counts {
+    /// Counts a block of an input, unless it has to wait: none then. Otherwise answers whether more of the input is given.
+    pub fn put(&mut self, number: usize, room: usize, count: usize) -> Option<bool>
+        ensures some { IfSome result (λ given. (is_full room BLOCKS count (backlog_of self.old.backlogs.items number) ≡ false)
+            × (given ≡ not (backlog_of self.old.backlogs.items number).left)) }
+        ensures none { IfNone result (is_full room BLOCKS count (backlog_of self.old.backlogs.items number) ≡ true) }
+        ensures kept { IfNone result (self.new.backlogs.items ≡ self.old.backlogs.items) }
+        ensures counted { number < length self.old.backlogs.items → OnSome result (self.new.backlogs.items
+            ≡ slice_set self.old.backlogs.items number (with_block count (backlog_of self.old.backlogs.items number))) }
+        ensures same { self.new ≡ record self.old { backlogs = self.new.backlogs } }
+    {
+        if number >= self.backlogs.len() {
+            return Some(false);
+        }
+        self.backlogs[number].try_put(room, BLOCKS, count)
+    }
+
+    /// Something came of an input.
+    pub fn tell(&mut self)
+        ensures { self.new ≡ record self.old { news = (self.old.news + 1) % 2 ^ 64 } }
+    {
+        self.news = self.news.wrapping_add(1);
+    }
+
+    /// The thread of an input waits for its next bytes from now on, unless it waits already.
+    pub fn begin_wait(&mut self, number: usize, now: Option<Instant>)
+        ensures begun { slice_get self.old.since.items number ≡ Some None → self.new.since.items ≡ slice_set self.old.since.items number now }
+        ensures kept { (since : Instant) → slice_get self.old.since.items number ≡ Some (Some since) → self.new ≡ self.old }
+        ensures same { self.new ≡ record self.old { since = self.new.since } }
+    {
+        if number < self.since.len() && self.since[number].is_none() {
+            self.since[number] = now;
+        }
+    }
+
+    /// The thread of an input waits no longer.
+    pub fn end_wait(&mut self, number: usize)
+        ensures ended { number < length self.old.since.items → self.new.since.items ≡ slice_set self.old.since.items number None }
+        ensures same { self.new ≡ record self.old { since = self.new.since } }
+    {
+        if number < self.since.len() {
+            self.since[number] = None;
+        }
+    }
+
+    /// A block of an input was begun.
+    pub fn begin(&mut self, number: usize)
+        ensures begun { number < length self.old.backlogs.items → self.new.backlogs.items ≡ slice_set self.old.backlogs.items number
+            (record (backlog_of self.old.backlogs.items number) { blocks = (backlog_of self.old.backlogs.items number).blocks - 1 }) }
+        ensures same { self.new ≡ record self.old { backlogs = self.new.backlogs } }
+    {
+        if number < self.backlogs.len() {
+            self.backlogs[number].begin();
+        }
+    }
+
+    /// A read of an input was answered with so many bytes. Answers whether a thread may go on that waits for room.
+    pub fn give(&mut self, number: usize, count: usize, room: usize) -> bool
+        ensures given { number < length self.old.backlogs.items → self.new.backlogs.items ≡ slice_set self.old.backlogs.items number
+            (record (backlog_of self.old.backlogs.items number) { bytes = (backlog_of self.old.backlogs.items number).bytes - count }) }
+        ensures low { number < length self.old.backlogs.items → result ≡ is_low room (backlog_of self.new.backlogs.items number) }
+        ensures same { self.new ≡ record self.old { backlogs = self.new.backlogs } }
+    {
+        if number >= self.backlogs.len() {
+            return false;
+        }
+        self.backlogs[number].give(count);
+        self.backlogs[number].is_low(room)
+    }
+
+    /// No more of an input is given.
+    pub fn leave(&mut self, number: usize)
+        ensures left { number < length self.old.backlogs.items → self.new.backlogs.items
+            ≡ slice_set self.old.backlogs.items number (record { bytes = 0; blocks = 0; left = true }) }
+        ensures same { self.new ≡ record self.old { backlogs = self.new.backlogs } }
+    {
+        if number < self.backlogs.len() {
+            self.backlogs[number].leave();
+        }
+    }
+
+    /// Whether no more of an input is given.
+    pub fn is_left(&self, number: usize) -> bool
+        ensures { result ≡ (backlog_of self.now.backlogs.items number).left }
+    {
+        if number >= self.backlogs.len() {
+            return true;
+        }
+        self.backlogs[number].left
+    }
+
+    /// How many bytes a read of an input gives at the most.
+    pub fn share(&self, number: usize) -> usize
+        ensures some { 0 < result }
+        ensures is { number < length self.now.backlogs.items → result
+            ≡ share (backlog_of self.now.backlogs.items number).bytes (turns self.now.backlogs.items) }
+    {
+        if number >= self.backlogs.len() {
+            return 1;
+        }
+        share_of(self.backlogs[number].bytes, turns_of(&self.backlogs))
+    }
+
+    /// How long that input was waited for until now that was waited for the longest.
+    pub fn longest_silence(&self, now: Option<Instant>) -> Duration
+        ensures { as_nanos result ≡ longest_silence now self.now.backlogs.items self.now.since.items (length self.now.backlogs.items) }
+    {
+        let mut longest = Duration::ZERO;
+        for number in 0..self.backlogs.len() {
+            let since = self.since.get(number).copied().unwrap_or(None);
+            let silence = silence(self.backlogs[number].left, since, now);
+            if silence.as_nanos() > longest.as_nanos() {
+                longest = silence;
+            }
+        }
+        longest
+    }
+}
