@@ -14,3 +14,4 @@ pub mod Putting
 pub mod Left
 pub mod Between
 pub mod Clearing
+pub mod Noting

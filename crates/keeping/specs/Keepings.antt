@@ -1,5 +1,5 @@
 -- Segments that are taken away from a folder once no player can want them (RFC 8216, 6.2.2).
-use Rattle.std.specs.Prelude.{◌≡◌, ◌≢◌, ◌⊎◌, ℕ, zero, suc, ◌+◌, ◌-◌, ◌<◌, ◌≤◌, ◌==◌, Bool, true, false, not, ◌&&◌, Some, List, [], ◌∷◌, ◌++◌, length, take, drop, map, filter, sum_by, nat_lt, slice_get, slice_index_or}
+use Rattle.std.specs.Prelude.{◌≡◌, ◌≢◌, ◌^◌, ◌⊎◌, ℕ, zero, suc, ◌+◌, ◌-◌, ◌<◌, ◌≤◌, ◌==◌, Bool, true, false, not, ◌&&◌, Some, List, [], ◌∷◌, ◌++◌, length, take, drop, map, filter, sum_by, nat_lt, slice_get, slice_index_or}
 use Rattle.std.specs.List.{All, Contains}
 use Rattle.playlist_text.specs.MediaLines.{Entry, Listing}
 use Rattle.playlist_text.specs.Names.{is_name}
@@ -7,6 +7,7 @@ use Rattle.folder.specs.Moves.{Move, Remove}
 use Rattle.item_io.specs.Items.{ItemValue, PlaylistValue, SegmentItem, MediaItem, FramesItem, MasterItem}
 use Rattle.item_io.specs.FileNames.{segment_file_name}
 use Rattle.media_reading.specs.MediaTexts.{IsListing, listing_text}
+use Rattle.media_reading.specs.MediaTexts.{WantsMemory}
 use Rattle.retention.specs.declared.step.Step.{Step}
 use Rattle.retention.specs.Steps.{IsKeptFrom, Kept, MayGo, first_of}
 
@@ -75,6 +76,15 @@ pub record IsNoted (old new : KeepingValue) (text : List ℕ) : Type 0 where
   pub step : Step
   pub is_step : IsStepOf old.base text step
   pub now : new ≡ record old { kept = record old.kept { steps = old.kept.steps ++ step ∷ [] } }
+
+-- The text is a media playlist that may be told next: it begins no earlier than the last one that was told, and lists the next segment,
+-- before which there are fewer than 2^52.
+pub record ComesNext (k : KeepingValue) (text : List ℕ) : Type 0 where
+  pub step : Step
+  pub is_step : IsStepOf k.base text step
+  pub rises : first_of k.kept.steps (length k.kept.steps - 1) ≤ step.first
+  pub listed : step.first ≤ length k.kept.steps
+  pub few : length k.kept.steps < 2 ^ 52
 
 -- some segments of a rendition are taken away, from this number on
 abbrev pub removals : List ℕ → ℕ → ℕ → List Move
@@ -170,6 +180,26 @@ MayBeRefused (SegmentItem s) renditions = ⊥
 MayBeRefused (MediaItem p) renditions = ¬ HasOwnName renditions p.name p.rendition ⊎ (p.rendition < length renditions)
 MayBeRefused (FramesItem p) renditions = ⊥
 MayBeRefused (MasterItem text) renditions = ⊥
+
+-- A media playlist that is the last lists no new segment.
+abbrev pub FollowsUnless : Bool → KeepingValue → List ℕ → Type 0
+FollowsUnless true k text = GoesOn k text
+FollowsUnless false k text = ComesNext k text
+
+-- A media playlist has its own rendition's name, and may be told that, where there is such a rendition.
+abbrev pub MayComeNext : ItemValue → List KeepingValue → Type 0
+MayComeNext (SegmentItem s) renditions = Unit {0}
+MayComeNext (MediaItem p) renditions =
+    HasOwnName renditions p.name p.rendition × (p.rendition < length renditions → FollowsUnless p.ended (keeping_at renditions p.rendition) p.text)
+MayComeNext (FramesItem p) renditions = Unit {0}
+MayComeNext (MasterItem text) renditions = Unit {0}
+
+-- Only for a media playlist memory can be wanted: for what its text says, or where it may be told next.
+abbrev pub MayWantMemory : ItemValue → List KeepingValue → Type 0
+MayWantMemory (SegmentItem s) renditions = ⊥
+MayWantMemory (MediaItem p) renditions = WantsMemory p.text ⊎ ComesNext (keeping_at renditions p.rendition) p.text
+MayWantMemory (FramesItem p) renditions = ⊥
+MayWantMemory (MasterItem text) renditions = ⊥
 
 abbrev pub ComesInTurn : ItemValue → List KeepingValue → Type 0
 ComesInTurn (SegmentItem s) renditions = Unit {0}

@@ -1,15 +1,18 @@
 //! Which segments of a rendition are taken away.
-ghost use Rattle.std.specs.Prelude.{◌≡◌, ◌+◌, ◌<◌, ◌≤◌, ◌^◌, ◌⊎◌, ◌++◌, ◌∷◌, [], length, Any, Decides, IfOk, MatchResult, OnErr, OnOk};
+ghost use Rattle.std.specs.Prelude.{◌≡◌, ◌+◌, ◌<◌, ◌≤◌, ◌^◌, ◌⊎◌, ◌++◌, ◌∷◌, [], length, Any, Decides, IfOk, IsErrOf, MatchResult, OnErr, OnOk};
 ghost use Rattle.std.specs.String.{string_bytes};
 ghost use Rattle.folder.specs.Pruning.{other_moves};
+ghost use Rattle.media_reading.specs.MediaTexts.{WantsMemory};
 ghost use Rattle.retention.specs.Steps.{IsKeptFrom};
-ghost use Rattle.keeping.specs.Keepings.{GoesOn, IsLeft, IsNoted, IsStepOf, LetsGo, SweepsOn, below, new_keeping, resumed_keeping, steps_before};
+ghost use Rattle.keeping.specs.Keepings.{ComesNext, GoesOn, IsLeft, IsNoted, IsStepOf, LetsGo, SweepsOn, below, new_keeping, resumed_keeping};
+ghost use Rattle.keeping.specs.Keepings.{steps_before};
 
+use crate::note_fault::NoteFault;
 use crate::removing::{take_places, take_some};
 use folder::{Folder, PruningFolder};
 use ghost_list::GhostList;
 use item_io::{FolderOutlet, OutletFault};
-use media_reading::read_media;
+use media_reading::{ListFault, read_media};
 use retention::{Retention, Step};
 use std::alloc::{AllocError, Global};
 use std::marker::Model;
@@ -101,16 +104,18 @@ impl Keeping {
     }
 
     /// Is told the text of the media playlist behind the next segment. One that isn't a media playlist, or doesn't go on from
-    /// the one before, is refused, and so is want of memory: then all is as it was.
-    pub fn note(&mut self, alloc: Global, text: &str) -> Result<(), OutletFault>
+    /// the one before, is refused; then, and where memory is refused, all is as it was.
+    pub fn note(&mut self, alloc: Global, text: &str) -> Result<(), NoteFault>
         ensures ok { OnOk result (IsNoted self.old self.new text.now) }
         ensures err { OnErr result (self.new ≡ self.old) }
         ensures on { OnOk result (GoesOn self.new text.now) }
+        ensures refused { IsErrOf result NoteFault.Refused → ¬ ComesNext self.old text.now }
+        ensures scarce { IsErrOf result NoteFault.NoMemory → WantsMemory text.now ⊎ ComesNext self.old text.now }
     {
         let step = step_of(alloc, self.base, text)?;
         let count = self.kept.count();
         if step.first < self.kept.first_listed() || step.first > count || count >= 1 << 52 {
-            return Err(OutletFault);
+            return Err(NoteFault::Refused);
         }
         self.kept.push(step.micros, step.first)?;
         Ok(())
@@ -118,12 +123,14 @@ impl Keeping {
 
     /// Looks at the text of the last media playlist, which lists no new segment. One that isn't a media playlist, or begins
     /// earlier than the one before, is refused.
-    pub fn check(&self, alloc: Global, text: &str) -> Result<(), OutletFault>
+    pub fn check(&self, alloc: Global, text: &str) -> Result<(), NoteFault>
         ensures on { OnOk result (GoesOn self.now text.now) }
+        ensures refused { IsErrOf result NoteFault.Refused → ¬ GoesOn self.now text.now }
+        ensures scarce { IsErrOf result NoteFault.NoMemory → WantsMemory text.now }
     {
         let step = step_of(alloc, self.base, text)?;
         if step.first < self.kept.first_listed() {
-            return Err(OutletFault);
+            return Err(NoteFault::Refused);
         }
         Ok(())
     }
@@ -193,17 +200,24 @@ fn listed_so_far(alloc: Global, least: u64, micros: &[u64]) -> Result<Retention,
 }
 
 /// The step of a media playlist.
-fn step_of(alloc: Global, base: u64, text: &str) -> Result<Step, OutletFault>
-    ensures { IfOk result (IsStepOf base text.now) }
+fn step_of(alloc: Global, base: u64, text: &str) -> Result<Step, NoteFault>
+    ensures ok { IfOk result (IsStepOf base text.now) }
+
+    // A text has one step; what is refused has none.
+    ensures one { IfOk result (λ step. (other : Step) → IsStepOf base text.now other → other ≡ step) }
+    ensures refused { IsErrOf result NoteFault.Refused → (step : Step) → ¬ IsStepOf base text.now step }
+    ensures scarce { IsErrOf result NoteFault.NoMemory → WantsMemory text.now }
 {
-    let Ok(listing) = read_media(alloc, text) else {
-        return Err(OutletFault);
+    let listing = match read_media(alloc, text) {
+        Ok(listing) => listing,
+        Err(ListFault::NoMemory) => return Err(NoteFault::NoMemory),
+        Err(ListFault::NotProfile(_)) => return Err(NoteFault::Refused),
     };
     let Some(last) = listing.entries.last() else {
-        return Err(OutletFault);
+        return Err(NoteFault::Refused);
     };
     let Some(first) = listing.sequence.checked_sub(base) else {
-        return Err(OutletFault);
+        return Err(NoteFault::Refused);
     };
     Ok(Step {
         micros: last.micros,

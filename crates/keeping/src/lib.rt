@@ -6,9 +6,11 @@
 
 mod keeping;
 mod laws;
+mod note_fault;
 mod outlet;
 mod removing;
 
 pub use keeping::{Behind, Keeping};
 pub use laws::{given_items_are_left_but_what_went, what_went_is_not_listed};
+pub use note_fault::NoteFault;
 pub use outlet::KeepingOutlet;

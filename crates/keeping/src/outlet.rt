@@ -1,14 +1,15 @@
-ghost use Rattle.std.specs.Prelude.{◌≡◌, ℕ, List, ◌++◌, ◌+◌, ◌<◌, ◌^◌, ◌∷◌, [], true, false, length, Decides, OnErr, OnOk};
+ghost use Rattle.std.specs.Prelude.{◌≡◌, ℕ, List, ◌++◌, ◌+◌, ◌<◌, ◌^◌, ◌∷◌, [], true, false, length, Decides, IsErrOf, OnErr, OnOk};
 ghost use Rattle.folder.specs.Pruning.{other_moves};
 ghost use Rattle.item_io.specs.Items.{ItemValue, item_value};
 ghost use Rattle.item_io.specs.Outlets.{BreaksOff, Grows};
 ghost use Rattle.item_io.specs.Views.{outlet_view};
 ghost use Rattle.keeping.specs.Clearing.{AreCleared, missed_with};
-ghost use Rattle.keeping.specs.Keepings.{AllWent, AreNotedBy, ComesInTurn, GoBehind, HasOwnName, IsLeftBehind, MayBeRefused};
+ghost use Rattle.keeping.specs.Keepings.{AllWent, AreNotedBy, ComesInTurn, GoBehind, HasOwnName, IsLeftBehind, MayBeRefused, MayComeNext, MayWantMemory};
 ghost use Rattle.keeping.specs.Keepings.{Stay, SweptBehind, keeping_at, removed_of};
 ghost use Rattle.keeping.specs.Holding.{KeptBy, KeptUpTo};
 
 use crate::keeping::Keeping;
+use crate::note_fault::NoteFault;
 use folder::{Folder, PruningFolder};
 use ghost_list::GhostList;
 use item_io::{FolderOutlet, Item, Outlet, OutletFault};
@@ -142,11 +143,13 @@ fn removed_by(renditions: &[Keeping]) -> u128
 
 /// Notes an item for its rendition, if it is a media playlist with a new segment. One that isn't that of the rendition of its
 /// name, or doesn't go on from those before, is refused.
-fn note(renditions: &mut Vec<Keeping>, alloc: Global, item: &Item) -> Result<(), OutletFault>
+fn note(renditions: &mut Vec<Keeping>, alloc: Global, item: &Item) -> Result<(), NoteFault>
     ensures ok { OnOk result (AreNotedBy (item_value item.now) renditions.old.items renditions.new.items) }
     ensures err { OnErr result (renditions.new.items ≡ renditions.old.items) }
     ensures turn { OnOk result (ComesInTurn (item_value item.now) renditions.new.items) }
     ensures few { OnErr result (MayBeRefused (item_value item.now) renditions.old.items) }
+    ensures refused { IsErrOf result NoteFault.Refused → ¬ MayComeNext (item_value item.now) renditions.old.items }
+    ensures scarce { IsErrOf result NoteFault.NoMemory → MayWantMemory (item_value item.now) renditions.old.items }
 {
     let Item::Media {
         rendition,
@@ -159,7 +162,7 @@ fn note(renditions: &mut Vec<Keeping>, alloc: Global, item: &Item) -> Result<(),
         return Ok(());
     };
     if !is_own_name(renditions, *rendition, name) {
-        return Err(OutletFault);
+        return Err(NoteFault::Refused);
     }
     if *rendition >= renditions.len() {
         return Ok(());

@@ -25,7 +25,7 @@ use std::thread::Threads;
 
 /// The command `pack --remove` for a folder to which nothing was done before: packs a ladder on many threads, puts its segments
 /// and playlists into files of the folder, and removes segments that no player can want any more, as each rendition's
-/// [`Keeping`] has it. Behind each item the herald is told how many were removed.
+/// [`Keeping`] has it. At first and behind each item the herald is told how many were removed.
 ///
 /// Wherever the process is killed, also after a fault, the folder shows what stood there before with a prefix of a weave of the
 /// renditions over it, whole files alone, but that segments may be missing which were removed, and which no playlist in place
@@ -74,10 +74,8 @@ pub fn pack_and_remove<
     // Behind a run that ended well all of its segments went that may go, unless one couldn't be removed.
     ensures cleared { OnOk result.answer (AreAllCleared settings.now result.outlet.missed result.outlet.renditions) }
 {
-    let outlet = Tallied {
-        outlet: KeepingOutlet::new(outlet_of(into, alloc), alloc, renditions),
-        tally: herald,
-    };
+    let outlet = KeepingOutlet::new(outlet_of(into, alloc), alloc, renditions);
+    let outlet = Tallied::over(outlet, herald);
     let PackedLadder {
         sources,
         publisher,

@@ -3,6 +3,7 @@
 ghost use Rattle.std.specs.Prelude.{◌≡◌, ◌+◌, ◌<◌, ◌^◌, ◌∷◌, [], OnErr, OnOk};
 ghost use Rattle.item_io.specs.Items.{item_value};
 ghost use Rattle.item_io.specs.Outlets.{BreaksOff, Grows};
+ghost use Rattle.keeping.specs.Keepings.{removed_of};
 ghost use Rattle.removal.specs.Since.{HoldsSince, HoldsSinceUpTo, since_view};
 
 use folder::Folder;
@@ -16,28 +17,49 @@ pub trait Tally {
     fn removed(&self, segments: u128);
 }
 
-/// An outlet that tells behind each item how many segments were removed. Clauses see the outlet alone; what it holds says also with
-/// which renditions it began.
+/// An outlet that tells at first and behind each item how many segments were removed. Clauses see the outlet alone; what it holds says
+/// also with which renditions it began. What was told last is always how many were removed by then.
 #[derive(Drop)]
 pub struct Tallied<'t, F, T> {
-    pub outlet: KeepingOutlet<F>,
-    pub tally: &'t T,
+    outlet: KeepingOutlet<F>,
+    tally: &'t T,
+    told: u128,
 }
 
 impl<'t, F, T> Model for Tallied<'t, F, T> {
+    ghost use Rattle.std.specs.Prelude.{◌≡◌};
     ghost use Rattle.keeping.specs.Holding.{KeepingState};
+    ghost use Rattle.keeping.specs.Keepings.{removed_of};
 
     ghost Value = { KeepingState F };
 
     ghost view = { λ o. o.outlet };
+
+    ghost invariant = { λ o. o.told ≡ removed_of o.outlet.renditions };
 }
 
-impl<'t, F, T> Tallied<'t, F, T> {
+impl<'t, F: Folder, T: Tally> Tallied<'t, F, T> {
+    /// Over an outlet.
+    pub fn over(outlet: KeepingOutlet<F>, tally: &'t T) -> Tallied<'t, F, T>
+        ensures { result ≡ outlet }
+    {
+        let told = tell(&outlet, tally);
+        Tallied {
+            outlet,
+            tally,
+            told,
+        }
+    }
+
     /// The outlet.
     pub fn into_outlet(self) -> KeepingOutlet<F>
         ensures { result ≡ self.entry }
     {
-        let Tallied { outlet, tally: _ } = self;
+        let Tallied {
+            outlet,
+            tally: _,
+            told: _,
+        } = self;
         outlet
     }
 }
@@ -55,7 +77,16 @@ impl<F: Folder, T: Tally> Outlet for Tallied<'_, F, T> {
         ensures failed { OnErr result (self.new.files.failures ≡ self.old.files.failures + 1) }
     {
         let answer = self.outlet.put(item);
-        self.tally.removed(self.outlet.removed());
+        self.told = tell(&self.outlet, self.tally);
         answer
     }
+}
+
+/// Tells how many segments an outlet removed, and answers it.
+fn tell<F: Folder, T: Tally>(outlet: &KeepingOutlet<F>, tally: &T) -> u128
+    ensures { result ≡ removed_of outlet.now.renditions }
+{
+    let removed = outlet.removed();
+    tally.removed(removed);
+    removed
 }

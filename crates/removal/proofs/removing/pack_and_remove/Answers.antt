@@ -8,7 +8,7 @@ use Rattle.removal.proofs.removing.pack_and_remove.Goals as goal
 
 pub returns-clause-killed : goal.returns-clause-killed
 returns-clause-killed g c =
-    let start : c.new.result ≡ new_keeping c.args.into c.args.renditions.items = search rules in
+    let start : c.over-outlet.result ≡ new_keeping c.args.into c.args.renditions.items = search rules in
     let x = new_keeping c.args.into c.args.renditions.items in
     let y = c.pack-sources.result.outlet in
     let old = c.args.publisher.list in
@@ -23,7 +23,7 @@ returns-clause-killed g c =
 
 pub returns-clause-unlisted : goal.returns-clause-unlisted
 returns-clause-unlisted g c =
-    let start : c.new.result ≡ new_keeping c.args.into c.args.renditions.items = search rules in
+    let start : c.over-outlet.result ≡ new_keeping c.args.into c.args.renditions.items = search rules in
     let x = new_keeping c.args.into c.args.renditions.items in
     let y = c.pack-sources.result.outlet in
     let old = c.args.publisher.list in
@@ -36,28 +36,28 @@ returns-clause-unlisted g c =
 
 pub returns-clause-ok : goal.returns-clause-ok
 returns-clause-ok g c =
-    let start : c.new.result ≡ new_keeping c.args.into c.args.renditions.items = search rules in
+    let start : c.over-outlet.result ≡ new_keeping c.args.into c.args.renditions.items = search rules in
     rw c.into_outlet.ensures (ok-plain g.S.Source.input g.F.Folder.made c.args.settings.now (2 ^ 40) c.args.sources.items c.pack-sources.result.sources.items
     (new_keeping c.args.into c.args.renditions.items) c.pack-sources.result.outlet c.args.pool.workers c.args.publisher.list c.pack-sources.result.publisher.list c.pack-sources.result.answer
     (rw start at c.pack-sources.ensures.ok))
 
 pub returns-clause-fault : goal.returns-clause-fault
 returns-clause-fault g c =
-    let start : c.new.result ≡ new_keeping c.args.into c.args.renditions.items = search rules in
+    let start : c.over-outlet.result ≡ new_keeping c.args.into c.args.renditions.items = search rules in
     rw c.into_outlet.ensures (fault-plain g.S.Source.input g.F.Folder.made c.args.settings.now (2 ^ 40) c.args.sources.items c.pack-sources.result.sources.items
     (new_keeping c.args.into c.args.renditions.items) c.pack-sources.result.outlet c.args.pool.workers c.args.publisher.list c.pack-sources.result.publisher.list _ _ c.pack-sources.result.answer
     (rw start at c.pack-sources.ensures.fault))
 
 pub returns-clause-breach : goal.returns-clause-breach
 returns-clause-breach g c =
-    let start : c.new.result ≡ new_keeping c.args.into c.args.renditions.items = search rules in
+    let start : c.over-outlet.result ≡ new_keeping c.args.into c.args.renditions.items = search rules in
     rw c.into_outlet.ensures (breach-plain g.S.Source.input g.F.Folder.made c.args.settings.now (2 ^ 40) c.args.sources.items c.pack-sources.result.sources.items
     (new_keeping c.args.into c.args.renditions.items) c.pack-sources.result.outlet c.args.pool.workers c.args.publisher.list c.pack-sources.result.publisher.list c.pack-sources.result.answer
     (rw start at c.pack-sources.ensures.breach))
 
 pub returns-clause-same : goal.returns-clause-same
 returns-clause-same g c =
-    let start : c.new.result ≡ new_keeping c.args.into c.args.renditions.items = search rules in
+    let start : c.over-outlet.result ≡ new_keeping c.args.into c.args.renditions.items = search rules in
     rw c.into_outlet.ensures (stay-then g.S.Source.input g.F.Folder.made c.args.settings.now (2 ^ 40) c.args.sources.items c.pack-sources.result.sources.items
     (new_keeping c.args.into c.args.renditions.items) c.pack-sources.result.outlet (held-of c.args.into.syncs [])
     (held-first c.args.into.syncs (g.F.Folder.made c.args.into.folder) [] c.args.renditions.items c.requires.fresh refl c.requires.untold)
@@ -66,7 +66,7 @@ returns-clause-same g c =
 
 pub returns-clause-cleared : goal.returns-clause-cleared
 returns-clause-cleared g c =
-    let start : c.new.result ≡ new_keeping c.args.into c.args.renditions.items = search rules in
+    let start : c.over-outlet.result ≡ new_keeping c.args.into c.args.renditions.items = search rules in
     rw c.into_outlet.ensures (all-cleared g.S.Source.input g.F.Folder.made c.args.settings.now (2 ^ 40) c.args.sources.items c.pack-sources.result.sources.items
     (new_keeping c.args.into c.args.renditions.items) c.pack-sources.result.outlet (held-of c.args.into.syncs [])
     (held-first c.args.into.syncs (g.F.Folder.made c.args.into.folder) [] c.args.renditions.items c.requires.fresh refl c.requires.untold) refl
