@@ -15,12 +15,12 @@ each-of-four true true false d is = absurd (cc)
 each-of-four true false c d is = absurd (cc)
 each-of-four false b c d is = absurd (cc)
 
-four-colons : (text : List ℕ) → HasFourColons text → has_four_colons text ≡ true
+pub four-colons : (text : List ℕ) → HasFourColons text → has_four_colons text ≡ true
 four-colons text has =
     all-four (has_colon text) (has_colon (behind_colon text)) (has_colon (behind_two text)) (has_colon (behind_three text))
     (lt-ltb _ _ has.first) (lt-ltb _ _ has.second) (lt-ltb _ _ has.third) (lt-ltb _ _ has.fourth)
 
-has-four-colons : (text : List ℕ) → has_four_colons text ≡ true → HasFourColons text
+pub has-four-colons : (text : List ℕ) → has_four_colons text ≡ true → HasFourColons text
 has-four-colons text is =
     let each = each-of-four (has_colon text) (has_colon (behind_colon text)) (has_colon (behind_two text)) (has_colon (behind_three text)) is in
     record {

@@ -1,5 +1,5 @@
 -- The command that clap matched.
-use Rattle.std.proofs.Common.{◌≡◌, ◌⊎◌, true, List, Option, Some, None, option_map, codes, inl, inr, refl, subst}
+use Rattle.std.proofs.Common.{◌≡◌, true, List, Option, Some, None, option_map, codes, inl, inr, refl, subst}
 use Rattle.clap.specs.Words.{Row, Text, is_simple, subcommand_name_of, subcommand_rows, subcommand_rows_of}
 use Rattle.clap.specs.declared.parser.matches.ArgMatches.{ArgMatches}
 use Rattle.clap.specs.declared.parser.matches.ArgMatches.TheViews.{out-ArgMatches, out-SubCommand}

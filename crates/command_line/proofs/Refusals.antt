@@ -1,6 +1,6 @@
 -- Why the words of a command line tell no job.
 use Rattle.std.specs.Prelude.{Result, Ok, Err}
-use Rattle.std.proofs.Common.{◌≡◌, ◌∙◌, ◌⊎◌, inl, inr, refl, sym, ap, ap₂, subst, ℕ, ◌<◌, ◌≤◌, true, false, List, Option, None, length, codes, option_map, map}
+use Rattle.std.proofs.Common.{◌≡◌, ◌∙◌, ◌⊎◌, inl, inr, refl, sym, ap, ap₂, subst, ℕ, ◌<◌, ◌≤◌, true, false, List, Option, None, length, codes, option_map}
 use Rattle.clap.specs.declared.parser.matches.Found.{Found}
 use Rattle.clap.specs.Words.{Row, Text, first_value}
 use Rattle.limits.specs.declared.TheConstants.{MOST_KEYS}

@@ -65,23 +65,24 @@ resuming_words texts resuming.NoMemory = resuming_reason resuming.NoMemory
 resuming_words texts (resuming.Not r fault) = rendition_text (entry_at texts r) ++ resuming_reason (resuming.Not r fault)
 resuming_words texts (resuming.OtherKeys r i) = rendition_text (entry_at texts r) ++ resuming_reason (resuming.OtherKeys r i)
 
--- why a run ended; settings, and a stream that can't be read, are told by more than the entries
-abbrev pub packing_words : List (List ℕ) → PackFault → Option (List ℕ)
-packing_words texts packing.Settings = None
-packing_words texts (packing.Read r) = None
-packing_words texts (packing.ReadLimit r) = Some (rendition_text (entry_at texts r) ++ codes "2^40 reads did not reach the end of the stream")
-packing_words texts (packing.NoProgram r) =
-    Some (rendition_text (entry_at texts r) ++ codes "no program: empty, not a transport stream, or its PAT or PMT is missing or damaged")
-packing_words texts (packing.NoStart r) =
-    Some (rendition_text (entry_at texts r) ++ codes "no key frame to begin at: one with random_access_indicator set, a PTS, and not scrambled")
-packing_words texts (packing.LongSegment r n) =
-    Some (rendition_text (entry_at texts r)
-    ++ segment_text n (codes "would last longer than --target: if the GOP doesn't divide it, set --segment to the target minus one GOP"))
-packing_words texts (packing.BigSegment r n) =
-    Some (rendition_text (entry_at texts r) ++ segment_text n (codes "has more packets than --most"))
-packing_words texts (packing.Limit r) =
-    Some (rendition_text (entry_at texts r) ++ codes "the last segment number, or the range of time, is passed")
-packing_words texts packing.Outlet = Some (codes "the output can't be written: missing, not writable, closed, or full")
-packing_words texts packing.NoMemory = Some (codes "out of memory")
-packing_words texts (packing.Held r n) =
-    Some (rendition_text (entry_at texts r) ++ segment_text n (codes "was held back"))
+-- why a stream can't be read; one that may be silent only for so long may have been silent
+abbrev pub read_reason : Bool → List ℕ
+read_reason stalls = cond stalls (codes "a read failed, or nothing came for --stall seconds") (codes "a read failed")
+
+-- why a run ended, where settings that aren't allowed are told by these words
+abbrev pub packing_words : List (List ℕ) → Bool → List ℕ → PackFault → List ℕ
+packing_words texts stalls settings packing.Settings = settings
+packing_words texts stalls settings (packing.Read r) = rendition_text (entry_at texts r) ++ read_reason stalls
+packing_words texts stalls settings (packing.ReadLimit r) = rendition_text (entry_at texts r) ++ codes "2^40 reads did not reach the end of the stream"
+packing_words texts stalls settings (packing.NoProgram r) =
+    rendition_text (entry_at texts r) ++ codes "no program: empty, not a transport stream, or its PAT or PMT is missing or damaged"
+packing_words texts stalls settings (packing.NoStart r) =
+    rendition_text (entry_at texts r) ++ codes "no key frame to begin at: one with random_access_indicator set, a PTS, and not scrambled"
+packing_words texts stalls settings (packing.LongSegment r n) =
+    rendition_text (entry_at texts r)
+    ++ segment_text n (codes "would last longer than --target: if the GOP doesn't divide it, set --segment to the target minus one GOP")
+packing_words texts stalls settings (packing.BigSegment r n) = rendition_text (entry_at texts r) ++ segment_text n (codes "has more packets than --most")
+packing_words texts stalls settings (packing.Limit r) = rendition_text (entry_at texts r) ++ codes "the last segment number, or the range of time, is passed"
+packing_words texts stalls settings packing.Outlet = codes "the output can't be written: missing, not writable, closed, or full"
+packing_words texts stalls settings packing.NoMemory = codes "out of memory"
+packing_words texts stalls settings (packing.Held r n) = rendition_text (entry_at texts r) ++ segment_text n (codes "was held back")

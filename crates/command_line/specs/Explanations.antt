@@ -1,5 +1,5 @@
 -- What an explanation says of numbers that aren't allowed, as docs/COMMANDS.md has it.
-use Rattle.std.specs.Prelude.{◌≡◌, ◌==◌, ◌<◌, ◌⊎◌, ℕ, ◌≤◌, true, false, length, List, ◌++◌, codes}
+use Rattle.std.specs.Prelude.{◌≡◌, ◌==◌, ◌<◌, ◌⊎◌, ℕ, ◌≤◌, Bool, true, false, length, List, ◌++◌, Option, None, Some, codes}
 use Rattle.std.specs.List.{position_or_len}
 use Rattle.playlist_text.specs.Names.{is_codecs, is_name}
 use Rattle.limits.specs.declared.TheConstants.{MOST_PIXELS}
@@ -52,6 +52,11 @@ pub record TellsFirstOutside {W : Type 0} (took : W → List ℕ → W → Type 
   pub outside : ¬ IsWithin option numbers pool
   pub first : AreWithinBefore option numbers pool
   pub written : IsPlainFormatter f → HasWritten took f (outside_text option) g
+
+-- Whether it was written of an option, told with it: of this one, or nothing where there is none.
+abbrev pub WritesOutside : {W : Type 0} → (W → List ℕ → W → Type 0) → Option Ranged → Bool → Formatter W → Formatter W → Type 0
+WritesOutside took (Some option) told f g = (told ≡ true) × (IsPlainFormatter f → HasWritten took f (outside_text option) g)
+WritesOutside took None told f g = (told ≡ false) × (g ≡ f)
 
 -- a number of pixels that a side may have; what isn't a number is told elsewhere
 abbrev pub MayBeSide : List ℕ → Type 0

@@ -7,3 +7,5 @@ pub mod Refusals
 pub mod Explanations
 pub mod Reasons
 pub mod EntryTexts
+pub mod SettingsWords
+pub mod FaultWords

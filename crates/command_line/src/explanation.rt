@@ -11,19 +11,21 @@ ghost use Rattle.command_line.specs.EntryTexts.{
   entry_at,
   entry_numbered,
   entry_text,
-  packing_words,
+  read_reason,
   rendition_text,
   resuming_words,
   segment_text,
 };
+ghost use Rattle.command_line.specs.FaultWords.{Explains, fault_words, fault_words_line, one_words, pack_words, run_words};
 ghost use Rattle.command_line.specs.Faults.{IsIndentedLine};
 ghost use Rattle.command_line.specs.Jobs.{IsCommand};
 ghost use Rattle.command_line.specs.Options.{tshls};
-ghost use Rattle.command_line.specs.Words.{texts_of};
+ghost use Rattle.command_line.specs.SettingsWords.{settings_words};
+ghost use Rattle.command_line.specs.Words.{is_given, texts_of};
 
 use crate::fault::Fault;
 use crate::job::program;
-use crate::options::{number_words, packing_words};
+use crate::options::{is_given, number_words, packing_words};
 use crate::pack_options::pool_words;
 use crate::reasons::{
     checking_reason, cipher_reason, key_list_reason, ladder_reason, opening_reason,
@@ -59,6 +61,8 @@ pub fn explain<S: AsStr>(
     ensures usage { (error : Error) → fault.now ≡ Fault.Usage error → result ≡ Ok None }
     ensures told { ((error : Error) → fault.now ≢ Fault.Usage error) → takes tshls (map S.text words.now) ≡ true →
         IsCommand (subcommand_of tshls (map S.text words.now)) → IfOk result (λ found. IsSome found) }
+    ensures words { IfOk result (λ found. IfSome found (λ text.
+        Explains (subcommand_of tshls (map S.text words.now)) fault.now (string_bytes text))) }
 {
     if matches!(fault, Fault::Usage(_)) {
         return Ok(None);
@@ -77,28 +81,28 @@ pub fn explain<S: AsStr>(
 
 /// The same, by the options of a command.
 fn explained(alloc: Global, options: &ArgMatches<'_>, fault: &Fault) -> Result<String, AllocError>
-    ensures { IfOk result (λ text. IsIndentedLine (string_bytes text)) }
+    ensures ok { IfOk result (λ text. IsIndentedLine (string_bytes text)) }
+    ensures words { IfOk result (λ text. string_bytes text ≡ fault_words_line (found_of options.now) fault.now) }
 {
     let words = format!(in alloc; "{}", Explanation { fault, options })?;
     format!(in alloc; "  {words}\n")
 }
 
 impl fmt::Display for Explanation<'_, '_, '_> {
+    ghost output = { λ e. Some (fault_words (found_of e.options.now) e.fault.now) };
+
     fn fmt<W: fmt::Write>(&self, f: &mut fmt::Formatter<W>) -> fmt::Result {
         match self.fault {
-            Fault::Usage(_) | Fault::NoMemory => f.write_str("out of memory"),
+            Fault::Usage(_) => f.write_str("out of memory"),
+            Fault::NoMemory => f.write_str("out of memory"),
             Fault::Busy => f.write_str(
                 "another tshls packs into this folder; nothing was read or written",
             ),
             Fault::NotUtf8 => f.write_str("a word of the command line is not UTF-8"),
             Fault::Cipher(fault) => f.write_str(cipher_reason(*fault)),
             Fault::KeyList(fault) => f.write_str(key_list_reason(*fault)),
-            Fault::Settings(SettingsFault::Settings) => write_settings(f, self.options),
-            Fault::Settings(fault) => f.write_str(settings_reason(*fault)),
-            Fault::Ladder(LadderFault::BadEntry(n)) => write_bad_entry(f, self.options, *n),
-            Fault::Ladder(LadderFault::BadKeyFile(n)) => write_bad_key_file(f, self.options, *n),
-            Fault::Ladder(LadderFault::Settings) => write_settings(f, self.options),
-            Fault::Ladder(fault) => f.write_str(ladder_reason(*fault)),
+            Fault::Settings(fault) => write_one(f, self.options, *fault),
+            Fault::Ladder(fault) => write_pack(f, self.options, *fault),
             Fault::Sealing(fault) => f.write_str(sealing_reason(*fault)),
             Fault::Opening(fault) => f.write_str(opening_reason(*fault)),
             Fault::Resuming(fault) => write_resuming(f, self.options, *fault),
@@ -116,11 +120,40 @@ impl fmt::Display for Explanation<'_, '_, '_> {
     }
 }
 
-/// Writes which setting isn't allowed.
-fn write_settings<W: fmt::Write>(
+/// Writes why the words of `one` tell no settings.
+fn write_one<W: fmt::Write>(
     f: &mut fmt::Formatter<W>,
     options: &ArgMatches<'_>,
-) -> fmt::Result {
+    fault: SettingsFault,
+) -> fmt::Result
+    ensures { DisplaysOnOk W.write_str_gives f.old result (Some (one_words (found_of options.now) fault)) f.new }
+{
+    match fault {
+        SettingsFault::Settings => write_settings(f, options),
+        _ => f.write_str(settings_reason(fault)),
+    }
+}
+
+/// Writes why those of `pack` tell no ladder.
+fn write_pack<W: fmt::Write>(
+    f: &mut fmt::Formatter<W>,
+    options: &ArgMatches<'_>,
+    fault: LadderFault,
+) -> fmt::Result
+    ensures { DisplaysOnOk W.write_str_gives f.old result (Some (pack_words (found_of options.now) fault)) f.new }
+{
+    match fault {
+        LadderFault::BadEntry(n) => write_bad_entry(f, options, n),
+        LadderFault::BadKeyFile(n) => write_bad_key_file(f, options, n),
+        LadderFault::Settings => write_settings(f, options),
+        _ => f.write_str(ladder_reason(fault)),
+    }
+}
+
+/// Writes which setting isn't allowed.
+fn write_settings<W: fmt::Write>(f: &mut fmt::Formatter<W>, options: &ArgMatches<'_>) -> fmt::Result
+    ensures { DisplaysOnOk W.write_str_gives f.old result (Some (settings_words (found_of options.now))) f.new }
+{
     if write_outside(f, number_words(options), pool_words(options))? {
         return Ok(());
     }
@@ -234,8 +267,16 @@ fn write_resuming<W: fmt::Write>(
     f.write_str(resuming_reason(fault))
 }
 
-/// Why a rendition's input can't be read where it may also have been silent for too long.
-const STALLED: &str = "a read failed, or nothing came for --stall seconds";
+/// Why a rendition's input can't be read; where `--stall` is given, it may also have been silent for too long.
+fn read_reason(options: &ArgMatches<'_>) -> &'static str
+    ensures { result.now ≡ read_reason (is_given (found_of options.now) (codes "stall")) }
+{
+    if is_given(options, "stall") {
+        "a read failed, or nothing came for --stall seconds"
+    } else {
+        "a read failed"
+    }
+}
 
 /// Why a rendition's input isn't read to its end.
 const READ_LIMIT: &str = "2^40 reads did not reach the end of the stream";
@@ -249,14 +290,11 @@ fn write_packing<W: fmt::Write>(
     options: &ArgMatches<'_>,
     fault: PackFault,
 ) -> fmt::Result
-    ensures { DisplaysOnOk W.write_str_gives f.old result (packing_words (texts_of (found_of options.now) (codes "entries")) fault) f.new }
+    ensures { DisplaysOnOk W.write_str_gives f.old result (Some (run_words (found_of options.now) fault)) f.new }
 {
     match fault {
         PackFault::Settings => write_settings(f, options),
-        PackFault::Read(r) if pool_words(options).stall.is_some() => write_stream(
-            f, options, r, STALLED,
-        ),
-        PackFault::Read(r) => write_stream(f, options, r, "a read failed"),
+        PackFault::Read(r) => write_stream(f, options, r, read_reason(options)),
         PackFault::ReadLimit(r) => write_stream(f, options, r, READ_LIMIT),
         PackFault::NoProgram(r) => write_stream(f, options, r, NO_PROGRAM),
         PackFault::NoStart(r) => write_stream(f, options, r, NO_START),

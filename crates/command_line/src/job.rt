@@ -1,5 +1,5 @@
 //! The command line: which command it asks for, with its options as values.
-ghost use Rattle.std.specs.Prelude.{◌≡◌, ⊤, codes, false, map, IfErr, IfOk};
+ghost use Rattle.std.specs.Prelude.{◌≡◌, ⊤, Some, codes, false, map, IfErr, IfOk};
 ghost use Rattle.clap.specs.Values.{kind_of};
 ghost use Rattle.clap.specs.Words.{app_of, found_of, subcommand_of, subcommand_rows_of};
 ghost use Rattle.clap.specs.declared.builder.command.Command.TheViews.{out-Command};
@@ -252,15 +252,16 @@ fn with_check<'a>(alloc: Global, program: Command<'a>) -> Result<Command<'a>, Al
 pub(crate) fn program<'a>(alloc: Global, version: &'a str) -> Result<Command<'a>, AllocError>
     ensures app { IfOk result (λ made. app_of made ≡ tshls) }
     ensures globals { IfOk result (λ made. (out-Command made).has_globals ≡ false) }
+    ensures version { IfOk result (λ made. (out-Command made).version ≡ Some version.entry) }
 {
     let program = Command::new(alloc, "tshls")
         .about("MPEG-2 transport streams to encrypted HLS")
-        .version(version)
         .subcommand_required(true)
         .arg_required_else_help(true);
     let program = with_seal(alloc, program)?;
     let program = with_open(alloc, program)?;
     let program = with_one(alloc, program)?;
     let program = with_pack(alloc, program)?;
-    with_check(alloc, program)
+    let program = with_check(alloc, program)?;
+    Ok(program.version(version))
 }

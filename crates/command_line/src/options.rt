@@ -1,5 +1,5 @@
 //! The options of each command: how help shows them, and the words that were given.
-ghost use Rattle.std.specs.Prelude.{◌≡◌, ◌<◌, codes, false, length, map, option_map, IfOk, OnErr};
+ghost use Rattle.std.specs.Prelude.{◌≡◌, ◌<◌, codes, false, length, map, option_map, IfOk, OnErr, Some};
 ghost use Rattle.clap.specs.Words.{first_value, found_of, rule_of};
 ghost use Rattle.command_line.specs.Options.{GetsOptions, check_options, cipher_options, form_options, number_option, numbered};
 ghost use Rattle.command_line.specs.Options.{rendition_options, stream_options, text_option};
@@ -163,6 +163,7 @@ pub(crate) const NUMBERS: [NumberOption; 8] = [
 fn number_from<'a>(alloc: Global, option: NumberOption) -> Arg<'a>
     ensures rule { rule_of result ≡ numbered option.entry }
     ensures alone { result.global ≡ false }
+    ensures help { result.help ≡ Some option.entry.2 }
 {
     let (name, value, help, default) = option;
     let arg = number(alloc, name, value, help);
@@ -235,6 +236,7 @@ pub fn check_words<'a>(options: &ArgMatches<'a>) -> CheckWords<'a>
 pub(crate) fn text<'a>(alloc: Global, name: &'a str, value: &'a str, help: &'a str) -> Arg<'a>
     ensures rule { rule_of result ≡ text_option name.entry.now }
     ensures alone { result.global ≡ false }
+    ensures help { result.help ≡ Some help.entry }
 {
     Arg::new(alloc, name)
         .long(name)
@@ -246,6 +248,7 @@ pub(crate) fn text<'a>(alloc: Global, name: &'a str, value: &'a str, help: &'a s
 pub(crate) fn number<'a>(alloc: Global, name: &'a str, value: &'a str, help: &'a str) -> Arg<'a>
     ensures rule { rule_of result ≡ number_option name.entry.now }
     ensures alone { result.global ≡ false }
+    ensures help { result.help ≡ Some help.entry }
 {
     text(alloc, name, value, help).value_parser(clap::value_parser!(u64))
 }
@@ -265,7 +268,7 @@ fn number_of(options: &ArgMatches<'_>, name: &str) -> Option<u64>
 }
 
 /// Whether an option was given. The defaults here are only shown.
-fn is_given(options: &ArgMatches<'_>, name: &str) -> bool
+pub(crate) fn is_given(options: &ArgMatches<'_>, name: &str) -> bool
     ensures { result ≡ is_given (found_of options.now) name.now }
 {
     matches!(options.value_source(name), Some(ValueSource::CommandLine))

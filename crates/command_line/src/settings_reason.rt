@@ -1,11 +1,13 @@
 //! Why settings aren't allowed: the option, or the entry of a ladder, that is outside its limits.
-ghost use Rattle.std.specs.Prelude.{◌≡◌, Any, Decides, IfOk, MatchOption, Some, false, map, true};
+ghost use Rattle.std.specs.Prelude.{◌≡◌, Any, Decides, IfOk, MatchOption, Some, false, map, option_map, true};
 ghost use Rattle.std.specs.Fmt.{DisplaysOnOk};
 ghost use Rattle.commands.specs.Defaults.{numbers_of};
 ghost use Rattle.commands.specs.Pools.{pool_of};
-ghost use Rattle.commands.specs.Ranges.{AreWithin};
-ghost use Rattle.command_line.specs.Explanations.{IsListable, MayBeSide, MayBeSize, TellsFirstOutside, TellsUnlistable, option_word, outside_text, range_text};
+ghost use Rattle.commands.specs.Ranges.{AreWithin, outside_of};
+ghost use Rattle.command_line.specs.Explanations.{IsListable, MayBeSide, MayBeSize, TellsFirstOutside, TellsUnlistable, WritesOutside};
+ghost use Rattle.command_line.specs.Explanations.{option_word, outside_text, range_text};
 ghost use Rattle.command_line.specs.EntryTexts.{IsNamed};
+ghost use Rattle.command_line.specs.SettingsWords.{entries_words, is_among, may_be_size, rendition_words, unlistable};
 
 use commands::{NumberWords, PoolWords, Ranged, cut_entry, first_outside};
 use limits::{MOST_PIXELS, MOST_RENDITIONS};
@@ -49,6 +51,7 @@ pub(crate) fn write_outside<W: fmt::Write>(
 ) -> Result<bool, fmt::Error>
     ensures some { IfOk result (λ told. told ≡ true → TellsFirstOutside W.write_str_gives (numbers_of numbers) (pool_of pool) f.old f.new) }
     ensures none { IfOk result (λ told. told ≡ false → AreWithin (numbers_of numbers) (pool_of pool)) }
+    ensures words { IfOk result (λ told. WritesOutside W.write_str_gives (outside_of (numbers_of numbers) (pool_of pool)) told f.old f.new) }
 {
     match first_outside(&numbers.numbers(), pool.pool()) {
         Some(option) => {
@@ -71,7 +74,8 @@ fn is_side(text: &str) -> bool
 
 /// Whether both sides round the first x of a size may be sides.
 fn may_be_size(text: &str) -> bool
-    ensures { Decides result (MayBeSize text.now) }
+    ensures ok { Decides result (MayBeSize text.now) }
+    ensures same { result ≡ may_be_size text.now }
 {
     let Some((width, height)) = text.split_once('x') else {
         return false;
@@ -80,8 +84,10 @@ fn may_be_size(text: &str) -> bool
 }
 
 /// What a rendition can't be listed by, if there is such a thing.
+#[tactic(auto, unfolding(crate::specs::SettingsWords::unlistable))]
 fn unlistable(name: &str, codecs: &str, size: &str) -> Option<&'static str>
-    ensures { MatchOption result (IsListable name.now codecs.now size.now) (λ why. TellsUnlistable name.now codecs.now size.now why.now) }
+    ensures ok { MatchOption result (IsListable name.now codecs.now size.now) (λ why. TellsUnlistable name.now codecs.now size.now why.now) }
+    ensures words { option_map (λ t. t.now) result ≡ unlistable name.now codecs.now size.now }
 {
     if !is_name(name) {
         return Some(
@@ -103,7 +109,9 @@ pub(crate) fn write_unlistable<W: fmt::Write>(
     name: &str,
     codecs: &str,
     size: &str,
-) -> fmt::Result {
+) -> fmt::Result
+    ensures { DisplaysOnOk W.write_str_gives f.old result (Some (rendition_words name.now codecs.now size.now)) f.new }
+{
     f.write_str(unlistable(name, codecs, size).unwrap_or("an option is outside its range"))
 }
 
@@ -111,7 +119,9 @@ pub(crate) fn write_unlistable<W: fmt::Write>(
 pub(crate) fn write_unlistable_entries<W: fmt::Write>(
     f: &mut fmt::Formatter<W>,
     entries: &[&str],
-) -> fmt::Result {
+) -> fmt::Result
+    ensures { DisplaysOnOk W.write_str_gives f.old result (Some (entries_words (map (λ t. t.now) entries.now))) f.new }
+{
     if entries.len() as u64 > MOST_RENDITIONS {
         return write!(f, "there are more than {MOST_RENDITIONS} entries");
     }
@@ -136,7 +146,8 @@ pub(crate) fn write_unlistable_entries<W: fmt::Write>(
 
 /// Whether one of these entries has the name.
 fn is_among(name: &str, entries: &[&str]) -> bool
-    ensures { Decides result (Any (IsNamed name.now) (map (λ t. t.now) entries.now)) }
+    ensures ok { Decides result (Any (IsNamed name.now) (map (λ t. t.now) entries.now)) }
+    ensures same { result ≡ is_among name.now (map (λ t. t.now) entries.now) }
 {
     for place in 0..entries.len() {
         if is_named(entries[place], name) {

@@ -1,7 +1,11 @@
--- No digits stand for no bytes.
-use Rattle.std.specs.Prelude.{Ok}
-use Rattle.std.proofs.Common.{arith, ◌≡◌, ◌<◌, List, ℕ, [], ◌∷◌, length, refl, sym, ap, ◌∙◌}
-use Rattle.hex.specs.Hex.{decode_of, decode_pairs}
+-- No digits stand for no bytes; which texts stand for some.
+use Rattle.std.proofs.Common.{arith, ◌≡◌, ◌≢◌, ◌<◌, ◌%◌, List, ℕ, [], ◌∷◌, true, false, Result, Ok, Err, is_err, length, refl, sym, ap, inl, inr, ◌∙◌}
+use Rattle.std.specs.List.{list_all}
+use Rattle.std.proofs.lemmas.Bool.{cases_eq}
+use Rattle.std.proofs.lemmas.List.Sums.{AllPass-from_list_all, list_all-from_AllPass}
+use Rattle.hex.specs.Hex.{decode_of, decode_pairs, is_hex_digit}
+use Rattle.hex.specs.declared.error.FromHexError.{FromHexError}
+use Rattle.hex.proofs.HexLemmas.{decode_of-digits, decode_of-ok}
 use Rattle.commands.specs.Hex.{without_end}
 
 decoded-none : decode_of [] ≡ Ok []
@@ -23,3 +27,23 @@ some-line [] sealed is some = absurd (
     let both : sealed ≡ [] = cc (decoded-none, is) in
     omega (arith, some, ap length both))
 some-line (x ∷ line) sealed is some = omega arith
+
+even-length : (text : List ℕ) → length text % 2 ≢ 1 → length text % 2 ≡ 0
+even-length text even = elim (cases_eq (length text % 2) 1) [
+  | inl odd ↦ absurd (even odd)
+  | inr not ↦ omega arith
+]
+
+-- an even number of digits stands for bytes
+pub whole-digits : (text : List ℕ) → length text % 2 ≢ 1 → list_all is_hex_digit text ≡ true → is_err (decode_of text) ≡ false
+whole-digits text even all =
+    let bytes = decode_of-digits text (even-length text even) (AllPass-from_list_all is_hex_digit text all) in
+    rw bytes.1 refl
+
+-- a text with another character stands for none
+pub other-digits : (text : List ℕ) → list_all is_hex_digit text ≡ false → is_err (decode_of text) ≡ true
+other-digits text other = go (decode_of text) refl
+  where
+    go : (r : Result (List ℕ) FromHexError) → decode_of text ≡ r → is_err r ≡ true
+    go (Ok bytes) is = absurd (cc (other, list_all-from_AllPass is_hex_digit text (decode_of-ok text bytes is).1))
+    go (Err fault) is = refl

@@ -1,5 +1,5 @@
 -- The ranges of the options that are numbers: docs/COMMANDS.md.
-use Rattle.std.specs.Prelude.{⊤, ℕ, ◌≤◌}
+use Rattle.std.specs.Prelude.{⊤, ℕ, ◌≤◌, ◌&&◌, Bool, not, nat_le, if◌then◌else◌, Option, None, Some}
 use Rattle.std.specs.Option.{unwrap_or}
 use Rattle.commands.specs.declared.numbers.Numbers.{Numbers}
 use Rattle.commands.specs.declared.outside.Ranged.{Ranged}
@@ -89,3 +89,29 @@ AreWithinBefore Queue numbers pool = BeforeQueue numbers pool
 AreWithinBefore Batch numbers pool = BeforeBatch numbers pool
 AreWithinBefore Stall numbers pool = BeforeStall numbers pool
 AreWithinBefore Ahead numbers pool = BeforeAhead numbers pool
+
+-- whether a number is from 1 to the most that an option takes
+abbrev pub is_up_to : ℕ → ℕ → Bool
+is_up_to number most = nat_le LEAST number && nat_le number most
+
+-- the first option of the pool, in the order in which help lists them, whose number is outside its range
+unfoldable pub outside_of_pool : Pool → Option Ranged
+outside_of_pool pool =
+    if not (is_up_to pool.workers MOST_WORKERS) then Some Workers
+    else if not (is_up_to pool.queue MOST_QUEUE) then Some Queue
+    else if not (is_up_to (unwrap_or pool.batch LEAST) MOST_QUEUE) then Some Batch
+    else if not (is_up_to (unwrap_or pool.stall LEAST) MOST_STALL) then Some Stall
+    else if not (is_up_to (unwrap_or pool.ahead LEAST) MOST_AHEAD) then Some Ahead
+    else None
+
+-- the first of all
+unfoldable pub outside_of : Numbers → Pool → Option Ranged
+outside_of numbers pool =
+    if not (is_up_to numbers.target MOST_TARGET) then Some Target
+    else if not (is_up_to numbers.segment numbers.target) then Some Segment
+    else if not (is_up_to numbers.window MOST_WINDOW) then Some Window
+    else if not (is_up_to numbers.frame MOST_FRAME) then Some Frame
+    else if not (is_up_to numbers.gap MOST_GAP) then Some Gap
+    else if not (is_up_to numbers.most MOST_PACKETS) then Some Most
+    else if not (is_up_to (unwrap_or numbers.program LEAST) MOST_PROGRAM) then Some Program
+    else outside_of_pool pool

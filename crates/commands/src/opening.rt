@@ -1,5 +1,6 @@
-ghost use Rattle.std.specs.Prelude.{◌≡◌, ◌≢◌, ◌<◌, ◌⊎◌, ◌%◌, length, OnOk, IfOk, IfErr, IsErrOf, true, is_err, Ok};
-ghost use Rattle.hex.specs.Hex.{decode_of};
+ghost use Rattle.std.specs.Prelude.{◌≡◌, ◌≢◌, ◌<◌, ◌⊎◌, ◌%◌, length, OnOk, IfOk, IfErr, IsErrOf, true, false, is_err, Ok};
+ghost use Rattle.std.specs.List.{list_all};
+ghost use Rattle.hex.specs.Hex.{decode_of, is_hex_digit};
 ghost use Rattle.commands.specs.Counts.{HasRoom, ReadsFewer, OpeningCounts};
 ghost use Rattle.commands.specs.Hex.{without_end};
 ghost use Rattle.commands.specs.Streams.{WritesOpened, BeginsOpened, ReadsOther, ReadsNoBlocks, ReadsNoSealed};
@@ -86,13 +87,29 @@ pub(crate) fn without_end(text: &[u8]) -> &[u8]
     }
 }
 
-/// The bytes that a line of hex digits of either case stands for; its end may be missing. An odd number of them is told
-/// before memory is taken.
+/// Whether a byte is a hex digit of either case.
+fn is_digit(byte: u8) -> bool
+    ensures { result ≡ is_hex_digit byte }
+{
+    (b'A' <= byte && byte <= b'F')
+        || (b'a' <= byte && byte <= b'f')
+        || (b'0' <= byte && byte <= b'9')
+}
+
+fn are_digits(text: &[u8]) -> bool
+    ensures { result ≡ list_all is_hex_digit text.now }
+{
+    text.iter().all(|b| is_digit(*b))
+}
+
+/// The bytes that a line of hex digits of either case stands for; its end may be missing. An odd number of digits, or
+/// another character, is told though there is no memory.
 fn decode_line(alloc: Global, line: &[u8]) -> Result<Vec<u8>, OpeningFault>
     ensures ok { IfOk result (λ bytes. decode_of (without_end line.now) ≡ Ok bytes.items) }
     ensures bad { IsErrOf result OpeningFault.BadHex → is_err (decode_of (without_end line.now)) ≡ true }
     ensures no_memory { IsErrOf result OpeningFault.NoMemory → length (without_end line.now) % 2 ≢ 1 }
     ensures only { IfErr result (λ fault. (fault ≡ OpeningFault.BadHex) ⊎ (fault ≡ OpeningFault.NoMemory)) }
+    ensures digits { IsErrOf result OpeningFault.NoMemory → is_err (decode_of (without_end line.now)) ≡ false }
 
     // No digits take no memory, with an LF behind them or without.
     ensures some { IsErrOf result OpeningFault.NoMemory → 0 < length (without_end line.now) }
@@ -103,7 +120,12 @@ fn decode_line(alloc: Global, line: &[u8]) -> Result<Vec<u8>, OpeningFault>
     }
     match hex::decode(alloc, digits) {
         Ok(bytes) => Ok(bytes),
-        Err(FromHexError::OutOfMemory) => Err(OpeningFault::NoMemory),
+        Err(FromHexError::OutOfMemory) => {
+            if are_digits(digits) {
+                return Err(OpeningFault::NoMemory);
+            }
+            Err(OpeningFault::BadHex)
+        }
         Err(_) => Err(OpeningFault::BadHex),
     }
 }

@@ -2,7 +2,7 @@
 ghost use Rattle.std.specs.Prelude.{◌≡◌, None, IfSome, Decides};
 ghost use Rattle.std.specs.Option.{unwrap_or};
 ghost use Rattle.commands.specs.declared.numbers.Numbers.{Numbers as NumbersValue};
-ghost use Rattle.commands.specs.Ranges.{IsUpTo, IsWithin, AreWithin, AreWithinBefore};
+ghost use Rattle.commands.specs.Ranges.{IsUpTo, IsWithin, AreWithin, AreWithinBefore, is_up_to, outside_of, outside_of_pool};
 ghost use Rattle.commands.specs.declared.outside.Ranged.TheVariants.{Workers};
 ghost use Rattle.commands.specs.declared.pool.TheConstants.{MOST_AHEAD, MOST_STALL};
 ghost use Rattle.limits.specs.declared.TheConstants.{LEAST, MOST_QUEUE, MOST_WORKERS};
@@ -32,17 +32,20 @@ pub enum Ranged {
 }
 
 fn is_up_to(number: u64, most: u64) -> bool
-    ensures { Decides result (IsUpTo number most) }
+    ensures ok { Decides result (IsUpTo number most) }
+    ensures same { result ≡ is_up_to number most }
 {
     LEAST <= number && number <= most
 }
 
 /// An option whose number is outside its range, the first in the order in which help lists them. None where all numbers are
 /// within their ranges; the period has none.
+#[tactic(auto, unfolding(crate::specs::Ranges::outside_of))]
 pub fn first_outside(numbers: &Numbers, pool: Pool) -> Option<Ranged>
     ensures some { IfSome result (λ option. ¬ IsWithin option numbers.now pool) }
     ensures first { IfSome result (λ option. AreWithinBefore option numbers.now pool) }
     ensures none { result ≡ None → AreWithin numbers.now pool }
+    ensures exact { result ≡ outside_of numbers.now pool }
 {
     if !is_up_to(numbers.target, MOST_TARGET) {
         return Some(Ranged::Target);
@@ -69,6 +72,7 @@ pub fn first_outside(numbers: &Numbers, pool: Pool) -> Option<Ranged>
 }
 
 /// The same of the threads that seal, and of reading ahead.
+#[tactic(auto, unfolding(crate::specs::Ranges::outside_of_pool))]
 fn first_outside_of_pool(pool: Pool) -> Option<Ranged>
     ensures some { IfSome result (λ option. (numbers : NumbersValue) → ¬ IsWithin option numbers pool) }
     ensures first { IfSome result (λ option. (numbers : NumbersValue) → AreWithinBefore Workers numbers pool → AreWithinBefore option numbers pool) }
@@ -77,6 +81,7 @@ fn first_outside_of_pool(pool: Pool) -> Option<Ranged>
     ensures batch { result ≡ None → IsUpTo (unwrap_or pool.batch LEAST) MOST_QUEUE }
     ensures stall { result ≡ None → IsUpTo (unwrap_or pool.stall LEAST) MOST_STALL }
     ensures ahead { result ≡ None → IsUpTo (unwrap_or pool.ahead LEAST) MOST_AHEAD }
+    ensures exact { result ≡ outside_of_pool pool }
 {
     if !is_up_to(pool.workers, MOST_WORKERS) {
         return Some(Ranged::Workers);

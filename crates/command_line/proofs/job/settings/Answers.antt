@@ -1,6 +1,5 @@
 use Rattle.std.proofs.Common.{ap, Err}
 use Rattle.std.proofs.lemmas.Result.{err_from_is_err_and}
-use Rattle.clap.specs.Words.{found_of}
 use Rattle.commands.specs.Defaults.{name_of, numbers_of}
 use Rattle.commands.specs.Settings.{words_of}
 use Rattle.command_line.specs.Refusals.{files_view}
