@@ -2,3 +2,4 @@ mod Ending
 mod Naming
 mod Opened
 mod Slashes
+mod Looking

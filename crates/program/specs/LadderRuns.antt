@@ -32,7 +32,7 @@ use Rattle.program.specs.declared.ladder.LadderRun.{LadderRun}
 
 -- an input that is read ahead, as a run sees it
 abbrev pub ahead_input : SourceView Seen
-ahead_input = source_view (λ s. s.left) (λ s. s.reads) (λ s. s.failures)
+ahead_input = source_view (λ s. s.left) (λ s. s.reads) (λ s. s.failures) (λ s. s.is_left)
 
 -- inputs that were just opened, of which these bytes are left, in this order; they are read ahead as was asked
 pub record AreOpened (job : LadderJob) (left : List (Option (List ℕ))) (inputs : List Seen) : Type 0 where

@@ -20,9 +20,13 @@ use Rattle.program.specs.declared.told.TheConstants.{RENDITIONS}
 abbrev pub seen_then : List Seen → List ℕ → ℕ → List Seen
 seen_then seen counts now = map (again_at seen counts now) (range_with_len 0 (length seen))
 
--- what was seen stands, or was seen again at some time with these counts
+-- what was seen was seen again at some time with these counts
+abbrev pub IsSeenAgain : List Seen → List ℕ → List Seen → Type 0
+IsSeenAgain seen counts next = (now : ℕ) × (next ≡ seen_then seen counts now)
+
+-- what was seen stands, or was seen again
 abbrev pub IsSeenOn : List Seen → List ℕ → List Seen → Type 0
-IsSeenOn seen counts next = (next ≡ seen) ⊎ ((now : ℕ) × (next ≡ seen_then seen counts now))
+IsSeenOn seen counts next = (next ≡ seen) ⊎ IsSeenAgain seen counts next
 
 -- one sample of each input that a view shows; none where there is no view
 abbrev pub AreSamplesOf : Option InputsView → List InputSample → Type 0

@@ -8,7 +8,7 @@ ghost use Rattle.metrics.specs.Seens.{unseen};
 ghost use Rattle.metrics.specs.declared.glance.Glance.{Glance};
 ghost use Rattle.program.specs.Asked.{input_sample};
 ghost use Rattle.program.specs.Faulted.{last_fault, name_of, named_in, rendition_of};
-ghost use Rattle.program.specs.Metered.{AreSamplesOf, IsMetered, IsSeenOn, seen_then};
+ghost use Rattle.program.specs.Metered.{AreSamplesOf, IsMetered, IsSeenAgain, IsSeenOn, seen_then};
 
 use crate::metrics_file::replace;
 use crate::told::{RENDITIONS, Tellings, Told};
@@ -21,7 +21,7 @@ use pipeline::{PackFault, Rendition};
 use read_ahead::{InputState, InputsView};
 use std::alloc::{AllocError, Global};
 use std::fs::Files;
-use std::io::{self, Eprint};
+use std::io::Eprint;
 use std::sync::{Arc, Condvar, Mutex, Wait};
 use std::thread::{self, JoinHandle, Threads};
 use std::time::{Clock, Duration, Instant, SystemTime, UNIX_EPOCH};
@@ -132,14 +132,31 @@ impl Writer {
 
         // What was seen stands, or is seen again with what a board shows.
         ensures seen { IsSeenOn self.old.seen.items glance.now.counts.items self.new.seen.items }
+
+        // It is seen again, or it was told that the metrics can't be written.
+        ensures known { IsSeenAgain self.old.seen.items glance.now.counts.items self.new.seen.items ⊎ (self.new.has_told ≡ true) }
     {
-        let written = match self.text(rt, alloc, glance, fault) {
-            Ok(text) => replace(rt, alloc, &self.path, &text),
-            Err(_) => Err(io::Error::from(io::ErrorKind::OutOfMemory)),
-        };
-        if written.is_err() {
+        if !self.is_written(rt, alloc, glance, fault) {
             self.tell_once(rt);
         }
+    }
+
+    /// Replaces the file by one of what was seen now. Whether it could.
+    fn is_written<R: Files + Clock + Wait>(
+        &mut self,
+        rt: &R,
+        alloc: Global,
+        glance: &Glance,
+        fault: Option<PackFault>,
+    ) -> bool
+        ensures kept { self.new ≡ record self.old { seen = self.new.seen } }
+        ensures seen { IsSeenOn self.old.seen.items glance.now.counts.items self.new.seen.items }
+        ensures again { result ≡ true → IsSeenAgain self.old.seen.items glance.now.counts.items self.new.seen.items }
+    {
+        let Ok(text) = self.text(rt, alloc, glance, fault) else {
+            return false;
+        };
+        replace(rt, alloc, &self.path, &text).is_ok()
     }
 
     /// The metrics of what was seen now.
@@ -356,6 +373,10 @@ fn look_and_write<R: Files + Clock + Eprint + Wait>(
     // What was seen stands, or is seen again with what the board showed last.
     ensures seen { (writer.new.seen.items ≡ writer.old.seen.items) ⊎ ((glance : Glance) × IsOfTheLast result.list glance ×
         IsSeenOn writer.old.seen.items glance.counts.items writer.new.seen.items) }
+
+    // It is seen again with that, or it was told that the metrics can't be written.
+    ensures known { ((glance : Glance) × IsOfTheLast result.list glance ×
+        IsSeenAgain writer.old.seen.items glance.counts.items writer.new.seen.items) ⊎ (writer.new.has_told ≡ true) }
 
     // The viewer is the same one, and has taken what the board showed.
     ensures board { result.board ≡ viewer.board }
