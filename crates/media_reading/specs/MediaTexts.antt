@@ -9,13 +9,12 @@ use Rattle.media_reading.specs.State.{begins_key, ends_segment}
 use Rattle.media_reading.specs.declared.list_fault.ListFault.{ListFault}
 use Rattle.media_reading.specs.declared.list_fault.ListFault.TheVariants.{NotProfile, NoMemory}
 use Rattle.limits.specs.declared.TheConstants.{MOST_KEYS, MOST_TARGET}
-use Rattle.media_reading.specs.declared.listing.TheConstants.{LAST_LISTED}
 
 -- an entry may have this number under this target: its number is below 2^33, it lasts some time and rounds to at most
 -- the target, and there are at most 4,096 keys
 pub record IsListed (target n : ℕ) (entry : Entry) : Type 0 where
   pub number : entry.number ≡ n
-  pub below : n < LAST_LISTED + 1
+  pub below : n < 2 ^ 33
   pub key : entry.key < MOST_KEYS
   pub lasts : 0 < entry.micros
   pub short : rounded_seconds entry.micros ≤ target

@@ -18,7 +18,6 @@ use Rattle.playlist_text.specs.MediaLines.{Entry, Listing, duration_line, key_li
 use Rattle.media_reading.specs.declared.reading.Stage.{Stage}
 use Rattle.media_reading.specs.declared.reading.Stage.TheVariants.{Fresh, Tagged, Versioned, Targeted, Sequenced, Headed, Between, Broken, Keyed, Timed, Ended}
 use Rattle.limits.specs.declared.TheConstants.{MOST_KEYS, MOST_TARGET}
-use Rattle.media_reading.specs.declared.listing.TheConstants.{LAST_LISTED}
 
 -- what the lines so far told: which line comes next, and the values of the playlist and of its next entry. A value that no
 -- line told yet is one that it may have.
@@ -116,7 +115,7 @@ next_number p = p.sequence + length p.entries
 
 -- where it may stand
 abbrev pub number_left : Progress → Option ℕ
-number_left p = if nat_lt (next_number p) (LAST_LISTED + 1) then Some (next_number p) else None
+number_left p = if nat_lt (next_number p) (2 ^ 33) then Some (next_number p) else None
 
 -- the next entry, with its number
 abbrev pub entry_of : Progress → ℕ → Entry
@@ -195,7 +194,7 @@ abbrev pub step_at : Stage → Progress → List ℕ → Option Progress
 step_at Fresh p line = expect line (codes "#EXTM3U") (record p { stage = Tagged })
 step_at Tagged p line = expect line (codes "#EXT-X-VERSION:4") (record p { stage = Versioned })
 step_at Versioned p line = option_and_then (λ n. where_so (nat_lt 0 n) (record p { stage = Targeted; target = n })) (number_in target_line (MOST_TARGET + 1) line)
-step_at Targeted p line = option_map (λ n. record p { stage = Sequenced; sequence = n }) (number_in sequence_line (LAST_LISTED + 1) line)
+step_at Targeted p line = option_map (λ n. record p { stage = Sequenced; sequence = n }) (number_in sequence_line (2 ^ 33) line)
 step_at Sequenced p line = option_map (λ n. record p { stage = Headed; discontinuity_sequence = n }) (number_in discontinuity_sequence_line (2 ^ 33) line)
 step_at Headed p line = headed p line
 step_at Between p line = begun p line
