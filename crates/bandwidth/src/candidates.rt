@@ -6,7 +6,7 @@ ghost use Rattle.bandwidth.specs.Gaps.{IsPlace, IsUpTo, AreCandidates, IsBehind,
 ghost use Rattle.limits.specs.declared.TheConstants.{MOST_TARGET};
 
 use crate::corners::{add_all, walk_corners};
-use crate::place::{Place, Start};
+use crate::place::{Place, RunStart};
 use crate::run::{Run, Span};
 use crate::starts::{drop_early, link_all, walk};
 use ghost_list::GhostList;
@@ -25,7 +25,7 @@ pub struct Candidates {
     /// The least place for which the spans from there on last at most one and a half of the target.
     pub first: u64,
     /// The places from there to the last span's.
-    pub starts: VecDeque<Start>,
+    pub starts: VecDeque<RunStart>,
     /// The first place that is no more spent, of those that are linked.
     pub head: u64,
     /// The places before this one are linked, each to its next corner.
@@ -60,7 +60,7 @@ impl Candidates {
         ensures err { OnErr result (AreSameCandidates self.old self.new) }
     {
         self.corners.reserve((place.at + 1 - self.until) as usize)?;
-        self.starts.push_back(Start { place, next: 0 })?;
+        self.starts.push_back(RunStart { place, next: 0 })?;
         Ok(())
     }
 

@@ -6,8 +6,8 @@ use Rattle.resume.specs.Restoring.{RestoredValue}
 use Rattle.channel_folder.specs.declared.asked.Asked.{Asked}
 use Rattle.channel_folder.specs.declared.fault.ReopenFault.{ReopenFault}
 use Rattle.channel_folder.specs.declared.fault.ReopenFault.TheVariants as Reopen
-use Rattle.channel_folder.specs.declared.fault.Stop.{Stop}
-use Rattle.channel_folder.specs.declared.fault.Stop.TheVariants as Stopping
+use Rattle.channel_folder.specs.declared.fault.ReopenStop.{ReopenStop}
+use Rattle.channel_folder.specs.declared.fault.ReopenStop.TheVariants as Stopping
 use Rattle.channel_folder.specs.Scans.{ScanValue, numbers_at}
 use Rattle.channel_folder.specs.Reopened.{StandTo}
 use Rattle.channel_folder.specs.StopOf.{fault_at}
@@ -15,7 +15,7 @@ use Rattle.channel_folder.specs.Stopped.{IsStop, IsStopped, IsNotReopened}
 
 -- it doesn't go on by itself, and those before it do
 pub stopped-at : (Refuses : Type 0) (Gives : List ℕ → List ℕ → Type 0) (Lacks : List ℕ → Type 0) (scan : ScanValue) (asked : List Asked) (found : List (Option RestoredValue)) (r : ℕ) (a : Asked)
-    (stop : Stop) → length found ≡ r → StandTo Gives Lacks scan asked found r → slice_get asked r ≡ Some a → IsStop Refuses Gives Lacks (numbers_at scan r) a stop →
+    (stop : ReopenStop) → length found ≡ r → StandTo Gives Lacks scan asked found r → slice_get asked r ≡ Some a → IsStop Refuses Gives Lacks (numbers_at scan r) a stop →
     IsStopped Refuses Gives Lacks scan asked (fault_at r stop)
 stopped-at Refuses Gives Lacks scan asked found r a Stopping.Unread count stand at is = is
 stopped-at Refuses Gives Lacks scan asked found r a Stopping.NoMemory count stand at is = tt

@@ -16,8 +16,8 @@ use Rattle.channel_folder.specs.declared.fault.WhyNot.{WhyNot}
 use Rattle.channel_folder.specs.declared.fault.WhyNot.TheVariants.{Foreign, Ended, OtherTarget, OtherSalt, OtherKind, Uneven, Lost, Ahead, Limit}
 use Rattle.channel_folder.specs.declared.fault.ReopenFault.{ReopenFault}
 use Rattle.channel_folder.specs.declared.fault.ReopenFault.TheVariants as Reopen
-use Rattle.channel_folder.specs.declared.fault.Stop.{Stop}
-use Rattle.channel_folder.specs.declared.fault.Stop.TheVariants as Stopping
+use Rattle.channel_folder.specs.declared.fault.ReopenStop.{ReopenStop}
+use Rattle.channel_folder.specs.declared.fault.ReopenStop.TheVariants as Stopping
 use Rattle.channel_folder.specs.Files.{media_file, frames_file}
 use Rattle.channel_folder.specs.Scans.{ScanValue, numbers_at}
 use Rattle.channel_folder.specs.Reopened.{AreSizes, IsListed, IsOf, next_of, StandTo, AllStand}
@@ -127,24 +127,24 @@ abbrev pub IsWhy : (List ℕ → List ℕ → Type 0) → (List ℕ → Type 0) 
 IsWhy Gives Lacks numbers a why = IsWhyFrom Gives Lacks a.name.now a.wanted why ⊎ IsAheadBy Gives Lacks numbers a why
 
 -- why one isn't reopened
-abbrev pub IsStopFrom : Type 0 → (List ℕ → List ℕ → Type 0) → (List ℕ → Type 0) → Asked → Stop → Type 0
+abbrev pub IsStopFrom : Type 0 → (List ℕ → List ℕ → Type 0) → (List ℕ → Type 0) → Asked → ReopenStop → Type 0
 IsStopFrom Refuses Gives Lacks a Stopping.Unread = Refuses
 IsStopFrom Refuses Gives Lacks a Stopping.NoMemory = ⊤
 IsStopFrom Refuses Gives Lacks a (Stopping.Why why) = IsWhyFrom Gives Lacks a.name.now a.wanted why
 
-abbrev pub IsStop : Type 0 → (List ℕ → List ℕ → Type 0) → (List ℕ → Type 0) → List ℕ → Asked → Stop → Type 0
+abbrev pub IsStop : Type 0 → (List ℕ → List ℕ → Type 0) → (List ℕ → Type 0) → List ℕ → Asked → ReopenStop → Type 0
 IsStop Refuses Gives Lacks numbers a Stopping.Unread = Refuses
 IsStop Refuses Gives Lacks numbers a Stopping.NoMemory = ⊤
 IsStop Refuses Gives Lacks numbers a (Stopping.Why why) = IsWhy Gives Lacks numbers a why
 
 -- .. where the text is none of a media playlist
-abbrev pub IsListStop : List ℕ → Stop → Type 0
+abbrev pub IsListStop : List ℕ → ReopenStop → Type 0
 IsListStop text Stopping.Unread = ⊥
 IsListStop text Stopping.NoMemory = MayWantMemory text
 IsListStop text (Stopping.Why why) = (why ≡ Foreign) × ((l : Listing) → IsListing l → text ≢ listing_text l)
 
 -- .. where the files of these segments aren't there
-abbrev pub IsSizeStop : Type 0 → (List ℕ → List ℕ → Type 0) → (List ℕ → Type 0) → List ℕ → List Entry → Stop → Type 0
+abbrev pub IsSizeStop : Type 0 → (List ℕ → List ℕ → Type 0) → (List ℕ → Type 0) → List ℕ → List Entry → ReopenStop → Type 0
 IsSizeStop Refuses Gives Lacks name entries Stopping.Unread = Refuses
 IsSizeStop Refuses Gives Lacks name entries Stopping.NoMemory = ⊤
 IsSizeStop Refuses Gives Lacks name entries (Stopping.Why (Lost n)) = IsLostOf Gives Lacks name entries n

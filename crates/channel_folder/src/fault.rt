@@ -74,41 +74,41 @@ impl<T: Drop> From<AllocFailed<T>> for ReopenFault {
 
 /// Why one rendition isn't reopened.
 #[derive(Clone, Copy)]
-pub(crate) enum Stop {
+pub(crate) enum ReopenStop {
     Unread,
     NoMemory,
     Why(WhyNot),
 }
 
-impl From<AllocError> for Stop {
-    ghost use Rattle.channel_folder.specs.declared.fault.Stop.TheVariants.{NoMemory};
+impl From<AllocError> for ReopenStop {
+    ghost use Rattle.channel_folder.specs.declared.fault.ReopenStop.TheVariants.{NoMemory};
 
     ghost from_gives = { λ _ fault. fault ≡ NoMemory };
 
-    fn from(_: AllocError) -> Stop {
-        Stop::NoMemory
+    fn from(_: AllocError) -> ReopenStop {
+        ReopenStop::NoMemory
     }
 }
 
-impl<T: Drop> From<AllocFailed<T>> for Stop {
-    ghost use Rattle.channel_folder.specs.declared.fault.Stop.TheVariants.{NoMemory};
+impl<T: Drop> From<AllocFailed<T>> for ReopenStop {
+    ghost use Rattle.channel_folder.specs.declared.fault.ReopenStop.TheVariants.{NoMemory};
 
     ghost from_gives = { λ _ fault. fault ≡ NoMemory };
 
-    fn from(_: AllocFailed<T>) -> Stop {
-        Stop::NoMemory
+    fn from(_: AllocFailed<T>) -> ReopenStop {
+        ReopenStop::NoMemory
     }
 }
 
-impl From<FolderReadFault> for Stop {
+impl From<FolderReadFault> for ReopenStop {
     ghost use Rattle.channel_folder.specs.StopOf.{stop_of_read};
 
     ghost from_gives = { λ fault stop. stop ≡ stop_of_read fault };
 
-    fn from(fault: FolderReadFault) -> Stop {
+    fn from(fault: FolderReadFault) -> ReopenStop {
         match fault {
-            FolderReadFault::Unread => Stop::Unread,
-            FolderReadFault::NoMemory => Stop::NoMemory,
+            FolderReadFault::Unread => ReopenStop::Unread,
+            FolderReadFault::NoMemory => ReopenStop::NoMemory,
         }
     }
 }

@@ -5,7 +5,7 @@ ghost use Rattle.channel_folder.specs.StopOf;
 ghost use Rattle.channel_folder.specs.Stopped.{IsStopped};
 
 use crate::asked::Asked;
-use crate::fault::{ReopenFault, Stop};
+use crate::fault::{ReopenFault, ReopenStop};
 use crate::scanned::Scan;
 use crate::standing::stands;
 use folder::FolderReader;
@@ -45,12 +45,12 @@ fn rendition_at<'b, 'a>(asked: &'b [Asked<'a>], r: usize) -> &'b Asked<'a>
 }
 
 /// Why the channel doesn't go on, where a rendition doesn't.
-fn fault_at(r: usize, stop: Stop) -> ReopenFault
+fn fault_at(r: usize, stop: ReopenStop) -> ReopenFault
     ensures { result ≡ StopOf.fault_at r stop }
 {
     match stop {
-        Stop::Unread => ReopenFault::Unread,
-        Stop::NoMemory => ReopenFault::NoMemory,
-        Stop::Why(why) => ReopenFault::Of(r, why),
+        ReopenStop::Unread => ReopenFault::Unread,
+        ReopenStop::NoMemory => ReopenFault::NoMemory,
+        ReopenStop::Why(why) => ReopenFault::Of(r, why),
     }
 }

@@ -11,7 +11,7 @@ ghost use Rattle.channel_folder.specs.Reopened.{IsReopened, IsListed, AreSizes};
 ghost use Rattle.channel_folder.specs.Stopped.{IsStopFrom, IsSizeStop, IsListStop};
 
 use crate::asked::Asked;
-use crate::fault::{Stop, WhyNot};
+use crate::fault::{ReopenStop, WhyNot};
 use crate::file_names::segment_file;
 use folder::FolderReader;
 use media_reading::{Entry, ListFault, Listing, read_media};
@@ -25,35 +25,35 @@ pub(crate) fn restored_from<F: FolderReader>(
     asked: &Asked<'_>,
     media: &[u8],
     frames: &[u8],
-) -> Result<Restored, Stop>
+) -> Result<Restored, ReopenStop>
     ensures ok { F.gives folder.now (media_file asked.now.name.now) media.now → F.gives folder.now (frames_file asked.now.name.now) frames.now →
         IfOk result (IsReopened (F.gives folder.now) asked.now.name.now asked.now.wanted) }
     ensures err { F.gives folder.now (media_file asked.now.name.now) media.now → F.gives folder.now (frames_file asked.now.name.now) frames.now →
         IfErr result (IsStopFrom (F.refuses folder.now) (F.gives folder.now) (F.lacks folder.now) asked.now) }
-    ensures no_text { ¬ (IsUtf8 media.now × IsUtf8 frames.now) → IsErrOf result (Stop.Why WhyNot.Foreign) }
-    ensures scarce { IsErrOf result Stop.NoMemory → MayWantMemory media.now }
-    ensures wants { IsErrOf result Stop.NoMemory → WantsMemory media.now }
+    ensures no_text { ¬ (IsUtf8 media.now × IsUtf8 frames.now) → IsErrOf result (ReopenStop.Why WhyNot.Foreign) }
+    ensures scarce { IsErrOf result ReopenStop.NoMemory → MayWantMemory media.now }
+    ensures wants { IsErrOf result ReopenStop.NoMemory → WantsMemory media.now }
 {
     let Ok(media) = str::from_utf8(media) else {
-        return Err(Stop::Why(WhyNot::Foreign));
+        return Err(ReopenStop::Why(WhyNot::Foreign));
     };
     let Ok(frames) = str::from_utf8(frames) else {
-        return Err(Stop::Why(WhyNot::Foreign));
+        return Err(ReopenStop::Why(WhyNot::Foreign));
     };
     let listing = listing_of(alloc, media)?;
     go_on_from(alloc, folder, asked, &listing, frames)
 }
 
 /// What a media playlist lists.
-fn listing_of(alloc: Global, text: &str) -> Result<Listing, Stop>
+fn listing_of(alloc: Global, text: &str) -> Result<Listing, ReopenStop>
     ensures ok { IfOk result (λ l. IsListing l × (text.now ≡ listing_text l)) }
     ensures err { IfErr result (IsListStop text.now) }
-    ensures scarce { IsErrOf result Stop.NoMemory → WantsMemory text.now }
+    ensures scarce { IsErrOf result ReopenStop.NoMemory → WantsMemory text.now }
 {
     match read_media(alloc, text) {
         Ok(listing) => Ok(listing),
-        Err(ListFault::NoMemory) => Err(Stop::NoMemory),
-        Err(ListFault::NotProfile(_)) => Err(Stop::Why(WhyNot::Foreign)),
+        Err(ListFault::NoMemory) => Err(ReopenStop::NoMemory),
+        Err(ListFault::NotProfile(_)) => Err(ReopenStop::Why(WhyNot::Foreign)),
     }
 }
 
@@ -64,7 +64,7 @@ fn go_on_from<F: FolderReader>(
     asked: &Asked<'_>,
     listing: &Listing,
     frames: &str,
-) -> Result<Restored, Stop>
+) -> Result<Restored, ReopenStop>
     requires listing { IsListing listing.now }
     requires text { IsUtf8 frames.now }
     ensures ok { IsListed (F.gives folder.now) asked.now.name.now listing.now → F.gives folder.now (frames_file asked.now.name.now) frames.now →
@@ -73,8 +73,8 @@ fn go_on_from<F: FolderReader>(
         IfErr result (IsStopFrom (F.refuses folder.now) (F.gives folder.now) (F.lacks folder.now) asked.now) }
 
     // Memory is wanted only once the run goes on from what is listed.
-    ensures scarce { IsErrOf result Stop.NoMemory → IsAsWanted asked.now.wanted listing.now }
-    ensures some { IsErrOf result Stop.NoMemory → (0 < length listing.now.entries) ⊎ (listing.now.name ≡ asked.now.name.now) }
+    ensures scarce { IsErrOf result ReopenStop.NoMemory → IsAsWanted asked.now.wanted listing.now }
+    ensures some { IsErrOf result ReopenStop.NoMemory → (0 < length listing.now.entries) ⊎ (listing.now.name ≡ asked.now.name.now) }
 {
     if let Err(fault) = look(asked.wanted, listing) {
         return Err(stop_of(fault));
@@ -87,17 +87,17 @@ fn go_on_from<F: FolderReader>(
 }
 
 /// The same fault.
-fn stop_of(fault: ResumeFault) -> Stop
+fn stop_of(fault: ResumeFault) -> ReopenStop
     ensures { result ≡ StopOf.stop_of fault }
 {
     match fault {
-        ResumeFault::Ended => Stop::Why(WhyNot::Ended),
-        ResumeFault::OtherTarget => Stop::Why(WhyNot::OtherTarget),
-        ResumeFault::OtherSalt => Stop::Why(WhyNot::OtherSalt),
-        ResumeFault::OtherKind => Stop::Why(WhyNot::OtherKind),
-        ResumeFault::Limit => Stop::Why(WhyNot::Limit),
-        ResumeFault::Foreign => Stop::Why(WhyNot::Foreign),
-        ResumeFault::NoMemory => Stop::NoMemory,
+        ResumeFault::Ended => ReopenStop::Why(WhyNot::Ended),
+        ResumeFault::OtherTarget => ReopenStop::Why(WhyNot::OtherTarget),
+        ResumeFault::OtherSalt => ReopenStop::Why(WhyNot::OtherSalt),
+        ResumeFault::OtherKind => ReopenStop::Why(WhyNot::OtherKind),
+        ResumeFault::Limit => ReopenStop::Why(WhyNot::Limit),
+        ResumeFault::Foreign => ReopenStop::Why(WhyNot::Foreign),
+        ResumeFault::NoMemory => ReopenStop::NoMemory,
     }
 }
 
@@ -107,7 +107,7 @@ fn sizes_of<F: FolderReader>(
     folder: &F,
     name: &str,
     entries: &[Entry],
-) -> Result<Vec<u64>, Stop>
+) -> Result<Vec<u64>, ReopenStop>
     ensures ok { IfOk result (λ sizes. AreSizes (F.gives folder.now) name.now entries.now sizes.items) }
     ensures err { IfErr result (IsSizeStop (F.refuses folder.now) (F.gives folder.now) (F.lacks folder.now) name.now entries.now) }
 
@@ -119,7 +119,7 @@ fn sizes_of<F: FolderReader>(
         let file = segment_file(alloc, name, entry.number)?;
         match folder.size(file.as_str())? {
             Some(size) => sizes.push(size)?,
-            None => return Err(Stop::Why(WhyNot::Lost(entry.number))),
+            None => return Err(ReopenStop::Why(WhyNot::Lost(entry.number))),
         }
     }
     Ok(sizes)

@@ -5,7 +5,7 @@ ghost use Rattle.channel_folder.specs.Reopened.{Stands, IsOf};
 ghost use Rattle.channel_folder.specs.Stopped.{IsFirstFrom, IsStop, IsStopFrom};
 
 use crate::asked::Asked;
-use crate::fault::{Stop, WhyNot};
+use crate::fault::{ReopenStop, WhyNot};
 use crate::reading_back::restored_from;
 use crate::texts::read_texts;
 use folder::FolderReader;
@@ -18,14 +18,14 @@ pub(crate) fn stands<F: FolderReader>(
     folder: &F,
     numbers: &[u64],
     asked: &Asked<'_>,
-) -> Result<Option<Restored>, Stop>
+) -> Result<Option<Restored>, ReopenStop>
     ensures ok { IfOk result (Stands (F.gives folder.now) (F.lacks folder.now) numbers.now asked.now) }
     ensures err { IfErr result (IsStop (F.refuses folder.now) (F.gives folder.now) (F.lacks folder.now) numbers.now asked.now) }
 {
     let found = read_one(alloc, folder, asked)?;
     let next = next_of(&found);
     match first_from(numbers, next) {
-        Some(n) => Err(Stop::Why(WhyNot::Ahead(n))),
+        Some(n) => Err(ReopenStop::Why(WhyNot::Ahead(n))),
         None => Ok(found),
     }
 }
@@ -58,7 +58,7 @@ fn read_one<F: FolderReader>(
     alloc: Global,
     folder: &F,
     asked: &Asked<'_>,
-) -> Result<Option<Restored>, Stop>
+) -> Result<Option<Restored>, ReopenStop>
     ensures ok { IfOk result (IsOf (F.gives folder.now) (F.lacks folder.now) asked.now.name.now asked.now.wanted) }
     ensures err { IfErr result (IsStopFrom (F.refuses folder.now) (F.gives folder.now) (F.lacks folder.now) asked.now) }
 {
@@ -69,6 +69,6 @@ fn read_one<F: FolderReader>(
             let restored = restored_from(alloc, folder, asked, media, frames)?;
             Ok(Some(restored))
         }
-        _ => Err(Stop::Why(WhyNot::Foreign)),
+        _ => Err(ReopenStop::Why(WhyNot::Foreign)),
     }
 }

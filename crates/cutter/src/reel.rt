@@ -30,7 +30,7 @@ pub(crate) struct Label {
 
 /// A closed plan, and where its body and its I-frames lie.
 #[derive(Drop)]
-pub(crate) struct Row {
+pub(crate) struct PlanAt {
     label: Label,
     body_at: usize,
     body_end: usize,
@@ -45,7 +45,7 @@ pub(crate) struct Row {
 pub(crate) struct Reel {
     bytes: Vec<u8>,
     frames: Vec<Frame>,
-    rows: Vec<Row>,
+    plans_at: Vec<PlanAt>,
     body_at: usize,
     frames_at: usize,
     pending: Option<Pending>,
@@ -71,7 +71,7 @@ impl Reel {
         Reel {
             bytes: Vec::new(alloc),
             frames: Vec::new(alloc),
-            rows: Vec::new(alloc),
+            plans_at: Vec::new(alloc),
             body_at: 0,
             frames_at: 0,
             pending: None,
@@ -82,7 +82,7 @@ impl Reel {
     pub(crate) fn plans(&self) -> usize
         ensures { result ≡ length self.now.plans }
     {
-        self.rows.len()
+        self.plans_at.len()
     }
 
     /// A closed plan, lent.
@@ -90,10 +90,10 @@ impl Reel {
         ensures some { IfSome result (λ plan. slice_get self.now.plans i ≡ Some (lent plan)) }
         ensures none { IfNone result (length self.now.plans ≤ i) }
     {
-        if i >= self.rows.len() {
+        if i >= self.plans_at.len() {
             return None;
         }
-        Some(lend_row(&self.rows[i], &self.bytes, &self.frames))
+        Some(lend_plan_at(&self.plans_at[i], &self.bytes, &self.frames))
     }
 
     /// The first plan, its body and its I-frames moved out. The rest is let go.
@@ -103,16 +103,16 @@ impl Reel {
         let Reel {
             mut bytes,
             mut frames,
-            mut rows,
+            mut plans_at,
             ..
         } = self;
-        rows.truncate(1);
-        let Some(row) = rows.pop() else {
+        plans_at.truncate(1);
+        let Some(plan_at) = plans_at.pop() else {
             return None;
         };
-        bytes.truncate(row.body_end);
-        frames.truncate(row.frames_end);
-        let Row { label, .. } = row;
+        bytes.truncate(plan_at.body_end);
+        frames.truncate(plan_at.frames_end);
+        let PlanAt { label, .. } = plan_at;
         Some(Plan {
             rendition: label.rendition,
             number: label.number,
@@ -169,7 +169,7 @@ impl Reel {
         self.bytes.extend_from_slice(next)?;
         end_frame(&mut self.frames, self.pending, offset)?;
         let frames_end = self.frames.len();
-        self.rows.push(Row {
+        self.plans_at.push(PlanAt {
             label,
             body_at: self.body_at,
             body_end,
@@ -190,11 +190,11 @@ impl Reel {
         ensures frames { (plans : List SegmentPlan) (last : SegmentPlan) → self.old.plans ≡ plans ++ last ∷ []
             → self.new.framing.ended ≡ last.frames ++ self.old.framing.ended }
     {
-        let Some(row) = self.rows.pop() else {
+        let Some(plan_at) = self.plans_at.pop() else {
             return;
         };
-        self.body_at = row.body_at;
-        self.frames_at = row.frames_at;
+        self.body_at = plan_at.body_at;
+        self.frames_at = plan_at.frames_at;
         self.pending = None;
     }
 
@@ -204,7 +204,7 @@ impl Reel {
     {
         self.bytes.clear();
         self.frames.clear();
-        self.rows.clear();
+        self.plans_at.clear();
         self.body_at = 0;
         self.frames_at = 0;
         self.pending = None;
@@ -229,21 +229,21 @@ impl Reel {
 }
 
 /// A closed plan, lent.
-fn lend_row<'s>(row: &'s Row, bytes: &'s [u8], frames: &'s [Frame]) -> PlanRef<'s>
-    requires body { (row.now.body_at ≤ row.now.body_end) × (row.now.body_end ≤ length bytes.now) }
-    requires frames { (row.now.frames_at ≤ row.now.frames_end) × (row.now.frames_end ≤ length frames.now) }
-    ensures { lent result ≡ plan_in bytes.now frames.now row.now }
+fn lend_plan_at<'s>(plan_at: &'s PlanAt, bytes: &'s [u8], frames: &'s [Frame]) -> PlanRef<'s>
+    requires body { (plan_at.now.body_at ≤ plan_at.now.body_end) × (plan_at.now.body_end ≤ length bytes.now) }
+    requires frames { (plan_at.now.frames_at ≤ plan_at.now.frames_end) × (plan_at.now.frames_end ≤ length frames.now) }
+    ensures { lent result ≡ plan_in bytes.now frames.now plan_at.now }
 {
     PlanRef {
-        rendition: row.label.rendition,
-        number: row.label.number,
-        tables: &row.label.tables,
-        pat_counter: row.label.pat_counter,
-        pmt_counter: row.label.pmt_counter,
-        body: bytes_part(bytes, row.body_at, row.body_end),
-        frames: frames_part(frames, row.frames_at, row.frames_end),
-        ticks: row.label.ticks,
-        discontinuity: row.label.discontinuity,
+        rendition: plan_at.label.rendition,
+        number: plan_at.label.number,
+        tables: &plan_at.label.tables,
+        pat_counter: plan_at.label.pat_counter,
+        pmt_counter: plan_at.label.pmt_counter,
+        body: bytes_part(bytes, plan_at.body_at, plan_at.body_end),
+        frames: frames_part(frames, plan_at.frames_at, plan_at.frames_end),
+        ticks: plan_at.label.ticks,
+        discontinuity: plan_at.label.discontinuity,
     }
 }
 

@@ -2,7 +2,7 @@
 use Rattle.std.specs.Prelude.{◌≡◌, ◌≢◌, ◌⊎◌, ℕ, ◌<◌, ◌≤◌, Bool, false, true, ◌&&◌, nat_lt, if◌then◌else◌, List, [], ◌∷◌, ◌++◌, length, Option, Some, None}
 use Rattle.ts_packet.specs.Fields.{payload_unit_start_indicator}
 use Rattle.psi_tables.specs.Sections.{Carrier, carrier, carriers, follows, pointed, behind_pointer, is_whole, is_open, first_section, begun_in, flow_behind, unfinished, bring_too_long, is_given_up, is_taken, last_counter, opening, sections_in, sections}
-use Rattle.psi_tables.specs.declared.next.Begun.{Begun}
+use Rattle.psi_tables.specs.declared.next.BegunSection.{BegunSection}
 use Rattle.std.specs.List.{filter_map}
 use Rattle.psi_tables.specs.ProgramMap.{program_map, pmt_fault}
 use Rattle.psi_tables.specs.InForce.{InForce, choice, since_change, tables_of, tables_behind}
@@ -91,7 +91,7 @@ pub record IsLeftOut (g : Gathered) (p : List ℕ) : Type 0 where
   pub counted : last_counter g.pid None (g.packets ++ p ∷ []) ≡ last_counter g.pid None g.packets
 
 -- this is kept behind the packet; or the packet is left out, and what was kept stays
-abbrev pub Follows : Gathered → List ℕ → Option Begun → Type 0
+abbrev pub Follows : Gathered → List ℕ → Option BegunSection → Type 0
 Follows g p None = IsLeftOut g p
 Follows g p (Some begun) = Keeps (with_packet g p) begun.counter begun.bytes.items
 

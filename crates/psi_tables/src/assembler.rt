@@ -3,7 +3,7 @@ ghost use Rattle.ts_packet.specs.State.{GrowsAlike};
 ghost use Rattle.psi_tables.specs.State.{gathered_sections, with_packet, IsCarried, IsKept, Follows, MayBring};
 
 use crate::gather::gather;
-use crate::next::{Begun, Next, continued, is_taken};
+use crate::next::{BegunSection, Next, continued, is_taken};
 use ghost_list::GhostList;
 use std::alloc::{AllocError, Global};
 use std::marker::Model;
@@ -18,7 +18,7 @@ use ts_packet::Packet;
 #[derive(Drop)]
 pub struct Assembler {
     pid: u16,
-    begun: Begun,
+    begun: BegunSection,
     pushed: GhostList<[u8; 188]>,
 }
 
@@ -39,7 +39,7 @@ impl Assembler {
     {
         Assembler {
             pid,
-            begun: Begun {
+            begun: BegunSection {
                 counter: None,
                 bytes: Vec::new(alloc),
             },
@@ -109,7 +109,7 @@ impl Assembler {
         let brought = gather(alloc, continued(&self.begun, packet), packet)?;
         Ok(Next {
             found: brought.found,
-            begun: Some(Begun {
+            begun: Some(BegunSection {
                 counter: Some(packet.counter()),
                 bytes: brought.begun,
             }),
@@ -117,7 +117,7 @@ impl Assembler {
     }
 
     /// Takes the next packet, of which `next` told what it makes of the assembler.
-    pub(crate) fn follow(&mut self, packet: &Packet, begun: Option<Begun>)
+    pub(crate) fn follow(&mut self, packet: &Packet, begun: Option<BegunSection>)
         requires { Follows self.old packet.now begun }
         ensures { self.new ≡ with_packet self.old packet.now }
     {

@@ -6,7 +6,7 @@ use ts_packet::Packet;
 
 /// The continuity_counter of the last packet that was taken, and the front of the section that was begun.
 #[derive(Drop)]
-pub(crate) struct Begun {
+pub(crate) struct BegunSection {
     pub counter: Option<u8>,
     pub bytes: Vec<u8>,
 }
@@ -16,7 +16,7 @@ pub(crate) struct Begun {
 #[derive(Drop)]
 pub(crate) struct Next {
     pub found: Vec<Vec<u8>>,
-    pub begun: Option<Begun>,
+    pub begun: Option<BegunSection>,
 }
 
 /// Whether a packet is of this PID, has payload, isn't scrambled, and is no repeat of the last one that was taken.
@@ -40,7 +40,7 @@ fn is_repeat(last: Option<u8>, packet: &Packet) -> bool
 }
 
 /// The front of the section that was begun, where no packet is missing before this one.
-pub(crate) fn continued<'a>(begun: &'a Begun, packet: &Packet) -> &'a [u8]
+pub(crate) fn continued<'a>(begun: &'a BegunSection, packet: &Packet) -> &'a [u8]
     requires { IsCounter begun.now.counter }
     ensures { result.now ≡ Rattle.psi_tables.specs.State.continued begun.now.counter begun.now.bytes.items (carrier packet.now) }
 {

@@ -1,7 +1,7 @@
 use Rattle.std.proofs.Common.{refl, rules, ◌∙◌}
 use Rattle.cutter.specs.declared.reel.Reel.TheInside.{Inside}
 use Rattle.cutter.proofs.Reeling.{Copies, copied_is, copied_laid}
-use Rattle.cutter.proofs.Rows.{in_front}
+use Rattle.cutter.proofs.PlansAt.{in_front}
 use Rattle.cutter.proofs.reel.Reel.copy_open.Goals as goal
 
 pub invariant_of-self-in_err-extend_from_slice-2 : goal.invariant_of-self-in_err-extend_from_slice-2
@@ -16,7 +16,7 @@ invariant_of-self-2 c =
       emptied = c.self.view_is ∙ c.clear.ensures;
       bytes = search rules;
       frames = search rules;
-      rows = refl;
+      plans_at = refl;
       body_at = refl;
       frames_at = refl;
       pending = refl;
@@ -30,7 +30,7 @@ returns-clause-ok c =
       emptied = c.self.view_is ∙ c.clear.ensures;
       bytes = search rules;
       frames = search rules;
-      rows = refl;
+      plans_at = refl;
       body_at = refl;
       frames_at = refl;
       pending = refl;
