@@ -13,6 +13,17 @@ check_restarts() {
     check 'pack: a fault of a run that goes on names the number that players see' names_seen_number
     check 'pack: segments go by the rule, over four runs' removes_by_the_rule "${REMOVAL_HOURS:-1}"
     check 'pack: of an event nothing goes' keeps_an_event
+    check 'pack: a channel lives for days' lives_for "${DAYS:-3}"
+}
+
+# lives_for DAYS: in a folder in memory, if there is one, since on a disk each playlist costs a rename.
+lives_for() {
+    local folder status
+    folder=$(mktemp -d -p /dev/shm 2>"$work/mktemp" || mktemp -d -p "$work") || return
+    python3 "$here/month.py" "$program" "$folder" "$1"
+    status=$?
+    rm -rf "$folder"
+    return $status
 }
 
 restarts_random_ladders() {
