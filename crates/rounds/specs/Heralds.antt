@@ -1,9 +1,15 @@
--- Which faults are told when they stand.
-use Rattle.std.specs.Prelude.{◌≡◌, ◌≢◌, ℕ, ◌<◌, List, Bool, false, true, Option, None, Some, slice_get, slice_index_or}
+-- What a herald is told: faults when they stand, and how many segments are complete.
+use Rattle.std.specs.Prelude.{◌≡◌, ◌≢◌, ℕ, ◌+◌, ◌<◌, List, Bool, length, sum_by, false, true, Option, None, Some, slice_get, slice_index_or}
+use Rattle.cutter.specs.Plans.{SegmentPlan}
 use Rattle.ingest.specs.declared.lane.Lane.{Lane}
 use Rattle.ingest.specs.declared.lane.Stop.{Stop}
 use Rattle.ladder_items.specs.declared.fault.PackFault.{PackFault}
 use Rattle.ladder_items.specs.Packed.{told_of}
+use Rattle.ladder_items.specs.Shown.{Shown}
+
+-- how many segments are complete as a round begins: those that are shown, and those whose plans some full spools hold
+abbrev pub complete_in : List Shown → List (List SegmentPlan) → ℕ
+complete_in shown spools = sum_by (λ (s : Shown). length s.rows) shown + sum_by (λ (plans : List SegmentPlan). length plans) spools
 
 -- the fault by which a rendition stopped: one that goes on has none
 abbrev pub fault_of : ℕ → Option Stop → Option PackFault

@@ -3,12 +3,14 @@
 ghost use Rattle.std.specs.Prelude.{◌≡◌, ◌<◌, ◌^◌, IfErr, OnOk, length};
 ghost use Rattle.rounds.specs.Begun.{keys_of};
 ghost use Rattle.rounds.specs.Gated.{IsGatesWord};
+ghost use Rattle.rounds.specs.Heralds.{complete_in};
 ghost use Rattle.rounds.specs.Rounds.{HasDueEnds, IsBroken, IsRound, IsSomeFull};
 
 use crate::round::crew::Crew;
 use crate::round::scoped::in_scope;
 use crate::run::between::BetweenRounds;
 use crate::run::books::no_counts;
+use crate::run::herald::Herald;
 use crate::run::setup::Setup;
 use cutter::Spool;
 use item_io::{Outlet, Source};
@@ -21,13 +23,22 @@ use std::thread::Threads;
 use work_desk::{Desk, Gate, Opened};
 
 /// Runs a round: the workers seal the plans of the full spools, which are given in sequence, and meanwhile what is ready is read
-/// for the next round. The ends that were due have been given.
-pub fn run_round<'r, S: Source + Drop, O: Outlet + Drop, G: Gate + Sync, R: Threads + Wait + Sync>(
+/// for the next round. The ends that were due have been given, and the herald was told how many segments are complete.
+pub fn run_round<
+    'r,
+    S: Source + Drop,
+    O: Outlet + Drop,
+    G: Gate + Sync,
+    R: Threads + Wait + Sync,
+    H: Herald,
+>(
     setup: &Setup<'_, G, R>,
     keys: &[Keys],
     spools: &[Spool],
     between: BetweenRounds<'r, S, O, R>,
+    _herald: &H,
 ) -> (BetweenRounds<'r, S, O, R>, Result<(), PackFault>)
+    requires completed { H.was_completed _herald.now (complete_in between.broadcast.course.playlists.items spools.now) }
     requires keys { keys.now ≡ keys_of setup.now.settings.now }
     requires each { length spools.now ≡ length setup.now.settings.now.renditions }
     requires on { IsSomeFull S.input O.output setup.now.settings.now spools.now between.broadcast }

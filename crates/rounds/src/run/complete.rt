@@ -1,13 +1,14 @@
 //! How many segments are complete: those that were given, and those of the round that begins.
 
-ghost use Rattle.std.specs.Prelude.{◌≡◌, ◌+◌, ◌<◌, ◌^◌, length, sum_by};
+ghost use Rattle.std.specs.Prelude.{◌≡◌, ◌<◌, ◌^◌, length, sum_by};
+ghost use Rattle.rounds.specs.Heralds.{complete_in};
 
 use cutter::Spool;
 use ladder_items::Playlists;
 
 /// How many segments are complete as a round begins: those that were given, and those whose plans these spools hold.
 pub fn complete_by(playlists: &[Playlists], full: &[Spool]) -> u128
-    ensures { result ≡ sum_by (λ shown. length shown.rows) playlists.now + sum_by (λ plans. length plans) full.now }
+    ensures { result ≡ complete_in playlists.now full.now }
 {
     given_of(playlists) + closed_of(full)
 }

@@ -1,11 +1,13 @@
 //! Faults are told when they stand, while the other renditions are packed on.
 
-ghost use Rattle.std.specs.Prelude.{◌≡◌, ◌<◌, ℕ, None, Some, false, true, IfSome, replicate, slice_index_or, slice_set};
-ghost use Rattle.rounds.specs.Heralds.{fault_of, TellsAll, TellsOne, Untold};
+ghost use Rattle.std.specs.Prelude.{◌≡◌, ◌<◌, ℕ};
+ghost use Rattle.rounds.specs.Heralds.{fault_of, TellsAll, TellsOne};
+ghost use Rattle.rounds.specs.declared.run.telling.TheConstants.{RENDITIONS};
 ghost use Rattle.ladder_items.specs.declared.fault.PackFault.{PackFault};
 ghost use Rattle.ladder_items.specs.Packed.{told_of_cut};
 
 use crate::run::course::Course;
+use crate::run::telling::{RENDITIONS, Telling};
 use ingest::{Stop, StreamFault};
 use ladder_items::PackFault;
 
@@ -37,54 +39,19 @@ impl Herald for Nobody {
     fn completed(&self, _segments: u128) {}
 }
 
-/// As many renditions as a ladder has at the most.
-const RENDITIONS: usize = 32;
-
-/// Whose fault was told, by rendition.
-#[derive(Drop)]
-pub struct Telling<'h, H> {
-    herald: &'h H,
-    told: [bool; RENDITIONS],
-}
-
 impl<'h, H: Herald> Telling<'h, H> {
-    /// Nothing was told yet.
-    pub fn new(herald: &'h H) -> Telling<'h, H>
-        ensures none { result.told ≡ replicate RENDITIONS false }
-        ensures herald { result.herald ≡ herald.entry }
-    {
-        Telling {
-            herald,
-            told: [false; RENDITIONS],
-        }
-    }
-
     /// Tells the fault of rendition `r`, if it stopped by one that wasn't told yet.
     fn tell(&mut self, r: usize, stop: Option<Stop>)
         requires { r < RENDITIONS }
         ensures ok { TellsOne (H.was_told self.old.herald.now) self.old.told r stop self.new.told }
         ensures herald { self.new.herald ≡ self.old.herald }
     {
-        if let Some(fault) = self.untold(r, stop) {
-            self.herald.tell(fault);
+        if self.has_told(r) {
+            return;
         }
-    }
-
-    /// The fault by which rendition `r` stopped, unless it was told: it counts as told from now on.
-    fn untold(&mut self, r: usize, stop: Option<Stop>) -> Option<PackFault>
-        requires { r < RENDITIONS }
-        ensures some { IfSome result (λ fault. Untold self.old.told r stop fault) }
-        ensures told { IfSome result (λ fault. self.new.told ≡ slice_set self.old.told r true) }
-        ensures none { result ≡ None → slice_index_or self.old.told r true ≡ false → fault_of r stop ≡ None }
-        ensures kept { result ≡ None → self.new.told ≡ self.old.told }
-        ensures herald { self.new.herald ≡ self.old.herald }
-    {
-        if self.told[r] {
-            return None;
+        if let Some(fault) = fault_of(r, stop) {
+            self.tell_first(r, fault);
         }
-        let fault = fault_of(r, stop)?;
-        self.told[r] = true;
-        Some(fault)
     }
 }
 

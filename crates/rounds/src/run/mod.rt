@@ -16,3 +16,4 @@ pub mod reporting;
 pub mod rounds_loop;
 pub mod setup;
 pub mod swapping;
+pub mod telling;

@@ -7,12 +7,13 @@ ghost use Rattle.rounds.specs.Courses.{HadOne, HadOneAtMost, HasClosed, HasTurns
 ghost use Rattle.rounds.specs.Courses.{Rests, turns_at, turns_in};
 ghost use Rattle.rounds.specs.Heralds.{AreHeard, TellsAll};
 ghost use Rattle.rounds.specs.Paces.{HasEnough, StopsSoon, closed_in, wanted};
-ghost use Rattle.rounds.specs.declared.run.herald.TheConstants.{RENDITIONS};
+ghost use Rattle.rounds.specs.declared.run.telling.TheConstants.{RENDITIONS};
 ghost use Rattle.item_io.specs.declared.limits.TheConstants.{PIECE, READS};
 
 use crate::run::course::Course;
-use crate::run::herald::{Herald, Telling};
+use crate::run::herald::Herald;
 use crate::run::pace::Pace;
+use crate::run::telling::Telling;
 use ingest::Lane;
 use item_io::{Outlet, Source};
 use std::alloc::AllocError;

@@ -1,24 +1,25 @@
 //! From round to round, until everything is given.
 
-ghost use Rattle.std.specs.Prelude.{◌≡◌, ◌+◌, ◌<◌, ◌≤◌, IfErr, IfOk, OnErr, OnOk, length, sum, sum_by};
+ghost use Rattle.std.specs.Prelude.{◌≡◌, ◌+◌, ◌<◌, ◌≤◌, IfErr, IfOk, OnErr, OnOk, length, sum};
 ghost use Rattle.ingest.specs.Lanes.{HasBroken};
 ghost use Rattle.rounds.specs.Begun.{keys_of};
 ghost use Rattle.rounds.specs.Courses.{HasGoodEnds, IsAllGiven, IsSomeBetween, NoneClosed, ReadsNone, StaysBetween, StopsBetween};
 ghost use Rattle.rounds.specs.Courses.{HasEndDue, IsRun, ReadsMore, ReadsOn, ReadsShort, turns_in};
 ghost use Rattle.rounds.specs.Gated.{IsGatesWord, IsUnheld};
-ghost use Rattle.rounds.specs.Heralds.{AllHeard, AreHeard, TellsAll};
+ghost use Rattle.rounds.specs.Heralds.{AllHeard, AreHeard, TellsAll, complete_in};
 ghost use Rattle.rounds.specs.Paces.{HasEnough, StopsSoon, wanted};
 ghost use Rattle.rounds.specs.Rounds.{SwapsOut, SwapsShort, TakesClosed};
 ghost use Rattle.rounds.specs.Showing.{counts_of};
-ghost use Rattle.rounds.specs.declared.run.herald.TheConstants.{RENDITIONS};
+ghost use Rattle.rounds.specs.declared.run.telling.TheConstants.{RENDITIONS};
 
 use crate::round::starting::run_round;
 use crate::run::between::BetweenRounds;
 use crate::run::complete::complete_by;
-use crate::run::herald::{Herald, Telling};
+use crate::run::herald::Herald;
 use crate::run::pace::Pace;
 use crate::run::reading::any_closed;
 use crate::run::setup::Setup;
+use crate::run::telling::Telling;
 use cutter::Spool;
 use item_io::{Outlet, PIECE, Source};
 use ladder_items::{PackFault, Settings};
@@ -118,8 +119,7 @@ fn tell_completed<'r, S: Source, O: Outlet, R: Wait, H: Herald>(
     between: &BetweenRounds<'r, S, O, R>,
     full: &Vec<Spool>,
 )
-    ensures { H.was_completed herald.now (sum_by (λ shown. length shown.rows) between.now.broadcast.course.playlists.items
-        + sum_by (λ plans. length plans) full.now.items) }
+    ensures { H.was_completed herald.now (complete_in between.now.broadcast.course.playlists.items full.now.items) }
 {
     herald.completed(complete_by(&between.broadcast.course.playlists, full));
 }
@@ -182,7 +182,7 @@ pub fn run_rounds<
             return (between, Err(PackFault::NoMemory));
         };
         tell_completed(herald, &between, &full);
-        let (now, answer) = run_round(setup, keys, &full, between);
+        let (now, answer) = run_round(setup, keys, &full, between, herald);
         between = now;
         if let Err(fault) = answer {
             return (between, Err(fault));
