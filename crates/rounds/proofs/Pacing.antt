@@ -1,9 +1,12 @@
 -- A round that has enough when it begins still has, where nothing was read.
-use Rattle.std.proofs.Common.{◌≡◌, inl, inr, ℕ, ◌-◌, refl, ap, sym, subst, arith}
+use Rattle.std.proofs.Common.{◌≡◌, ◌∙◌, inl, inr, Bool, List, ℕ, ◌-◌, ◌<◌, ◌≤◌, refl, ap, sym, subst, arith}
+use Rattle.std.specs.Prelude.{sum}
+use Rattle.std.specs.List.{slice_get, slice_index_or}
+use Rattle.ingest.specs.declared.lane.Lane.{Lane}
 use Rattle.rounds.specs.declared.run.course.Course.{Course}
 use Rattle.rounds.specs.declared.run.pace.Pace.{Pace}
-use Rattle.rounds.specs.Courses.{turns_in}
-use Rattle.rounds.specs.Paces.{HasEnough, wanted}
+use Rattle.rounds.specs.Courses.{NoneWaits, ReadsNone, turns_in}
+use Rattle.rounds.specs.Paces.{HasEnough, ReadsEnough, closed_in, wanted}
 
 pub still-enough : {X Y : Type 0} (pace : Pace) (old new : Course X Y) (awaited left turns : ℕ) → new ≡ old → left ≡ awaited → turns ≡ 0
     → HasEnough (wanted pace awaited 0) old → HasEnough (wanted pace left turns) new
@@ -35,3 +38,28 @@ pub enough-since : {X Y : Type 0} (pace : Pace) (new old : Course X Y) (had befo
 enough-since pace new old had before is was enough =
     let same : had - before ≡ turns_in new - turns_in old = omega (arith, is, was) in
     enough-as pace new 0 0 (turns_in new - turns_in old) (had - before) refl same enough
+
+-- there is as much where nothing was read
+enough-unread : {X Y : Type 0} (least : ℕ) (old new : Course X Y) → ReadsNone old new → HasEnough least old → HasEnough least new
+enough-unread least old new none (inl rests) =
+    inl (λ k lane at going.
+    omega (arith, rests k lane (ap (λ l. slice_get l.items k) (sym none.lanes) ∙ at) going, none.reads, ap (λ t. slice_index_or t.items k 0) none.turns))
+enough-unread least old new none (inr closed) =
+    inr (subst (λ (lanes : List Lane). (0 < closed_in lanes) × (least ≤ closed_in lanes)) (ap (λ l. l.items) (sym none.lanes)) closed)
+
+-- and no source waits that didn't
+none-waits : {X Y : Type 0} (tells : X → Bool) (old new : Course X Y) → ReadsNone old new → NoneWaits tells old → NoneWaits tells new
+none-waits tells old new none rest k source at is has =
+    rest k source (ap (λ l. slice_get l.items k) (sym none.sources) ∙ at) is (record {
+      lane = has.lane;
+      there = ap (λ l. slice_get l.items k) (sym none.lanes) ∙ has.there;
+      going = has.going;
+      below = omega (arith, has.below, none.reads, ap (λ t. slice_index_or t.items k 0) none.turns);
+    })
+
+pub reads-unread : {X Y : Type 0} (tells : X → Bool) (pace : Pace) (awaited : ℕ) (a b c d : Course X Y) → ReadsNone a b → ReadsNone c d
+    → ReadsEnough tells pace awaited b c → ReadsEnough tells pace awaited a d
+reads-unread tells pace awaited a b c d before behind (inl enough) =
+    let same : turns_in c - turns_in b ≡ turns_in d - turns_in a = omega (arith, ap (λ t. sum t.items) before.turns, ap (λ t. sum t.items) behind.turns) in
+    inl (subst (λ (n : ℕ). HasEnough (wanted pace awaited n) d) same (enough-unread _ c d behind enough))
+reads-unread tells pace awaited a b c d before behind (inr rest) = inr (none-waits tells c d behind rest)

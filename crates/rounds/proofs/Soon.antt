@@ -1,8 +1,9 @@
 -- Each rendition had one turn at the most.
-use Rattle.std.proofs.Common.{◌≡◌, ◌∙◌, inl, inr, ℕ, ◌+◌, ◌<◌, ◌≤◌, length, Some, refl, ap, sym, subst, arith}
+use Rattle.std.proofs.Common.{◌≡◌, ◌∙◌, inl, inr, Bool, true, false, ℕ, ◌+◌, ◌<◌, ◌≤◌, length, Some, refl, ap, sym, subst, arith}
+use Rattle.std.specs.Prelude.{◌||◌}
 use Rattle.std.specs.List.{slice_get, slice_index_or, slice_set}
 use Rattle.std.proofs.Math.ListN.{set}
-use Rattle.std.proofs.lemmas.Bool.{cases_eq}
+use Rattle.std.proofs.lemmas.Bool.{cases_eq, false≢true}
 use Rattle.std.proofs.lemmas.List.{get_or-set_same}
 use Rattle.std.proofs.lemmas.Option.{slice_get_within}
 use Rattle.ingest.specs.declared.lane.Lane.{Lane}
@@ -102,6 +103,19 @@ pub rest-then : {X Y : Type 0} (r : ℕ) (a b c : Course X Y) → ((k : ℕ) →
 rest-then r a b c rest others k above =
     none-then k a b c (rest k (omega (arith, above))) (none-other r k b c others (λ q. absurd (omega (arith, above, q))))
 
+-- no rendition had a turn, and r has none now
+none-both : {X Y : Type 0} (r k : ℕ) (a b c : Course X Y) → HadNone k a b → HadNone r b c → OthersStay r b c → HadNone k a c
+none-both {X} {Y} r k a b c before none others =
+    elim (cases_eq k r) as (λ _. HadNone k a c) [
+      | inl q ↦ none-then k a b c before (subst (λ (j : ℕ). HadNone j b c) (sym q) none)
+      | inr q ↦ none-then k a b c before (none-other r k b c others q)
+    ]
+
+pub none-there : {X Y : Type 0} (r k : ℕ) (a b c : Course X Y) (any now : Bool) → (any ≡ false → (k : ℕ) → HadNone k a b) → (now ≡ false → HadNone r b c) → OthersStay r b c
+    → (any || now) ≡ false → HadNone k a c
+none-there r k a b c true now before none others neither = absurd (false≢true (sym neither))
+none-there r k a b c false now before none others neither = none-both r k a b c (before refl k) (none neither) others
+
 -- rendition k had its turn among those before r, or has it now
 pub one-then : {X Y : Type 0} (input : SourceView X) (r k : ℕ) (a b c : Course X Y) → k < r + 1 → (k < r → HadOne input k a b) → HadNone r a b
     → (k ≡ r → HadOne input r b c) → OthersStay r b c → HadOne input k a c
@@ -110,6 +124,12 @@ one-then {X} {Y} input r k a b c below before none here others =
       | inl q ↦ subst (λ (j : ℕ). HadOne input j a c) (sym q) (one-behind input r a b c none (here q))
       | inr q ↦ one-before input k a b c (before (omega (arith, below, q))) (none-other r k b c others q)
     ]
+
+-- a rendition that had none has none left, if it would have had one
+pub waits-not : {X Y : Type 0} (input : SourceView X) (k : ℕ) (a b : Course X Y) → HadNone k a b → b.reads ≡ a.reads → HasTurns k b → (HasTurns k a → HadOne input k a b) → ⊥
+waits-not input k a b none reads has had =
+    let one = had (record { lane = has.lane; there = sym none.lanes ∙ has.there; going = has.going; below = omega (arith, none.turns, reads, has.below) }) in
+    omega (arith, one.turns, none.turns)
 
 -- a rendition that had no turn has those that it had
 pub turns-behind : {X Y : Type 0} (k : ℕ) (a b : Course X Y) → HadNone k a b → b.reads ≡ a.reads → HasTurns k a → HasTurns k b

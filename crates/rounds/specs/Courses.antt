@@ -1,5 +1,5 @@
 -- A run under way on many threads.
-use Rattle.std.specs.Prelude.{◌≡◌, ◌≢◌, ◌⊎◌, ℕ, ◌+◌, ◌<◌, ◌≤◌, ◌^◌, List, [], ◌∷◌, ◌++◌, All, length, sum, Option, None, Some, slice_get, slice_set, slice_index_or, true, false}
+use Rattle.std.specs.Prelude.{◌≡◌, ◌≢◌, ◌⊎◌, ℕ, ◌+◌, ◌<◌, ◌≤◌, ◌^◌, List, [], ◌∷◌, ◌++◌, All, length, sum, Option, None, Some, slice_get, slice_set, slice_index_or, Bool, true, false}
 use Rattle.cutter.specs.Plans.{SegmentPlan}
 use Rattle.item_io.specs.Items.{ItemValue}
 use Rattle.live_board.specs.Snapshots.{SnapshotFacts, Known}
@@ -150,6 +150,10 @@ pub record HadOne {X Y : Type 0} (input : SourceView X) (k : ℕ) (old new : Cou
 -- rendition k had one turn at the most
 abbrev pub HadOneAtMost : {X Y : Type 0} → SourceView X → ℕ → Course X Y → Course X Y → Type 0
 HadOneAtMost input k old new = HadNone k old new ⊎ HadOne input k old new
+
+-- no source that can't tell whether it's ready has turns left
+abbrev pub NoneWaits : {X Y : Type 0} → (X → Bool) → Course X Y → Type 0
+NoneWaits {X} tells course = (k : ℕ) (source : X) → slice_get course.sources.items k ≡ Some source → tells source ≡ false → HasTurns k course → ⊥
 
 -- how many turns all had together
 abbrev pub turns_in : {X Y : Type 0} → Course X Y → ℕ

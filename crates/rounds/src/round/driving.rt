@@ -6,7 +6,7 @@ ghost use Rattle.flow_core.specs.Gatherings.{awaited, sequences_from};
 ghost use Rattle.ladder_items.specs.Ladder.{RenditionValue};
 ghost use Rattle.rounds.specs.Courses.{ReadsMore, turns_in};
 ghost use Rattle.rounds.specs.Gated.{IsGatesWord};
-ghost use Rattle.rounds.specs.Paces.{HasEnough, wanted};
+ghost use Rattle.rounds.specs.Paces.{HasEnough, ReadsEnough, ReadsForNext, wanted};
 ghost use Rattle.rounds.specs.Rounds.{Breaks, IsBehind, IsBroken, IsDriven, IsExact, IsSomeFull, IsSomewhere, Moves, NoneReady, StopsInTime};
 ghost use Rattle.rounds.specs.Rounds.{ShowsFewer, StopsShort, due_in};
 ghost use Rattle.rounds.specs.Showing.{counts_of};
@@ -70,6 +70,7 @@ impl<'d, 's, 'r, S: Source, O: Outlet, L: Ledger, M: Ledger, R: Wait> Round<
         ensures err { IfErr result (IsBroken S.input O.output settings.now spools.now self.old.broadcast self.new.broadcast) }
         ensures held { IfErr result (IsGatesWord (G.stops sealer.now.gate.now)) }
         ensures left { IfErr result (StopsShort spools.now self.old.broadcast self.new.broadcast) }
+        ensures enough { OnOk result (ReadsForNext S.tells pace self.old.broadcast.course self.new.broadcast.course) }
     {
         let mut buffer = [0; PIECE];
         self.feed_all(sealer, settings, spools)?;
@@ -99,6 +100,8 @@ impl<'d, 's, 'r, S: Source, O: Outlet, L: Ledger, M: Ledger, R: Wait> Round<
         ensures dry { OnOk result (turns_in self.old.broadcast.course < turns_in self.new.broadcast.course → NoneReady self.new.collector) }
         ensures soon { OnOk result (turns_in self.old.broadcast.course < turns_in self.new.broadcast.course
             → StopsInTime S.input O.output settings.now pace self.old self.new) }
+        ensures enough { OnOk result (ReadsEnough S.tells pace (awaited self.new.collector.sequences)
+            self.old.broadcast.course self.new.broadcast.course) }
         ensures idle { OnOk result (HasEnough (wanted pace (awaited self.old.collector.sequences) 0) self.old.broadcast.course
             → self.new ≡ self.old) }
         ensures none { OnErr result (HasEnough (wanted pace (awaited self.old.collector.sequences) 0) self.old.broadcast.course → ⊥) }

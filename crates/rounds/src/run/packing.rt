@@ -100,10 +100,11 @@ pub fn pack_parallel_reads<
 /// Packs as `pack_parallel_reads` does, with rounds of `batch` segments.
 ///
 /// A round begins once `batch` segments are closed over all renditions, or, when all of the round before has been given, once there is
-/// one for each worker, or at least one and no source is ready; and with one, once 47 MB were read for it. While a round is sealed and
-/// given, the next one is read. With a batch of 1, a segment waits for no other to be closed; with fewer than there are workers, some
-/// workers are idle in most rounds; with more, workers wait less often for each other, and more segments are held at a time. The
-/// default is the number of workers, or how many segments may be outstanding if that is less. No clause depends on it.
+/// one for each worker, or at least one and no source is ready; and with one, once 23.5 MB were read for each worker, and 47 MB at
+/// least. While a round is sealed and given, the next one is read. With a batch of 1, a segment waits for no other to be closed; with
+/// fewer than there are workers, some workers are idle in most rounds; with more, workers wait less often for each other, and more
+/// segments are held at a time. The default is the number of workers, or how many segments may be outstanding if that is less. No
+/// clause depends on it.
 pub fn pack_in_batches<
     S: Source + Drop,
     O: Outlet + Drop,

@@ -3,8 +3,8 @@
 ghost use Rattle.std.specs.Prelude.{◌≡◌, ◌+◌, ◌<◌, ◌≤◌, ◌^◌, [], ℕ, Decides, IfOk, OnErr, OnOk, None, Some, true, false, length, slice_get, slice_set};
 ghost use Rattle.ingest.specs.Lanes.{HasBroken};
 ghost use Rattle.ingest.specs.declared.lane.Lane.{Lane};
-ghost use Rattle.rounds.specs.Courses.{HadOne, HadOneAtMost, HasClosed, HasTurns, IsRun, LeavesAt, OthersStay, ReadsMore, ReadsOn, ReadsShort};
-ghost use Rattle.rounds.specs.Courses.{Rests, turns_at, turns_in};
+ghost use Rattle.rounds.specs.Courses.{HadNone, HadOne, HadOneAtMost, HasClosed, HasTurns, IsRun, LeavesAt, NoneWaits, OthersStay, ReadsMore, ReadsOn};
+ghost use Rattle.rounds.specs.Courses.{ReadsShort, Rests, turns_at, turns_in};
 ghost use Rattle.rounds.specs.Heralds.{AreHeard, TellsAll};
 ghost use Rattle.rounds.specs.Paces.{HasEnough, StopsSoon, closed_in, wanted};
 ghost use Rattle.rounds.specs.declared.run.telling.TheConstants.{RENDITIONS};
@@ -106,6 +106,7 @@ impl<S: Source, O: Outlet> Course<S, O> {
         ensures one { OnOk result (HadOneAtMost S.input r self.old self.new) }
         ensures had { OnOk result ((source : S) → slice_get self.old.sources.items r ≡ Some source → S.tells source ≡ false → HasTurns r self.old
             → HadOne S.input r self.old self.new) }
+        ensures idle { IfOk result (λ any. any ≡ false → HadNone r self.old self.new) }
         ensures none { OnErr result ((lane : Lane) → slice_get self.old.lanes.items r ≡ Some lane → lane.stop ≡ None) }
         ensures unread { OnErr result (turns_at self.old r < self.old.reads) }
         ensures broken { OnErr result (HasBroken self.new.lanes.items) }
@@ -134,6 +135,7 @@ impl<S: Source, O: Outlet> Course<S, O> {
         ensures each { OnOk result ((k : ℕ) → HadOneAtMost S.input k self.old self.new) }
         ensures had { OnOk result ((k : ℕ) (source : S) → slice_get self.old.sources.items k ≡ Some source → S.tells source ≡ false
             → HasTurns k self.old → HadOne S.input k self.old self.new) }
+        ensures idle { IfOk result (λ any. any ≡ false → NoneWaits S.tells self.new) }
         ensures none { OnErr result (Rests self.old → ⊥) }
         ensures broken { OnErr result (HasBroken self.new.lanes.items) }
     {
@@ -185,8 +187,9 @@ impl<S: Source, O: Outlet> Course<S, O> {
         unreachable!()
     }
 
-    /// Tells the faults that stand, and waits until a source is ready.
+    /// Tells the faults that stand, and waits until a source is ready, where nothing is closed and something is left to read.
     fn wait<H: Herald>(&mut self, telling: &mut Telling<'_, H>)
+        requires none { HasEnough 1 self.old → ⊥ }
         ensures same { self.new ≡ record self.old { sources = self.new.sources } }
         ensures sources { self.new.sources.items ≡ self.old.sources.items }
         ensures told { TellsAll (H.was_told telling.old.herald.now) RENDITIONS telling.old.told self.old.lanes.items telling.new.told }

@@ -6,6 +6,7 @@ use Rattle.rounds.proofs.Dues.{awaits-first}
 use Rattle.flow_core.specs.Gatherings.{awaited}
 use Rattle.rounds.specs.Courses.{turns_in}
 use Rattle.rounds.specs.Paces.{HasEnough, wanted}
+use Rattle.rounds.proofs.Pacing.{reads-unread}
 use Rattle.rounds.proofs.Soon.{most-before, none-unread}
 use Rattle.rounds.proofs.Turning.{more-then, more-unread}
 use Rattle.rounds.proofs.round.machine.Round.drive.Goals as goal
@@ -111,3 +112,8 @@ returns-in_err-give_expected-clause-left g c =
     let told = err_from_is_err_and c.from_residual-in_err-give_expected.result c.from_residual-in_err-give_expected.ensures.1 in
     let none = ap awaited c.requires.behind ∙ awaits-first 0 _ _ in
     rw (told.1, told.2) (inr (λ unheld. omega (arith, none, c.in_ok-feed_all.ensures.due, c.in_ok-read_on.ensures.due, c.in_err-give_expected.ensures.short unheld)))
+
+pub returns-clause-enough : goal.returns-clause-enough
+returns-clause-enough g c =
+    let left = awaited c.read_on.new.self.collector.sequences in
+    (left, reads-unread _ c.args.pace left _ _ _ _ c.in_ok-feed_all.ensures.none_read c.in_ok-give_expected.ensures.none_read c.in_ok-read_on.ensures.enough)

@@ -149,3 +149,11 @@ pub returns-in_err-take_and_give-clause-left : goal.returns-in_err-take_and_give
 returns-in_err-take_and_give-clause-left g c =
     let told = err_from_is_err_and c.from_residual-in_err-take_and_give.result c.from_residual-in_err-take_and_give.ensures.1 in
     rw (told.1, told.2) (inr (λ unheld. omega (arith, c.loop.invariant.due, c.in_err-take_and_give.ensures.short unheld)))
+
+pub returns-then-is_enough-clause-enough : goal.returns-then-is_enough-clause-enough
+returns-then-is_enough-clause-enough g c =
+    let had : turns_in c.loop.self.broadcast.course - turns_in c.args.self.now.broadcast.course ≡ c.turns_had.result - c.turns_had-before.result = omega (arith, c.turns_had.ensures.is, c.turns_had-before.ensures.is) in
+    inl (enough-as c.args.pace c.loop.self.broadcast.course _ _ _ _ (sym c.awaited-awaited.ensures) had (c.if-is_enough.ensures.0 refl))
+
+pub returns-then-not-branch-clause-enough : goal.returns-then-not-branch-clause-enough
+returns-then-not-branch-clause-enough g c = inr (c.in_ok-read_ready.ensures.idle c.if-not-branch.true)

@@ -61,6 +61,9 @@ returns-then-has_closed-clause-playlists g c = ap (λ (d : Course _ _). d.playli
 pub returns-then-has_closed-clause-further : goal.returns-then-has_closed-clause-further
 returns-then-has_closed-clause-further g c = more-then _ _ _ c.loop.invariant.further c.in_ok-read_ready.ensures.further
 
+pub wait-requires : goal.wait-requires
+wait-requires g c = record { none = λ enough. false≢true (c.if-has_closed.ensures.1 enough) }
+
 pub loop-preserved : goal.loop-preserved
 loop-preserved g c = record {
   ok = λ ladder start shows waiting on.

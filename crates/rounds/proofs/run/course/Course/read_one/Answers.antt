@@ -118,3 +118,9 @@ returns-then-not-is_ready-clause-had g c source at tells turns = absurd (falseâ‰
 pub returns-clause-had : goal.returns-clause-had
 returns-clause-had g c source at tells turns =
     one-behind _ c.args.r _ _ _ (none-looked c.args.r _ _ c.if-not-is_ready.ensures.sources c.if-not-is_ready.ensures.same) c.in_ok-take_turn.ensures.had
+
+pub returns-then-not-goes_on-clause-idle : goal.returns-then-not-goes_on-clause-idle
+returns-then-not-goes_on-clause-idle g c none = had-none c.args.r c.args.self.now
+
+pub returns-then-not-is_ready-clause-idle : goal.returns-then-not-is_ready-clause-idle
+returns-then-not-is_ready-clause-idle g c none = none-looked c.args.r _ _ c.if-not-is_ready.ensures.sources c.if-not-is_ready.ensures.same

@@ -5,7 +5,7 @@ use Rattle.std.proofs.lemmas.Result.{err_from_is_err_and}
 use Rattle.ladder_items.proofs.Elsewhere.{some-at}
 use Rattle.rounds.specs.declared.run.course.Course.{Course}
 use Rattle.rounds.specs.Courses.{HasTurns, turns_in}
-use Rattle.rounds.proofs.Soon.{had-none, most-then, one-then, rest-then, turns-behind}
+use Rattle.rounds.proofs.Soon.{had-none, most-then, none-there, one-then, rest-then, turns-behind, waits-not}
 use Rattle.rounds.proofs.Turning.{had-then, more-none, more-then, none-had}
 use Rattle.rounds.proofs.run.course.Course.read_ready.Goals as goal
 
@@ -33,6 +33,7 @@ loop-r-preserved g c = record {
       (turns-behind _ _ _ (c.loop-r.invariant.rest c.loop-r.r (omega arith)) (ap (λ (d : Course _ _). d.reads) c.loop-r.invariant.same)
       (subst (λ (j : ℕ). HasTurns j c.args.self.now) here turns)))
       c.in_ok-any.ensures.others;
+  idle = λ none k. none-there c.loop-r.r k _ _ _ _ _ c.loop-r.invariant.idle c.in_ok-any.ensures.idle c.in_ok-any.ensures.others none;
   rest = rest-then c.loop-r.r _ _ _ c.loop-r.invariant.rest c.in_ok-any.ensures.others;
   buffer = search rules;
 }
@@ -47,6 +48,7 @@ loop-r-init g c = record {
   once = omega arith;
   each = λ k. inl (had-none k c.args.self.now);
   had = λ k source below at tells turns. absurd (omega (arith, below));
+  idle = λ none k. had-none k c.args.self.now;
   rest = λ k above. had-none k c.args.self.now;
   buffer = refl;
 }
@@ -70,3 +72,10 @@ returns-in_err-any-clause-broken g c =
 pub returns-clause-had : goal.returns-clause-had
 returns-clause-had g c k source at tells turns =
     c.loop-r.invariant.had k source (omega (arith, slice_get_within c.args.self.now.lanes.items k turns.lane turns.there, c.loop-r-test.false, c.loop-r.auto.r-end)) at tells turns
+
+pub returns-clause-idle : goal.returns-clause-idle
+returns-clause-idle g c none k source at tells turns =
+    let was = c.loop-r.invariant.idle none k in
+    waits-not _ k _ _ was (ap (λ (d : Course _ _). d.reads) c.loop-r.invariant.same) turns (λ had.
+    c.loop-r.invariant.had k source (omega (arith, slice_get_within c.args.self.now.lanes.items k had.lane had.there, c.loop-r-test.false, c.loop-r.auto.r-end))
+    (sym was.sources ∙ at) tells had)

@@ -14,6 +14,7 @@ invariant-loop-r g l = record {
   once : turns_in l.self ≤ turns_in l.fn.self + l.r;
   each : (k : ℕ) → HadOneAtMost g.S.Source.input k l.fn.self l.self;
   had : (k : ℕ) (source : _) → k < l.r → slice_get l.fn.self.sources.items k ≡ Some source → g.S.Source.tells source ≡ false → HasTurns k l.fn.self → HadOne g.S.Source.input k l.fn.self l.self;
+  idle : l.any ≡ false → (k : ℕ) → HadNone k l.fn.self l.self;
   rest : (k : ℕ) → l.r ≤ k → HadNone k l.fn.self l.self;
   buffer : length l.buffer ≡ length l.fn.buffer;
 }
