@@ -150,3 +150,18 @@ returns-in_err-give_its_end-clause-unshown g c =
     let due = end-due _ _ _ _ _ some.0 _ _ some.1 r c.requires.within c.index-lane.result.now at0 empty differs in
     let gave = c.in_err-give_its_end.ensures.err (parts-of c.args.settings.now some.1.world.events) (is-going _ _ _ _ _ some.0 _ _ (λ k. []) some.1 r c.requires.within due.0) in
     rw told.1 gave.unshown
+
+pub returns-in_err-give_its_end-clause-ok : goal.returns-in_err-give_its_end-clause-ok
+returns-in_err-give_its_end-clause-ok g c =
+    let told = err_from_is_err_and c.from_residual.result c.from_residual.ensures.1 in
+    rw told.1 tt
+
+pub returns-in_err-give_its_end-clause-ended : goal.returns-in_err-give_its_end-clause-ended
+returns-in_err-give_its_end-clause-ended g c =
+    let told = err_from_is_err_and c.from_residual.result c.from_residual.ensures.1 in
+    rw told.1 tt
+
+pub returns-in_err-give_its_end-clause-others : goal.returns-in_err-give_its_end-clause-others
+returns-in_err-give_its_end-clause-others g c =
+    let told = err_from_is_err_and c.from_residual.result c.from_residual.ensures.1 in
+    rw told.1 tt

@@ -59,3 +59,13 @@ returns-in_err-give_end_of-clause-left g c =
       due = inl (r, below, c.in_err-give_end_of.ensures.none);
       unshown = c.in_err-give_end_of.ensures.unshown;
     })
+
+pub returns-in_err-give_end_of-clause-ok : goal.returns-in_err-give_end_of-clause-ok
+returns-in_err-give_end_of-clause-ok g c =
+    let told = err_from_is_err_and c.from_residual.result c.from_residual.ensures.1 in
+    rw told.1 tt
+
+pub returns-in_err-give_end_of-clause-ended : goal.returns-in_err-give_end_of-clause-ended
+returns-in_err-give_end_of-clause-ended g c =
+    let told = err_from_is_err_and c.from_residual.result c.from_residual.ensures.1 in
+    rw told.1 tt

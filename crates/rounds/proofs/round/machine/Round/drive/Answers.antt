@@ -117,3 +117,33 @@ pub returns-clause-enough : goal.returns-clause-enough
 returns-clause-enough g c =
     let left = awaited c.read_on.new.self.collector.sequences in
     (left, reads-unread _ c.args.pace left _ _ _ _ c.in_ok-feed_all.ensures.none_read c.in_ok-give_expected.ensures.none_read c.in_ok-read_on.ensures.enough)
+
+pub returns-in_err-feed_all-clause-ok : goal.returns-in_err-feed_all-clause-ok
+returns-in_err-feed_all-clause-ok g c =
+    let told = err_from_is_err_and c.from_residual.result c.from_residual.ensures.1 in
+    rw told.1 tt
+
+pub returns-in_err-feed_all-clause-enough : goal.returns-in_err-feed_all-clause-enough
+returns-in_err-feed_all-clause-enough g c =
+    let told = err_from_is_err_and c.from_residual.result c.from_residual.ensures.1 in
+    rw told.1 tt
+
+pub returns-in_err-read_on-clause-ok : goal.returns-in_err-read_on-clause-ok
+returns-in_err-read_on-clause-ok g c =
+    let told = err_from_is_err_and c.from_residual-in_err-read_on.result c.from_residual-in_err-read_on.ensures.1 in
+    rw told.1 tt
+
+pub returns-in_err-read_on-clause-enough : goal.returns-in_err-read_on-clause-enough
+returns-in_err-read_on-clause-enough g c =
+    let told = err_from_is_err_and c.from_residual-in_err-read_on.result c.from_residual-in_err-read_on.ensures.1 in
+    rw told.1 tt
+
+pub returns-in_err-give_expected-clause-ok : goal.returns-in_err-give_expected-clause-ok
+returns-in_err-give_expected-clause-ok g c =
+    let told = err_from_is_err_and c.from_residual-in_err-give_expected.result c.from_residual-in_err-give_expected.ensures.1 in
+    rw told.1 tt
+
+pub returns-in_err-give_expected-clause-enough : goal.returns-in_err-give_expected-clause-enough
+returns-in_err-give_expected-clause-enough g c =
+    let told = err_from_is_err_and c.from_residual-in_err-give_expected.result c.from_residual-in_err-give_expected.ensures.1 in
+    rw told.1 tt

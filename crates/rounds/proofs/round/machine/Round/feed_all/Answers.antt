@@ -72,3 +72,18 @@ returns-in_err-feed_spool-clause-short g c =
     let here = ap length (get_or_default spools r [] c.index-spools-r.result (search rules) ∙ sym c.index-spools-r.is) in
     rw (told.1, told.2) (λ unheld.
     omega (arith, c.loop-r.invariant.due, c.in_err-feed_spool.ensures.short unheld, plans-more spools r within, plans-front spools (r + 1), here))
+
+pub returns-in_err-feed_spool-clause-ok : goal.returns-in_err-feed_spool-clause-ok
+returns-in_err-feed_spool-clause-ok g c =
+    let told = err_from_is_err_and c.from_residual.result c.from_residual.ensures.1 in
+    rw told.1 tt
+
+pub returns-in_err-feed_spool-clause-due : goal.returns-in_err-feed_spool-clause-due
+returns-in_err-feed_spool-clause-due g c =
+    let told = err_from_is_err_and c.from_residual.result c.from_residual.ensures.1 in
+    rw told.1 tt
+
+pub returns-in_err-feed_spool-clause-fair : goal.returns-in_err-feed_spool-clause-fair
+returns-in_err-feed_spool-clause-fair g c =
+    let told = err_from_is_err_and c.from_residual.result c.from_residual.ensures.1 in
+    rw told.1 tt

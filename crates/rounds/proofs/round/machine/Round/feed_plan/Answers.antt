@@ -120,3 +120,63 @@ pub returns-in_err-fed-clause-short : goal.returns-in_err-fed-clause-short
 returns-in_err-fed-clause-short g c =
     let told = err_from_is_err_and c.from_residual-in_err-fed.result c.from_residual-in_err-fed.ensures.1 in
     rw (told.1, told.2) (λ unheld. omega (arith, c.in_ok-make_room.ensures.due))
+
+pub returns-in_err-make_room-clause-ok : goal.returns-in_err-make_room-clause-ok
+returns-in_err-make_room-clause-ok g c =
+    let told = err_from_is_err_and c.from_residual.result c.from_residual.ensures.1 in
+    rw told.1 tt
+
+pub returns-in_err-make_room-clause-handed : goal.returns-in_err-make_room-clause-handed
+returns-in_err-make_room-clause-handed g c =
+    let told = err_from_is_err_and c.from_residual.result c.from_residual.ensures.1 in
+    rw told.1 tt
+
+pub returns-in_err-make_room-clause-due : goal.returns-in_err-make_room-clause-due
+returns-in_err-make_room-clause-due g c =
+    let told = err_from_is_err_and c.from_residual.result c.from_residual.ensures.1 in
+    rw told.1 tt
+
+pub returns-in_err-make_room-clause-fair : goal.returns-in_err-make_room-clause-fair
+returns-in_err-make_room-clause-fair g c =
+    let told = err_from_is_err_and c.from_residual.result c.from_residual.ensures.1 in
+    rw told.1 tt
+
+pub returns-in_err-expect-clause-ok : goal.returns-in_err-expect-clause-ok
+returns-in_err-expect-clause-ok g c =
+    let told = err_from_is_err_and c.from_residual-in_err-expect.result c.from_residual-in_err-expect.ensures.1 in
+    rw told.1 tt
+
+pub returns-in_err-expect-clause-handed : goal.returns-in_err-expect-clause-handed
+returns-in_err-expect-clause-handed g c =
+    let told = err_from_is_err_and c.from_residual-in_err-expect.result c.from_residual-in_err-expect.ensures.1 in
+    rw told.1 tt
+
+pub returns-in_err-expect-clause-due : goal.returns-in_err-expect-clause-due
+returns-in_err-expect-clause-due g c =
+    let told = err_from_is_err_and c.from_residual-in_err-expect.result c.from_residual-in_err-expect.ensures.1 in
+    rw told.1 tt
+
+pub returns-in_err-expect-clause-fair : goal.returns-in_err-expect-clause-fair
+returns-in_err-expect-clause-fair g c =
+    let told = err_from_is_err_and c.from_residual-in_err-expect.result c.from_residual-in_err-expect.ensures.1 in
+    rw told.1 tt
+
+pub returns-in_err-fed-clause-ok : goal.returns-in_err-fed-clause-ok
+returns-in_err-fed-clause-ok g c =
+    let told = err_from_is_err_and c.from_residual-in_err-fed.result c.from_residual-in_err-fed.ensures.1 in
+    rw told.1 tt
+
+pub returns-in_err-fed-clause-handed : goal.returns-in_err-fed-clause-handed
+returns-in_err-fed-clause-handed g c =
+    let told = err_from_is_err_and c.from_residual-in_err-fed.result c.from_residual-in_err-fed.ensures.1 in
+    rw told.1 tt
+
+pub returns-in_err-fed-clause-due : goal.returns-in_err-fed-clause-due
+returns-in_err-fed-clause-due g c =
+    let told = err_from_is_err_and c.from_residual-in_err-fed.result c.from_residual-in_err-fed.ensures.1 in
+    rw told.1 tt
+
+pub returns-in_err-fed-clause-fair : goal.returns-in_err-fed-clause-fair
+returns-in_err-fed-clause-fair g c =
+    let told = err_from_is_err_and c.from_residual-in_err-fed.result c.from_residual-in_err-fed.ensures.1 in
+    rw told.1 tt

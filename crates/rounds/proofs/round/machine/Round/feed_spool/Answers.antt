@@ -1,6 +1,6 @@
 use Rattle.std.proofs.Common.{◌+◌, ap, subst, arith, drop, length}
 use Rattle.std.specs.List.{slice_set}
-use Rattle.std.proofs.lemmas.List.{set-set}
+use Rattle.std.proofs.lemmas.List.{drop_all, set-set}
 use Rattle.std.proofs.lemmas.Option.{slice_get_within}
 use Rattle.std.proofs.lemmas.Result.{err_from_is_err_and}
 use Rattle.cutter.specs.Lent.{lent}
@@ -58,3 +58,36 @@ returns-in_err-feed_plan-clause-short g c =
     let told = err_from_is_err_and c.from_residual.result c.from_residual.ensures.1 in
     let within = slice_get_within c.args.spool.now c.loop-i.i _ c.in-Some.ensures.some in
     rw (told.1, told.2) (λ unheld. omega (arith, within, c.loop-i.invariant.due, c.in_err-feed_plan.ensures.short unheld))
+
+pub returns-in_err-feed_plan-clause-ok : goal.returns-in_err-feed_plan-clause-ok
+returns-in_err-feed_plan-clause-ok g c =
+    let told = err_from_is_err_and c.from_residual.result c.from_residual.ensures.1 in
+    rw told.1 tt
+
+pub returns-in_err-feed_plan-clause-due : goal.returns-in_err-feed_plan-clause-due
+returns-in_err-feed_plan-clause-due g c =
+    let told = err_from_is_err_and c.from_residual.result c.from_residual.ensures.1 in
+    rw told.1 tt
+
+pub returns-in_err-feed_plan-clause-fair : goal.returns-in_err-feed_plan-clause-fair
+returns-in_err-feed_plan-clause-fair g c =
+    let told = err_from_is_err_and c.from_residual.result c.from_residual.ensures.1 in
+    rw told.1 tt
+
+pub returns-clause-ok : goal.returns-clause-ok
+returns-clause-ok g c start unfed is old =
+    let past = drop_all c.loop-i.i c.args.spool.now (omega (arith, c.loop-i-test.false, c.plans-i-end.ensures)) in
+    subst (λ l. InRound g.S.Source.input g.O.Outlet.output c.args.settings.now start (slice_set unfed c.args.r l) c.loop-i.self.broadcast.course c.loop-i.self.broadcast.held.publisher c.loop-i.self.collector) past
+    (c.loop-i.invariant.ok start unfed is old)
+
+pub returns-clause-none_read : goal.returns-clause-none_read
+returns-clause-none_read g c = c.loop-i.invariant.none_read
+
+pub returns-clause-fair : goal.returns-clause-fair
+returns-clause-fair g c = c.loop-i.invariant.fair
+
+pub returns-clause-due : goal.returns-clause-due
+returns-clause-due g c = omega (arith, c.loop-i.invariant.due, c.loop-i-test.false, c.loop-i.auto.i-end, c.plans-i-end.ensures)
+
+pub returns-in_err-feed_plan-clause-none_read : goal.returns-in_err-feed_plan-clause-none_read
+returns-in_err-feed_plan-clause-none_read g c = reads-then _ _ _ c.loop-i.invariant.none_read c.in_err-feed_plan.ensures.none_read

@@ -62,3 +62,28 @@ pub returns-in_err-give_ready-clause-short : goal.returns-in_err-give_ready-clau
 returns-in_err-give_ready-clause-short g c =
     let told = err_from_is_err_and c.from_residual.result c.from_residual.ensures.1 in
     rw told.1 (omega (arith, c.loop-r.invariant.due, c.in_err-give_ready.ensures.short))
+
+pub returns-in_err-give_ready-clause-ok : goal.returns-in_err-give_ready-clause-ok
+returns-in_err-give_ready-clause-ok g c =
+    let told = err_from_is_err_and c.from_residual.result c.from_residual.ensures.1 in
+    rw told.1 tt
+
+pub returns-in_err-give_ready-clause-due : goal.returns-in_err-give_ready-clause-due
+returns-in_err-give_ready-clause-due g c =
+    let told = err_from_is_err_and c.from_residual.result c.from_residual.ensures.1 in
+    rw told.1 tt
+
+pub returns-in_err-give_ready-clause-counts : goal.returns-in_err-give_ready-clause-counts
+returns-in_err-give_ready-clause-counts g c =
+    let told = err_from_is_err_and c.from_residual.result c.from_residual.ensures.1 in
+    rw told.1 tt
+
+pub returns-in_err-give_ready-clause-dry : goal.returns-in_err-give_ready-clause-dry
+returns-in_err-give_ready-clause-dry g c =
+    let told = err_from_is_err_and c.from_residual.result c.from_residual.ensures.1 in
+    rw told.1 tt
+
+pub returns-in_err-give_ready-clause-fewer : goal.returns-in_err-give_ready-clause-fewer
+returns-in_err-give_ready-clause-fewer g c =
+    let told = err_from_is_err_and c.from_residual.result c.from_residual.ensures.1 in
+    rw told.1 tt

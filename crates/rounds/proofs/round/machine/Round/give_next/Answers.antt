@@ -91,3 +91,43 @@ returns-in_err-give_segment-clause-short g c =
     let gave = c.in_err-give_segment.ensures.err (parts-of c.args.settings.now some.2.on.world.events) next in
     let less = passed-fewer c.args.self.now.collector c.args.r c.in-Some.sealed.plan c.in-Some.sealed c.in-Some.ensures.first in
     rw told.1 (omega (arith, less, ap length gave.unshown))
+
+pub returns-in_err-give_segment-clause-ok : goal.returns-in_err-give_segment-clause-ok
+returns-in_err-give_segment-clause-ok g c =
+    let told = err_from_is_err_and c.from_residual.result c.from_residual.ensures.1 in
+    rw told.1 tt
+
+pub returns-in_err-give_segment-clause-due : goal.returns-in_err-give_segment-clause-due
+returns-in_err-give_segment-clause-due g c =
+    let told = err_from_is_err_and c.from_residual.result c.from_residual.ensures.1 in
+    rw told.1 tt
+
+pub returns-in_err-give_segment-clause-counts : goal.returns-in_err-give_segment-clause-counts
+returns-in_err-give_segment-clause-counts g c =
+    let told = err_from_is_err_and c.from_residual.result c.from_residual.ensures.1 in
+    rw told.1 tt
+
+pub returns-in_err-give_segment-clause-fewer : goal.returns-in_err-give_segment-clause-fewer
+returns-in_err-give_segment-clause-fewer g c =
+    let told = err_from_is_err_and c.from_residual.result c.from_residual.ensures.1 in
+    rw told.1 tt
+
+pub returns-in_err-give_segment-clause-dry : goal.returns-in_err-give_segment-clause-dry
+returns-in_err-give_segment-clause-dry g c =
+    let told = err_from_is_err_and c.from_residual.result c.from_residual.ensures.1 in
+    rw told.1 tt
+
+pub returns-in_err-give_segment-clause-stood : goal.returns-in_err-give_segment-clause-stood
+returns-in_err-give_segment-clause-stood g c =
+    let told = err_from_is_err_and c.from_residual.result c.from_residual.ensures.1 in
+    rw told.1 tt
+
+pub returns-in_err-give_segment-clause-idle : goal.returns-in_err-give_segment-clause-idle
+returns-in_err-give_segment-clause-idle g c =
+    let told = err_from_is_err_and c.from_residual.result c.from_residual.ensures.1 in
+    rw told.1 tt
+
+pub returns-in_err-give_segment-clause-others : goal.returns-in_err-give_segment-clause-others
+returns-in_err-give_segment-clause-others g c =
+    let told = err_from_is_err_and c.from_residual.result c.from_residual.ensures.1 in
+    rw told.1 tt

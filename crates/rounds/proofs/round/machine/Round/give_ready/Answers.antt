@@ -1,6 +1,7 @@
-use Rattle.std.proofs.Common.{sym, subst, arith}
+use Rattle.std.proofs.Common.{◌∙◌, sym, subst, arith}
 use Rattle.std.proofs.lemmas.Result.{err_from_is_err_and}
 use Rattle.rounds.specs.Rounds.{IsDry}
+use Rattle.rounds.proofs.Running.{reads-then}
 use Rattle.rounds.proofs.round.machine.Round.give_ready.Goals as goal
 
 pub give_next-requires : goal.give_next-requires
@@ -30,3 +31,55 @@ pub returns-in_err-give_next-clause-short : goal.returns-in_err-give_next-clause
 returns-in_err-give_next-clause-short g c =
     let told = err_from_is_err_and c.from_residual.result c.from_residual.ensures.1 in
     rw told.1 (omega (arith, c.loop.invariant.due, c.in_err-give_next.ensures.short))
+
+pub loop-preserved : goal.loop-preserved
+loop-preserved g c =
+    let e = c.in_ok-give_next.ensures in
+    let i = c.loop.invariant in
+    record {
+      ok = λ start unfed now. e.ok start unfed (i.ok start unfed now);
+      none_read = reads-then _ _ _ i.none_read e.none_read;
+      counts = (e.counts.0 ∙ i.counts.0, e.counts.1 ∙ i.counts.1, e.counts.2 ∙ i.counts.2);
+      idle = λ dry. absurd (e.stood c.if-branch.true (subst (IsDry c.args.r) (sym (i.idle dry)) dry));
+      fewer = omega (arith, i.fewer, e.fewer c.if-branch.true);
+      others = λ k other. e.others k other ∙ i.others k other;
+      due = e.due ∙ i.due;
+    }
+
+pub returns-in_err-give_next-clause-ok : goal.returns-in_err-give_next-clause-ok
+returns-in_err-give_next-clause-ok g c =
+    let told = err_from_is_err_and c.from_residual.result c.from_residual.ensures.1 in
+    rw told.1 tt
+
+pub returns-in_err-give_next-clause-due : goal.returns-in_err-give_next-clause-due
+returns-in_err-give_next-clause-due g c =
+    let told = err_from_is_err_and c.from_residual.result c.from_residual.ensures.1 in
+    rw told.1 tt
+
+pub returns-in_err-give_next-clause-counts : goal.returns-in_err-give_next-clause-counts
+returns-in_err-give_next-clause-counts g c =
+    let told = err_from_is_err_and c.from_residual.result c.from_residual.ensures.1 in
+    rw told.1 tt
+
+pub returns-in_err-give_next-clause-dry : goal.returns-in_err-give_next-clause-dry
+returns-in_err-give_next-clause-dry g c =
+    let told = err_from_is_err_and c.from_residual.result c.from_residual.ensures.1 in
+    rw told.1 tt
+
+pub returns-in_err-give_next-clause-others : goal.returns-in_err-give_next-clause-others
+returns-in_err-give_next-clause-others g c =
+    let told = err_from_is_err_and c.from_residual.result c.from_residual.ensures.1 in
+    rw told.1 tt
+
+pub returns-in_err-give_next-clause-idle : goal.returns-in_err-give_next-clause-idle
+returns-in_err-give_next-clause-idle g c =
+    let told = err_from_is_err_and c.from_residual.result c.from_residual.ensures.1 in
+    rw told.1 tt
+
+pub returns-in_err-give_next-clause-fewer : goal.returns-in_err-give_next-clause-fewer
+returns-in_err-give_next-clause-fewer g c =
+    let told = err_from_is_err_and c.from_residual.result c.from_residual.ensures.1 in
+    rw told.1 tt
+
+pub returns-in_err-give_next-clause-none_read : goal.returns-in_err-give_next-clause-none_read
+returns-in_err-give_next-clause-none_read g c = reads-then _ _ _ c.loop.invariant.none_read c.in_err-give_next.ensures.none_read

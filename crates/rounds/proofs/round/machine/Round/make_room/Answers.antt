@@ -52,3 +52,23 @@ pub returns-in_err-wait_and_give-clause-short : goal.returns-in_err-wait_and_giv
 returns-in_err-wait_and_give-clause-short g c =
     let told = err_from_is_err_and c.from_residual.result c.from_residual.ensures.1 in
     rw (told.1, told.2) (λ unheld. omega (arith, c.loop.invariant.due, c.in_err-wait_and_give.ensures.short unheld))
+
+pub returns-in_err-wait_and_give-clause-ok : goal.returns-in_err-wait_and_give-clause-ok
+returns-in_err-wait_and_give-clause-ok g c =
+    let told = err_from_is_err_and c.from_residual.result c.from_residual.ensures.1 in
+    rw told.1 tt
+
+pub returns-in_err-wait_and_give-clause-due : goal.returns-in_err-wait_and_give-clause-due
+returns-in_err-wait_and_give-clause-due g c =
+    let told = err_from_is_err_and c.from_residual.result c.from_residual.ensures.1 in
+    rw told.1 tt
+
+pub returns-in_err-wait_and_give-clause-fair : goal.returns-in_err-wait_and_give-clause-fair
+returns-in_err-wait_and_give-clause-fair g c =
+    let told = err_from_is_err_and c.from_residual.result c.from_residual.ensures.1 in
+    rw told.1 tt
+
+pub returns-in_err-wait_and_give-clause-room : goal.returns-in_err-wait_and_give-clause-room
+returns-in_err-wait_and_give-clause-room g c =
+    let told = err_from_is_err_and c.from_residual.result c.from_residual.ensures.1 in
+    rw told.1 tt

@@ -157,3 +157,83 @@ returns-then-is_enough-clause-enough g c =
 
 pub returns-then-not-branch-clause-enough : goal.returns-then-not-branch-clause-enough
 returns-then-not-branch-clause-enough g c = inr (c.in_ok-read_ready.ensures.idle c.if-not-branch.true)
+
+pub returns-in_err-read_ready-clause-ok : goal.returns-in_err-read_ready-clause-ok
+returns-in_err-read_ready-clause-ok g c =
+    let told = err_from_is_err_and c.from_residual.result c.from_residual.ensures.1 in
+    rw told.1 tt
+
+pub returns-in_err-read_ready-clause-further : goal.returns-in_err-read_ready-clause-further
+returns-in_err-read_ready-clause-further g c =
+    let told = err_from_is_err_and c.from_residual.result c.from_residual.ensures.1 in
+    rw told.1 tt
+
+pub returns-in_err-read_ready-clause-exact : goal.returns-in_err-read_ready-clause-exact
+returns-in_err-read_ready-clause-exact g c =
+    let told = err_from_is_err_and c.from_residual.result c.from_residual.ensures.1 in
+    rw told.1 tt
+
+pub returns-in_err-read_ready-clause-due : goal.returns-in_err-read_ready-clause-due
+returns-in_err-read_ready-clause-due g c =
+    let told = err_from_is_err_and c.from_residual.result c.from_residual.ensures.1 in
+    rw told.1 tt
+
+pub returns-in_err-read_ready-clause-enough : goal.returns-in_err-read_ready-clause-enough
+returns-in_err-read_ready-clause-enough g c =
+    let told = err_from_is_err_and c.from_residual.result c.from_residual.ensures.1 in
+    rw told.1 tt
+
+pub returns-in_err-read_ready-clause-dry : goal.returns-in_err-read_ready-clause-dry
+returns-in_err-read_ready-clause-dry g c =
+    let told = err_from_is_err_and c.from_residual.result c.from_residual.ensures.1 in
+    rw told.1 tt
+
+pub returns-in_err-read_ready-clause-soon : goal.returns-in_err-read_ready-clause-soon
+returns-in_err-read_ready-clause-soon g c =
+    let told = err_from_is_err_and c.from_residual.result c.from_residual.ensures.1 in
+    rw told.1 tt
+
+pub returns-in_err-read_ready-clause-idle : goal.returns-in_err-read_ready-clause-idle
+returns-in_err-read_ready-clause-idle g c =
+    let told = err_from_is_err_and c.from_residual.result c.from_residual.ensures.1 in
+    rw told.1 tt
+
+pub returns-in_err-take_and_give-clause-ok : goal.returns-in_err-take_and_give-clause-ok
+returns-in_err-take_and_give-clause-ok g c =
+    let told = err_from_is_err_and c.from_residual-in_err-take_and_give.result c.from_residual-in_err-take_and_give.ensures.1 in
+    rw told.1 tt
+
+pub returns-in_err-take_and_give-clause-further : goal.returns-in_err-take_and_give-clause-further
+returns-in_err-take_and_give-clause-further g c =
+    let told = err_from_is_err_and c.from_residual-in_err-take_and_give.result c.from_residual-in_err-take_and_give.ensures.1 in
+    rw told.1 tt
+
+pub returns-in_err-take_and_give-clause-exact : goal.returns-in_err-take_and_give-clause-exact
+returns-in_err-take_and_give-clause-exact g c =
+    let told = err_from_is_err_and c.from_residual-in_err-take_and_give.result c.from_residual-in_err-take_and_give.ensures.1 in
+    rw told.1 tt
+
+pub returns-in_err-take_and_give-clause-due : goal.returns-in_err-take_and_give-clause-due
+returns-in_err-take_and_give-clause-due g c =
+    let told = err_from_is_err_and c.from_residual-in_err-take_and_give.result c.from_residual-in_err-take_and_give.ensures.1 in
+    rw told.1 tt
+
+pub returns-in_err-take_and_give-clause-enough : goal.returns-in_err-take_and_give-clause-enough
+returns-in_err-take_and_give-clause-enough g c =
+    let told = err_from_is_err_and c.from_residual-in_err-take_and_give.result c.from_residual-in_err-take_and_give.ensures.1 in
+    rw told.1 tt
+
+pub returns-in_err-take_and_give-clause-dry : goal.returns-in_err-take_and_give-clause-dry
+returns-in_err-take_and_give-clause-dry g c =
+    let told = err_from_is_err_and c.from_residual-in_err-take_and_give.result c.from_residual-in_err-take_and_give.ensures.1 in
+    rw told.1 tt
+
+pub returns-in_err-take_and_give-clause-soon : goal.returns-in_err-take_and_give-clause-soon
+returns-in_err-take_and_give-clause-soon g c =
+    let told = err_from_is_err_and c.from_residual-in_err-take_and_give.result c.from_residual-in_err-take_and_give.ensures.1 in
+    rw told.1 tt
+
+pub returns-in_err-take_and_give-clause-idle : goal.returns-in_err-take_and_give-clause-idle
+returns-in_err-take_and_give-clause-idle g c =
+    let told = err_from_is_err_and c.from_residual-in_err-take_and_give.result c.from_residual-in_err-take_and_give.ensures.1 in
+    rw told.1 tt

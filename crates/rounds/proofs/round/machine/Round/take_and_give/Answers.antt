@@ -66,3 +66,66 @@ pub returns-in_err-give_all_ready-clause-short : goal.returns-in_err-give_all_re
 returns-in_err-give_all_ready-clause-short g c =
     let told = err_from_is_err_and c.from_residual-in_err-give_all_ready.result c.from_residual-in_err-give_all_ready.ensures.1 in
     rw (told.1, told.2) (λ unheld. omega (arith, keeps-awaited _ _ c.in_ok-take_all.ensures.keeps, c.in_err-give_all_ready.ensures.short))
+
+pub returns-in_err-take_all-clause-ok : goal.returns-in_err-take_all-clause-ok
+returns-in_err-take_all-clause-ok g c =
+    let told = err_from_is_err_and c.from_residual.result c.from_residual.ensures.1 in
+    rw told.1 tt
+
+pub returns-in_err-take_all-clause-due : goal.returns-in_err-take_all-clause-due
+returns-in_err-take_all-clause-due g c =
+    let told = err_from_is_err_and c.from_residual.result c.from_residual.ensures.1 in
+    rw told.1 tt
+
+pub returns-in_err-take_all-clause-exact : goal.returns-in_err-take_all-clause-exact
+returns-in_err-take_all-clause-exact g c =
+    let told = err_from_is_err_and c.from_residual.result c.from_residual.ensures.1 in
+    rw told.1 tt
+
+pub returns-in_err-take_all-clause-kept : goal.returns-in_err-take_all-clause-kept
+returns-in_err-take_all-clause-kept g c =
+    let told = err_from_is_err_and c.from_residual.result c.from_residual.ensures.1 in
+    rw told.1 tt
+
+pub returns-in_err-take_all-clause-dry : goal.returns-in_err-take_all-clause-dry
+returns-in_err-take_all-clause-dry g c =
+    let told = err_from_is_err_and c.from_residual.result c.from_residual.ensures.1 in
+    rw told.1 tt
+
+pub returns-in_err-take_all-clause-fewer : goal.returns-in_err-take_all-clause-fewer
+returns-in_err-take_all-clause-fewer g c =
+    let told = err_from_is_err_and c.from_residual.result c.from_residual.ensures.1 in
+    rw told.1 tt
+
+pub returns-in_err-give_all_ready-clause-ok : goal.returns-in_err-give_all_ready-clause-ok
+returns-in_err-give_all_ready-clause-ok g c =
+    let told = err_from_is_err_and c.from_residual-in_err-give_all_ready.result c.from_residual-in_err-give_all_ready.ensures.1 in
+    rw told.1 tt
+
+pub returns-in_err-give_all_ready-clause-due : goal.returns-in_err-give_all_ready-clause-due
+returns-in_err-give_all_ready-clause-due g c =
+    let told = err_from_is_err_and c.from_residual-in_err-give_all_ready.result c.from_residual-in_err-give_all_ready.ensures.1 in
+    rw told.1 tt
+
+pub returns-in_err-give_all_ready-clause-exact : goal.returns-in_err-give_all_ready-clause-exact
+returns-in_err-give_all_ready-clause-exact g c =
+    let told = err_from_is_err_and c.from_residual-in_err-give_all_ready.result c.from_residual-in_err-give_all_ready.ensures.1 in
+    rw told.1 tt
+
+pub returns-in_err-give_all_ready-clause-kept : goal.returns-in_err-give_all_ready-clause-kept
+returns-in_err-give_all_ready-clause-kept g c =
+    let told = err_from_is_err_and c.from_residual-in_err-give_all_ready.result c.from_residual-in_err-give_all_ready.ensures.1 in
+    rw told.1 tt
+
+pub returns-in_err-give_all_ready-clause-dry : goal.returns-in_err-give_all_ready-clause-dry
+returns-in_err-give_all_ready-clause-dry g c =
+    let told = err_from_is_err_and c.from_residual-in_err-give_all_ready.result c.from_residual-in_err-give_all_ready.ensures.1 in
+    rw told.1 tt
+
+pub returns-in_err-give_all_ready-clause-fewer : goal.returns-in_err-give_all_ready-clause-fewer
+returns-in_err-give_all_ready-clause-fewer g c =
+    let told = err_from_is_err_and c.from_residual-in_err-give_all_ready.result c.from_residual-in_err-give_all_ready.ensures.1 in
+    rw told.1 tt
+
+pub returns-clause-dry : goal.returns-clause-dry
+returns-clause-dry g c = c.in_ok-give_all_ready.ensures.dry

@@ -67,3 +67,63 @@ pub returns-in_err-take_and_give-clause-short : goal.returns-in_err-take_and_giv
 returns-in_err-take_and_give-clause-short g c =
     let told = err_from_is_err_and c.from_residual-in_err-take_and_give.result c.from_residual-in_err-take_and_give.ensures.1 in
     rw (told.1, told.2) (λ unheld. omega (arith, keeps-awaited _ _ c.in_ok-wait_or_seal.ensures.keeps, c.in_err-take_and_give.ensures.short unheld))
+
+pub returns-in_err-wait_or_seal-clause-ok : goal.returns-in_err-wait_or_seal-clause-ok
+returns-in_err-wait_or_seal-clause-ok g c =
+    let told = err_from_is_err_and c.from_residual.result c.from_residual.ensures.1 in
+    rw told.1 tt
+
+pub returns-in_err-wait_or_seal-clause-due : goal.returns-in_err-wait_or_seal-clause-due
+returns-in_err-wait_or_seal-clause-due g c =
+    let told = err_from_is_err_and c.from_residual.result c.from_residual.ensures.1 in
+    rw told.1 tt
+
+pub returns-in_err-wait_or_seal-clause-fair : goal.returns-in_err-wait_or_seal-clause-fair
+returns-in_err-wait_or_seal-clause-fair g c =
+    let told = err_from_is_err_and c.from_residual.result c.from_residual.ensures.1 in
+    rw told.1 tt
+
+pub returns-in_err-wait_or_seal-clause-further : goal.returns-in_err-wait_or_seal-clause-further
+returns-in_err-wait_or_seal-clause-further g c =
+    let told = err_from_is_err_and c.from_residual.result c.from_residual.ensures.1 in
+    rw told.1 tt
+
+pub returns-in_err-wait_or_seal-clause-dry : goal.returns-in_err-wait_or_seal-clause-dry
+returns-in_err-wait_or_seal-clause-dry g c =
+    let told = err_from_is_err_and c.from_residual.result c.from_residual.ensures.1 in
+    rw told.1 tt
+
+pub returns-in_err-wait_or_seal-clause-fewer : goal.returns-in_err-wait_or_seal-clause-fewer
+returns-in_err-wait_or_seal-clause-fewer g c =
+    let told = err_from_is_err_and c.from_residual.result c.from_residual.ensures.1 in
+    rw told.1 tt
+
+pub returns-in_err-take_and_give-clause-ok : goal.returns-in_err-take_and_give-clause-ok
+returns-in_err-take_and_give-clause-ok g c =
+    let told = err_from_is_err_and c.from_residual-in_err-take_and_give.result c.from_residual-in_err-take_and_give.ensures.1 in
+    rw told.1 tt
+
+pub returns-in_err-take_and_give-clause-due : goal.returns-in_err-take_and_give-clause-due
+returns-in_err-take_and_give-clause-due g c =
+    let told = err_from_is_err_and c.from_residual-in_err-take_and_give.result c.from_residual-in_err-take_and_give.ensures.1 in
+    rw told.1 tt
+
+pub returns-in_err-take_and_give-clause-fair : goal.returns-in_err-take_and_give-clause-fair
+returns-in_err-take_and_give-clause-fair g c =
+    let told = err_from_is_err_and c.from_residual-in_err-take_and_give.result c.from_residual-in_err-take_and_give.ensures.1 in
+    rw told.1 tt
+
+pub returns-in_err-take_and_give-clause-further : goal.returns-in_err-take_and_give-clause-further
+returns-in_err-take_and_give-clause-further g c =
+    let told = err_from_is_err_and c.from_residual-in_err-take_and_give.result c.from_residual-in_err-take_and_give.ensures.1 in
+    rw told.1 tt
+
+pub returns-in_err-take_and_give-clause-dry : goal.returns-in_err-take_and_give-clause-dry
+returns-in_err-take_and_give-clause-dry g c =
+    let told = err_from_is_err_and c.from_residual-in_err-take_and_give.result c.from_residual-in_err-take_and_give.ensures.1 in
+    rw told.1 tt
+
+pub returns-in_err-take_and_give-clause-fewer : goal.returns-in_err-take_and_give-clause-fewer
+returns-in_err-take_and_give-clause-fewer g c =
+    let told = err_from_is_err_and c.from_residual-in_err-take_and_give.result c.from_residual-in_err-take_and_give.ensures.1 in
+    rw told.1 tt

@@ -122,3 +122,38 @@ returns-then-has_closed-clause-told g c heard =
     let on = c.loop.invariant.ok some.0 some.1 some.2 some.3 some.4 in
     let then = c.in_ok-read_ready.ensures.ok some.0 some.1 some.2 some.3 on in
     heard-stayed _ 32 _ _ _ (then.world.same_lanes ∙ sym on.world.same_lanes) c.in_ok-read_ready.ensures.further.stopped (c.loop.invariant.told heard)
+
+pub returns-in_err-read_ready-clause-ok : goal.returns-in_err-read_ready-clause-ok
+returns-in_err-read_ready-clause-ok g c =
+    let told = err_from_is_err_and c.from_residual.result c.from_residual.ensures.1 in
+    rw told.1 tt
+
+pub returns-in_err-read_ready-clause-playlists : goal.returns-in_err-read_ready-clause-playlists
+returns-in_err-read_ready-clause-playlists g c =
+    let told = err_from_is_err_and c.from_residual.result c.from_residual.ensures.1 in
+    rw told.1 tt
+
+pub returns-in_err-read_ready-clause-further : goal.returns-in_err-read_ready-clause-further
+returns-in_err-read_ready-clause-further g c =
+    let told = err_from_is_err_and c.from_residual.result c.from_residual.ensures.1 in
+    rw told.1 tt
+
+pub returns-in_err-read_ready-clause-idle : goal.returns-in_err-read_ready-clause-idle
+returns-in_err-read_ready-clause-idle g c =
+    let told = err_from_is_err_and c.from_residual.result c.from_residual.ensures.1 in
+    rw told.1 tt
+
+pub returns-in_err-read_ready-clause-some : goal.returns-in_err-read_ready-clause-some
+returns-in_err-read_ready-clause-some g c =
+    let told = err_from_is_err_and c.from_residual.result c.from_residual.ensures.1 in
+    rw told.1 tt
+
+pub returns-in_err-read_ready-clause-soon : goal.returns-in_err-read_ready-clause-soon
+returns-in_err-read_ready-clause-soon g c =
+    let told = err_from_is_err_and c.from_residual.result c.from_residual.ensures.1 in
+    rw told.1 tt
+
+pub returns-in_err-read_ready-clause-told : goal.returns-in_err-read_ready-clause-told
+returns-in_err-read_ready-clause-told g c =
+    let told = err_from_is_err_and c.from_residual.result c.from_residual.ensures.1 in
+    rw told.1 tt

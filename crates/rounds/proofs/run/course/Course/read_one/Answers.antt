@@ -124,3 +124,38 @@ returns-then-not-goes_on-clause-idle g c none = had-none c.args.r c.args.self.no
 
 pub returns-then-not-is_ready-clause-idle : goal.returns-then-not-is_ready-clause-idle
 returns-then-not-is_ready-clause-idle g c none = none-looked c.args.r _ _ c.if-not-is_ready.ensures.sources c.if-not-is_ready.ensures.same
+
+pub returns-in_err-take_turn-clause-ok : goal.returns-in_err-take_turn-clause-ok
+returns-in_err-take_turn-clause-ok g c =
+    let told = err_from_is_err_and c.from_residual.result c.from_residual.ensures.1 in
+    rw told.1 tt
+
+pub returns-in_err-take_turn-clause-further : goal.returns-in_err-take_turn-clause-further
+returns-in_err-take_turn-clause-further g c =
+    let told = err_from_is_err_and c.from_residual.result c.from_residual.ensures.1 in
+    rw told.1 tt
+
+pub returns-in_err-take_turn-clause-told : goal.returns-in_err-take_turn-clause-told
+returns-in_err-take_turn-clause-told g c =
+    let told = err_from_is_err_and c.from_residual.result c.from_residual.ensures.1 in
+    rw told.1 tt
+
+pub returns-in_err-take_turn-clause-once : goal.returns-in_err-take_turn-clause-once
+returns-in_err-take_turn-clause-once g c =
+    let told = err_from_is_err_and c.from_residual.result c.from_residual.ensures.1 in
+    rw told.1 tt
+
+pub returns-in_err-take_turn-clause-one : goal.returns-in_err-take_turn-clause-one
+returns-in_err-take_turn-clause-one g c =
+    let told = err_from_is_err_and c.from_residual.result c.from_residual.ensures.1 in
+    rw told.1 tt
+
+pub returns-in_err-take_turn-clause-had : goal.returns-in_err-take_turn-clause-had
+returns-in_err-take_turn-clause-had g c =
+    let told = err_from_is_err_and c.from_residual.result c.from_residual.ensures.1 in
+    rw told.1 tt
+
+pub returns-in_err-take_turn-clause-idle : goal.returns-in_err-take_turn-clause-idle
+returns-in_err-take_turn-clause-idle g c =
+    let told = err_from_is_err_and c.from_residual.result c.from_residual.ensures.1 in
+    rw told.1 tt

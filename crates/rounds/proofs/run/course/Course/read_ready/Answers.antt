@@ -79,3 +79,43 @@ returns-clause-idle g c none k source at tells turns =
     waits-not _ k _ _ was (ap (λ (d : Course _ _). d.reads) c.loop-r.invariant.same) turns (λ had.
     c.loop-r.invariant.had k source (omega (arith, slice_get_within c.args.self.now.lanes.items k had.lane had.there, c.loop-r-test.false, c.loop-r.auto.r-end))
     (sym was.sources ∙ at) tells had)
+
+pub returns-in_err-any-clause-ok : goal.returns-in_err-any-clause-ok
+returns-in_err-any-clause-ok g c =
+    let told = err_from_is_err_and c.from_residual.result c.from_residual.ensures.1 in
+    rw told.1 tt
+
+pub returns-in_err-any-clause-same : goal.returns-in_err-any-clause-same
+returns-in_err-any-clause-same g c =
+    let told = err_from_is_err_and c.from_residual.result c.from_residual.ensures.1 in
+    rw told.1 tt
+
+pub returns-in_err-any-clause-further : goal.returns-in_err-any-clause-further
+returns-in_err-any-clause-further g c =
+    let told = err_from_is_err_and c.from_residual.result c.from_residual.ensures.1 in
+    rw told.1 tt
+
+pub returns-in_err-any-clause-told : goal.returns-in_err-any-clause-told
+returns-in_err-any-clause-told g c =
+    let told = err_from_is_err_and c.from_residual.result c.from_residual.ensures.1 in
+    rw told.1 tt
+
+pub returns-in_err-any-clause-once : goal.returns-in_err-any-clause-once
+returns-in_err-any-clause-once g c =
+    let told = err_from_is_err_and c.from_residual.result c.from_residual.ensures.1 in
+    rw told.1 tt
+
+pub returns-in_err-any-clause-each : goal.returns-in_err-any-clause-each
+returns-in_err-any-clause-each g c =
+    let told = err_from_is_err_and c.from_residual.result c.from_residual.ensures.1 in
+    rw told.1 tt
+
+pub returns-in_err-any-clause-had : goal.returns-in_err-any-clause-had
+returns-in_err-any-clause-had g c =
+    let told = err_from_is_err_and c.from_residual.result c.from_residual.ensures.1 in
+    rw told.1 tt
+
+pub returns-in_err-any-clause-idle : goal.returns-in_err-any-clause-idle
+returns-in_err-any-clause-idle g c =
+    let told = err_from_is_err_and c.from_residual.result c.from_residual.ensures.1 in
+    rw told.1 tt

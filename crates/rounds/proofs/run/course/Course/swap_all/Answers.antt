@@ -73,3 +73,43 @@ loop-spool-preserved g c =
           ];
       size = omega (arith, ap length pushed, length-append full (x ∷ []), length-append c.loop-spool.yielded (c.in-Some.spool ∷ []), c.loop-spool.invariant.size);
     }
+
+pub returns-in_err-reserve-clause-ok : goal.returns-in_err-reserve-clause-ok
+returns-in_err-reserve-clause-ok g c =
+    let told = err_from_is_err_and c.from_residual.result c.from_residual.ensures.1 in
+    rw told.1 tt
+
+pub returns-in_err-reserve-clause-each : goal.returns-in_err-reserve-clause-each
+returns-in_err-reserve-clause-each g c =
+    let told = err_from_is_err_and c.from_residual.result c.from_residual.ensures.1 in
+    rw told.1 tt
+
+pub returns-in_err-reserve-clause-empty : goal.returns-in_err-reserve-clause-empty
+returns-in_err-reserve-clause-empty g c =
+    let told = err_from_is_err_and c.from_residual.result c.from_residual.ensures.1 in
+    rw told.1 tt
+
+pub returns-in_err-reserve-clause-taken : goal.returns-in_err-reserve-clause-taken
+returns-in_err-reserve-clause-taken g c =
+    let told = err_from_is_err_and c.from_residual.result c.from_residual.ensures.1 in
+    rw told.1 tt
+
+pub returns-in_err-swap_one-clause-ok : goal.returns-in_err-swap_one-clause-ok
+returns-in_err-swap_one-clause-ok g c =
+    let told = err_from_is_err_and c.from_residual-in_err-swap_one.result c.from_residual-in_err-swap_one.ensures.1 in
+    rw told.1 tt
+
+pub returns-in_err-swap_one-clause-each : goal.returns-in_err-swap_one-clause-each
+returns-in_err-swap_one-clause-each g c =
+    let told = err_from_is_err_and c.from_residual-in_err-swap_one.result c.from_residual-in_err-swap_one.ensures.1 in
+    rw told.1 tt
+
+pub returns-in_err-swap_one-clause-empty : goal.returns-in_err-swap_one-clause-empty
+returns-in_err-swap_one-clause-empty g c =
+    let told = err_from_is_err_and c.from_residual-in_err-swap_one.result c.from_residual-in_err-swap_one.ensures.1 in
+    rw told.1 tt
+
+pub returns-in_err-swap_one-clause-taken : goal.returns-in_err-swap_one-clause-taken
+returns-in_err-swap_one-clause-taken g c =
+    let told = err_from_is_err_and c.from_residual-in_err-swap_one.result c.from_residual-in_err-swap_one.ensures.1 in
+    rw told.1 tt

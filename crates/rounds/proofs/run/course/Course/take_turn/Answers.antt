@@ -146,3 +146,18 @@ returns-in_err-turn-clause-broken g c =
       going = c.in_err-turn.ensures.stop ∙ c.requires.going c.index_mut.result.now at;
       ended = c.in_err-turn.ensures.broken;
     })
+
+pub returns-in_err-turn-clause-ok : goal.returns-in_err-turn-clause-ok
+returns-in_err-turn-clause-ok g c =
+    let told = err_from_is_err_and c.from_residual.result c.from_residual.ensures.1 in
+    rw told.1 tt
+
+pub returns-in_err-turn-clause-turns : goal.returns-in_err-turn-clause-turns
+returns-in_err-turn-clause-turns g c =
+    let told = err_from_is_err_and c.from_residual.result c.from_residual.ensures.1 in
+    rw told.1 tt
+
+pub returns-in_err-turn-clause-had : goal.returns-in_err-turn-clause-had
+returns-in_err-turn-clause-had g c =
+    let told = err_from_is_err_and c.from_residual.result c.from_residual.ensures.1 in
+    rw told.1 tt
