@@ -227,3 +227,25 @@ returns-clause-told g c =
           (heard-all W 32 c.loop.telling.told w.give_due_ends-now.new.telling.told c.loop.between.broadcast.course.lanes.items (omega (arith, most, on.world.same_lanes))
           (subst (λ h. TellsAll (g.H.Herald.was_told h) 32 c.loop.telling.told c.loop.between.broadcast.course.lanes.items w.give_due_ends-now.new.telling.told) c.loop.invariant.herald e.told) c.loop.invariant.told))
     ]
+
+pub returns-clause-right : goal.returns-clause-right
+returns-clause-right g c =
+    elim c.match-next.branch [
+      | in-None w ↦ never w.in-None.ensures.steps
+      | in-Some+in_default+then-not-any_closed+then-rests w ↦
+          let e = w.give_due_ends-now.ensures in
+          rw w.between-is (omega (arith, c.loop.invariant.right, ap (λ (b : Books). b.right) e.books, ap (λ p. sum (counts_of p.items)) e.playlists))
+    ]
+
+pub returns-clause-workers : goal.returns-clause-workers
+returns-clause-workers g c =
+    elim c.match-next.branch [
+      | in-None w ↦ never w.in-None.ensures.steps
+      | in-Some+in_default+then-not-any_closed+then-rests w ↦
+          rw w.between-is (ap (λ (b : Books). length b.workers.items) w.give_due_ends-now.ensures.books ∙ c.loop.invariant.workers)
+    ]
+
+pub run_round-now-requires-clause-workers : goal.run_round-now-requires-clause-workers
+run_round-now-requires-clause-workers g c κs within =
+    ap (λ (b : Books). length b.workers.items) c.swap_spools-now.ensures.books
+    ∙ (ap (λ (b : Books). length b.workers.items) c.give_due_ends-now.ensures.books ∙ c.loop.invariant.workers)

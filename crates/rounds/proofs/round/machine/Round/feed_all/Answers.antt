@@ -87,3 +87,12 @@ pub returns-in_err-feed_spool-clause-fair : goal.returns-in_err-feed_spool-claus
 returns-in_err-feed_spool-clause-fair g c =
     let told = err_from_is_err_and c.from_residual.result c.from_residual.ensures.1 in
     rw told.1 tt
+
+pub returns-clause-none_read : goal.returns-clause-none_read
+returns-clause-none_read g c = c.loop-r.invariant.none_read
+
+pub returns-clause-fair : goal.returns-clause-fair
+returns-clause-fair g c = c.loop-r.invariant.fair
+
+pub returns-in_err-feed_spool-clause-none_read : goal.returns-in_err-feed_spool-clause-none_read
+returns-in_err-feed_spool-clause-none_read g c = reads-then _ _ _ c.loop-r.invariant.none_read c.in_err-feed_spool.ensures.none_read

@@ -87,3 +87,21 @@ pub returns-in_err-give_ready-clause-fewer : goal.returns-in_err-give_ready-clau
 returns-in_err-give_ready-clause-fewer g c =
     let told = err_from_is_err_and c.from_residual.result c.from_residual.ensures.1 in
     rw told.1 tt
+
+pub returns-clause-ok : goal.returns-clause-ok
+returns-clause-ok g c = c.loop-r.invariant.ok
+
+pub returns-clause-none_read : goal.returns-clause-none_read
+returns-clause-none_read g c = c.loop-r.invariant.none_read
+
+pub returns-clause-due : goal.returns-clause-due
+returns-clause-due g c = c.loop-r.invariant.due
+
+pub returns-clause-counts : goal.returns-clause-counts
+returns-clause-counts g c = c.loop-r.invariant.counts
+
+pub returns-clause-fewer : goal.returns-clause-fewer
+returns-clause-fewer g c = c.loop-r.invariant.fewer
+
+pub returns-in_err-give_ready-clause-none_read : goal.returns-in_err-give_ready-clause-none_read
+returns-in_err-give_ready-clause-none_read g c = reads-then _ _ _ c.loop-r.invariant.none_read c.in_err-give_ready.ensures.none_read

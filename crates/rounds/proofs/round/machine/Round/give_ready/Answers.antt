@@ -83,3 +83,27 @@ returns-in_err-give_next-clause-fewer g c =
 
 pub returns-in_err-give_next-clause-none_read : goal.returns-in_err-give_next-clause-none_read
 returns-in_err-give_next-clause-none_read g c = reads-then _ _ _ c.loop.invariant.none_read c.in_err-give_next.ensures.none_read
+
+pub returns-clause-ok : goal.returns-clause-ok
+returns-clause-ok g c start unfed now = c.in_ok-give_next.ensures.ok start unfed (c.loop.invariant.ok start unfed now)
+
+pub returns-clause-none_read : goal.returns-clause-none_read
+returns-clause-none_read g c = reads-then _ _ _ c.loop.invariant.none_read c.in_ok-give_next.ensures.none_read
+
+pub returns-clause-due : goal.returns-clause-due
+returns-clause-due g c = c.in_ok-give_next.ensures.due ∙ c.loop.invariant.due
+
+pub returns-clause-counts : goal.returns-clause-counts
+returns-clause-counts g c =
+    let e = c.in_ok-give_next.ensures.counts in
+    let i = c.loop.invariant.counts in
+    (e.0 ∙ i.0, e.1 ∙ i.1, e.2 ∙ i.2)
+
+pub returns-clause-dry : goal.returns-clause-dry
+returns-clause-dry g c = c.in_ok-give_next.ensures.dry c.if-branch.false
+
+pub returns-clause-others : goal.returns-clause-others
+returns-clause-others g c k other = c.in_ok-give_next.ensures.others k other ∙ c.loop.invariant.others k other
+
+pub returns-clause-idle : goal.returns-clause-idle
+returns-clause-idle g c dry = c.in_ok-give_next.ensures.idle c.if-branch.false ∙ c.loop.invariant.idle dry

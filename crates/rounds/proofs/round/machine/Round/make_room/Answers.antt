@@ -72,3 +72,18 @@ pub returns-in_err-wait_and_give-clause-room : goal.returns-in_err-wait_and_give
 returns-in_err-wait_and_give-clause-room g c =
     let told = err_from_is_err_and c.from_residual.result c.from_residual.ensures.1 in
     rw told.1 tt
+
+pub returns-in_err-wait_and_give-clause-none_read : goal.returns-in_err-wait_and_give-clause-none_read
+returns-in_err-wait_and_give-clause-none_read g c = reads-then _ _ _ c.loop.invariant.none_read c.in_err-wait_and_give.ensures.none_read
+
+pub returns-clause-ok : goal.returns-clause-ok
+returns-clause-ok g c = c.loop.invariant.ok
+
+pub returns-clause-none_read : goal.returns-clause-none_read
+returns-clause-none_read g c = c.loop.invariant.none_read
+
+pub returns-clause-due : goal.returns-clause-due
+returns-clause-due g c = c.loop.invariant.due
+
+pub returns-clause-fair : goal.returns-clause-fair
+returns-clause-fair g c = c.loop.invariant.fair

@@ -8,7 +8,7 @@ use Rattle.rounds.specs.Courses.{turns_in}
 use Rattle.rounds.proofs.Driven.{in-read}
 use Rattle.rounds.proofs.Pacing.{enough-as, still-enough}
 use Rattle.rounds.proofs.Soon.{most-before, none-unread}
-use Rattle.rounds.proofs.Turning.{more-then, more-unread, none-more}
+use Rattle.rounds.proofs.Turning.{more-none, more-then, more-unread, none-more}
 use Rattle.rounds.proofs.Gates.{none-word}
 use Rattle.rounds.proofs.round.machine.Round.read_on.Goals as goal
 
@@ -237,3 +237,42 @@ pub returns-in_err-take_and_give-clause-idle : goal.returns-in_err-take_and_give
 returns-in_err-take_and_give-clause-idle g c =
     let told = err_from_is_err_and c.from_residual-in_err-take_and_give.result c.from_residual-in_err-take_and_give.ensures.1 in
     rw told.1 tt
+
+pub returns-then-is_enough-clause-ok : goal.returns-then-is_enough-clause-ok
+returns-then-is_enough-clause-ok g c = c.loop.invariant.ok
+
+pub returns-then-is_enough-clause-further : goal.returns-then-is_enough-clause-further
+returns-then-is_enough-clause-further g c = c.loop.invariant.further
+
+pub returns-then-is_enough-clause-exact : goal.returns-then-is_enough-clause-exact
+returns-then-is_enough-clause-exact g c = c.loop.invariant.exact
+
+pub returns-then-is_enough-clause-due : goal.returns-then-is_enough-clause-due
+returns-then-is_enough-clause-due g c = c.loop.invariant.due
+
+pub returns-then-is_enough-clause-dry : goal.returns-then-is_enough-clause-dry
+returns-then-is_enough-clause-dry g c = c.loop.invariant.dry
+
+pub returns-then-is_enough-clause-soon : goal.returns-then-is_enough-clause-soon
+returns-then-is_enough-clause-soon g c = c.loop.invariant.soon
+
+pub returns-then-is_enough-clause-idle : goal.returns-then-is_enough-clause-idle
+returns-then-is_enough-clause-idle g c = c.loop.invariant.idle
+
+pub returns-then-not-branch-clause-exact : goal.returns-then-not-branch-clause-exact
+returns-then-not-branch-clause-exact g c = c.loop.invariant.exact
+
+pub returns-then-not-branch-clause-due : goal.returns-then-not-branch-clause-due
+returns-then-not-branch-clause-due g c = c.loop.invariant.due
+
+pub loop-init : goal.loop-init
+loop-init g c = record {
+  ok = λ start unfed on. on;
+  further = more-none c.args.self.now.broadcast.course;
+  exact = refl;
+  due = refl;
+  dry = λ more. absurd (omega (arith, more));
+  idle = λ enough. refl;
+  soon = λ more. absurd (omega (arith, more));
+  buffer = refl;
+}
