@@ -20,7 +20,7 @@ use Rattle.commands.specs.KeyFiles.{GivesNoKey, IsOfFile, is_key_word}
 use Rattle.commands.specs.KeyLists.{IsBadKeyFile, IsUnreadKey, are_keys, key_texts}
 use Rattle.commands.specs.LadderOptions.{Asked, HasBadKeyFile, HasBadSalt, HasNoPeriod, HasTooMany, HasTurns, HasUnreadKey, IsBadEntry, IsOutside}
 use Rattle.commands.specs.Pools.{IsPool}
-use Rattle.commands.specs.Settings.{AreFit, AreGoodWords, FitsCut, HasSalt, Words}
+use Rattle.commands.specs.Settings.{AreFit, AreInside, AreOutside, FitsCut, HasSalt, Words}
 use Rattle.commands.specs.Sizes.{HasSize}
 use Rattle.command_line.specs.declared.fault.Fault.{Fault}
 use Rattle.command_line.specs.declared.fault.Fault.TheVariants.{Usage, NotUtf8, Cipher, Settings, KeyList, Ladder, NoMemory, Busy, Sealing, Opening, Resuming, Unopened, Packing, LadderPacking, Checking}
@@ -62,9 +62,9 @@ pub settings-fault : (files : FilesView) (words : Words) (numbers : Numbers) (wh
     (why ≡ settings.BadVector → (are_keys words.keys ≡ true) × HasSize words.size × (chosen_salt words.salt ≡ None)) →
     (why ≡ settings.TooMany → (are_keys words.keys ≡ true) × HasSize words.size × HasSalt words × (MOST_KEYS < length (key_texts words.keys))) →
     (why ≡ settings.ZeroPeriod → (are_keys words.keys ≡ true) × HasSize words.size × HasSalt words × (length (key_texts words.keys) ≤ MOST_KEYS) × (numbers.period ≡ 0)) →
-    (why ≡ settings.Settings → AreGoodWords words numbers.period × ¬ FitsCut numbers) →
-    (why ≡ settings.Unread → AreFit words numbers × IsUnreadKey files.gives files.refuses words.keys) →
-    ((n : ℕ) → why ≡ settings.BadKeyFile n → AreFit words numbers × IsBadKeyFile files.gives words.keys n) →
+    (why ≡ settings.Settings → AreOutside words numbers) →
+    (why ≡ settings.Unread → AreInside words numbers × IsUnreadKey files.gives files.refuses words.keys) →
+    ((n : ℕ) → why ≡ settings.BadKeyFile n → AreInside words numbers × IsBadKeyFile files.gives words.keys n) →
     (why ≡ settings.NoMemory → AreFit words numbers) → IsSettingsFault files words numbers why
 settings-fault files words numbers settings.BadKey key size vector many period room unread file memory = key refl
 settings-fault files words numbers settings.BadSize key size vector many period room unread file memory = size refl

@@ -46,7 +46,7 @@ range_text Ahead = codes "1 to 65536 MiB"
 abbrev pub outside_text : Ranged → List ℕ
 outside_text option = option_word option ++ codes " is outside its range, " ++ range_text option
 
--- It was written of an option whose number is outside its range, while those that help lists before it are within theirs.
+-- It was written of an option whose number is outside its range, while those that come before it are within theirs.
 pub record TellsFirstOutside {W : Type 0} (took : W → List ℕ → W → Type 0) (numbers : Numbers) (pool : Pool) (f g : Formatter W) : Type 0 where
   pub option : Ranged
   pub outside : ¬ IsWithin option numbers pool

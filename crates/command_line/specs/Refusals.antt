@@ -21,7 +21,7 @@ use Rattle.commands.specs.KeyFiles.{GivesNoKey, IsOfFile, is_key_word}
 use Rattle.commands.specs.KeyLists.{IsBadKeyFile, IsUnreadKey, are_keys, key_texts}
 use Rattle.commands.specs.LadderOptions.{Asked, HasBadKeyFile, HasBadSalt, HasNoPeriod, HasTooMany, HasTurns, HasUnreadKey, IsBadEntry, IsOutside}
 use Rattle.commands.specs.Pools.{IsPool, pool_of}
-use Rattle.commands.specs.Settings.{AreFit, AreGoodWords, FitsCut, HasSalt, Words}
+use Rattle.commands.specs.Settings.{AreFit, AreInside, AreOutside, FitsCut, HasSalt, Words}
 use Rattle.commands.specs.Sizes.{HasSize}
 use Rattle.command_line.specs.declared.fault.Fault.{Fault}
 use Rattle.command_line.specs.declared.fault.Fault.TheVariants.{Usage, NotUtf8, Cipher, Settings, KeyList, Ladder, NoMemory, Busy, Sealing, Opening, Resuming, Unopened, Packing, LadderPacking, Checking}
@@ -54,9 +54,9 @@ IsSettingsFault files words numbers settings.TooMany =
     (are_keys words.keys ≡ true) × HasSize words.size × HasSalt words × (MOST_KEYS < length (key_texts words.keys))
 IsSettingsFault files words numbers settings.ZeroPeriod =
     (are_keys words.keys ≡ true) × HasSize words.size × HasSalt words × (length (key_texts words.keys) ≤ MOST_KEYS) × (numbers.period ≡ 0)
-IsSettingsFault files words numbers settings.Settings = AreGoodWords words numbers.period × ¬ FitsCut numbers
-IsSettingsFault files words numbers settings.Unread = AreFit words numbers × IsUnreadKey files.gives files.refuses words.keys
-IsSettingsFault files words numbers (settings.BadKeyFile n) = AreFit words numbers × IsBadKeyFile files.gives words.keys n
+IsSettingsFault files words numbers settings.Settings = AreOutside words numbers
+IsSettingsFault files words numbers settings.Unread = AreInside words numbers × IsUnreadKey files.gives files.refuses words.keys
+IsSettingsFault files words numbers (settings.BadKeyFile n) = AreInside words numbers × IsBadKeyFile files.gives words.keys n
 IsSettingsFault files words numbers settings.NoMemory = AreFit words numbers
 
 -- why a word tells no keys

@@ -1,5 +1,6 @@
--- What an explanation says of settings that aren't allowed, by what was found for the options of a command: the first option, in the order in which
--- help lists them, whose number is outside its range; else why the rendition, or the first entry of a ladder that can't be listed, can't.
+-- What an explanation says of settings that aren't allowed, by what was found for the options of a command: the first option whose number is outside
+-- its range, where a packager's numbers come before those of the pool; else why the rendition, or the first entry of a ladder that can't be listed,
+-- can't.
 use Rattle.std.specs.Prelude.{ℕ, ◌+◌, ◌^◌, ◌==◌, ◌&&◌, nat_lt, nat_le, not, Bool, true, cond, if◌then◌else◌, List, [], ◌∷◌, ◌++◌, length, Option, Some, None, option_map, option_and_then, codes, decimal, bytes_eq}
 use Rattle.std.specs.List.{list_any, position_or_len}
 use Rattle.std.specs.Option.{unwrap_or}

@@ -7,7 +7,7 @@ use Rattle.std.specs.List.{AllByRecursion}
 use Rattle.std.proofs.lemmas.List.{take_more, map-append, append_assoc, append-nil, drop_all, length-map}
 use Rattle.ladder_items.specs.declared.settings.Kind.{Kind}
 use Rattle.ladder_items.specs.declared.settings.Kind.TheVariants.{Live, Event}
-use Rattle.ladder_items.specs.Ladder.{Ladder, RenditionValue, GoesOn, HasAll, IsCutAllowed, IsNew, unmeasured}
+use Rattle.ladder_items.specs.Ladder.{Ladder, RenditionValue, GoesOn, HasAll, IsAllowed, IsCutAllowed, IsNew, unmeasured}
 use Rattle.ladder_items.specs.Shown.{AreNextRows}
 use Rattle.limits.specs.declared.TheConstants.{LEAST, MOST_RENDITIONS, MOST_WINDOW, MOST_QUEUE, MOST_KEYS}
 use Rattle.commands.specs.declared.entry.EntryWords.{EntryWords}
@@ -19,7 +19,7 @@ use Rattle.commands.specs.LadderOptions.{Asked, entry_words, AreRenditionsOf, Sh
 use Rattle.commands.specs.Settings.{Words, IsRenditionOf}
 use Rattle.commands.proofs.GoodEntries.{none-bad}
 
-one-listed : (words : Words) (turns : ℕ) (own other : List (List ℕ)) (a b : RenditionValue) → IsRenditionOf words turns own a → IsRenditionOf words turns other b → unmeasured a ≡ unmeasured b
+pub one-listed : (words : Words) (turns : ℕ) (own other : List (List ℕ)) (a b : RenditionValue) → IsRenditionOf words turns own a → IsRenditionOf words turns other b → unmeasured a ≡ unmeasured b
 one-listed words turns own other a b is was =
     let name : a.name ≡ b.name = is.name_is ∙ sym was.name_is in
     let codecs : a.codecs ≡ b.codecs = is.codecs_are ∙ sym was.codecs_are in
@@ -57,7 +57,7 @@ none-follow : (target first : ℕ) → AreNextRows target first []
 none-follow target first k row at = absurd (none-some row at)
 
 -- one of which nothing came before goes on from that
-new-goes-on : (kind : Kind) (target : ℕ) (r : RenditionValue) → IsNew r → GoesOn kind target r
+pub new-goes-on : (kind : Kind) (target : ℕ) (r : RenditionValue) → IsNew r → GoesOn kind target r
 new-goes-on kind target r new = record {
   first = rw new.gone (rw new.earlier new.first);
   few = rw new.earlier (lit≤ tt);
@@ -69,30 +69,38 @@ new-goes-on kind target r new = record {
   all = rw new.gone (elim kind as (λ k. HasAll k (record { rows = 0; frames = 0; discontinuities = 0 })) [ Live ↦ tt | Event ↦ (refl, refl) ]);
 }
 
+-- A ladder is allowed if one is that lists its renditions alike and has the same numbers, where those go on, and hold their salts.
+pub allowed-alike : (a b : Ladder) → map unmeasured a.renditions ≡ map unmeasured b.renditions → a.cut ≡ b.cut → a.window ≡ b.window → a.queue ≡ b.queue
+    → All (λ r. r.keys.salt ≡ r.salt) b.renditions → All (GoesOn b.kind b.cut.target) b.renditions → IsAllowed a → IsAllowed b
+allowed-alike a b listed cut window queue salts go_on allowed =
+    let many : length a.renditions ≡ length b.renditions = sym (length-map a.renditions unmeasured) ∙ ap length listed ∙ length-map b.renditions unmeasured in
+    let limits = allowed.within in
+    record {
+      within = record {
+        renditions = subst (λ n. (LEAST ≤ n) × (n ≤ MOST_RENDITIONS)) many limits.renditions;
+        cut = subst IsCutAllowed cut limits.cut;
+        window = subst (λ n. (LEAST ≤ n) × (n ≤ MOST_WINDOW)) window limits.window;
+        queue = subst (λ n. (LEAST ≤ n) × (n ≤ MOST_QUEUE)) queue limits.queue;
+        salts = salts;
+        go_on = go_on;
+      };
+      listable = rw (sym listed) allowed.listable;
+    }
+
 pub within-any : (asked : Asked) (keys others : List (List ℕ)) (a b : Ladder) → IsAskedLadder asked keys a → IsAskedLadder asked others b → IsWithin asked a → IsWithin asked b
 within-any asked keys others a b is was within =
     let words = entry_words asked.salt asked.event in
     let turns = asked.numbers.period in
     let listed : map unmeasured a.renditions ≡ map unmeasured b.renditions
     = same-listed words turns (map entry_of asked.entries) is.renditions_are.shares was.renditions_are.shares a.renditions b.renditions is.renditions_are.each was.renditions_are.each in
-    let many : length a.renditions ≡ length b.renditions = sym (length-map a.renditions unmeasured) ∙ ap length listed ∙ length-map b.renditions unmeasured in
-    let limits = within.allowed.within in
+    let each = λ (P : RenditionValue → Type 0) (holds : (w : Words) (own : List (List ℕ)) (r : RenditionValue) → IsRenditionOf w turns own r → P r).
+    All-from_recursion P b.renditions (each-made P words turns (map entry_of asked.entries) was.renditions_are.shares b.renditions holds was.renditions_are.each) in
     record {
       cut_fits = within.cut_fits;
       pool_fits = within.pool_fits;
-      allowed = record {
-        within = record {
-          renditions = subst (λ n. (LEAST ≤ n) × (n ≤ MOST_RENDITIONS)) many limits.renditions;
-          cut = subst IsCutAllowed (is.cut_is ∙ sym was.cut_is) limits.cut;
-          window = subst (λ n. (LEAST ≤ n) × (n ≤ MOST_WINDOW)) (is.window_is ∙ sym was.window_is) limits.window;
-          queue = subst (λ n. (LEAST ≤ n) × (n ≤ MOST_QUEUE)) (is.queue_is ∙ sym was.queue_is) limits.queue;
-          salts = All-from_recursion (λ r. r.keys.salt ≡ r.salt) b.renditions (each-made (λ r. r.keys.salt ≡ r.salt) words turns (map entry_of asked.entries) was.renditions_are.shares b.renditions
-              (λ w own r made. made.held_is) was.renditions_are.each);
-          go_on = All-from_recursion (GoesOn b.kind b.cut.target) b.renditions (each-made (GoesOn b.kind b.cut.target) words turns (map entry_of asked.entries) was.renditions_are.shares b.renditions
-              (λ w own r made. new-goes-on b.kind b.cut.target r made.is_new) was.renditions_are.each);
-        };
-        listable = rw (sym listed) within.allowed.listable;
-      };
+      allowed = allowed-alike a b listed (is.cut_is ∙ sym was.cut_is) (is.window_is ∙ sym was.window_is) (is.queue_is ∙ sym was.queue_is)
+          (each (λ r. r.keys.salt ≡ r.salt) (λ w own r made. made.held_is))
+          (each (GoesOn b.kind b.cut.target) (λ w own r made. new-goes-on b.kind b.cut.target r made.is_new)) within.allowed;
     }
 
 -- what is within its limits isn't outside them

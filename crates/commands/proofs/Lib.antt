@@ -9,3 +9,4 @@ pub mod TextFacts
 pub mod Checked
 pub mod Finishing
 pub mod Decoding
+pub mod SettingsFacts

@@ -54,7 +54,7 @@ pub record HasFourColons (text : List ℕ) : Type 0 where
   pub third : HasColon (behind_two text)
   pub fourth : HasColon (behind_three text)
 
--- an entry with a size, and with keys of 32 hex digits
+-- an entry with a size, and with keys that name files or are 32 hex digits
 pub record HasGoodParts (entry : Entry) : Type 0 where
   pub size_is : HasSize entry.size
   pub keys_are : are_keys entry.keys ≡ true

@@ -42,7 +42,8 @@ pub record AreWithin (numbers : Numbers) (pool : Pool) : Type 0 where
   pub stall : IsWithin Stall numbers pool
   pub ahead : IsWithin Ahead numbers pool
 
--- the numbers of all options that help lists before one are within their ranges
+-- The numbers of all options that come before one are within their ranges: a packager's numbers come before those of the pool, and both in the order
+-- in which help lists them.
 abbrev pub BeforeSegment : Numbers → Pool → Type 0
 BeforeSegment numbers pool = IsWithin Target numbers pool
 
@@ -104,7 +105,7 @@ outside_of_pool pool =
     else if not (is_up_to (unwrap_or pool.ahead LEAST) MOST_AHEAD) then Some Ahead
     else None
 
--- the first of all
+-- the first of a packager's numbers, in that order, else the first of the pool
 unfoldable pub outside_of : Numbers → Pool → Option Ranged
 outside_of numbers pool =
     if not (is_up_to numbers.target MOST_TARGET) then Some Target

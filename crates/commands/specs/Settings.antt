@@ -1,12 +1,14 @@
 -- A packager's settings of words and numbers.
-use Rattle.std.specs.Prelude.{◌≡◌, ◌≢◌, ℕ, ◌*◌, ◌<◌, ◌≤◌, ◌^◌, Bool, true, false, List, [], ◌∷◌, length, Option, Some, None}
+use Rattle.std.specs.Prelude.{◌≡◌, ◌≢◌, ◌⊎◌, ℕ, ◌*◌, ◌<◌, ◌≤◌, ◌^◌, Bool, true, false, List, [], ◌∷◌, length, Option, Some, None}
 use Rattle.std.specs.Option.{unwrap_or, option_map}
 use Rattle.cutter.specs.declared.settings.CutSettings.{CutSettings}
 use Rattle.ladder_items.specs.declared.settings.Kind.{Kind}
 use Rattle.ladder_items.specs.declared.settings.Kind.TheVariants.{Live, Event}
-use Rattle.ladder_items.specs.Ladder.{Ladder, RenditionValue, IsNew}
+use Rattle.ladder_items.specs.Ladder.{Ladder, RenditionValue, IsAllowed, IsNew}
 use Rattle.commands.specs.declared.numbers.Numbers.{Numbers}
 use Rattle.commands.specs.declared.settings.PackingWords.{PackingWords}
+use Rattle.commands.specs.declared.settings.SettingsFault.{SettingsFault}
+use Rattle.commands.specs.declared.settings.SettingsFault.TheVariants.{Settings as Outside, Unread, BadKeyFile, NoMemory}
 use Rattle.commands.specs.Defaults.{name_of}
 use Rattle.commands.specs.Hex.{chosen_salt}
 use Rattle.commands.specs.KeyFiles.{TellKeys}
@@ -99,8 +101,26 @@ pub record IsLadderOf (words : Words) (numbers : Numbers) (keys : List (List ℕ
 abbrev pub AreFit : Words → Numbers → Type 0
 AreFit words numbers = AreGoodWords words numbers.period × FitsCut numbers
 
--- the settings of one rendition, with the keys that its words tell, where files may give such bytes
+-- the words tell settings, which aren't within their limits, whatever the keys are
+pub record AreOutside (words : Words) (numbers : Numbers) : Type 0 where
+  pub good : AreGoodWords words numbers.period
+  pub outside : (keys : List (List ℕ)) (made : Ladder) → IsLadderOf words numbers keys made → FitsCut numbers → ¬ IsAllowed made
+
+-- the words tell settings that are within their limits
+pub record AreInside (words : Words) (numbers : Numbers) : Type 0 where
+  pub fit : AreFit words numbers
+  pub keys : List (List ℕ)
+  pub made : Ladder
+  pub ladder_is : IsLadderOf words numbers keys made
+  pub allowed : IsAllowed made
+
+-- a fault that no text of a rendition's words has
+abbrev pub IsBehindWords : SettingsFault → Type 0
+IsBehindWords fault = (fault ≡ Outside) ⊎ (fault ≡ Unread) ⊎ ((n : ℕ) × (fault ≡ BadKeyFile n)) ⊎ (fault ≡ NoMemory)
+
+-- the settings of one rendition, with the keys that its words tell, where files may give such bytes, within their limits
 pub record IsReadLadderOf (gives : List ℕ → List ℕ → Type 0) (words : Words) (numbers : Numbers) (made : Ladder) : Type 0 where
   pub keys : List (List ℕ)
   pub told : TellKeys gives (key_texts words.keys) keys
   pub ladder : IsLadderOf words numbers keys made
+  pub allowed : IsAllowed made

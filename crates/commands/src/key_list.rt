@@ -123,7 +123,7 @@ pub(crate) fn room(alloc: Global, count: usize) -> Result<Vec<[u8; 16]>, AllocEr
 #[derive(Drop)]
 pub(crate) struct KeyRoom<'a> {
     words: Vec<KeyWord<'a>>,
-    keys: Vec<[u8; 16]>,
+    pub keys: Vec<[u8; 16]>,
 }
 
 /// Takes the memory for the keys of the words between the `+`.

@@ -7,7 +7,7 @@ ghost use Rattle.commands.specs.LadderOptions.{asked_of, key_count, key_total, I
 ghost use Rattle.commands.specs.LadderOptions.{IsWithin, IsOutside, IsReadLadder};
 ghost use Rattle.commands.specs.LadderOptions.{HasUnreadKey, HasBadKeyFile, IsBehindTexts};
 ghost use Rattle.commands.specs.Pools.{IsPool};
-ghost use Rattle.commands.specs.Settings.{FitsCut, IsRenditionOf, cut_of};
+ghost use Rattle.commands.specs.Settings.{FitsCut, IsRenditionOf};
 
 use crate::entry::{EntryWords, cut_entry};
 use crate::files::FileReader;
@@ -15,10 +15,9 @@ use crate::key_list::{filled, key_count, room};
 use crate::ladder_fault::LadderFault;
 use crate::ladder_keys::ladder_words;
 use crate::ladder_options::LadderWords;
-use crate::numbers::Numbers;
+use crate::numbers::{Numbers, cut};
 use crate::pool::Pool;
 use crate::settings::{PackingWords, kind, rendition_of};
-use cutter::CutSettings;
 use ladder_items::{Rendition, Settings, is_allowed};
 use limits::MOST_KEYS;
 use std::alloc::{AllocError, Global};
@@ -106,17 +105,6 @@ pub(crate) fn has_room(numbers: Numbers, pool: Pool) -> bool
     ensures { Decides result (FitsCut numbers × IsPool pool) }
 {
     numbers.cut_settings().is_some() && pool.is_allowed()
-}
-
-/// How streams are cut by numbers that the settings have room for.
-fn cut(numbers: Numbers) -> CutSettings
-    requires { FitsCut numbers }
-    ensures { result ≡ cut_of numbers }
-{
-    let Some(cut) = numbers.cut_settings() else {
-        unreachable!()
-    };
-    cut
 }
 
 /// The settings of the ladder that is asked for, under these keys; Settings where it isn't within its limits.

@@ -121,3 +121,14 @@ impl Numbers {
         })
     }
 }
+
+/// How streams are cut by numbers that the settings have room for.
+pub(crate) fn cut(numbers: Numbers) -> CutSettings
+    requires { FitsCut numbers }
+    ensures { result ≡ cut_of numbers }
+{
+    let Some(cut) = numbers.cut_settings() else {
+        unreachable!()
+    };
+    cut
+}

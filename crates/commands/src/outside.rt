@@ -38,8 +38,8 @@ fn is_up_to(number: u64, most: u64) -> bool
     LEAST <= number && number <= most
 }
 
-/// An option whose number is outside its range, the first in the order in which help lists them. None where all numbers are
-/// within their ranges; the period has none.
+/// The first option whose number is outside its range: a packager's numbers come before those of the pool, and both in the order
+/// in which help lists them. None where all numbers are within their ranges; the period has none.
 #[tactic(auto, unfolding(crate::specs::Ranges::outside_of))]
 pub fn first_outside(numbers: &Numbers, pool: Pool) -> Option<Ranged>
     ensures some { IfSome result (λ option. ¬ IsWithin option numbers.now pool) }

@@ -1,19 +1,20 @@
 //! A packager's settings, as words tell them.
-ghost use Rattle.std.specs.Prelude.{◌≡◌, ◌↔◌, ◌≢◌, ◌<◌, ◌≤◌, ℕ, Some, None, length, false, true, OnOk, IfOk, IfErr, IsErr, IsErrOf};
+ghost use Rattle.std.specs.Prelude.{◌≡◌, ◌↔◌, ◌≢◌, ◌<◌, ◌≤◌, ◌⊎◌, ℕ, Some, None, length, false, true, OnOk, IfOk, IfErr, IsErr, IsErrOf};
 ghost use Rattle.std.specs.Option.{option_map};
 ghost use Rattle.commands.specs.Defaults.{numbers_of};
 ghost use Rattle.commands.specs.Hex.{chosen_salt};
 ghost use Rattle.commands.specs.KeyLists.{IsBadKeyFile, IsUnreadKey, are_keys, key_texts};
 ghost use Rattle.commands.specs.Sizes.{IsSize, HasSize};
 ghost use Rattle.commands.specs.Settings.{words_of, kind_of, AreGoodWords, HasSalt, AreFit, IsRenditionOf, IsReadLadderOf, FitsCut, TakeTurns};
+ghost use Rattle.commands.specs.Settings.{AreInside, AreOutside, IsBehindWords, IsLadderOf};
 
 use crate::cipher::block;
 use crate::files::FileReader;
 use crate::frame_size::{FrameSize, size};
 use crate::key_list::{are_keys, key_count, key_room, read_keys};
 use crate::key_word::KeyFileFault;
-use crate::numbers::{NumberWords, name};
-use ladder_items::{Gone, Kind, Rendition, Settings};
+use crate::numbers::{NumberWords, Numbers, cut, name};
+use ladder_items::{Gone, Kind, Rendition, Settings, is_allowed};
 use limits::MOST_KEYS;
 use segment_job::Keys;
 use std::alloc::{AllocError, AllocFailed, Global};
@@ -50,7 +51,7 @@ pub enum SettingsFault {
     /// The keys take turns after no segment at all.
     #[error("the keys take turns after no segment")]
     ZeroPeriod,
-    /// A number is past what settings have room for.
+    /// A number is outside its limits, or the rendition can't be listed.
     #[error("the settings aren't allowed")]
     Settings,
     /// The file of a key can't be read.
@@ -129,18 +130,9 @@ pub(crate) fn read_salt(text: Option<&str>) -> Result<Option<[u8; 16]>, Settings
     }
 }
 
-/// What is read of a rendition's words before any memory is taken.
-#[derive(Clone, Copy, Drop)]
-struct Parts {
-    size: FrameSize,
-    salt: Option<[u8; 16]>,
-}
-
 /// Looks at the words of a rendition, before any memory is taken.
-fn look(words: PackingWords<'_>, period: u64) -> Result<Parts, SettingsFault>
+fn look(words: PackingWords<'_>, period: u64) -> Result<(), SettingsFault>
     ensures good { OnOk result (AreGoodWords (words_of words.entry) period) }
-    ensures size { IfOk result (λ parts. IsSize words.entry.size.now parts.size.width parts.size.height) }
-    ensures salt { IfOk result (λ parts. chosen_salt (words_of words.entry).salt ≡ Some parts.salt) }
     ensures bad_key { IsErrOf result SettingsFault.BadKey ↔ (are_keys words.entry.keys.now ≡ false) }
     ensures bad_size { IsErrOf result SettingsFault.BadSize ↔ ((are_keys words.entry.keys.now ≡ true) × ¬ HasSize words.entry.size.now) }
     ensures bad_vector { IsErrOf result SettingsFault.BadVector ↔
@@ -158,17 +150,17 @@ fn look(words: PackingWords<'_>, period: u64) -> Result<Parts, SettingsFault>
     if !are_keys(words.keys) {
         return Err(SettingsFault::BadKey);
     }
-    let Some(size) = size(words.size) else {
+    if size(words.size).is_none() {
         return Err(SettingsFault::BadSize);
-    };
-    let salt = read_salt(words.salt)?;
+    }
+    read_salt(words.salt)?;
     if key_count(words.keys) as u64 > MOST_KEYS {
         return Err(SettingsFault::TooMany);
     }
     if period == 0 {
         return Err(SettingsFault::ZeroPeriod);
     }
-    Ok(Parts { size, salt })
+    Ok(())
 }
 
 /// Keys that take turns by the period, with a salt where there is one.
@@ -185,6 +177,13 @@ fn rotation(keys: Vec<[u8; 16]>, period: u64, salt: Option<[u8; 16]>) -> Keys
         Ok(keys) => keys,
         Err(_) => unreachable!(),
     }
+}
+
+/// What the words of a rendition tell of its size and its salt.
+#[derive(Clone, Copy, Drop)]
+struct Parts {
+    size: FrameSize,
+    salt: Option<[u8; 16]>,
 }
 
 /// The rendition of good words and their keys, which take turns after as many segments as the period says.
@@ -241,11 +240,80 @@ pub(crate) fn kind(event: bool) -> Kind
     if event { Kind::Event } else { Kind::Live }
 }
 
+/// The settings of one rendition, of good words and these keys.
+fn settings_under(
+    alloc: Global,
+    words: PackingWords<'_>,
+    keys: &[[u8; 16]],
+    numbers: Numbers,
+) -> Result<Settings, AllocError>
+    requires fit { AreFit (words_of words) numbers }
+    requires keys { length keys.now ≡ length (key_texts words.keys.now) }
+    ensures { IfOk result (IsLadderOf (words_of words.entry) numbers keys.now) }
+{
+    let rendition = rendition_of(alloc, words, keys, numbers.period)?;
+    let mut renditions = Vec::new(alloc);
+    renditions.push(rendition)?;
+    Ok(Settings {
+        renditions,
+        cut: cut(numbers),
+        kind: kind(words.event),
+        window: numbers.window,
+        queue: QUEUE,
+    })
+}
+
+/// Whether those settings are within their limits: Settings where they aren't, whatever the keys are.
+fn check_limits(
+    alloc: Global,
+    words: PackingWords<'_>,
+    keys: &[[u8; 16]],
+    numbers: Numbers,
+) -> Result<(), SettingsFault>
+    requires fit { AreFit (words_of words) numbers }
+    requires keys { length keys.now ≡ length (key_texts words.keys.now) }
+    ensures inside { OnOk result (AreInside (words_of words.entry) numbers) }
+    ensures outside { IsErrOf result SettingsFault.Settings → AreOutside (words_of words.entry) numbers }
+    ensures only { IfErr result (λ fault. (fault ≡ SettingsFault.Settings) ⊎ (fault ≡ SettingsFault.NoMemory)) }
+{
+    let settings = settings_under(alloc, words, keys, numbers)?;
+    if !is_allowed(&settings, settings.renditions.len()) {
+        return Err(SettingsFault::Settings);
+    }
+    Ok(())
+}
+
+/// The settings of one rendition with the keys that its words tell; Settings where they aren't within their limits, which is
+/// told before any file is read.
+fn read_within<F: FileReader>(
+    alloc: Global,
+    files: &F,
+    words: PackingWords<'_>,
+    numbers: Numbers,
+) -> Result<Settings, SettingsFault>
+    requires fit { AreFit (words_of words) numbers }
+    ensures ok { IfOk result (IsReadLadderOf (F.gives files.now) (words_of words.entry) numbers) }
+    ensures settings { IsErrOf result SettingsFault.Settings → AreOutside (words_of words.entry) numbers }
+    ensures outside { AreOutside (words_of words.entry) numbers → IsErrOf result SettingsFault.Settings ⊎ IsErrOf result SettingsFault.NoMemory }
+    ensures unread { IsErrOf result SettingsFault.Unread → AreInside (words_of words.entry) numbers ×
+        IsUnreadKey (F.gives files.now) (F.refuses files.now) words.entry.keys.now }
+    ensures bad_file { (n : ℕ) → IsErrOf result (SettingsFault.BadKeyFile n) → AreInside (words_of words.entry) numbers ×
+        IsBadKeyFile (F.gives files.now) words.entry.keys.now n }
+    ensures only { IfErr result IsBehindWords }
+{
+    let room = key_room(alloc, words.keys)?;
+    check_limits(alloc, words, &room.keys, numbers)?;
+    let keys = read_keys(alloc, files, room, words.keys)?;
+    let settings = settings_under(alloc, words, &keys, numbers)?;
+    Ok(settings)
+}
+
 /// The settings of one rendition, with the keys that its words tell.
 ///
-/// BadKey is told before BadSize, that before BadVector, that before TooMany, that before ZeroPeriod, and that before Settings,
-/// where a number is past what settings have room for. All of them are told before any memory is taken, and before any file
-/// is read. Unread and BadKeyFile are told of the first key whose file gives none, counted from 1.
+/// BadKey is told before BadSize, that before BadVector, that before TooMany, that before ZeroPeriod, and that before Settings.
+/// For Settings NoMemory may stand, but not where the settings have no room for a number: that is told before any memory is
+/// taken, as all the others are. All of them are told before any file is read, and so is NoMemory where memory was wanted for
+/// the settings. Unread and BadKeyFile are told of the first key whose file gives none, counted from 1.
 pub fn read_settings<F: FileReader>(
     alloc: Global,
     files: &F,
@@ -263,29 +331,19 @@ pub fn read_settings<F: FileReader>(
     ensures zero_period { IsErrOf result SettingsFault.ZeroPeriod ↔
         ((are_keys words.entry.keys.now ≡ true) × HasSize words.entry.size.now × HasSalt (words_of words.entry) ×
         (length (key_texts words.entry.keys.now) ≤ MOST_KEYS) × ((numbers_of numbers).period ≡ 0)) }
-    ensures settings { IsErrOf result SettingsFault.Settings ↔
-        (AreGoodWords (words_of words.entry) (numbers_of numbers).period × ¬ FitsCut (numbers_of numbers)) }
-    ensures unread { IsErrOf result SettingsFault.Unread → AreFit (words_of words.entry) (numbers_of numbers) ×
+    ensures settings { IsErrOf result SettingsFault.Settings → AreOutside (words_of words.entry) (numbers_of numbers) }
+    ensures outside { AreOutside (words_of words.entry) (numbers_of numbers) → IsErrOf result SettingsFault.Settings ⊎
+        IsErrOf result SettingsFault.NoMemory }
+    ensures unread { IsErrOf result SettingsFault.Unread → AreInside (words_of words.entry) (numbers_of numbers) ×
         IsUnreadKey (F.gives files.now) (F.refuses files.now) words.entry.keys.now }
-    ensures bad_file { (n : ℕ) → IsErrOf result (SettingsFault.BadKeyFile n) → AreFit (words_of words.entry) (numbers_of numbers) ×
+    ensures bad_file { (n : ℕ) → IsErrOf result (SettingsFault.BadKeyFile n) → AreInside (words_of words.entry) (numbers_of numbers) ×
         IsBadKeyFile (F.gives files.now) words.entry.keys.now n }
     ensures no_memory { IsErrOf result SettingsFault.NoMemory → AreFit (words_of words.entry) (numbers_of numbers) }
 {
     let numbers = numbers.numbers();
-    let parts = look(words, numbers.period)?;
-    let Some(cut) = numbers.cut_settings() else {
+    look(words, numbers.period)?;
+    if numbers.cut_settings().is_none() {
         return Err(SettingsFault::Settings);
-    };
-    let room = key_room(alloc, words.keys)?;
-    let keys = read_keys(alloc, files, room, words.keys)?;
-    let rendition = rendition(alloc, words, keys, parts, numbers.period)?;
-    let mut renditions = Vec::new(alloc);
-    renditions.push(rendition)?;
-    Ok(Settings {
-        renditions,
-        cut,
-        kind: kind(words.event),
-        window: numbers.window,
-        queue: QUEUE,
-    })
+    }
+    read_within(alloc, files, words, numbers)
 }

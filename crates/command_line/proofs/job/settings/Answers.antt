@@ -24,6 +24,6 @@ returns-in_err-read_settings-clause-fault g c =
         numbers = numbers;
         numbers_are = c.number_words.ensures;
         is = settings-fault files (words_of words) (numbers_of numbers) why (λ e. says.bad_key.0 (ap Err e)) (λ e. says.bad_size.0 (ap Err e)) (λ e. says.bad_vector.0 (ap Err e))
-            (λ e. says.too_many.0 (ap Err e)) (λ e. says.zero_period.0 (ap Err e)) (λ e. says.settings.0 (ap Err e)) (λ e. says.unread (ap Err e)) (λ n e. says.bad_file n (ap Err e)) (λ e. says.no_memory (ap Err e));
+            (λ e. says.too_many.0 (ap Err e)) (λ e. says.zero_period.0 (ap Err e)) (λ e. says.settings (ap Err e)) (λ e. says.unread (ap Err e)) (λ n e. says.bad_file n (ap Err e)) (λ e. says.no_memory (ap Err e));
       },
     )
