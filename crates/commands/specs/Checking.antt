@@ -88,6 +88,12 @@ IsCheckFault gives refuses wants keys playlist NoMemory = wants playlist ⊎ ((t
 abbrev pub checked_line : Checked → List ℕ
 checked_line c = codes "ok " ++ decimal c.segments ++ codes " " ++ decimal c.bytes ++ codes "\n"
 
+-- a playlist is whole, and this is the line that says so
+pub record TellsWhole (gives : List ℕ → List ℕ → Type 0) (keys : List (List ℕ)) (playlist line : List ℕ) : Type 0 where
+  pub checked : Checked
+  pub well : ChecksWell gives keys playlist checked
+  pub is : line ≡ checked_line checked
+
 -- a playlist is whole, and the writer got the line that says so
 pub record WritesChecked (gives : List ℕ → List ℕ → Type 0) (keys : List (List ℕ)) (playlist : List ℕ) (held held_then : Option (List ℕ)) : Type 0 where
   pub checked : Checked

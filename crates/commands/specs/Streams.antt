@@ -17,6 +17,12 @@ pub record ReadsAll (left left_then : Option (List ℕ)) (bytes : List ℕ) : Ty
 abbrev pub HasBegun : ℕ → ℕ → Option (List ℕ) → Option (List ℕ) → Type 0
 HasBegun reads reads_then left left_then = (reads < reads_then) ⊎ ((bytes : List ℕ) × ReadsAll left left_then bytes)
 
+-- All that the reader gave was sealed, to this.
+pub record ReadsSealed (key vector : List ℕ) (left left_then : Option (List ℕ)) (sealed : List ℕ) : Type 0 where
+  pub bytes : List ℕ
+  pub read : ReadsAll left left_then bytes
+  pub is : sealed ≡ sealed_text key vector (joined (packets bytes))
+
 -- the line that `seal` writes of a stream
 abbrev pub sealed_line : List ℕ → List ℕ → List ℕ → List ℕ
 sealed_line key vector bytes = hex_line (sealed_text key vector (joined (packets bytes)))
@@ -44,6 +50,12 @@ pub record ReadsOther (left left_then : Option (List ℕ)) : Type 0 where
   pub bytes : List ℕ
   pub read : ReadsAll left left_then bytes
   pub other : is_err (decode_of (without_end bytes)) ≡ true
+
+-- The reader gave a sealed text, and this text has those bytes.
+pub record OpensInput (key vector : List ℕ) (left left_then : Option (List ℕ)) (plain : List ℕ) : Type 0 where
+  pub sealed : List ℕ
+  pub read : ReadsDigits left left_then sealed
+  pub seals : Seals key vector plain sealed
 
 -- The reader gave a sealed text, and the writer got the line of the text that has those bytes.
 pub record WritesOpened (key vector : List ℕ) (left left_then held held_then : Option (List ℕ)) : Type 0 where

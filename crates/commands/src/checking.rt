@@ -170,6 +170,21 @@ fn checked_line(alloc: Global, checked: Checked) -> Result<String, AllocError>
     Ok(line)
 }
 
+/// What `check` writes of a playlist and its segments. Nothing is written yet, so no fault here is that of a write.
+fn line_of_files<F: FileReader>(
+    alloc: Global,
+    files: &F,
+    keys: &[[u8; 16]],
+    playlist: &str,
+) -> Result<String, CheckingFault>
+    ensures ok { IfOk result (λ line. Checking.TellsWhole (F.gives files.now) keys.now playlist.now (string_bytes line)) }
+    ensures err { IfErr result (Checking.IsCheckFault (F.gives files.now) (F.refuses files.now) (F.wants files.now) keys.now playlist.now) }
+{
+    let checked = check_files(alloc, files, keys, playlist)?;
+    let line = checked_line(alloc, checked)?;
+    Ok(line)
+}
+
 /// The command `check`: reads a playlist and, from its folder, the segments that it lists, unpacks them under the keys of
 /// their rendition, and writes how many there are and to how many bytes they unpack, as the line `ok SEGMENTS BYTES`.
 ///
@@ -190,8 +205,7 @@ pub fn check<F: FileReader, W: Write>(
         Checking.IsCheckFault (F.gives files.now) (F.refuses files.now) (F.wants files.now) keys.now playlist.now fault) }
     ensures untouched { IfErr result (λ fault. fault ≢ CheckingFault.Unwritten → output.new ≡ output.old) }
 {
-    let checked = check_files(alloc, files, keys, playlist)?;
-    let line = checked_line(alloc, checked)?;
+    let line = line_of_files(alloc, files, keys, playlist)?;
     write_all(output, line.as_bytes())?;
     Ok(())
 }

@@ -3,7 +3,7 @@ ghost use Rattle.std.specs.List.{list_all};
 ghost use Rattle.hex.specs.Hex.{decode_of, is_hex_digit};
 ghost use Rattle.commands.specs.Counts.{HasRoom, ReadsFewer, OpeningCounts};
 ghost use Rattle.commands.specs.Hex.{without_end};
-ghost use Rattle.commands.specs.Streams.{WritesOpened, BeginsOpened, ReadsOther, ReadsNoBlocks, ReadsNoSealed};
+ghost use Rattle.commands.specs.Streams.{WritesOpened, BeginsOpened, OpensInput, ReadsOther, ReadsNoBlocks, ReadsNoSealed};
 
 use crate::output::write_hex_line;
 use crate::reading::{ReadingFault, read_all};
@@ -130,6 +130,30 @@ fn decode_line(alloc: Global, line: &[u8]) -> Result<Vec<u8>, OpeningFault>
     }
 }
 
+/// What `open` writes of an input that it reads to its end. Nothing is written yet, so no fault here is that of a write.
+fn opened_line<S: Source>(
+    alloc: Global,
+    key: &Key,
+    vector: &[u8; 16],
+    input: &mut S,
+) -> Result<Vec<u8>, OpeningFault>
+    requires room { HasRoom (S.input.reads input.old) (S.input.failures input.old) }
+    ensures ok { IfOk result (λ plain. OpensInput key.now vector.now (S.input.left input.old) (S.input.left input.new) plain.items) }
+    ensures ok_counts { OnOk result (ReadsFewer (S.input.reads input.old) (S.input.reads input.new) (S.input.failures input.old) (S.input.failures input.new)) }
+    ensures unwritten { IfErr result (λ fault. fault ≢ OpeningFault.Unwritten) }
+    ensures bad_hex { IsErrOf result OpeningFault.BadHex → ReadsOther (S.input.left input.old) (S.input.left input.new) }
+    ensures not_blocks { IsErrOf result OpeningFault.NotBlocks → ReadsNoBlocks (S.input.left input.old) (S.input.left input.new) }
+    ensures bad_padding { IsErrOf result OpeningFault.BadPadding → ReadsNoSealed key.now vector.now (S.input.left input.old) (S.input.left input.new) }
+    ensures counts { IfErr result (OpeningCounts (S.input.reads input.old) (S.input.reads input.new) (S.input.failures input.old)
+        (S.input.failures input.new)) }
+    ensures scarce { IsErrOf result OpeningFault.NoMemory → S.input.reads input.old < S.input.reads input.new }
+{
+    let line = read_all(alloc, input)?;
+    let sealed = decode_line(alloc, &line)?;
+    let plain = aes_cbc::open(alloc, key, vector, &sealed)?;
+    Ok(plain)
+}
+
 /// The command `open`: reads one line of hex digits to the input's end, opens the bytes that they stand for under a key
 /// and a vector, and writes the text that has those sealed bytes as one line of lower-case hex digits.
 ///
@@ -159,9 +183,7 @@ pub fn open<S: Source, W: Write>(
     // Memory is wanted only for bytes that a read gave.
     ensures scarce { IsErrOf result OpeningFault.NoMemory → S.input.reads input.old < S.input.reads input.new }
 {
-    let line = read_all(alloc, input)?;
-    let sealed = decode_line(alloc, &line)?;
-    let plain = aes_cbc::open(alloc, key, vector, &sealed)?;
+    let plain = opened_line(alloc, key, vector, input)?;
     write_hex_line(output, &plain)?;
     Ok(())
 }

@@ -1,6 +1,6 @@
-ghost use Rattle.std.specs.Prelude.{◌≡◌, ◌≢◌, OnOk, IfErr, IsErrOf};
+ghost use Rattle.std.specs.Prelude.{◌≡◌, ◌≢◌, IfOk, OnOk, IfErr, IsErrOf};
 ghost use Rattle.commands.specs.Counts.{HasRoom, ReadsFewer, SealingCounts};
-ghost use Rattle.commands.specs.Streams.{WritesSealed, BeginsSealed, HasBegun};
+ghost use Rattle.commands.specs.Streams.{WritesSealed, BeginsSealed, HasBegun, ReadsSealed};
 
 use crate::output::write_hex_line;
 use crate::packets::read_packets;
@@ -61,6 +61,27 @@ impl From<OutletFault> for SealingFault {
     }
 }
 
+/// What `seal` writes of an input that it reads to its end. Nothing is written yet, so no fault here is that of a write.
+fn sealed_packets<S: Source>(
+    alloc: Global,
+    key: &Key,
+    vector: &[u8; 16],
+    input: &mut S,
+) -> Result<Vec<u8>, SealingFault>
+    requires room { HasRoom (S.input.reads input.old) (S.input.failures input.old) }
+    ensures ok { IfOk result (λ sealed. ReadsSealed key.now vector.now (S.input.left input.old) (S.input.left input.new) sealed.items) }
+    ensures ok_counts { OnOk result (ReadsFewer (S.input.reads input.old) (S.input.reads input.new) (S.input.failures input.old) (S.input.failures input.new)) }
+    ensures unwritten { IfErr result (λ fault. fault ≢ SealingFault.Unwritten) }
+    ensures counts { IfErr result (SealingCounts (S.input.reads input.old) (S.input.reads input.new) (S.input.failures input.old)
+        (S.input.failures input.new)) }
+    ensures scarce { IsErrOf result SealingFault.NoMemory →
+        HasBegun (S.input.reads input.old) (S.input.reads input.new) (S.input.left input.old) (S.input.left input.new) }
+{
+    let packets = read_packets(alloc, input)?;
+    let sealed = aes_cbc::seal(alloc, key, vector, packets.as_flattened())?;
+    Ok(sealed)
+}
+
 /// The command `seal`: reads the input to its end, takes its packets, and writes them, sealed under a key and a vector
 /// without a segment head, as one line of lower-case hex digits.
 ///
@@ -87,8 +108,7 @@ pub fn seal<S: Source, W: Write>(
     ensures scarce { IsErrOf result SealingFault.NoMemory →
         HasBegun (S.input.reads input.old) (S.input.reads input.new) (S.input.left input.old) (S.input.left input.new) }
 {
-    let packets = read_packets(alloc, input)?;
-    let sealed = aes_cbc::seal(alloc, key, vector, packets.as_flattened())?;
+    let sealed = sealed_packets(alloc, key, vector, input)?;
     write_hex_line(output, &sealed)?;
     Ok(())
 }

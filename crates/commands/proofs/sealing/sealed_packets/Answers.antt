@@ -3,7 +3,7 @@ use Rattle.std.proofs.lemmas.Result.{err_from_is_err_and}
 use Rattle.commands.specs.Told.{sealing_of}
 use Rattle.commands.specs.declared.sealing.SealingFault.TheVariants.{NoMemory}
 use Rattle.commands.proofs.SealedTexts.{sealing_of-NoMemory}
-use Rattle.commands.proofs.sealing.seal.Goals as goal
+use Rattle.commands.proofs.sealing.sealed_packets.Goals as goal
 
 pub returns-in_err-packets-clause-scarce : goal.returns-in_err-packets-clause-scarce
 returns-in_err-packets-clause-scarce g c = λ told.

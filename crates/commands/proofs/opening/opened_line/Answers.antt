@@ -4,7 +4,7 @@ use Rattle.commands.specs.Told.{opening_of, opening_of_reading}
 use Rattle.commands.specs.declared.opening.OpeningFault.TheVariants.{NoMemory, NotBlocks}
 use Rattle.commands.proofs.Decoding.{behind_digits, some-line}
 use Rattle.commands.proofs.SealedTexts.{opening_of-NoMemory, opening_of-NotBlocks, opening_of_reading-NoMemory, some-sealed}
-use Rattle.commands.proofs.opening.open.Goals as goal
+use Rattle.commands.proofs.opening.opened_line.Goals as goal
 
 pub returns-in_err-plain-clause-not_blocks : goal.returns-in_err-plain-clause-not_blocks
 returns-in_err-plain-clause-not_blocks g c = λ told.
