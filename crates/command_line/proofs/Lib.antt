@@ -5,4 +5,3 @@ mod EntryNames
 mod Numbers
 mod Listing
 mod Outside
-mod FaultWords

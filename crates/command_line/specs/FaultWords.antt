@@ -14,32 +14,32 @@ use Rattle.command_line.specs.declared.fault.Fault.{Fault}
 use Rattle.command_line.specs.declared.fault.Fault.TheVariants.{Usage, NotUtf8, Cipher, Settings, KeyList, Ladder, NoMemory, Busy, Sealing, Opening, Resuming, Unopened, Packing, LadderPacking, Checking}
 use Rattle.command_line.specs.EntryTexts.{bad_entry_text, bad_key_file_text, entry_numbered, packing_words, resuming_words}
 use Rattle.command_line.specs.Jobs.{IsMatched}
-use Rattle.command_line.specs.Reasons.{checking_reason, cipher_reason, key_list_reason, ladder_reason, opening_reason, sealing_reason, settings_reason, unopened_reason}
+use Rattle.command_line.specs.Reasons.{checking_reason, cipher_reason, key_list_reason, opening_reason, sealing_reason, unopened_reason}
 use Rattle.command_line.specs.SettingsWords.{settings_words}
 use Rattle.command_line.specs.Words.{is_given, texts_of}
 
 -- the words of `one`
 abbrev pub one_words : Found → SettingsFault → List ℕ
-one_words found settings.BadKey = settings_reason settings.BadKey
-one_words found settings.BadSize = settings_reason settings.BadSize
-one_words found settings.BadVector = settings_reason settings.BadVector
-one_words found settings.TooMany = settings_reason settings.TooMany
-one_words found settings.ZeroPeriod = settings_reason settings.ZeroPeriod
+one_words found settings.BadKey = codes "a key of --keys is not 32 hex digits"
+one_words found settings.BadSize = codes "--size is not WIDTHxHEIGHT in pixels, as 1280x720"
+one_words found settings.BadVector = codes "--salt is not 32 hex digits"
+one_words found settings.TooMany = codes "more than 4096 keys for one rendition"
+one_words found settings.ZeroPeriod = codes "--period is 0: a key seals at least one segment"
 one_words found settings.Settings = settings_words found
-one_words found settings.Unread = settings_reason settings.Unread
-one_words found (settings.BadKeyFile n) = settings_reason (settings.BadKeyFile n)
-one_words found settings.NoMemory = settings_reason settings.NoMemory
+one_words found settings.Unread = codes "the file of a key can't be read; nothing was written"
+one_words found (settings.BadKeyFile n) = codes "the file of that key, counted from 1, is neither 16 bytes nor 32 hex digits with at most one line end"
+one_words found settings.NoMemory = codes "out of memory"
 
 -- the words of `pack`
 abbrev pub pack_words : Found → LadderFault → List ℕ
 pack_words found (ladder.BadEntry n) = bad_entry_text (entry_numbered (texts_of found (codes "entries")) n) n
-pack_words found ladder.BadVector = ladder_reason ladder.BadVector
-pack_words found ladder.TooMany = ladder_reason ladder.TooMany
-pack_words found ladder.ZeroPeriod = ladder_reason ladder.ZeroPeriod
+pack_words found ladder.BadVector = codes "--salt is not 32 hex digits"
+pack_words found ladder.TooMany = codes "more than 4096 keys for one rendition"
+pack_words found ladder.ZeroPeriod = codes "--period is 0: a key seals at least one segment"
 pack_words found ladder.Settings = settings_words found
-pack_words found ladder.Unread = ladder_reason ladder.Unread
+pack_words found ladder.Unread = codes "the file of a key can't be read; nothing was written"
 pack_words found (ladder.BadKeyFile n) = bad_key_file_text (entry_numbered (texts_of found (codes "entries")) n) n
-pack_words found ladder.NoMemory = ladder_reason ladder.NoMemory
+pack_words found ladder.NoMemory = codes "out of memory"
 
 -- why a run ended: settings, and a stream that may have been silent, are told by the options besides
 abbrev pub run_words : Found → PackFault → List ℕ

@@ -4,10 +4,6 @@ use Rattle.commands.specs.declared.cipher.CipherFault.{CipherFault}
 use Rattle.commands.specs.declared.cipher.CipherFault.TheVariants as cipher
 use Rattle.commands.specs.declared.key_list.KeyListFault.{KeyListFault}
 use Rattle.commands.specs.declared.key_list.KeyListFault.TheVariants as keys
-use Rattle.commands.specs.declared.settings.SettingsFault.{SettingsFault}
-use Rattle.commands.specs.declared.settings.SettingsFault.TheVariants as settings
-use Rattle.commands.specs.declared.ladder_fault.LadderFault.{LadderFault}
-use Rattle.commands.specs.declared.ladder_fault.LadderFault.TheVariants as ladder
 use Rattle.commands.specs.declared.sealing.SealingFault.{SealingFault}
 use Rattle.commands.specs.declared.sealing.SealingFault.TheVariants as sealing
 use Rattle.commands.specs.declared.opening.OpeningFault.{OpeningFault}
@@ -41,29 +37,6 @@ key_list_reason keys.BadKey = codes "a key of --keys is not 32 hex digits"
 key_list_reason keys.Unread = codes "the file of a key can't be read; nothing was written"
 key_list_reason (keys.BadKeyFile n) = codes "the file of that key, counted from 1, is neither 16 bytes nor 32 hex digits with at most one line end"
 key_list_reason keys.NoMemory = codes "out of memory"
-
--- the words of `one`
-abbrev pub settings_reason : SettingsFault → List ℕ
-settings_reason settings.BadKey = codes "a key of --keys is not 32 hex digits"
-settings_reason settings.BadSize = codes "--size is not WIDTHxHEIGHT in pixels, as 1280x720"
-settings_reason settings.BadVector = codes "--salt is not 32 hex digits"
-settings_reason settings.TooMany = codes "more than 4096 keys for one rendition"
-settings_reason settings.ZeroPeriod = codes "--period is 0: a key seals at least one segment"
-settings_reason settings.Settings = codes "an option is outside its range"
-settings_reason settings.Unread = codes "the file of a key can't be read; nothing was written"
-settings_reason (settings.BadKeyFile n) = codes "the file of that key, counted from 1, is neither 16 bytes nor 32 hex digits with at most one line end"
-settings_reason settings.NoMemory = codes "out of memory"
-
--- the words of `pack`
-abbrev pub ladder_reason : LadderFault → List ℕ
-ladder_reason (ladder.BadEntry n) = codes "an entry is not NAME:CODECS:WxH:KEY[+KEY..]:PATH"
-ladder_reason ladder.BadVector = codes "--salt is not 32 hex digits"
-ladder_reason ladder.TooMany = codes "more than 4096 keys for one rendition"
-ladder_reason ladder.ZeroPeriod = codes "--period is 0: a key seals at least one segment"
-ladder_reason ladder.Settings = codes "an option is outside its range"
-ladder_reason ladder.Unread = codes "the file of a key can't be read; nothing was written"
-ladder_reason (ladder.BadKeyFile n) = codes "a key file of that entry is no key"
-ladder_reason ladder.NoMemory = codes "out of memory"
 
 -- a stream that is sealed
 abbrev pub sealing_reason : SealingFault → List ℕ

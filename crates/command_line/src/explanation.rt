@@ -28,8 +28,8 @@ use crate::job::program;
 use crate::options::{is_given, number_words, packing_words};
 use crate::pack_options::pool_words;
 use crate::reasons::{
-    checking_reason, cipher_reason, key_list_reason, ladder_reason, opening_reason,
-    resuming_reason, sealing_reason, settings_reason, unopened_reason,
+    BAD_KEY_FILE, BAD_KEYS, NO_MEMORY, UNREAD_KEY, checking_reason, cipher_reason, key_list_reason,
+    opening_reason, resuming_reason, sealing_reason, unopened_reason,
 };
 use crate::settings_reason::{write_outside, write_unlistable, write_unlistable_entries};
 use channel::ResumingFault;
@@ -120,6 +120,12 @@ impl fmt::Display for Explanation<'_, '_, '_> {
     }
 }
 
+const BAD_SALT: &str = "--salt is not 32 hex digits";
+
+const TOO_MANY: &str = "more than 4096 keys for one rendition";
+
+const ZERO_PERIOD: &str = "--period is 0: a key seals at least one segment";
+
 /// Writes why the words of `one` tell no settings.
 fn write_one<W: fmt::Write>(
     f: &mut fmt::Formatter<W>,
@@ -129,8 +135,17 @@ fn write_one<W: fmt::Write>(
     ensures { DisplaysOnOk W.write_str_gives f.old result (Some (one_words (found_of options.now) fault)) f.new }
 {
     match fault {
+        SettingsFault::BadKey => f.write_str(BAD_KEYS),
+        SettingsFault::BadSize => {
+            f.write_str("--size is not WIDTHxHEIGHT in pixels, as 1280x720")
+        }
+        SettingsFault::BadVector => f.write_str(BAD_SALT),
+        SettingsFault::TooMany => f.write_str(TOO_MANY),
+        SettingsFault::ZeroPeriod => f.write_str(ZERO_PERIOD),
         SettingsFault::Settings => write_settings(f, options),
-        _ => f.write_str(settings_reason(fault)),
+        SettingsFault::Unread => f.write_str(UNREAD_KEY),
+        SettingsFault::BadKeyFile(_) => f.write_str(BAD_KEY_FILE),
+        SettingsFault::NoMemory => f.write_str(NO_MEMORY),
     }
 }
 
@@ -144,9 +159,13 @@ fn write_pack<W: fmt::Write>(
 {
     match fault {
         LadderFault::BadEntry(n) => write_bad_entry(f, options, n),
-        LadderFault::BadKeyFile(n) => write_bad_key_file(f, options, n),
+        LadderFault::BadVector => f.write_str(BAD_SALT),
+        LadderFault::TooMany => f.write_str(TOO_MANY),
+        LadderFault::ZeroPeriod => f.write_str(ZERO_PERIOD),
         LadderFault::Settings => write_settings(f, options),
-        _ => f.write_str(ladder_reason(fault)),
+        LadderFault::Unread => f.write_str(UNREAD_KEY),
+        LadderFault::BadKeyFile(n) => write_bad_key_file(f, options, n),
+        LadderFault::NoMemory => f.write_str(NO_MEMORY),
     }
 }
 

@@ -75,8 +75,8 @@ of its stream is told at once, and the others are packed to their ends. What was
   BigSegment R N   This segment has more packets than --most    Limit R        The last number or time is passed
   Read R           It couldn't be read, or gave nothing for --stall seconds
   ReadLimit R      2^40 reads didn't come to its end
-  BadEntry N       Entry N, counted from 1, hasn't four colons, or its size isn't WIDTHxHEIGHT, or a key is neither
-                   32 hex digits nor @FILE
+  BadEntry N       Entry N, counted from 1, has fewer than four colons, or its size isn't WIDTHxHEIGHT, or a key is
+                   neither 32 hex digits nor @FILE
   BadKeyFile N     A key file of entry N, counted from 1, is neither 16 bytes nor 32 hex digits with at most one line end
   BadVector        --salt isn't 32 hex digits
   TooMany          A rendition has more than 4096 keys          ZeroPeriod     --period is 0

@@ -4,26 +4,21 @@ ghost use Rattle.command_line.specs.Reasons.{
   checking_reason,
   cipher_reason,
   key_list_reason,
-  ladder_reason,
   opening_reason,
   resuming_reason,
   sealing_reason,
-  settings_reason,
   unopened_reason,
   why_not,
 };
 
 use channel::ResumingFault;
 use channel_folder::WhyNot;
-use commands::{
-    CheckingFault, CipherFault, KeyListFault, LadderFault, OpeningFault, SealingFault,
-    SettingsFault,
-};
+use commands::{CheckingFault, CipherFault, KeyListFault, OpeningFault, SealingFault};
 use hls_check::{CheckFault, UnpackFault};
 use media_reading::ListFault;
 use read_ahead::InputFault;
 
-const NO_MEMORY: &str = "out of memory";
+pub(crate) const NO_MEMORY: &str = "out of memory";
 
 const UNREAD: &str = "standard input can't be read";
 
@@ -31,18 +26,12 @@ const UNWRITTEN: &str = "standard output can't be written: it is closed, or its 
 
 const READ_LIMIT: &str = "2^40 reads did not reach the end of the input";
 
-const BAD_SALT: &str = "--salt is not 32 hex digits";
+pub(crate) const UNREAD_KEY: &str = "the file of a key can't be read; nothing was written";
 
-const TOO_MANY: &str = "more than 4096 keys for one rendition";
-
-const ZERO_PERIOD: &str = "--period is 0: a key seals at least one segment";
-
-const UNREAD_KEY: &str = "the file of a key can't be read; nothing was written";
-
-const BAD_KEY_FILE: &str =
+pub(crate) const BAD_KEY_FILE: &str =
     "the file of that key, counted from 1, is neither 16 bytes nor 32 hex digits with at most one line end";
 
-const BAD_KEYS: &str = "a key of --keys is not 32 hex digits";
+pub(crate) const BAD_KEYS: &str = "a key of --keys is not 32 hex digits";
 
 pub(crate) fn cipher_reason(fault: CipherFault) -> &'static str
     ensures { result.now ≡ cipher_reason fault }
@@ -66,37 +55,6 @@ pub(crate) fn key_list_reason(fault: KeyListFault) -> &'static str
         KeyListFault::Unread => UNREAD_KEY,
         KeyListFault::BadKeyFile(_) => BAD_KEY_FILE,
         KeyListFault::NoMemory => NO_MEMORY,
-    }
-}
-
-pub(crate) fn settings_reason(fault: SettingsFault) -> &'static str
-    ensures { result.now ≡ settings_reason fault }
-{
-    match fault {
-        SettingsFault::BadKey => BAD_KEYS,
-        SettingsFault::BadSize => "--size is not WIDTHxHEIGHT in pixels, as 1280x720",
-        SettingsFault::BadVector => BAD_SALT,
-        SettingsFault::TooMany => TOO_MANY,
-        SettingsFault::ZeroPeriod => ZERO_PERIOD,
-        SettingsFault::Settings => "an option is outside its range",
-        SettingsFault::Unread => UNREAD_KEY,
-        SettingsFault::BadKeyFile(_) => BAD_KEY_FILE,
-        SettingsFault::NoMemory => NO_MEMORY,
-    }
-}
-
-pub(crate) fn ladder_reason(fault: LadderFault) -> &'static str
-    ensures { result.now ≡ ladder_reason fault }
-{
-    match fault {
-        LadderFault::BadEntry(_) => "an entry is not NAME:CODECS:WxH:KEY[+KEY..]:PATH",
-        LadderFault::BadVector => BAD_SALT,
-        LadderFault::TooMany => TOO_MANY,
-        LadderFault::ZeroPeriod => ZERO_PERIOD,
-        LadderFault::Settings => "an option is outside its range",
-        LadderFault::Unread => UNREAD_KEY,
-        LadderFault::BadKeyFile(_) => "a key file of that entry is no key",
-        LadderFault::NoMemory => NO_MEMORY,
     }
 }
 
