@@ -4,12 +4,13 @@ use Rattle.std.specs.Prelude.{IfErr}
 use Rattle.std.specs.Io.KnownBytes.{Keeps}
 use Rattle.std.proofs.lemmas.Result.{IfErr-weaker}
 use Rattle.live_board.specs.Snapshots.{SnapshotFacts}
+use Rattle.ladder_items.specs.declared.fault.PackFault.{PackFault}
 use Rattle.ladder_items.specs.declared.report.Report.{Report}
 use Rattle.ladder_items.specs.Ladder.{Ladder}
 use Rattle.ladder_items.specs.Runs.{Run}
 use Rattle.live_board.specs.Counts.{counts_shown}
 use Rattle.rounds.specs.Shown.{Fits, IsPackedShown}
-use Rattle.packing.specs.LadderPacking.{BeginsSummary, IsNeverHeld, LadderSays, TurnsAway}
+use Rattle.packing.specs.LadderPacking.{BeginsSummary, IsHeard, IsNeverHeld, LadderSays, TurnsAway}
 use Rattle.commands.specs.declared.packing_fault.LadderPackingFault.{LadderPackingFault}
 use Rattle.commands.specs.declared.packing_fault.LadderPackingFault.TheVariants.{NoMemory, Unwritten}
 
@@ -47,3 +48,14 @@ module _ (ladder : Ladder) (held held_then : Option (List ℕ)) (report : Report
   pub summary-unheld : (r : Result Report LadderPackingFault) → IfErr r (λ fault. ((fault ≡ Unwritten) × BeginsSummary ladder report held held_then) ⊎ ((fault ≡ NoMemory) × Keeps held held_then))
       → IfErr r IsNeverHeld
   summary-unheld r all = IfErr-weaker r (λ fault. ((fault ≡ Unwritten) × BeginsSummary ladder report held held_then) ⊎ ((fault ≡ NoMemory) × Keeps held held_then)) IsNeverHeld unheld all
+
+-- a summary stops no rendition
+module _ (was_told : PackFault → Type 0) (ladder : Ladder) (held held_then : Option (List ℕ)) (report : Report) where
+  unstopped : (fault : LadderPackingFault) → ((fault ≡ Unwritten) × BeginsSummary ladder report held held_then) ⊎ ((fault ≡ NoMemory) × Keeps held held_then)
+      → IsHeard was_told fault
+  unstopped fault (inl x) = subst (IsHeard was_told) (sym x.0) tt
+  unstopped fault (inr x) = subst (IsHeard was_told) (sym x.0) tt
+
+  pub summary-heard : (r : Result Report LadderPackingFault) → IfErr r (λ fault. ((fault ≡ Unwritten) × BeginsSummary ladder report held held_then) ⊎ ((fault ≡ NoMemory) × Keeps held held_then))
+      → IfErr r (IsHeard was_told)
+  summary-heard r all = IfErr-weaker r (λ fault. ((fault ≡ Unwritten) × BeginsSummary ladder report held held_then) ⊎ ((fault ≡ NoMemory) × Keeps held held_then)) (IsHeard was_told) unstopped all

@@ -4,10 +4,12 @@ use Rattle.std.specs.Io.KnownBytes.{Appends, Keeps}
 use Rattle.item_io.specs.Writing.{WritesBeginning}
 use Rattle.live_board.specs.Snapshots.{SnapshotFacts}
 use Rattle.live_board.specs.Counts.{counts_shown}
+use Rattle.ladder_items.specs.declared.fault.PackFault.{PackFault}
 use Rattle.ladder_items.specs.declared.report.Report.{Report}
 use Rattle.ladder_items.specs.Ladder.{Ladder}
 use Rattle.ladder_items.specs.Runs.{Run}
 use Rattle.rounds.specs.Gated.{IsUnheld}
+use Rattle.rounds.specs.Heralds.{IsHeardOf}
 use Rattle.rounds.specs.Shown.{FaultSaysShown, Fits, IsPackedShown, IsTurnedAway}
 use Rattle.packing.specs.Summaries.{IsSummaryOf}
 use Rattle.commands.specs.declared.packing_fault.LadderPackingFault.{LadderPackingFault}
@@ -54,3 +56,9 @@ abbrev pub IsNeverHeld : LadderPackingFault → Type 0
 IsNeverHeld (Packing fault) = IsUnheld fault
 IsNeverHeld Unwritten = Unit {0}
 IsNeverHeld NoMemory = Unit {0}
+
+-- A fault by which a rendition stopped was told by then; a summary that isn't written is no such fault.
+abbrev pub IsHeard : (PackFault → Type 0) → LadderPackingFault → Type 0
+IsHeard was_told (Packing fault) = IsHeardOf was_told fault
+IsHeard was_told Unwritten = Unit {0}
+IsHeard was_told NoMemory = Unit {0}

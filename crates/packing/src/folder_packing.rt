@@ -3,7 +3,7 @@ ghost use Rattle.ladder_items.specs.World.{HaveRoom};
 ghost use Rattle.live_board.specs.Counts.{counts_shown};
 ghost use Rattle.rounds.specs.Shown.{Fits, IsPackedShown};
 ghost use Rattle.packing.specs.FolderPacking.{FolderSays, IsPackedInto, LeavesPlayable, LeavesPrefix, folder_run};
-ghost use Rattle.packing.specs.LadderPacking.{IsNeverHeld, LadderSays, TurnsAway, WritesSummary};
+ghost use Rattle.packing.specs.LadderPacking.{IsHeard, IsNeverHeld, LadderSays, TurnsAway, WritesSummary};
 
 use crate::destination::{Destination, outlet_of};
 use crate::ladder_packing::{PackedLadder, pack};
@@ -66,6 +66,7 @@ pub fn pack_into_folder<
         (folder_run S.input F.made READS sources.items result.sources.items into result.outlet)
         settings.now pool.workers publisher.list result.publisher.list) }
     ensures never_held { IfErr result.answer IsNeverHeld }
+    ensures told { IfErr result.answer (IsHeard (H.was_told herald.now)) }
 {
     names_are_bytes(settings);
     let outlet = outlet_of(into, alloc);

@@ -5,7 +5,7 @@ ghost use Rattle.ladder_items.specs.Runs.{run_of};
 ghost use Rattle.ladder_items.specs.World.{HaveRoom};
 ghost use Rattle.live_board.specs.Counts.{counts_shown};
 ghost use Rattle.rounds.specs.Shown.{Fits, IsPackedShown};
-ghost use Rattle.packing.specs.LadderPacking.{BeginsSummary, IsNeverHeld, LadderSays, TurnsAway, WritesSummary};
+ghost use Rattle.packing.specs.LadderPacking.{BeginsSummary, IsHeard, IsNeverHeld, LadderSays, TurnsAway, WritesSummary};
 ghost use Rattle.commands.specs.declared.packing_fault.LadderPackingFault.TheVariants.{NoMemory, Unwritten};
 
 use crate::summaries::summary;
@@ -58,6 +58,7 @@ pub fn pack<S: Source + Drop, O: Outlet + Drop, W: Write, R: Threads + Wait + Sy
         (run_of S.input O.output READS sources.items result.sources.items outlet result.outlet)
         settings.now pool.workers publisher.list result.publisher.list) }
     ensures never_held { IfErr result.answer IsNeverHeld }
+    ensures told { IfErr result.answer (IsHeard (H.was_told herald.now)) }
 {
     let Ran {
         sources,

@@ -1,7 +1,7 @@
 use Rattle.std.proofs.Common.{◌^◌}
 use Rattle.std.proofs.lemmas.Result.{IfErr-at_err, IfOk-at_ok}
 use Rattle.ladder_items.specs.Runs.{run_of}
-use Rattle.packing.proofs.LadderEnds.{summary-fits, summary-unheld, summary-unwritten}
+use Rattle.packing.proofs.LadderEnds.{summary-fits, summary-heard, summary-unheld, summary-unwritten}
 use Rattle.packing.proofs.ladder_packing.pack.Goals as goal
 
 pub returns-in-Err-clause-breach : goal.returns-in-Err-clause-breach
@@ -21,3 +21,9 @@ returns-in-Err-clause-never_held g c = IfErr-at_err _ c.in-Err.is c.pack_heralde
 
 pub returns-in-Ok-clause-never_held : goal.returns-in-Ok-clause-never_held
 returns-in-Ok-clause-never_held g c = summary-unheld _ _ _ c.in-Ok.report c.write_summary.result c.write_summary.ensures.fault
+
+pub returns-in-Err-clause-told : goal.returns-in-Err-clause-told
+returns-in-Err-clause-told g c = IfErr-at_err _ c.in-Err.is c.pack_heralded-sources.ensures.told
+
+pub returns-in-Ok-clause-told : goal.returns-in-Ok-clause-told
+returns-in-Ok-clause-told g c = summary-heard _ _ _ _ c.in-Ok.report c.write_summary.result c.write_summary.ensures.fault
