@@ -1,8 +1,8 @@
 //! The options of each command: how help shows them, and the words that were given.
-ghost use Rattle.std.specs.Prelude.{◌≡◌, ◌<◌, codes, false, length, map, option_map, IfOk, OnErr, Some};
-ghost use Rattle.clap.specs.Words.{first_value, found_of, rule_of};
-ghost use Rattle.command_line.specs.Options.{GetsOptions, check_options, cipher_options, form_options, number_option, numbered};
-ghost use Rattle.command_line.specs.Options.{rendition_options, stream_options, text_option};
+ghost use Rattle.std.specs.Prelude.{◌≡◌, ◌<◌, ◌∷◌, [], codes, false, length, map, option_map, IfOk, OnErr, Some};
+ghost use Rattle.clap.specs.Words.{first_value, found_of, items_of, rule_of};
+ghost use Rattle.command_line.specs.Options.{GetsOptions, check_options, cipher_options, flag, form_options, number_option, numbered};
+ghost use Rattle.command_line.specs.Options.{needed, rendition_options, stream_options, text_option, word};
 ghost use Rattle.command_line.specs.Words.{AreNumberWords, IsFlagOf, IsGivenNumber, IsNumberOf, given_text, is_given, text_of};
 
 use clap::parser::ValueSource;
@@ -20,7 +20,7 @@ pub fn with_cipher_options<'a>(
     let key = "The key: 32 hex digits, or @FILE, which holds its 16 bytes or those digits";
     let seq = "The segment's number, which gives the vector";
     let command = command
-        .arg(text(alloc, "key", "HEX", key).required(true))?
+        .arg(needed(alloc, "key", "HEX", key))?
         .arg(number(alloc, "seq", "NUMBER", seq))?;
     command.arg(text(alloc, "iv", "HEX", "The vector itself: 32 hex digits"))
 }
@@ -56,9 +56,9 @@ fn with_rendition<'a>(alloc: Global, command: Command<'a>) -> Result<Command<'a>
     let keys = "The keys, 32 hex digits or @FILE each, 1 to 4096 of them";
     let name = "The name of the rendition";
     command
-        .arg(text(alloc, "codecs", "CODECS", codecs).required(true))?
-        .arg(text(alloc, "size", "WIDTHxHEIGHT", size).required(true))?
-        .arg(text(alloc, "keys", "KEY[+KEY..]", keys).required(true))?
+        .arg(needed(alloc, "codecs", "CODECS", codecs))?
+        .arg(needed(alloc, "size", "WIDTHxHEIGHT", size))?
+        .arg(needed(alloc, "keys", "KEY[+KEY..]", keys))?
         .arg(text(alloc, "name", "NAME", name).default_value("v"))
 }
 
@@ -69,11 +69,8 @@ pub fn with_forms<'a>(alloc: Global, command: Command<'a>) -> Result<Command<'a>
     let salt =
         "A salt of the segments' vectors, 32 hex digits: each is then the salt xor the number, and is listed";
     let command = command.arg(text(alloc, "salt", "HEX", salt))?;
-    let event = Arg::new(alloc, "event")
-        .long("event")
-        .action(ArgAction::SetTrue)
-        .help("List all segments, as those of an event");
-    command.arg(event)
+    let event = "List all segments, as those of an event";
+    command.arg(flag(alloc, "event", event))
 }
 
 /// The words of a rendition.
@@ -163,6 +160,7 @@ pub(crate) const NUMBERS: [NumberOption; 8] = [
 fn number_from<'a>(alloc: Global, option: NumberOption) -> Arg<'a>
     ensures rule { rule_of result ≡ numbered option.entry }
     ensures alone { result.global ≡ false }
+    ensures value { items_of result.val_names ≡ option.entry.1 ∷ [] }
     ensures help { result.help ≡ Some option.entry.2 }
 {
     let (name, value, help, default) = option;
@@ -213,12 +211,9 @@ pub fn with_check_options<'a>(
     ensures { IfOk result (λ made. GetsOptions command.entry check_options made) }
 {
     let keys = "The keys of the rendition, 32 hex digits or @FILE each";
-    let command = command.arg(text(alloc, "keys", "KEY[+KEY..]", keys).required(true))?;
-    let playlist = Arg::new(alloc, "playlist")
-        .value_name("PLAYLIST")
-        .required(true)
-        .help("The media playlist; its segments lie in the same folder");
-    command.arg(playlist)
+    let command = command.arg(needed(alloc, "keys", "KEY[+KEY..]", keys))?;
+    let playlist = "The media playlist; its segments lie in the same folder";
+    command.arg(word(alloc, "playlist", "PLAYLIST", playlist))
 }
 
 /// The words of `check`.
@@ -232,10 +227,36 @@ pub fn check_words<'a>(options: &ArgMatches<'a>) -> CheckWords<'a>
     }
 }
 
+/// An option of this name without a value.
+pub(crate) fn flag<'a>(alloc: Global, name: &'a str, help: &'a str) -> Arg<'a>
+    ensures rule { rule_of result ≡ flag name.entry.now }
+    ensures alone { result.global ≡ false }
+    ensures help { result.help ≡ Some help.entry }
+{
+    Arg::new(alloc, name)
+        .long(name)
+        .action(ArgAction::SetTrue)
+        .help(help)
+}
+
+/// A word that stands alone, and has to be there.
+fn word<'a>(alloc: Global, name: &'a str, value: &'a str, help: &'a str) -> Arg<'a>
+    ensures rule { rule_of result ≡ word name.entry.now }
+    ensures alone { result.global ≡ false }
+    ensures value { items_of result.val_names ≡ value.entry ∷ [] }
+    ensures help { result.help ≡ Some help.entry }
+{
+    Arg::new(alloc, name)
+        .value_name(value)
+        .required(true)
+        .help(help)
+}
+
 /// An option of this name.
 pub(crate) fn text<'a>(alloc: Global, name: &'a str, value: &'a str, help: &'a str) -> Arg<'a>
     ensures rule { rule_of result ≡ text_option name.entry.now }
     ensures alone { result.global ≡ false }
+    ensures value { items_of result.val_names ≡ value.entry ∷ [] }
     ensures help { result.help ≡ Some help.entry }
 {
     Arg::new(alloc, name)
@@ -244,10 +265,21 @@ pub(crate) fn text<'a>(alloc: Global, name: &'a str, value: &'a str, help: &'a s
         .help(help)
 }
 
+/// An option of this name, which has to be given.
+pub(crate) fn needed<'a>(alloc: Global, name: &'a str, value: &'a str, help: &'a str) -> Arg<'a>
+    ensures rule { rule_of result ≡ needed (text_option name.entry.now) }
+    ensures alone { result.global ≡ false }
+    ensures value { items_of result.val_names ≡ value.entry ∷ [] }
+    ensures help { result.help ≡ Some help.entry }
+{
+    text(alloc, name, value, help).required(true)
+}
+
 /// An option of this name, whose value is a u64.
 pub(crate) fn number<'a>(alloc: Global, name: &'a str, value: &'a str, help: &'a str) -> Arg<'a>
     ensures rule { rule_of result ≡ number_option name.entry.now }
     ensures alone { result.global ≡ false }
+    ensures value { items_of result.val_names ≡ value.entry ∷ [] }
     ensures help { result.help ≡ Some help.entry }
 {
     text(alloc, name, value, help).value_parser(clap::value_parser!(u64))

@@ -1,11 +1,11 @@
 //! The options of `pack`: how help shows them, and the words that were given.
-ghost use Rattle.std.specs.Prelude.{◌≡◌, ◌∷◌, [], codes, false, map, option_map, IfOk, OnErr, length, ◌<◌};
+ghost use Rattle.std.specs.Prelude.{◌≡◌, ◌∷◌, [], Some, codes, false, map, option_map, IfOk, OnErr, length, ◌<◌};
 ghost use Rattle.clap.specs.Words.{first_value, found_of, rule_of};
 ghost use Rattle.command_line.specs.Options.{GetsOptions, entries, flagged, ladder_options, text_option};
 ghost use Rattle.command_line.specs.Words.{ArePoolWords, IsFlagOf, text_of, texts_of};
 
 use crate::options::{
-    NUMBERS, NumberOption, given_number, needed_text, text, with_forms, with_numbers,
+    NUMBERS, NumberOption, flag, given_number, needed, needed_text, text, with_forms, with_numbers,
 };
 use clap::{Arg, ArgAction, ArgMatches, Command};
 use commands::{LadderWords, PoolWords};
@@ -16,7 +16,7 @@ pub fn with_ladder<'a>(alloc: Global, command: Command<'a>) -> Result<Command<'a
     ensures { IfOk result (λ made. GetsOptions command.entry ladder_options made) }
 {
     let out = "The folder that the files are written to, which has to be there";
-    let command = command.arg(text(alloc, "out", "DIR", out).required(true))?;
+    let command = command.arg(needed(alloc, "out", "DIR", out))?;
     let command = with_flags(alloc, command, &FOLDER)?;
     let command = with_metrics(alloc, command)?;
     let command = with_numbers(alloc, command, &POOL)?;
@@ -48,12 +48,10 @@ const FOLDER: [FlagOption; 3] = [
 fn flag_from<'a>(alloc: Global, option: FlagOption) -> Arg<'a>
     ensures rule { rule_of result ≡ flagged option.entry }
     ensures alone { result.global ≡ false }
+    ensures help { result.help ≡ Some option.entry.1 }
 {
     let (name, help) = option;
-    Arg::new(alloc, name)
-        .long(name)
-        .action(ArgAction::SetTrue)
-        .help(help)
+    flag(alloc, name, help)
 }
 
 /// The command with options without values.

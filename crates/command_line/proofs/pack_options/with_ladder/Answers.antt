@@ -1,7 +1,6 @@
-use Rattle.std.proofs.Common.{◌≡◌, ◌∙◌, ap, ◌∷◌, [], ◌++◌, codes, false, List}
+use Rattle.std.proofs.Common.{◌∷◌, [], ◌++◌, codes, List}
 use Rattle.std.proofs.lemmas.Result.{IfOk-weaker}
-use Rattle.clap.specs.declared.builder.arg.Arg.{Arg}
-use Rattle.clap.specs.Words.{Rule, rule_of}
+use Rattle.clap.specs.Words.{Rule}
 use Rattle.command_line.specs.Options.{entries, folder_options, form_options, needed, packing_options, pool_options, text_option}
 use Rattle.command_line.proofs.Adding.{gets-both, gets-more, gets-none}
 use Rattle.command_line.proofs.pack_options.with_ladder.Goals as goal
@@ -9,11 +8,9 @@ use Rattle.command_line.proofs.pack_options.with_ladder.Goals as goal
 pub returns : goal.returns
 returns c =
     let command = c.args.command in
-    let out : rule_of c.required.result ≡ needed (text_option (codes "out")) = ap rule_of c.required.ensures ∙ ap needed c.text.ensures.rule in
-    let alone : c.required.result.global ≡ false = ap (λ (a : Arg). a.global) c.required.ensures ∙ c.text.ensures.alone in
     let folder : List Rule = needed (text_option (codes "out")) ∷ [] in
     let flags : List Rule = needed (text_option (codes "out")) ∷ folder_options in
-    let first = gets-more command _ _ _ _ _ (gets-none command) c.in_ok-command.ensures alone out in
+    let first = gets-more command _ _ _ _ _ (gets-none command) c.in_ok-command.ensures c.needed.ensures.alone c.needed.ensures.rule in
     let second = gets-both command _ _ folder folder_options first c.in_ok-command-2.ensures.ok in
     let watched : List Rule = flags ++ text_option (codes "metrics") ∷ [] in
     let third = gets-both command _ _ flags (text_option (codes "metrics") ∷ []) second c.in_ok-command-3.ensures in
