@@ -1,6 +1,6 @@
 //! Segments that were removed are counted, for whoever watches a run.
 
-ghost use Rattle.std.specs.Prelude.{◌≡◌, ◌+◌, ◌<◌, ◌^◌, ◌∷◌, [], OnErr, OnOk};
+ghost use Rattle.std.specs.Prelude.{◌≡◌, ℕ, ◌+◌, ◌<◌, ◌^◌, ◌∷◌, [], OnErr, OnOk};
 ghost use Rattle.item_io.specs.Items.{item_value};
 ghost use Rattle.item_io.specs.Outlets.{BreaksOff, Grows};
 ghost use Rattle.keeping.specs.Keepings.{removed_of};
@@ -13,20 +13,24 @@ use std::marker::Model;
 
 /// Who is told how many segments were removed. What a run does doesn't depend on it.
 pub trait Tally {
+    /// It was told that so many were removed.
+    ghost was_removed: { Self → ℕ → Type 0 } = { λ _ _. Unit {0} };
+
     /// So many were removed by now, of all renditions together.
-    fn removed(&self, segments: u128);
+    fn removed(&self, segments: u128)
+        ensures { was_removed self.now segments };
 }
 
 /// An outlet that tells at first and behind each item how many segments were removed. Clauses see the outlet alone; what it holds says
-/// also with which renditions it began. What was told last is always how many were removed by then.
+/// also with which renditions it began. How many were removed by then was always told.
 #[derive(Drop)]
-pub struct Tallied<'t, F, T> {
+pub struct Tallied<'t, F, T: Tally> {
     outlet: KeepingOutlet<F>,
     tally: &'t T,
     told: u128,
 }
 
-impl<'t, F, T> Model for Tallied<'t, F, T> {
+impl<'t, F, T: Tally> Model for Tallied<'t, F, T> {
     ghost use Rattle.std.specs.Prelude.{◌≡◌};
     ghost use Rattle.keeping.specs.Holding.{KeepingState};
     ghost use Rattle.keeping.specs.Keepings.{removed_of};
@@ -35,7 +39,7 @@ impl<'t, F, T> Model for Tallied<'t, F, T> {
 
     ghost view = { λ o. o.outlet };
 
-    ghost invariant = { λ o. o.told ≡ removed_of o.outlet.renditions };
+    ghost invariant = { λ o. (o.told ≡ removed_of o.outlet.renditions) × T.was_removed o.tally.now o.told };
 }
 
 impl<'t, F: Folder, T: Tally> Tallied<'t, F, T> {
@@ -84,7 +88,8 @@ impl<F: Folder, T: Tally> Outlet for Tallied<'_, F, T> {
 
 /// Tells how many segments an outlet removed, and answers it.
 fn tell<F: Folder, T: Tally>(outlet: &KeepingOutlet<F>, tally: &T) -> u128
-    ensures { result ≡ removed_of outlet.now.renditions }
+    ensures is { result ≡ removed_of outlet.now.renditions }
+    ensures told { T.was_removed tally.now result }
 {
     let removed = outlet.removed();
     tally.removed(removed);
