@@ -1,4 +1,5 @@
 mod Ending
+mod Lines
 mod Naming
 mod Opened
 mod Slashes

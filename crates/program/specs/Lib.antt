@@ -3,6 +3,7 @@ pub mod Channels
 pub mod Faulted
 pub mod LadderEnds
 pub mod LadderRuns
+pub mod Lines
 pub mod Metered
 pub mod PartPaths
 pub mod Streaming

@@ -1,7 +1,9 @@
 ghost use Rattle.std.specs.Prelude.{OnErr, ◌≡◌, ◌⊎◌, ◌*◌, ◌<◌, ◌↔◌, [], All, Any, IfErr};
-ghost use Rattle.std.specs.Prelude.{IfOk, IfSome, IsErrOf, IsOk, IsSome, OnOk, false, length, map, option_map, true};
+ghost use Rattle.std.specs.Prelude.{IfOk, IfSome, IsErrOf, IsOk, IsSome, OnOk, false, length, map, option_map, replicate, true};
 ghost use Rattle.std.specs.List.{range_with_len};
 ghost use Rattle.std.specs.Duration.{as_nanos};
+ghost use Rattle.std.specs.String.{string_bytes};
+ghost use Rattle.live_board.specs.Counts.{counts_shown};
 ghost use Rattle.folder.specs.FileFolders.{file_moves, folder_path, may_sync};
 ghost use Rattle.channel.specs.Resuming.{IsNotResumed, IsResumed};
 ghost use Rattle.channel.specs.Views.{folder_view};
@@ -24,7 +26,7 @@ use commands::{LadderOptions, LadderPackingFault, Pool};
 use folder::{FileFolder, Folder, FolderReader};
 use item_io::FolderOutlet;
 use keeping::KeepingOutlet;
-use live_board::Publisher;
+use live_board::{BoardFault, Publisher};
 use packing::{Destination, PackedLadder, pack_into_folder};
 use pipeline::{Herald, Report, opening_board};
 use read_ahead::{Ahead, InputAt, InputFiles, InputsView, Limits, open_paths};
@@ -54,6 +56,9 @@ pub fn begin_channel<'a, R: Files + AllocGlobal + Clone + Copy + Drop>(
     ensures none { job.entry.resumes ≡ false → IsOk result }
     ensures resumed { job.entry.resumes ≡ true → IfOk result (λ channel. GoesOn R job.entry channel.job (map (λ n. n.items) channel.older.items)) }
     ensures refused { IfErr result (λ fault. (fault ≡ NoMemory) ⊎ GoesNotOn R job.entry fault) }
+
+    // Memory alone is wanted for the folder's path.
+    ensures scarce { IsErrOf result NoMemory → 0 < length job.entry.folder.now }
 {
     if !job.resumes {
         let older = Vec::new(alloc);
@@ -175,13 +180,10 @@ where
     let Inputs { sources, view } = open_inputs(rt, alloc, &job.options)?;
     let into = destination(rt, alloc, job)?;
     let kept = keepings(alloc, settings, &older)?;
-    let (publisher, viewers) = opening_board(&rt, alloc, settings.renditions.len(), 1)?;
-    let watched = Watched {
-        viewers,
-        inputs: view,
-        told,
-    };
-    let watching = Watching::begin(rt, alloc, &settings.renditions, job.metrics, watched);
+    let Board {
+        publisher,
+        watching,
+    } = open_board(rt, alloc, job, view, told)?;
     if job.removes {
         let PackedLadder {
             sources,
@@ -211,6 +213,40 @@ where
         sources,
         outlet: LadderOutlet::Whole(outlet),
         answer: ended,
+    })
+}
+
+/// The board of a ladder, and what watches it, if that was asked for.
+struct Board {
+    publisher: Publisher,
+    watching: Option<Watching>,
+}
+
+/// Opens the board of a ladder that is about to begin: it has a place for each rendition, and shows no segment.
+fn open_board<R: Files + Clock + Eprint + Threads + Wait + Copy + Send + Drop + 'static>(
+    rt: R,
+    alloc: Global,
+    job: &LadderJob<'_>,
+    inputs: Option<InputsView>,
+    told: Arc<Tellings>,
+) -> Result<Board, BoardFault>
+where
+    R::File: Send + 'static,
+    R::Dir: Send + 'static,
+    ensures none { IfOk result (λ board. counts_shown board.publisher.list ≡ replicate (length job.now.options.settings.renditions) 0) }
+    ensures asked { IfOk result (λ board. IfSome board.watching (λ w. IsSome job.now.metrics)) }
+{
+    let renditions = &job.options.settings.renditions;
+    let (publisher, viewers) = opening_board(&rt, alloc, renditions.len(), 1)?;
+    let watched = Watched {
+        viewers,
+        inputs,
+        told,
+    };
+    let watching = Watching::begin(rt, alloc, renditions, job.metrics, watched);
+    Ok(Board {
+        publisher,
+        watching,
     })
 }
 
@@ -312,6 +348,7 @@ fn destination<R: Copy>(
     ensures fresh { IfOk result (λ into. file_moves into.folder ≡ []) }
     ensures syncs { IfOk result (λ into. into.syncs ≡ job.now.syncs) }
     ensures folder { IfOk result (λ into. (folder_path into.folder ≡ job.now.folder.now) × (may_sync into.folder ≡ job.now.syncs)) }
+    ensures scarce { OnErr result (0 < length job.now.folder.now) }
 {
     Ok(Destination {
         folder: folder_of(rt, alloc, job)?,
@@ -328,10 +365,21 @@ fn folder_of<R: Copy>(
     ensures fresh { IfOk result (λ folder. file_moves folder ≡ []) }
     ensures path { IfOk result (λ folder. folder_path folder ≡ job.now.folder.now) }
     ensures syncs { IfOk result (λ folder. may_sync folder ≡ job.now.syncs) }
+    ensures scarce { OnErr result (0 < length job.now.folder.now) }
 {
-    let path = String::from_str(alloc, job.folder)?;
+    let path = path_of(alloc, job.folder)?;
     if job.syncs {
         return Ok(FileFolder::new_synced(rt, alloc, path));
     }
     Ok(FileFolder::new(rt, alloc, path))
+}
+
+/// A path of its own.
+fn path_of(alloc: Global, path: &str) -> Result<String, AllocError>
+    ensures ok { IfOk result (λ own. string_bytes own ≡ path.now) }
+    ensures scarce { OnErr result (0 < length path.now) }
+{
+    let mut own = String::new(alloc);
+    own.push_str(path)?;
+    Ok(own)
 }

@@ -1,31 +1,33 @@
 //! What the program does, whatever processor it's built for.
 #![tactic(auto)]
 
-ghost use Rattle.std.specs.Prelude.{◌≡◌, ◌≢◌, Err, IfErr, IsErrOf, Ok, OnOk, false, true};
+ghost use Rattle.std.specs.Prelude.{◌≡◌, ◌≢◌, Err, IfErr, IsErrOf, Ok, OnErr, OnOk, false, true};
 ghost use Rattle.std.specs.IoError.{error_kind};
 ghost use Rattle.std.specs.Process.{exit_status};
 ghost use Rattle.std.specs.declared.io.ErrorKind.TheVariants.{OutOfMemory};
 ghost use Rattle.std.specs.declared.fs.locks.TryLockError.TheVariants.{WouldBlock};
 ghost use Rattle.command_line.specs.Faults.{status_of};
 ghost use Rattle.command_line.specs.declared.fault.Fault.TheVariants.{Busy, NoMemory, NotUtf8};
+ghost use Rattle.program.specs.Lines.{PackEnds};
 
 mod ladder;
 mod metrics_file;
+mod obeying;
 mod streaming;
 mod telling;
 mod told;
 mod watching;
 
 use crate::ladder::{Channel, LadderRun, begin_channel, pack_ladder};
-use crate::streaming::{Streamed, stream};
+use crate::obeying::{Line, obey};
 use crate::telling::{Teller, tell};
 use crate::told::Tellings;
 pub use crate::told::each_has_a_place;
-use command_line::{Fault, Job, LadderJob, line, version};
+use command_line::{Fault, LadderJob, line, version};
 use read_ahead::InputFiles;
 use std::alloc::{AllocError, AllocGlobal, Global};
 use std::fs::{File, Files, TryLockError};
-use std::io::Eprint;
+use std::io::{Eprint, Write};
 use std::process::ExitCode;
 use std::sync::{Arc, Wait};
 use std::thread::Threads;
@@ -63,11 +65,13 @@ fn pack<
         + Sync
         + Drop
         + 'static,
->(rt: R, host: &HostRuntime, words: &[String], job: LadderJob<'_>) -> ExitCode
+    W: Write,
+>(rt: R, host: &HostRuntime, words: &[String], job: LadderJob<'_>, output: &mut W) -> ExitCode
 where
     R::Reader: Send + 'static,
     R::File: Send + 'static,
     R::Dir: Send + 'static,
+    ensures { PackEnds R (R.holds rt) job.entry (W.contents output.old) (W.contents output.new) (exit_status result) }
 {
     let _held = match hold(host, job.folder) {
         Ok(held) => held,
@@ -81,18 +85,16 @@ where
         return ended(host, words, Err(Fault::NoMemory));
     };
     let teller = Teller::new(rt, *host, words, &job.options.settings, theirs);
-    let into = &mut host.stdout();
-    let answer = match pack_ladder(rt, host.alloc(), &job, older, into, &teller, told) {
+    match pack_ladder(rt, host.alloc(), &job, older, output, &teller, told) {
         Ok(
             LadderRun {
                 sources: _,
                 outlet: _,
                 answer,
             },
-        ) => answer,
-        Err(fault) => Err(fault),
-    };
-    end_of(host, words, &teller, answer)
+        ) => end_of(host, words, &teller, answer),
+        Err(fault) => end_of(host, words, &teller, Err(fault)),
+    }
 }
 
 /// Tells how a ladder ends: a fault that was told as it stood isn't told once more.
@@ -139,7 +141,9 @@ fn ended(rt: &HostRuntime, words: &[String], answer: Result<(), Fault>) -> ExitC
 
 /// Takes the lock on a folder, so that one packager alone changes it. None where it can't be opened or locked: what is to be
 /// told of that is told where the first file is put.
-fn hold(rt: &HostRuntime, folder: &str) -> Result<Option<File>, Fault> {
+fn hold(rt: &HostRuntime, folder: &str) -> Result<Option<File>, Fault>
+    ensures { OnErr result (result ≡ Err Busy) }
+{
     let Ok(held) = File::open(rt, folder) else {
         return Ok(None);
     };
@@ -190,19 +194,9 @@ where
     let Ok(version) = version(host.alloc(), processor) else {
         return ended(&host, words.as_slice(), Err(Fault::NoMemory));
     };
-    let answer = match line(host.alloc(), &host, words.as_slice(), version.as_str()) {
-        Ok(Job::Stream(job)) => {
-            let Streamed { answer, .. } = stream(
-                host.alloc(),
-                &host,
-                host.stdin(),
-                host.stdout(),
-                job,
-            );
-            answer
-        }
-        Ok(Job::Ladder(job)) => return pack(rt, &host, words.as_slice(), job),
-        Err(fault) => Err(fault),
+    let asked = Line {
+        words: words.as_slice(),
+        job: line(host.alloc(), &host, words.as_slice(), version.as_str()),
     };
-    ended(&host, words.as_slice(), answer)
+    obey(rt, &host, &host, asked, host.stdin(), host.stdout()).status
 }

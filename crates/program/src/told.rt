@@ -1,5 +1,5 @@
 //! What a run tells of itself while it goes on.
-ghost use Rattle.std.specs.Prelude.{◌≡◌, ◌≤◌, ◌++◌, ◌∷◌, All, Contains, IsSome, List, None, Option, Some, length};
+ghost use Rattle.std.specs.Prelude.{◌≡◌, ◌≤◌, ◌++◌, ◌∷◌, All, Contains, IsSome, List, None, Option, Some, length, replicate};
 ghost use Rattle.ladder_items.specs.Ladder.{IsAllowed, Ladder};
 ghost use Rattle.ladder_items.specs.declared.fault.PackFault.{PackFault};
 
@@ -25,6 +25,21 @@ pub struct Told {
     pub removed: u128,
 }
 
+impl Told {
+    /// Nothing was told yet.
+    fn nothing() -> Told
+        ensures faults { result.faults ≡ replicate RENDITIONS None }
+        ensures completed { result.completed ≡ 0 }
+        ensures removed { result.removed ≡ 0 }
+    {
+        Told {
+            faults: [None; RENDITIONS],
+            completed: 0,
+            removed: 0,
+        }
+    }
+}
+
 /// What was told so far, for several threads.
 #[derive(Drop)]
 pub struct Tellings {
@@ -35,11 +50,7 @@ impl Tellings {
     /// Nothing was told yet.
     pub fn new() -> Tellings {
         Tellings {
-            told: Mutex::new(Told {
-                faults: [None; RENDITIONS],
-                completed: 0,
-                removed: 0,
-            }),
+            told: Mutex::new(Told::nothing()),
         }
     }
 

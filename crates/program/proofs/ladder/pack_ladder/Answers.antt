@@ -1,14 +1,10 @@
-use Rattle.std.proofs.Common.{◌≡◌, ◌∙◌, ℕ, refl, ap, arith}
-use Rattle.std.specs.Prelude.{length, replicate}
-use Rattle.ladder_items.specs.Ladder.{Ladder}
+use Rattle.std.proofs.Common.{refl, arith}
 use Rattle.program.proofs.Ending.{told-fault, told-on, told-well, told-why}
 use Rattle.program.proofs.ladder.pack_ladder.Goals as goal
 
 pub returns-then-job : goal.returns-then-job
 returns-then-job g c =
     let p = c.pack_and_remove-sources.ensures in
-    let all : c.len.result ≡ length c.args.job.now.options.settings.renditions =
-    omega (arith, c.len.ensures, ap (λ (s : Ladder). length s.renditions) c.settings.view_is) in
     let e = c.end_run-ended in
     record {
       written = told-well _ c.pack_and_remove-sources.result.answer e.result e.ensures.fault p.written;
@@ -30,9 +26,9 @@ returns-then-job g c =
         unlisted = told-on _ c.pack_and_remove-sources.result.answer e.result e.ensures.fault p.unlisted;
         cleared = told-on _ c.pack_and_remove-sources.result.answer e.result e.ensures.fault p.cleared;
         ends = record {
-          old = c.in_ok-publisher.publisher.list;
+          old = c.in_ok-publisher.field-0.publisher.list;
           new = _;
-          first = c.in_ok-publisher.ensures.none ∙ ap (λ (n : ℕ). replicate {A = ℕ} n 0) all;
+          first = c.in_ok-publisher.ensures.none;
           ok = told-well _ c.pack_and_remove-sources.result.answer e.result e.ensures.fault p.ok;
           fault = told-why _ c.pack_and_remove-sources.result.answer e.result e.ensures.well e.ensures.fault p.fault;
         };
@@ -48,8 +44,6 @@ pack_into_folder-sources-requires-clause-room g c κs within = λ k d lt.
 pub returns : goal.returns
 returns g c =
     let p = c.pack_into_folder-sources.ensures in
-    let all : c.len.result ≡ length c.args.job.now.options.settings.renditions =
-    omega (arith, c.len.ensures, ap (λ (s : Ladder). length s.renditions) c.settings.view_is) in
     let e = c.end_run-ended-2 in
     record {
       written = told-well _ c.pack_into_folder-sources.result.answer e.result e.ensures.fault p.written;
@@ -64,9 +58,9 @@ returns g c =
         is = refl;
         leaves = p.playable;
         ends = record {
-          old = c.in_ok-publisher.publisher.list;
+          old = c.in_ok-publisher.field-0.publisher.list;
           new = _;
-          first = c.in_ok-publisher.ensures.none ∙ ap (λ (n : ℕ). replicate {A = ℕ} n 0) all;
+          first = c.in_ok-publisher.ensures.none;
           ok = told-well _ c.pack_into_folder-sources.result.answer e.result e.ensures.fault p.ok;
           fault = told-why _ c.pack_into_folder-sources.result.answer e.result e.ensures.well e.ensures.fault p.fault;
         };
