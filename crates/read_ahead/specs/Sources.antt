@@ -1,14 +1,16 @@
 -- Sources that read ahead.
-use Rattle.std.specs.Prelude.{◌≡◌, ◌≢◌, ◌⊎◌, ℕ, zero, suc, ◌-◌, ◌<◌, ◌≤◌, Bool, true, false, List, [], ◌∷◌, ◌++◌, length, drop, max, Option, Some, None, slice_index_or}
+use Rattle.std.specs.Prelude.{◌≡◌, ◌≢◌, ◌⊎◌, ℕ, zero, suc, ◌+◌, ◌-◌, ◌<◌, ◌≤◌, Bool, true, false, List, [], ◌∷◌, ◌++◌, length, drop, max, Option, Some, None, slice_index_or}
 use Rattle.std.specs.Time.{instant_nanos}
 use Rattle.std.specs.declared.time.Duration.{Duration}
 use Rattle.std.specs.declared.time.Instant.{Instant}
 use Rattle.std.specs.Io.KnownBytes.{IsAtEnd, prepend_known}
+use Rattle.item_io.specs.Views.{SourceView, source_view}
 use Rattle.rtrb.specs.Ring.{known_items, received}
 use Rattle.std.specs.Arc.{arc_value}
 use Rattle.read_ahead.specs.Messages.{untold}
 use Rattle.read_ahead.specs.Shares.{backlog_of}
 use Rattle.read_ahead.specs.declared.backlog.Backlog.{Backlog}
+use Rattle.read_ahead.specs.declared.backlogs.Backlogs.{Backlogs}
 use Rattle.read_ahead.specs.declared.view.InputsView.{InputsView}
 use Rattle.read_ahead.specs.declared.incoming.Incoming.{Incoming}
 use Rattle.read_ahead.specs.declared.incoming.Phase.{Phase}
@@ -49,6 +51,37 @@ pub record Seen : Type 0 where
   pub stall : Option Duration
   pub room : ℕ
   pub inputs : ℕ
+
+-- an input that is read ahead, as a run sees it
+abbrev pub ahead_input : SourceView Seen
+ahead_input = source_view (λ s. s.left) (λ s. s.reads) (λ s. s.failures) (λ s. s.is_left)
+
+-- what callers see of a source that wasn't read yet: of an input of this number that has these bytes
+abbrev pub new_seen : Backlogs → ℕ → Option (List ℕ) → Seen
+new_seen backlogs number left = record {
+  left = left;
+  reads = 0;
+  failures = 0;
+  is_left = false;
+  number = number;
+  stall = backlogs.stall;
+  room = backlogs.room;
+  inputs = length backlogs.taken.items;
+}
+
+-- of inputs that have these bytes, from this number on
+abbrev pub all_seen : Backlogs → ℕ → List (Option (List ℕ)) → List Seen
+all_seen backlogs number [] = []
+all_seen backlogs number (left ∷ rest) = new_seen backlogs number left ∷ all_seen backlogs (number + 1) rest
+
+-- of what comes of this input
+abbrev pub seen_first : {I : Type 0} → (I → Option (List ℕ)) → Incoming I → Seen
+seen_first holds i = new_seen (arc_value i.backlogs) i.number (rest_of holds i)
+
+-- a run may begin with the input: it is open, or opening it may wait for a writer
+pub record MayBegin {I : Type 0} (i : Incoming I) : Type 0 where
+  pub stands : i.phase ≢ Failed
+  pub waits : i.phase ≡ Opening → i.may_wait ≡ true
 
 -- how an input stands that was being opened, by what was told next
 abbrev pub opened_by : {I : Type 0} → Message I → Phase

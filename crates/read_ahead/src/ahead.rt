@@ -1,8 +1,6 @@
 ghost use Rattle.std.specs.Prelude.{◌≡◌, IfOk, false, length, true};
 ghost use Rattle.std.specs.Arc.{arc_value};
-ghost use Rattle.item_io.specs.Views.{source_view};
-ghost use Rattle.read_ahead.specs.Sources.{IsSound, inputs_of, rest_of};
-ghost use Rattle.read_ahead.specs.declared.incoming.Phase.TheVariants.{Opening};
+ghost use Rattle.read_ahead.specs.Sources.{IsSound, MayBegin, ahead_input, inputs_of, seen_first};
 
 use crate::incoming::Incoming;
 use crate::input::Contents;
@@ -46,18 +44,11 @@ impl<R: Wait, I: Contents> Model for Ahead<R, I> {
 }
 
 impl<R: Wait + Clock, I: Contents> Ahead<R, I> {
-    /// The source of what comes of an input that is being opened.
+    /// The source of what comes of an input with which a run may begin.
     pub(crate) fn new(rt: R, incoming: Incoming<I>) -> Ahead<R, I>
         requires sound { IsSound I.holds incoming }
-        requires opening { incoming.phase ≡ Opening }
-        ensures left { result.left ≡ rest_of I.holds incoming }
-        ensures reads { result.reads ≡ 0 }
-        ensures failures { result.failures ≡ 0 }
-        ensures unleft { result.is_left ≡ false }
-        ensures number { result.number ≡ incoming.number }
-        ensures stall { result.stall ≡ (arc_value incoming.backlogs).stall }
-        ensures room { result.room ≡ (arc_value incoming.backlogs).room }
-        ensures inputs { result.inputs ≡ length (arc_value incoming.backlogs).taken.items }
+        requires begun { MayBegin incoming }
+        ensures { result ≡ seen_first I.holds incoming }
     {
         Ahead {
             rt,
@@ -68,20 +59,12 @@ impl<R: Wait + Clock, I: Contents> Ahead<R, I> {
         }
     }
 
-    /// Whether it can be begun with the input: false where that can't be opened, none while that isn't known. An input that may
-    /// wait for a writer `was_awaited` long enough. No clause says which.
-    pub fn is_open(&mut self, was_awaited: bool) -> Option<bool>
-        ensures { self.new ≡ self.old }
-    {
-        self.incoming.is_open(&self.rt, was_awaited)
-    }
-
     /// Whether a byte lies ready, or the end, or a failure, of a source that wasn't left.
     fn would_answer(&mut self) -> bool
         ensures same { self.new ≡ self.old }
         ensures left { self.old.is_left ≡ true → result ≡ false }
     {
-        let _ = self.is_open(true);
+        let _ = self.incoming.is_open(&self.rt, true);
         let number = self.incoming.number;
         if self.is_left || self.incoming.backlogs.is_left(&self.rt, number) {
             return false;
@@ -110,7 +93,7 @@ impl<R: Wait + Clock, I: Contents> Ahead<R, I> {
 }
 
 impl<R: Wait + Clock + Copy, I: Contents> Source for Ahead<R, I> {
-    ghost input = { source_view (λ s. s.left) (λ s. s.reads) (λ s. s.failures) (λ s. s.is_left) };
+    ghost input = { ahead_input };
 
     ghost tells = { λ _. true };
 

@@ -81,6 +81,7 @@ impl<I: Contents> Incoming<I> {
         ensures sound { IsSound I.holds self.new }
         ensures number { self.new.number ≡ self.old.number }
         ensures backlogs { self.new.backlogs ≡ self.old.backlogs }
+        ensures may_wait { self.new.may_wait ≡ self.old.may_wait }
         ensures same { rest_of I.holds self.new ≡ rest_of I.holds self.old }
         ensures kept { self.old.phase ≢ Opening → self.new.phase ≡ self.old.phase }
         ensures stands { self.old.phase ≡ Opening → ((received self.new.consumer ≡ received self.old.consumer) × (self.new.phase ≡ Opening))
@@ -124,6 +125,7 @@ impl<I: Contents> Incoming<I> {
         ensures sound { IsSound I.holds self.new }
         ensures number { self.new.number ≡ self.old.number }
         ensures backlogs { self.new.backlogs ≡ self.old.backlogs }
+        ensures may_wait { self.new.may_wait ≡ self.old.may_wait }
         ensures same { rest_of I.holds self.new ≡ rest_of I.holds self.old }
         ensures phase { self.new.phase ≡ Failed }
         ensures told { received self.new.consumer ≡ received self.old.consumer }
@@ -138,6 +140,7 @@ impl<I: Contents> Incoming<I> {
         ensures sound { IsSound I.holds self.new }
         ensures number { self.new.number ≡ self.old.number }
         ensures backlogs { self.new.backlogs ≡ self.old.backlogs }
+        ensures may_wait { self.new.may_wait ≡ self.old.may_wait }
         ensures same { rest_of I.holds self.new ≡ rest_of I.holds self.old }
         ensures phase { self.new.phase ≢ Opening }
         ensures stands { StandsBy opened_by (received self.old.consumer) (received self.new.consumer) self.new.phase }

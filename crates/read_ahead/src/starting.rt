@@ -1,11 +1,13 @@
 //! A thread for each input, and the sources of what they read.
-ghost use Rattle.std.specs.Prelude.{◌≡◌, ◌<◌, [], All, Err, Ok, false, map, length, true, IfOk, IsErrOf, IsOk};
+ghost use Rattle.std.specs.Prelude.{◌≡◌, ◌<◌, [], All, false, map, length, IfOk, IsErrOf, IsOk, OnErr};
 ghost use Rattle.std.specs.Arc.{arc_value};
 ghost use Rattle.std.specs.List.{range_with_len};
 ghost use Rattle.std.specs.String.{string_bytes};
 ghost use Rattle.rtrb.specs.Ring.{received, sent};
 ghost use Rattle.read_ahead.specs.Messages.{Asks};
 ghost use Rattle.read_ahead.specs.Shares.{room_for};
+ghost use Rattle.read_ahead.specs.Sources.{IsSound, MayBegin, all_seen, rest_of, seen_first};
+ghost use Rattle.read_ahead.specs.declared.incoming.Phase.TheVariants.{Opening};
 ghost use Rattle.read_ahead.specs.declared.starting.InputFault.TheVariants.{NoMemory, Unread};
 
 use crate::ahead::Ahead;
@@ -89,23 +91,34 @@ where
     ensures none { IsErrOf result InputFault.Unread → 0 < length inputs.items }
 {
     let backlogs = Backlogs::new(&rt, alloc, inputs.len(), limits)?;
-    let mut sources = start_all(rt, alloc, &backlogs, inputs)?;
-    let are_open = wait_open(&rt, &backlogs, &mut sources);
-    begun(sources, are_open)
+    let sources = Vec::with_capacity(alloc, inputs.len())?;
+    let mut incoming = start_all(rt, alloc, &backlogs, inputs)?;
+    if !wait_open(&rt, &backlogs, &mut incoming) {
+        return Err(InputFault::Unread);
+    }
+    Ok(sources_of(rt, sources, incoming)?)
 }
 
-/// Sources that are all open; Unread where one can't be opened.
-fn begun<T: Drop>(sources: T, are_open: bool) -> Result<T, InputFault>
-    ensures open { are_open ≡ true → result ≡ Ok sources }
-    ensures unread { are_open ≡ false → result ≡ Err Unread }
+/// The sources of inputs with which a run may begin, in a vector that has room for them.
+fn sources_of<R: Wait + Clock + Copy + Drop, I: Contents + Drop>(
+    rt: R,
+    room: Vec<Ahead<R, I>>,
+    incoming: Vec<Incoming<I>>,
+) -> Result<Vec<Ahead<R, I>>, AllocError>
+    requires empty { room.items ≡ [] }
+    requires sound { All (IsSound I.holds) incoming.items }
+    requires begun { All MayBegin incoming.items }
+    ensures ok { IfOk result (λ sources. sources.items ≡ map (seen_first I.holds) incoming.items) }
+    ensures scarce { OnErr result (0 < length incoming.items) }
 {
-    if !are_open {
-        return Err(InputFault::Unread);
+    let mut sources = room;
+    for one in incoming {
+        sources.push(Ahead::new(rt, one))?;
     }
     Ok(sources)
 }
 
-/// Starts a thread for each input, and answers their sources.
+/// Starts a thread for each input, and answers what comes of them.
 fn start_all<
     R: Threads + Wait + Clock + Copy + Send + Drop + 'static,
     I: Input + Drop + Send + 'static,
@@ -114,44 +127,36 @@ fn start_all<
     alloc: Global,
     backlogs: &Arc<Backlogs, Global>,
     inputs: Vec<I>,
-) -> Result<Vec<Ahead<R, I>>, AllocError>
+) -> Result<Vec<Incoming<I>>, AllocError>
 where
     I::Reader: Send + 'static,
-    ensures left { IfOk result (λ sources. map (λ source. source.left) sources.items ≡ map I.holds inputs.items) }
-    ensures unread { IfOk result (λ sources. All (λ source. (source.reads ≡ 0) × (source.failures ≡ 0)) sources.items) }
-    ensures unleft { IfOk result (λ sources. All (λ source. source.is_left ≡ false) sources.items) }
-    ensures numbers { IfOk result (λ sources. map (λ source. source.number) sources.items ≡ range_with_len 0 (length inputs.items)) }
-    ensures limits { IfOk result (λ sources.
-        All (λ source. (source.stall ≡ (arc_value backlogs.now).stall) × (source.room ≡ (arc_value backlogs.now).room)) sources.items) }
-    ensures inputs { IfOk result (λ sources. All (λ source. source.inputs ≡ length (arc_value backlogs.now).taken.items) sources.items) }
+    ensures sound { IfOk result (λ incoming. All (IsSound I.holds) incoming.items) }
+    ensures seen { IfOk result (λ incoming. map (seen_first I.holds) incoming.items ≡ all_seen (arc_value backlogs.now) 0 (map I.holds inputs.items)) }
     ensures none { inputs.items ≡ [] → IsOk result }
 {
-    let mut sources = Vec::with_capacity(alloc, inputs.len())?;
+    let mut incoming = Vec::with_capacity(alloc, inputs.len())?;
     for input in inputs {
-        let number = sources.len();
-        sources.push(start(rt, alloc, backlogs, number, input)?)?;
+        let number = incoming.len();
+        incoming.push(start(rt, alloc, backlogs, number, input)?)?;
     }
-    Ok(sources)
+    Ok(incoming)
 }
 
-/// Starts a thread that opens an input and reads it ahead, and answers its source.
+/// Starts a thread that opens an input and reads it ahead, and answers what comes of it.
 fn start<R: Threads + Wait + Clock + Copy + Send + 'static, I: Input + Drop + Send + 'static>(
     rt: R,
     alloc: Global,
     backlogs: &Arc<Backlogs, Global>,
     number: usize,
     input: I,
-) -> Result<Ahead<R, I>, AllocError>
+) -> Result<Incoming<I>, AllocError>
 where
     I::Reader: Send + 'static,
-    ensures left { IfOk result (λ source. source.left ≡ I.holds input) }
-    ensures reads { IfOk result (λ source. source.reads ≡ 0) }
-    ensures failures { IfOk result (λ source. source.failures ≡ 0) }
-    ensures unleft { IfOk result (λ source. source.is_left ≡ false) }
-    ensures number { IfOk result (λ source. source.number ≡ number) }
-    ensures stall { IfOk result (λ source. source.stall ≡ (arc_value backlogs.now).stall) }
-    ensures room { IfOk result (λ source. source.room ≡ (arc_value backlogs.now).room) }
-    ensures inputs { IfOk result (λ source. source.inputs ≡ length (arc_value backlogs.now).taken.items) }
+    ensures sound { IfOk result (IsSound I.holds) }
+    ensures opening { IfOk result (λ incoming. incoming.phase ≡ Opening) }
+    ensures left { IfOk result (λ incoming. rest_of I.holds incoming ≡ I.holds input) }
+    ensures number { IfOk result (λ incoming. incoming.number ≡ number) }
+    ensures backlogs { IfOk result (λ incoming. arc_value incoming.backlogs ≡ arc_value backlogs.now) }
 {
     let may_wait = input.may_wait();
     let (mut producer, mut consumer) = RingBuffer::with_protocol::<Global, InOrder<I>>(
@@ -167,7 +172,7 @@ where
             requires { Asks (sent producer) input }
         { run(&rt, alloc, producer, theirs, number, input) },
     )?;
-    let incoming = Incoming {
+    Ok(Incoming {
         consumer,
         backlogs: Arc::try_clone(backlogs)?,
         number,
@@ -175,8 +180,7 @@ where
         at: 0,
         may_wait,
         phase: Phase::Opening,
-    };
-    Ok(Ahead::new(rt, incoming))
+    })
 }
 
 /// What the thread of an input does. What isn't told of the input is thrown away, so that its writer isn't held up.

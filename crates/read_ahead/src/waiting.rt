@@ -1,8 +1,11 @@
 //! Waiting for several inputs at once.
-ghost use Rattle.std.specs.Prelude.{◌≡◌, ◌<◌, [], Some, length, true};
+ghost use Rattle.std.specs.Prelude.{◌≡◌, ◌<◌, [], All, Any, Some, false, length, map, true};
+ghost use Rattle.read_ahead.specs.Sources.{IsSound, MayBegin, seen_first};
+ghost use Rattle.read_ahead.specs.declared.incoming.Phase.TheVariants.{Failed};
 
 use crate::ahead::Ahead;
 use crate::backlogs::Backlogs;
+use crate::incoming::Incoming;
 use crate::input::Contents;
 use crate::limits::MOMENT;
 use item_io::Source;
@@ -10,20 +13,24 @@ use std::io;
 use std::sync::Wait;
 use std::time::{Clock, Duration, Instant};
 
-/// Waits until all inputs are open, and answers true; false as soon as one can't be opened. Those that may wait for their writers are
-/// waited for a moment.
+/// Waits until a run may begin with all inputs, and answers true; false as soon as one can't be opened. Those that may wait for their
+/// writers are waited for a moment.
 pub fn wait_open<R: Wait + Clock, I: Contents>(
     rt: &R,
     backlogs: &Backlogs,
-    sources: &mut [Ahead<R, I>],
+    inputs: &mut [Incoming<I>],
 ) -> bool
-    ensures ok { sources.new ≡ sources.old }
-    ensures none { sources.old ≡ [] → result ≡ true }
+    requires { All (IsSound I.holds) inputs.old }
+    ensures sound { All (IsSound I.holds) inputs.new }
+    ensures same { map (seen_first I.holds) inputs.new ≡ map (seen_first I.holds) inputs.old }
+    ensures open { result ≡ true → All MayBegin inputs.new }
+    ensures refused { result ≡ false → Any (λ i. i.phase ≡ Failed) inputs.new }
+    ensures none { inputs.old ≡ [] → result ≡ true }
 {
     let begun = Instant::now(rt);
     for _ in rt.forever() {
         let seen = backlogs.news(rt);
-        if let Some(open) = are_open(sources, is_over(rt, &begun)) {
+        if let Some(open) = are_open(rt, inputs, is_over(rt, &begun)) {
             return open;
         }
         backlogs.wait_for(rt, seen, Duration::from_millis(MOMENT));
@@ -42,23 +49,30 @@ fn is_over<R: Clock>(rt: &R, begun: &io::Result<Instant>) -> bool {
     }
 }
 
-/// Whether it can be begun with all inputs: false where one can't be opened, none while that isn't known.
+/// Whether a run may begin with all inputs: false where one can't be opened, none while that isn't known.
 fn are_open<R: Wait + Clock, I: Contents>(
-    sources: &mut [Ahead<R, I>],
+    rt: &R,
+    inputs: &mut [Incoming<I>],
     were_awaited: bool,
 ) -> Option<bool>
-    ensures ok { sources.new ≡ sources.old }
-    ensures none { sources.old ≡ [] → result ≡ Some true }
+    requires { All (IsSound I.holds) inputs.old }
+    ensures sound { All (IsSound I.holds) inputs.new }
+    ensures same { map (seen_first I.holds) inputs.new ≡ map (seen_first I.holds) inputs.old }
+    ensures open { result ≡ Some true → All MayBegin inputs.new }
+    ensures refused { result ≡ Some false → Any (λ i. i.phase ≡ Failed) inputs.new }
+    ensures none { inputs.old ≡ [] → result ≡ Some true }
 {
-    let mut answer = Some(true);
-    for number in 0..sources.len() {
-        match sources[number].is_open(were_awaited) {
-            Some(true) => {}
-            Some(false) => return Some(false),
-            None => answer = None,
+    let mut are_known = true;
+    for number in 0..inputs.len() {
+        let Some(is_open) = inputs[number].is_open(rt, were_awaited) else {
+            are_known = false;
+            continue;
+        };
+        if !is_open {
+            return Some(false);
         }
     }
-    answer
+    are_known.then_some(true)
 }
 
 /// Waits until one of these sources is ready.

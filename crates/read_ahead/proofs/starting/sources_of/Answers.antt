@@ -1,0 +1,19 @@
+use Rattle.std.proofs.Common.{rules, ◌≡◌, ◌∷◌}
+use Rattle.std.specs.Vec.Iter.{into_iter_items}
+use Rattle.std.proofs.lemmas.List.Elements.{All-rest}
+use Rattle.read_ahead.specs.Sources.{IsSound, MayBegin, seen_first}
+use Rattle.read_ahead.proofs.NewSources.{made_on}
+use Rattle.read_ahead.proofs.starting.sources_of.Goals as goal
+
+pub loop-one-preserved : goal.loop-one-preserved
+loop-one-preserved g c =
+    let holds = g.I.Contents.holds in
+    let rest = into_iter_items c.next.new.self in
+    let old = into_iter_items c.loop-one.one-iterator in
+    let steps : old ≡ c.in-Some.one ∷ rest = search rules in
+    record {
+      made = made_on (seen_first holds) c.loop-one.sources.items c.push.new.self.items c.args.incoming.items old rest c.in-Some.one c.new.result c.in_ok-push.ensures.items c.new.ensures steps
+          c.loop-one.invariant.made;
+      sound = All-rest (IsSound holds) c.in-Some.one rest old steps c.loop-one.invariant.sound;
+      begun = All-rest MayBegin c.in-Some.one rest old steps c.loop-one.invariant.begun;
+    }
