@@ -1,11 +1,14 @@
-ghost use Rattle.std.specs.Prelude.{◌≡◌, ◌⊎◌, ◌++◌, ◌∷◌, [], true, false, List, IfOk, IsErr, OnErr, OnOk};
+ghost use Rattle.std.specs.Prelude.{◌≡◌, ◌≢◌, ◌⊎◌, ◌++◌, ◌∷◌, [], true, false, List, IfErr, IfOk, IsErr, IsOk, OnErr, OnOk};
+ghost use Rattle.std.specs.IoError.{error_kind};
 ghost use Rattle.std.specs.Path.{path_buf_bytes, path_join};
 ghost use Rattle.std.specs.String.{string_bytes};
+ghost use Rattle.std.specs.declared.io.ErrorKind.TheVariants.{NotFound};
 ghost use Rattle.folder.specs.FileFolders.{folder_path};
 ghost use Rattle.folder.specs.Kills.{IsFailedWrite};
 ghost use Rattle.folder.specs.Moves.{Looked, Move, Remove, Rename, Sync, Write};
 
 use crate::fault::FolderFault;
+use crate::file_reader::file_at;
 use crate::folder::Folder;
 use crate::ghost_move::GhostMove;
 use crate::notes::{note_failed_write, note_remove, note_rename, note_seen, note_sync, note_write};
@@ -161,11 +164,7 @@ impl<R: Files> Folder for FileFolder<R> {
         ensures path { folder_path self.new ≡ folder_path self.old }
     {
         let path = self.path_of(name)?;
-        if let Err(fault) = fs::remove_file(&self.files, path.as_path())
-            && fault.kind() != io::ErrorKind::NotFound
-        {
-            return Err(FolderFault);
-        }
+        gone(fs::remove_file(&self.files, path.as_path()))?;
         note_remove(&mut self.made, name);
         Ok(())
     }
@@ -177,9 +176,10 @@ impl<R: Files> Folder for FileFolder<R> {
         ensures path { folder_path self.new ≡ folder_path self.old }
     {
         let path = self.path_of(name)?;
-        let Ok(there) = fs::exists(&self.files, path.as_path()) else {
+        let Ok(found) = file_at(&self.files, path.as_path()) else {
             return Err(FolderFault);
         };
+        let there = found.is_some();
         note_seen(&mut self.made, name, there);
         Ok(there)
     }
@@ -196,6 +196,23 @@ impl<R: Files> Folder for FileFolder<R> {
         }
         note_sync(&mut self.made);
         Ok(())
+    }
+}
+
+/// A file is gone that was removed, or wasn't there.
+fn gone(removed: io::Result<()>) -> Result<(), FolderFault>
+    ensures removed { OnOk removed (IsOk result) }
+    ensures none { IfErr removed (λ error. error_kind error ≡ NotFound → IsOk result) }
+    ensures failed { IfErr removed (λ error. error_kind error ≢ NotFound → IsErr result) }
+{
+    match removed {
+        Ok(()) => Ok(()),
+        Err(error) => {
+            if error.kind() == io::ErrorKind::NotFound {
+                return Ok(());
+            }
+            Err(FolderFault)
+        }
     }
 }
 

@@ -1,7 +1,9 @@
 //! The files of a folder of the file system are read.
-ghost use Rattle.std.specs.Prelude.{◌≡◌, ◌≢◌, ⊤};
+ghost use Rattle.std.specs.Prelude.{◌≡◌, ◌≢◌, ⊤, Err, IfErr, IfOk, IfSome, IsErr, None, Ok, Some};
+ghost use Rattle.std.specs.Fs.{IsFile, dir_entry_name, file_type};
 ghost use Rattle.std.specs.IoError.{error_kind};
-ghost use Rattle.std.specs.declared.io.ErrorKind.TheVariants.{OutOfMemory};
+ghost use Rattle.std.specs.String.{string_bytes};
+ghost use Rattle.std.specs.declared.io.ErrorKind.TheVariants.{InvalidFilename, NotFound, OutOfMemory};
 ghost use Rattle.folder.specs.declared.read_fault.FolderReadFault.TheVariants.{NoMemory, Unread};
 
 use crate::file_folder::FileFolder;
@@ -51,11 +53,10 @@ impl<R: Files + AllocGlobal + Clone + Drop> FolderReader for FileFolder<R> {
         if file_at(self.files(), path.as_path())?.is_none() {
             return Ok(None);
         }
-        match fs::read(self.files(), path.as_path()) {
-            Ok(bytes) => Ok(Some(bytes)),
-            Err(error) if error.kind() == io::ErrorKind::NotFound => Ok(None),
-            Err(error) => Err(fault_of(error)),
-        }
+        unless(
+            io::ErrorKind::NotFound,
+            fs::read(self.files(), path.as_path()),
+        )
     }
 }
 
@@ -64,11 +65,13 @@ fn name_of<R: Files + Drop>(
     files: &R,
     alloc: Global,
     entry: io::Result<DirEntry<R>>,
-) -> Result<Option<String>, FolderReadFault> {
-    let entry = match entry {
-        Ok(entry) => entry,
-        Err(error) if error.kind() == io::ErrorKind::InvalidFilename => return Ok(None),
-        Err(error) => return Err(fault_of(error)),
+) -> Result<Option<String>, FolderReadFault>
+    ensures name { IfOk entry (λ e. IfOk result (λ found. IfSome found (λ name. string_bytes name ≡ dir_entry_name e))) }
+    ensures passed { IfErr entry (λ error. error_kind error ≡ InvalidFilename → result ≡ Ok None) }
+    ensures unread { IfErr entry (λ error. error_kind error ≢ InvalidFilename → IsErr result) }
+{
+    let Some(entry) = unless(io::ErrorKind::InvalidFilename, entry)? else {
+        return Ok(None);
     };
     if file_at(files, entry.path())?.is_none() {
         return Ok(None);
@@ -77,12 +80,45 @@ fn name_of<R: Files + Drop>(
 }
 
 /// What the system tells of the file at a path; none where there is no file, but perhaps a folder.
-fn file_at<R: Files>(files: &R, path: Path<'_>) -> Result<Option<Metadata>, FolderReadFault> {
-    match fs::metadata(files, path) {
-        Ok(metadata) if metadata.is_file() => Ok(Some(metadata)),
-        Ok(_) => Ok(None),
-        Err(error) if error.kind() == io::ErrorKind::NotFound => Ok(None),
-        Err(error) => Err(fault_of(error)),
+pub(crate) fn file_at<R: Files>(
+    files: &R,
+    path: Path<'_>,
+) -> Result<Option<Metadata>, FolderReadFault>
+    ensures { IfOk result (λ found. IfSome found (λ it. IsFile (file_type it))) }
+{
+    file_of(fs::metadata(files, path))
+}
+
+/// What it tells, where that is of a file, and there is one.
+fn file_of(found: io::Result<Metadata>) -> Result<Option<Metadata>, FolderReadFault>
+    ensures file { IfOk found (λ it. IsFile (file_type it) → result ≡ Ok (Some it)) }
+    ensures other { IfOk found (λ it. ¬ IsFile (file_type it) → result ≡ Ok None) }
+    ensures none { IfErr found (λ error. error_kind error ≡ NotFound → result ≡ Ok None) }
+    ensures no_memory { IfErr found (λ error. error_kind error ≡ OutOfMemory → result ≡ Err NoMemory) }
+    ensures unread { IfErr found (λ error. error_kind error ≢ NotFound → error_kind error ≢ OutOfMemory → result ≡ Err Unread) }
+    ensures is { IfOk result (λ it. IfSome it (λ metadata. IsFile (file_type metadata))) }
+{
+    match unless(io::ErrorKind::NotFound, found)? {
+        Some(metadata) if metadata.is_file() => Ok(Some(metadata)),
+        _ => Ok(None),
+    }
+}
+
+/// What the system answered; none where it failed in a way that is no fault.
+fn unless<T: Drop>(kind: io::ErrorKind, answer: io::Result<T>) -> Result<Option<T>, FolderReadFault>
+    ensures some { IfOk answer (λ it. result ≡ Ok (Some it)) }
+    ensures none { IfErr answer (λ error. error_kind error ≡ kind → result ≡ Ok None) }
+    ensures no_memory { IfErr answer (λ error. error_kind error ≢ kind → error_kind error ≡ OutOfMemory → result ≡ Err NoMemory) }
+    ensures unread { IfErr answer (λ error. error_kind error ≢ kind → error_kind error ≢ OutOfMemory → result ≡ Err Unread) }
+{
+    match answer {
+        Ok(it) => Ok(Some(it)),
+        Err(error) => {
+            if error.kind() == kind {
+                return Ok(None);
+            }
+            Err(fault_of(error))
+        }
     }
 }
 
