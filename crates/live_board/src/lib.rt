@@ -23,7 +23,7 @@ mod viewer;
 
 pub use fault::BoardFault;
 pub use held::HeldPublisher;
-pub use publisher::{MOST_VIEWERS, Publisher, board};
+pub use publisher::{MOST_VIEWERS, Publisher, board, bounds_are_these};
 pub use snapshot::Snapshot;
 pub use totals::Totals;
 pub use viewer::{View, Viewer};

@@ -1,6 +1,6 @@
 //! The publisher, and the board that it begins.
 
-ghost use Rattle.std.specs.Prelude.{◌≡◌, ◌≤◌, ◌++◌, ◌∷◌, [], length, All, vec_len, vec_capacity, IfSome, IfOk, OnOk, OnErr, IfErr, Err, ◌⊎◌};
+ghost use Rattle.std.specs.Prelude.{◌≡◌, ◌≤◌, ◌++◌, ◌∷◌, [], length, All, vec_len, vec_capacity, IfSome, IfOk, OnOk, OnErr, IfErr, Err, None, Ok, ◌⊎◌};
 ghost use Rattle.ghost_list.specs.Lists.{IsBeginning};
 ghost use Rattle.left_right.specs.Sides.{view as known_by};
 ghost use Rattle.live_board.specs.declared.fault.BoardFault.TheVariants.{NoMemory, NoPlace};
@@ -55,14 +55,26 @@ pub fn board<R: Wait>(
     ensures viewers { IfOk result (λ b. All (λ v. v ≡ b.0) b.1.items) }
     ensures fault { OnErr result ((result ≡ Err NoPlace) ⊎ (result ≡ Err NoMemory)) }
 {
-    let Ok(room) = Vec::with_capacity(alloc, viewers) else {
-        return Err(BoardFault::NoMemory);
-    };
-    let Some(publisher) = alone(rt, alloc, first, viewers) else {
-        return Err(BoardFault::NoMemory);
-    };
+    let room = made(Vec::with_capacity(alloc, viewers).ok())?;
+    let publisher = made(alone(rt, alloc, first, viewers))?;
     publisher.with_viewers(rt, room, viewers)
 }
+
+/// What was made; NoMemory where it wasn't.
+fn made<T>(one: Option<T>) -> Result<T, BoardFault>
+    ensures some { IfSome one (λ it. result ≡ Ok it) }
+    ensures none { one ≡ None → result ≡ Err NoMemory }
+{
+    match one {
+        Some(it) => Ok(it),
+        None => Err(BoardFault::NoMemory),
+    }
+}
+
+/// What the bounds are.
+pub fn bounds_are_these()
+    ensures viewers { MOST_VIEWERS ≡ 64 }
+{}
 
 /// A publisher that shows the snapshot, with places for so many viewers. `None` for want of memory.
 fn alone<R: Wait>(rt: &R, alloc: Global, first: Snapshot, viewers: usize) -> Option<Publisher>
