@@ -3,7 +3,6 @@ use Rattle.std.specs.Prelude.{◌≡◌, ℕ, All, IfErr, IfOk, List, [], OnOk, 
 use Rattle.folder.specs.FileFolders.{file_moves, folder_path, may_sync}
 use Rattle.folder.specs.declared.file_folder.FileFolder.{FileFolder}
 use Rattle.item_io.specs.FolderMoves.{FolderState}
-use Rattle.item_io.specs.Views.{SourceView, source_view}
 use Rattle.item_io.specs.declared.limits.TheConstants.{READS}
 use Rattle.keeping.specs.Holding.{KeepingState}
 use Rattle.keeping.specs.InPlace.{NoneIsListed}
@@ -15,7 +14,7 @@ use Rattle.ladder_items.specs.declared.settings.Kind.TheVariants.{Live, Event}
 use Rattle.live_board.specs.Counts.{counts_shown}
 use Rattle.live_board.specs.Snapshots.{SnapshotFacts}
 use Rattle.rounds.specs.Shown.{IsPackedShown}
-use Rattle.read_ahead.specs.Sources.{Seen}
+use Rattle.read_ahead.specs.Sources.{Seen, ahead_input}
 use Rattle.commands.specs.declared.packing_fault.LadderPackingFault.{LadderPackingFault}
 use Rattle.command_line.specs.declared.fault.Fault.{Fault}
 use Rattle.command_line.specs.declared.fault.Fault.TheVariants.{LadderPacking}
@@ -29,10 +28,6 @@ use Rattle.program.specs.Asked.{IsAsAsked}
 use Rattle.program.specs.declared.ladder.LadderOutlet.{LadderOutlet}
 use Rattle.program.specs.declared.ladder.LadderOutlet.TheVariants.{Pruned, Whole}
 use Rattle.program.specs.declared.ladder.LadderRun.{LadderRun}
-
--- an input that is read ahead, as a run sees it
-abbrev pub ahead_input : SourceView Seen
-ahead_input = source_view (λ s. s.left) (λ s. s.reads) (λ s. s.failures) (λ s. s.is_left)
 
 -- inputs that were just opened, of which these bytes are left, in this order; they are read ahead as was asked
 pub record AreOpened (job : LadderJob) (left : List (Option (List ℕ))) (inputs : List Seen) : Type 0 where
