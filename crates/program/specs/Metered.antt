@@ -13,7 +13,7 @@ use Rattle.metrics.specs.declared.seen.Seen.{Seen}
 use Rattle.read_ahead.specs.Sources.{inputs_of}
 use Rattle.read_ahead.specs.declared.view.InputsView.{InputsView}
 use Rattle.program.specs.Faulted.{named_in}
-use Rattle.program.specs.declared.told.Told.{Told}
+use Rattle.program.specs.declared.told.Bulletin.{Bulletin}
 use Rattle.program.specs.declared.told.TheConstants.{RENDITIONS}
 
 -- what was seen of each rendition, once they are seen again with these counts
@@ -34,12 +34,12 @@ AreSamplesOf None inputs = inputs ≡ []
 AreSamplesOf (Some view) inputs = length inputs ≡ inputs_of view
 
 -- how a run stands: how many of the segments that are complete aren't shown yet, and how many were removed
-abbrev pub run_sample : ℕ → Told → Glance → RunSample
+abbrev pub run_sample : ℕ → Bulletin → Glance → RunSample
 run_sample start told glance = record { start = start; waiting = told.completed - sum glance.counts.items; removed = told.removed }
 
 -- A text is the metrics at this time of a run that began then: of what a board shows of renditions of these names, when they were
 -- seen first, how their inputs stand, and by which faults they ended, those that were told and the last one.
-pub record IsMetered (names : List (List ℕ)) (start : ℕ) (glance : Glance) (told : Told) (seen : List Seen) (inputs : List InputSample) (last : Option PackFault) (now : ℕ) (text : List ℕ) : Type 0 where
+pub record IsMetered (names : List (List ℕ)) (start : ℕ) (glance : Glance) (told : Bulletin) (seen : List Seen) (inputs : List InputSample) (last : Option PackFault) (now : ℕ) (text : List ℕ) : Type 0 where
   pub known : Known
   pub seen_is : known.seen.now ≡ seen
   pub inputs_are : known.inputs.now ≡ inputs

@@ -30,7 +30,7 @@ use live_board::{BoardFault, Publisher};
 use packing::{Destination, PackedLadder, pack_into_folder};
 use pipeline::{Herald, Report, opening_board};
 use read_ahead::{Ahead, InputAt, InputFiles, InputsView, Limits, open_paths};
-use removal::{Tally, keepings, pack_and_remove};
+use removal::{RemovalHerald, keepings, pack_and_remove};
 use std::alloc::{AllocError, AllocGlobal, Global};
 use std::fs::Files;
 use std::io::{Eprint, Write};
@@ -141,7 +141,7 @@ pub struct LadderRun<S, F> {
 pub fn pack_ladder<
     R: InputFiles + Files + Clock + Eprint + Threads + Wait + Copy + Send + Sync + Drop + 'static,
     W: Write,
-    H: Herald + Tally,
+    H: Herald + RemovalHerald,
 >(
     rt: R,
     alloc: Global,

@@ -10,7 +10,7 @@ use channel::seen_fault;
 use command_line::{Fault, explain};
 use commands::LadderPackingFault;
 use pipeline::{Herald, PackFault, Settings};
-use removal::Tally;
+use removal::RemovalHerald;
 use std::io::IsTerminal;
 use std::sync::{Arc, Wait};
 
@@ -99,7 +99,7 @@ impl<R: Wait> Herald for Teller<'_, R> {
     }
 }
 
-impl<R: Wait> Tally for Teller<'_, R> {
+impl<R: Wait> RemovalHerald for Teller<'_, R> {
     fn removed(&self, segments: u128) {
         self.told.note_removed(&self.rt, segments);
     }

@@ -16,7 +16,7 @@ pub fn each_has_a_place()
 
 /// What was told so far.
 #[derive(Clone, Copy, Drop)]
-pub struct Told {
+pub struct Bulletin {
     /// The faults of renditions, in the order in which they were told.
     pub faults: [Option<PackFault>; RENDITIONS],
     /// How many segments are complete, of all renditions.
@@ -25,14 +25,14 @@ pub struct Told {
     pub removed: u128,
 }
 
-impl Told {
+impl Bulletin {
     /// Nothing was told yet.
-    fn nothing() -> Told
+    fn nothing() -> Bulletin
         ensures faults { result.faults ≡ replicate RENDITIONS None }
         ensures completed { result.completed ≡ 0 }
         ensures removed { result.removed ≡ 0 }
     {
-        Told {
+        Bulletin {
             faults: [None; RENDITIONS],
             completed: 0,
             removed: 0,
@@ -43,19 +43,19 @@ impl Told {
 /// What was told so far, for several threads.
 #[derive(Drop)]
 pub struct Tellings {
-    told: Mutex<Told>,
+    told: Mutex<Bulletin>,
 }
 
 impl Tellings {
     /// Nothing was told yet.
     pub fn new() -> Tellings {
         Tellings {
-            told: Mutex::new(Told::nothing()),
+            told: Mutex::new(Bulletin::nothing()),
         }
     }
 
     /// What was told so far.
-    pub fn so_far<R: Wait>(&self, rt: &R) -> Told {
+    pub fn so_far<R: Wait>(&self, rt: &R) -> Bulletin {
         *self.told.lock(rt)
     }
 

@@ -11,7 +11,7 @@ ghost use Rattle.program.specs.Faulted.{last_fault, name_of, named_in, rendition
 ghost use Rattle.program.specs.Metered.{AreSamplesOf, IsMetered, IsSeenAgain, IsSeenOn, seen_then};
 
 use crate::metrics_file::replace;
-use crate::told::{RENDITIONS, Tellings, Told};
+use crate::told::{Bulletin, RENDITIONS, Tellings};
 use commands::LadderPackingFault;
 use live_board::Viewer;
 use metrics::{
@@ -34,12 +34,12 @@ const UNWRITTEN: &str = "tshls: Metrics\n";
 
 /// By which the thread is stopped.
 #[derive(Drop)]
-struct Stop {
+struct StopSignal {
     is_over: Mutex<bool>,
     told: Condvar,
 }
 
-impl Stop {
+impl StopSignal {
     /// Waits for a tick, or until it's over. Whether it is.
     fn wait<R: Wait + Clock>(&self, rt: &R) -> bool {
         let tick = Duration::from_secs(TICK);
@@ -79,7 +79,7 @@ struct Writer {
 /// if one did, and the time, in microseconds.
 #[derive(Drop)]
 struct Moment<'a> {
-    told: &'a Told,
+    told: &'a Bulletin,
     inputs: &'a [InputSample],
     last: Option<PackFault>,
     time: u128,
@@ -167,7 +167,7 @@ impl Writer {
         glance: &Glance,
         fault: Option<PackFault>,
     ) -> Result<Vec<u8>, AllocError>
-        ensures ok { IfOk result (λ text. (now : ℕ) × (told : Told) × (inputs : List InputSample) × AreSamplesOf self.old.inputs inputs ×
+        ensures ok { IfOk result (λ text. (now : ℕ) × (told : Bulletin) × (inputs : List InputSample) × AreSamplesOf self.old.inputs inputs ×
             (self.new.seen.items ≡ seen_then self.old.seen.items glance.now.counts.items now) ×
             IsMetered (map string_bytes self.old.names.items) self.old.start glance.now told self.new.seen.items inputs fault now text.items) }
         ensures kept { self.new ≡ record self.old { seen = self.new.seen } }
@@ -188,7 +188,7 @@ impl Writer {
         fault: Option<PackFault>,
         now: u128,
     ) -> Result<Vec<u8>, AllocError>
-        ensures { IfOk result (λ text. (told : Told) × (inputs : List InputSample) × AreSamplesOf self.now.inputs inputs ×
+        ensures { IfOk result (λ text. (told : Bulletin) × (inputs : List InputSample) × AreSamplesOf self.now.inputs inputs ×
             IsMetered (map string_bytes self.now.names.items) self.now.start glance.now told self.now.seen.items inputs fault now text.items) }
     {
         let told = self.told.so_far(rt);
@@ -331,7 +331,7 @@ fn since<R: Clock>(rt: &R, begun: Option<Instant>) -> u128 {
 }
 
 /// The names of the faults that renditions ended by, by rendition: those that were told, and another one, if any.
-fn faults_of(told: &Told, last: Option<PackFault>) -> [Option<&'static str>; RENDITIONS]
+fn faults_of(told: &Bulletin, last: Option<PackFault>) -> [Option<&'static str>; RENDITIONS]
     ensures { map option_copied result ≡ named_in (fold named_in (replicate RENDITIONS None) told.now.faults) last }
 {
     let mut faults = [None; RENDITIONS];
@@ -396,7 +396,7 @@ fn watch<R: Files + Clock + Eprint + Wait>(
     alloc: Global,
     viewer: Viewer,
     writer: Writer,
-    stop: &Stop,
+    stop: &StopSignal,
 ) -> (Viewer, Writer) {
     let mut viewer = viewer;
     let mut writer = writer;
@@ -420,7 +420,7 @@ pub struct Watched {
 /// A run that is watched.
 #[derive(Drop)]
 pub struct Watching {
-    stop: Arc<Stop>,
+    stop: Arc<StopSignal>,
     thread: JoinHandle<(Viewer, Writer)>,
 }
 
@@ -439,7 +439,7 @@ impl Watching {
     {
         let stop = Arc::new(
             alloc,
-            Stop {
+            StopSignal {
                 is_over: Mutex::new(false),
                 told: Condvar::new(),
             },

@@ -4,7 +4,7 @@ ghost use Rattle.std.specs.Io.KnownBytes.{IsAtEnd};
 ghost use Rattle.rtrb.specs.Ring.{sent};
 ghost use Rattle.read_ahead.specs.Messages.{Asks, EndsWith, IsOpen, LeavesOut, MayEnd, Tells, goes_on};
 ghost use Rattle.read_ahead.specs.declared.message.Message.TheVariants.{End, Failed};
-ghost use Rattle.read_ahead.specs.declared.reading.Stop.TheVariants.{AtEnd, Left, NoMemory};
+ghost use Rattle.read_ahead.specs.declared.reading.ReadingEnd.TheVariants.{AtEnd, Left, NoMemory};
 
 use crate::input::Input;
 use crate::limits::{BLOCK, WASTE};
@@ -18,7 +18,7 @@ use std::time::Clock;
 
 /// Why nothing more is told of an input.
 #[derive(Clone, Copy)]
-pub enum Stop {
+pub enum ReadingEnd {
     /// All of it was.
     AtEnd,
     /// No more of it is given.
@@ -52,14 +52,14 @@ pub fn open_and_read<R: Wait + Clock, I: Input>(
 }
 
 /// The reader of an input that stopped so, where it is to be read on.
-fn read_on<Q: Drop>(stop: Result<Stop, ReadFault>, reader: Q) -> Option<Q>
+fn read_on<Q: Drop>(stop: Result<ReadingEnd, ReadFault>, reader: Q) -> Option<Q>
     ensures some { IfSome result (λ q. (q ≡ reader) × ((stop ≡ Ok Left) ⊎ (stop ≡ Ok NoMemory))) }
     ensures none { IfNone result ((stop ≢ Ok Left) × (stop ≢ Ok NoMemory)) }
 {
     match stop {
-        Ok(Stop::AtEnd) => None,
-        Ok(Stop::Left) => Some(reader),
-        Ok(Stop::NoMemory) => Some(reader),
+        Ok(ReadingEnd::AtEnd) => None,
+        Ok(ReadingEnd::Left) => Some(reader),
+        Ok(ReadingEnd::NoMemory) => Some(reader),
         Err(_) => None,
     }
 }
@@ -71,7 +71,7 @@ fn read_ahead<R: Wait + Clock, I: Input>(
     alloc: Global,
     sender: &mut Sender<I>,
     reader: &mut I::Reader,
-) -> Result<Stop, ReadFault>
+) -> Result<ReadingEnd, ReadFault>
     requires { Tells I.holds (sent sender.old.producer) (I.Reader.remaining reader.old) }
     ensures last { result ≢ Ok Left → goes_on (sent sender.new.producer) ≡ false }
     ensures end { result ≡ Ok AtEnd → EndsWith End (sent sender.new.producer) }
@@ -81,7 +81,7 @@ fn read_ahead<R: Wait + Clock, I: Input>(
 {
     let Ok(mut buffer) = vec![in alloc; 0; BLOCK] else {
         tell_failure(rt, sender);
-        return Ok(Stop::NoMemory);
+        return Ok(ReadingEnd::NoMemory);
     };
     let stop = copy_by(rt, alloc, sender, reader, &mut buffer);
     tell_stop(rt, sender, stop);
@@ -90,7 +90,7 @@ fn read_ahead<R: Wait + Clock, I: Input>(
 
 /// Tells the end or the failure of an input that stopped so; nothing where no more of it is given.
 #[tactic(auto, using(crate::proofs::Telling::ends_snoc))]
-fn tell_stop<R: Wait, I: Input>(rt: &R, sender: &mut Sender<I>, stop: Result<Stop, ReadFault>)
+fn tell_stop<R: Wait, I: Input>(rt: &R, sender: &mut Sender<I>, stop: Result<ReadingEnd, ReadFault>)
     requires open { IsOpen (sent sender.old.producer) }
     requires end { stop ≡ Ok AtEnd → MayEnd I.holds (sent sender.old.producer) }
     ensures last { stop ≢ Ok Left → goes_on (sent sender.new.producer) ≡ false }
@@ -100,9 +100,9 @@ fn tell_stop<R: Wait, I: Input>(rt: &R, sender: &mut Sender<I>, stop: Result<Sto
     ensures same { sender.new.is_left ≡ sender.old.is_left }
 {
     match stop {
-        Ok(Stop::AtEnd) => sender.send(rt, Message::End),
-        Ok(Stop::Left) => {}
-        Ok(Stop::NoMemory) => tell_failure(rt, sender),
+        Ok(ReadingEnd::AtEnd) => sender.send(rt, Message::End),
+        Ok(ReadingEnd::Left) => {}
+        Ok(ReadingEnd::NoMemory) => tell_failure(rt, sender),
         Err(_) => tell_failure(rt, sender),
     }
 }
@@ -123,7 +123,7 @@ fn copy_by<R: Wait + Clock, I: Input>(
     sender: &mut Sender<I>,
     reader: &mut I::Reader,
     buffer: &mut [u8],
-) -> Result<Stop, ReadFault>
+) -> Result<ReadingEnd, ReadFault>
     requires room { 0 < length buffer.old }
     requires tells { Tells I.holds (sent sender.old.producer) (I.Reader.remaining reader.old) }
     ensures told { result ≡ Ok AtEnd → Tells I.holds (sent sender.new.producer) (I.Reader.remaining reader.new) }
@@ -145,13 +145,13 @@ fn copy_by<R: Wait + Clock, I: Input>(
         sender.end_wait(rt);
         let count = read?;
         if count == 0 {
-            return Ok(Stop::AtEnd);
+            return Ok(ReadingEnd::AtEnd);
         }
         if !sender.wait_for_room(rt, count) {
-            return Ok(Stop::Left);
+            return Ok(ReadingEnd::Left);
         }
         let Ok(block) = copy_of(alloc, &buffer[..count]) else {
-            return Ok(Stop::NoMemory);
+            return Ok(ReadingEnd::NoMemory);
         };
         sender.send(rt, Message::Bytes(block));
     }

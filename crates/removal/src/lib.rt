@@ -7,4 +7,4 @@ mod tally;
 
 pub use removing::pack_and_remove;
 pub use retaining::keepings;
-pub use tally::Tally;
+pub use tally::RemovalHerald;

@@ -10,7 +10,7 @@ ghost use Rattle.keeping.specs.InPlace.{NoneIsListed};
 ghost use Rattle.packing.specs.LadderPacking.{IsNeverHeld, LadderSays, TurnsAway, WritesSummary};
 ghost use Rattle.removal.specs.Removing.{AreAllCleared, LeavesKept, kept_run, new_keeping};
 
-use crate::tally::{Tallied, Tally};
+use crate::tally::{RemovalHerald, Tallied};
 use commands::Pool;
 use folder::{Folder, PruningFolder};
 use item_io::{FolderOutlet, READS, Source};
@@ -36,7 +36,7 @@ pub fn pack_and_remove<
     F: Folder + Drop,
     W: Write,
     R: Threads + Wait + Sync,
-    H: Herald + Tally,
+    H: Herald + RemovalHerald,
 >(
     rt: &R,
     alloc: Global,

@@ -12,7 +12,7 @@ use keeping::KeepingOutlet;
 use std::marker::Model;
 
 /// Who is told how many segments were removed. What a run does doesn't depend on it.
-pub trait Tally {
+pub trait RemovalHerald {
     /// It was told that so many were removed.
     ghost was_removed: { Self → ℕ → Type 0 } = { λ _ _. Unit {0} };
 
@@ -24,13 +24,13 @@ pub trait Tally {
 /// An outlet that tells at first and behind each item how many segments were removed. Clauses see the outlet alone; what it holds says
 /// also with which renditions it began. How many were removed by then was always told.
 #[derive(Drop)]
-pub struct Tallied<'t, F, T: Tally> {
+pub struct Tallied<'t, F, T: RemovalHerald> {
     outlet: KeepingOutlet<F>,
     tally: &'t T,
     told: u128,
 }
 
-impl<'t, F, T: Tally> Model for Tallied<'t, F, T> {
+impl<'t, F, T: RemovalHerald> Model for Tallied<'t, F, T> {
     ghost use Rattle.std.specs.Prelude.{◌≡◌};
     ghost use Rattle.keeping.specs.Holding.{KeepingState};
     ghost use Rattle.keeping.specs.Keepings.{removed_of};
@@ -42,7 +42,7 @@ impl<'t, F, T: Tally> Model for Tallied<'t, F, T> {
     ghost invariant = { λ o. (o.told ≡ removed_of o.outlet.renditions) × T.was_removed o.tally.now o.told };
 }
 
-impl<'t, F: Folder, T: Tally> Tallied<'t, F, T> {
+impl<'t, F: Folder, T: RemovalHerald> Tallied<'t, F, T> {
     /// Over an outlet.
     pub fn over(outlet: KeepingOutlet<F>, tally: &'t T) -> Tallied<'t, F, T>
         ensures { result ≡ outlet }
@@ -68,7 +68,7 @@ impl<'t, F: Folder, T: Tally> Tallied<'t, F, T> {
     }
 }
 
-impl<F: Folder, T: Tally> Outlet for Tallied<'_, F, T> {
+impl<F: Folder, T: RemovalHerald> Outlet for Tallied<'_, F, T> {
     ghost output = { since_view F.made };
 
     fn put(&mut self, item: &Item) -> Result<(), OutletFault>
@@ -87,7 +87,7 @@ impl<F: Folder, T: Tally> Outlet for Tallied<'_, F, T> {
 }
 
 /// Tells how many segments an outlet removed, and answers it.
-fn tell<F: Folder, T: Tally>(outlet: &KeepingOutlet<F>, tally: &T) -> u128
+fn tell<F: Folder, T: RemovalHerald>(outlet: &KeepingOutlet<F>, tally: &T) -> u128
     ensures is { result ≡ removed_of outlet.now.renditions }
     ensures told { T.was_removed tally.now result }
 {
