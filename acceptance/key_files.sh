@@ -93,6 +93,7 @@ check_key_files_first() {
     check 'key files: a bad size first' refuses 2 BadSize "${one[@]}" --size 640 --keys "$absent"
     check 'key files: a period of 0 first' refuses 1 ZeroPeriod "${one[@]}" --size 640x360 --period 0 --keys "$absent"
     check 'key files: a bad entry first' refuses_to_pack 2 'BadEntry 2' "v:c:1x1:$absent:a" 'w:c:1x1:@:b'
+    check 'key files: bad settings of one first' refuses 1 Settings "${one[@]}" --size 640x360 --window 0 --keys "$absent"
     check 'key files: bad settings first' refuses_to_pack 1 Settings --window 0 "v:c:1x1:$absent:$unopened"
     check 'key files: two of one name first' refuses_to_pack 1 Settings "v:c:1x1:$absent:a" "v:c:1x1:$absent:b"
     check 'key files: before a path' refuses_to_pack 1 'BadKeyFile 2' "v:c:1x1:$key:$unopened" "w:c:1x1:@$work/keys/15:$unopened"

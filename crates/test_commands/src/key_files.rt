@@ -146,6 +146,7 @@ fn keys_of_one(rt: HostRuntime) -> Result<(), Fail> {
         ("1x1", "@raw+@ten", Ok(Some(KEY_BYTES))),
         ("1x1", "@ten+@raw", Ok(Some(OTHER))),
         ("1", "@none", Err(SettingsFault::BadSize)),
+        ("0x1", "@none", Err(SettingsFault::Settings)),
         ("1x1", "@none", Err(SettingsFault::Unread)),
         ("1x1", "@raw+@two", Err(SettingsFault::BadKeyFile(2))),
         ("1x1", "@full", Err(SettingsFault::NoMemory)),
