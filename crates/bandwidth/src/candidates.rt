@@ -1,14 +1,14 @@
-ghost use Rattle.std.specs.Prelude.{◌≡◌, ◌+◌, ◌<◌, ◌≤◌, ◌^◌, [], None, length, OnOk, OnErr};
+ghost use Rattle.std.specs.Prelude.{◌≡◌, ◌+◌, ◌<◌, ◌≤◌, ◌^◌, [], Option, None, length, OnOk, OnErr};
 ghost use Rattle.std.specs.VecDeque.{deque_len, deque_capacity};
 ghost use Rattle.bandwidth.specs.Runs.{is_in_range};
 ghost use Rattle.bandwidth.specs.Steps.{AreSmall, IsOf, BestOf};
-ghost use Rattle.bandwidth.specs.Gaps.{IsPlace, IsUpTo, AreCandidates, IsBehind, AreSameCandidates, IsOneStartMore};
+ghost use Rattle.bandwidth.specs.Gaps.{IsPlace, IsUnspent, IsUpTo, AreCandidates, head_of, IsBehind, AreSameCandidates, IsOneStartMore};
 ghost use Rattle.limits.specs.declared.TheConstants.{MOST_TARGET};
 
-use crate::corners::{add_all, walk_corners};
+use crate::corners::{Back, add_all, walk_corners};
 use crate::place::{Place, RunStart};
 use crate::run::{Run, Span};
-use crate::starts::{drop_early, link_all, walk};
+use crate::starts::{Front, drop_early, link_all, walk};
 use ghost_list::GhostList;
 use std::alloc::{AllocError, Global};
 use std::collections::VecDeque;
@@ -19,21 +19,12 @@ use std::collections::VecDeque;
 /// the one from the second: the first is spent, and is never looked at again, since the best only grows.
 ///
 /// So each place is taken and dropped once, is a corner once, is linked once, when the front part is used up, and is
-/// passed at most once in each part: a constant number of steps a push on average, which is argued here and not proved.
+/// passed at most once in each part: a constant number of steps a push on average. That each part is passed as far as the
+/// best allows is proved; the number of steps is argued here and not proved.
 #[derive(Drop)]
 pub struct Candidates {
-    /// The least place for which the spans from there on last at most one and a half of the target.
-    pub first: u64,
-    /// The places from there to the last span's.
-    pub starts: VecDeque<RunStart>,
-    /// The first place that is no more spent, of those that are linked.
-    pub head: u64,
-    /// The places before this one are linked, each to its next corner.
-    pub middle: u64,
-    /// The corners of the places from there to the limit, without those that are spent.
-    pub corners: VecDeque<Place>,
-    /// The least place for which the spans from there on last less than half of the target.
-    pub until: u64,
+    pub front: Front,
+    pub back: Back,
 }
 
 impl Candidates {
@@ -43,24 +34,30 @@ impl Candidates {
         ensures { AreCandidates target [] None result }
     {
         Candidates {
-            first: 0,
-            starts: VecDeque::new(alloc),
-            head: 0,
-            middle: 0,
-            corners: VecDeque::new(alloc),
-            until: 0,
+            front: Front {
+                first: 0,
+                starts: VecDeque::new(alloc),
+                head: 0,
+                middle: 0,
+            },
+            back: Back {
+                corners: VecDeque::new(alloc),
+                until: 0,
+            },
         }
     }
 
     /// Takes the place before a new last span. For want of memory it is as it was.
     pub fn push(&mut self, place: Place) -> Result<(), AllocError>
-        requires until { self.old.until ≤ place.at }
+        requires until { self.old.back.until ≤ place.at }
         requires few { place.at < 2 ^ 52 }
         ensures ok { OnOk result (IsOneStartMore self.old place self.new) }
         ensures err { OnErr result (AreSameCandidates self.old self.new) }
     {
-        self.corners.reserve((place.at + 1 - self.until) as usize)?;
-        self.starts.push_back(RunStart { place, next: 0 })?;
+        self.back
+            .corners
+            .reserve((place.at + 1 - self.back.until) as usize)?;
+        self.front.starts.push_back(RunStart { place, next: 0 })?;
         Ok(())
     }
 
@@ -78,27 +75,29 @@ impl Candidates {
         requires total { IsPlace _spans.now.items total }
         requires end { total.at ≡ length _spans.now.items }
         requires behind { IsBehind target _spans.now.items _best self.old }
-        requires room { deque_len self.old.corners + length _spans.now.items ≤ deque_capacity self.old.corners + self.old.until }
+        requires room { deque_len self.old.back.corners + length _spans.now.items ≤ deque_capacity self.old.back.corners + self.old.back.until }
         ensures { AreCandidates target _spans.now.items _best self.new }
     {
-        self.until = add_all(
+        add_all(target, &self.front, total, &mut self.back, _spans);
+        self.front.first = drop_early(
             target,
-            self.first,
-            &self.starts,
+            self.front.first,
+            &mut self.front.starts,
             total,
-            self.middle,
-            self.until,
-            &mut self.corners,
             _spans,
         );
-        self.first = drop_early(target, self.first, &mut self.starts, total, _spans);
-        if self.first > self.middle {
-            link_all(self.first, self.until, &mut self.starts, _spans);
-            self.corners.clear();
-            self.middle = self.until;
-            self.head = self.first;
-        } else if self.first > self.head {
-            self.head = self.first;
+        if self.front.first > self.front.middle {
+            link_all(
+                self.front.first,
+                self.back.until,
+                &mut self.front.starts,
+                _spans,
+            );
+            self.back.corners.clear();
+            self.front.middle = self.back.until;
+            self.front.head = self.front.first;
+        } else if self.front.first > self.front.head {
+            self.front.head = self.front.first;
         }
     }
 
@@ -113,11 +112,16 @@ impl Candidates {
         requires total { IsPlace _spans.now.items total }
         requires end { total.at ≡ length _spans.now.items }
         requires candidates { AreCandidates target _spans.now.items best self.old }
-        requires best { BestOf (IsUpTo target _spans.now.items self.old.first) best }
+        requires best { BestOf (IsUpTo target _spans.now.items self.old.front.first) best }
         requires small { AreSmall best }
         ensures candidates { AreCandidates target _spans.now.items result self.new }
         ensures best { BestOf (IsOf (is_in_range target) _spans.now.items) result }
         ensures small { AreSmall result }
+        ensures front_stops { (so_far : Option Run) × BestOf (IsUpTo target _spans.now.items self.new.front.middle) so_far
+            × (self.new.front.head < self.new.front.middle →
+            IsUnspent _spans.now.items so_far self.new.front.head self.new.front.middle) }
+        ensures back_stops { self.new.front.middle < self.new.back.until →
+            IsUnspent _spans.now.items result (head_of self.new.front.middle self.new.back.corners.items) self.new.back.until }
     {
         let best = self.look_at_starts(target, total, best, _spans);
         self.look_at_corners(target, total, best, _spans)
@@ -134,26 +138,19 @@ impl Candidates {
         requires total { IsPlace _spans.now.items total }
         requires end { total.at ≡ length _spans.now.items }
         requires candidates { AreCandidates _target _spans.now.items best self.old }
-        requires best { BestOf (IsUpTo _target _spans.now.items self.old.first) best }
+        requires best { BestOf (IsUpTo _target _spans.now.items self.old.front.first) best }
         requires small { AreSmall best }
         ensures candidates { AreCandidates _target _spans.now.items result self.new }
-        ensures best { BestOf (IsUpTo _target _spans.now.items self.new.middle) result }
+        ensures best { BestOf (IsUpTo _target _spans.now.items self.new.front.middle) result }
         ensures small { AreSmall result }
+        ensures stops { self.new.front.head < self.new.front.middle →
+            IsUnspent _spans.now.items result self.new.front.head self.new.front.middle }
     {
-        if self.head == self.middle {
+        if self.front.head == self.front.middle {
             return best;
         }
-        let (head, best) = walk(
-            _target,
-            self.first,
-            self.middle,
-            &self.starts,
-            total,
-            self.head,
-            best,
-            _spans,
-        );
-        self.head = head;
+        let (head, best) = walk(_target, &self.front, total, best, _spans);
+        self.front.head = head;
         best
     }
 
@@ -168,24 +165,18 @@ impl Candidates {
         requires total { IsPlace _spans.now.items total }
         requires end { total.at ≡ length _spans.now.items }
         requires candidates { AreCandidates _target _spans.now.items best self.old }
-        requires best { BestOf (IsUpTo _target _spans.now.items self.old.middle) best }
+        requires best { BestOf (IsUpTo _target _spans.now.items self.old.front.middle) best }
         requires small { AreSmall best }
         ensures candidates { AreCandidates _target _spans.now.items result self.new }
-        ensures best { BestOf (IsUpTo _target _spans.now.items self.new.until) result }
+        ensures best { BestOf (IsUpTo _target _spans.now.items self.new.back.until) result }
         ensures small { AreSmall result }
+        ensures stops { self.new.front.middle < self.new.back.until →
+            IsUnspent _spans.now.items result (head_of self.new.front.middle self.new.back.corners.items) self.new.back.until }
+        ensures front { self.new.front ≡ self.old.front }
     {
-        if self.middle == self.until {
+        if self.front.middle == self.back.until {
             return best;
         }
-        walk_corners(
-            _target,
-            self.first,
-            self.middle,
-            self.until,
-            &mut self.corners,
-            total,
-            best,
-            _spans,
-        )
+        walk_corners(_target, &self.front, &mut self.back, total, best, _spans)
     }
 }
