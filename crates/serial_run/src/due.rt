@@ -14,28 +14,37 @@ use ladder_items::{PackFault, Playlists, Settings, give_end, give_segments};
 use std::alloc::{AllocError, Global};
 use std::mem;
 
-/// Gives all segments that rendition `r` has closed, and behind them its last playlists where it came to a good end.
+/// A rendition of the settings, by its number.
+#[derive(Clone, Copy)]
+pub struct RenditionAt<'s> {
+    pub settings: &'s Settings,
+    pub number: usize,
+}
+
+/// Gives all segments that a rendition has closed, and behind them its last playlists where it came to a good end.
 ///
 /// Its spool is turned out against the spare one, which is the full one then.
 pub fn give_due<O: Outlet>(
     alloc: Global,
     outlet: &mut O,
-    settings: &Settings,
-    r: usize,
+    rendition: RenditionAt<'_>,
     lane: &mut Lane,
     spare: &mut Spool,
     playlists: &mut Vec<Playlists>,
 ) -> Result<(), PackFault>
     requires failures { O.output.failures outlet.old < 2 ^ 63 }
-    requires allowed { IsAllowed settings.now }
-    requires next { (parts : List Part) × AreNextPlans settings.now r parts playlists.old.items lane.old.intake.filled }
-    ensures ok { OnOk result ((parts : List Part) → AreNextPlans settings.now r parts playlists.old.items lane.old.intake.filled →
-        PutAll O.output outlet.old outlet.new (blocks settings.now parts (due r lane.old))
-        × (playlists.new.items ≡ shown_all settings.now (after_all parts (due r lane.old)))) }
-    ensures err { OnErr result ((parts : List Part) → AreNextPlans settings.now r parts playlists.old.items lane.old.intake.filled →
-        PutSome O.output outlet.old outlet.new (blocks settings.now parts (due r lane.old))) }
-    ensures left { OnErr result ((parts : List Part) → AreNextPlans settings.now r parts playlists.old.items lane.old.intake.filled →
-        PutFewer O.output outlet.old outlet.new (blocks settings.now parts (due r lane.old))) }
+    requires allowed { IsAllowed rendition.settings.now }
+    requires next { (parts : List Part) × AreNextPlans rendition.settings.now rendition.number parts playlists.old.items lane.old.intake.filled }
+    ensures ok { OnOk result ((parts : List Part) →
+        AreNextPlans rendition.entry.settings.now rendition.entry.number parts playlists.old.items lane.old.intake.filled →
+        PutAll O.output outlet.old outlet.new (blocks rendition.entry.settings.now parts (due rendition.entry.number lane.old))
+        × (playlists.new.items ≡ shown_all rendition.entry.settings.now (after_all parts (due rendition.entry.number lane.old)))) }
+    ensures err { OnErr result ((parts : List Part) →
+        AreNextPlans rendition.entry.settings.now rendition.entry.number parts playlists.old.items lane.old.intake.filled →
+        PutSome O.output outlet.old outlet.new (blocks rendition.entry.settings.now parts (due rendition.entry.number lane.old))) }
+    ensures left { OnErr result ((parts : List Part) →
+        AreNextPlans rendition.entry.settings.now rendition.entry.number parts playlists.old.items lane.old.intake.filled →
+        PutFewer O.output outlet.old outlet.new (blocks rendition.entry.settings.now parts (due rendition.entry.number lane.old))) }
     ensures stop { OnOk result (lane.new.stop ≡ lane.old.stop) }
     ensures intake { OnOk result (lane.new.intake ≡ record lane.old.intake { turned = lane.old.intake.turned ++ lane.old.intake.filled; filled = [] }) }
     ensures failures { OnOk result (O.output.failures outlet.new ≡ O.output.failures outlet.old) }
@@ -44,42 +53,36 @@ pub fn give_due<O: Outlet>(
     // Where nothing is due, nothing fails.
     ensures none { lane.old.intake.filled ≡ [] → is_good lane.old.stop ≡ false → IsOk result }
 {
-    give_closed(
-        alloc,
-        outlet,
-        settings,
-        r,
-        &mut lane.intake,
-        spare,
-        playlists,
-    )?;
+    give_closed(alloc, outlet, rendition, &mut lane.intake, spare, playlists)?;
     if !lane.is_good() {
         return Ok(());
     }
-    give_end(outlet, settings, r, playlists)?;
+    give_end(outlet, rendition.settings, rendition.number, playlists)?;
     Ok(())
 }
 
-/// Gives the segments that are closed in the spool of rendition `r`, if there are any.
+/// Gives the segments that are closed in the spool of a rendition, if there are any.
 fn give_closed<O: Outlet>(
     alloc: Global,
     outlet: &mut O,
-    settings: &Settings,
-    r: usize,
+    rendition: RenditionAt<'_>,
     intake: &mut Intake,
     spare: &mut Spool,
     playlists: &mut Vec<Playlists>,
 ) -> Result<(), PackFault>
     requires failures { O.output.failures outlet.old < 2 ^ 63 }
-    requires allowed { IsAllowed settings.now }
-    requires next { (parts : List Part) × AreNextPlans settings.now r parts playlists.old.items intake.old.filled }
-    ensures ok { OnOk result ((parts : List Part) → AreNextPlans settings.now r parts playlists.old.items intake.old.filled →
-        PutAll O.output outlet.old outlet.new (blocks settings.now parts (rows r intake.old.filled))
-        × (playlists.new.items ≡ shown_all settings.now (after_all parts (rows r intake.old.filled)))) }
-    ensures err { OnErr result ((parts : List Part) → AreNextPlans settings.now r parts playlists.old.items intake.old.filled →
-        PutSome O.output outlet.old outlet.new (blocks settings.now parts (rows r intake.old.filled))) }
-    ensures left { OnErr result ((parts : List Part) → AreNextPlans settings.now r parts playlists.old.items intake.old.filled →
-        PutFewer O.output outlet.old outlet.new (blocks settings.now parts (rows r intake.old.filled))) }
+    requires allowed { IsAllowed rendition.settings.now }
+    requires next { (parts : List Part) × AreNextPlans rendition.settings.now rendition.number parts playlists.old.items intake.old.filled }
+    ensures ok { OnOk result ((parts : List Part) →
+        AreNextPlans rendition.entry.settings.now rendition.entry.number parts playlists.old.items intake.old.filled →
+        PutAll O.output outlet.old outlet.new (blocks rendition.entry.settings.now parts (rows rendition.entry.number intake.old.filled))
+        × (playlists.new.items ≡ shown_all rendition.entry.settings.now (after_all parts (rows rendition.entry.number intake.old.filled)))) }
+    ensures err { OnErr result ((parts : List Part) →
+        AreNextPlans rendition.entry.settings.now rendition.entry.number parts playlists.old.items intake.old.filled →
+        PutSome O.output outlet.old outlet.new (blocks rendition.entry.settings.now parts (rows rendition.entry.number intake.old.filled))) }
+    ensures left { OnErr result ((parts : List Part) →
+        AreNextPlans rendition.entry.settings.now rendition.entry.number parts playlists.old.items intake.old.filled →
+        PutFewer O.output outlet.old outlet.new (blocks rendition.entry.settings.now parts (rows rendition.entry.number intake.old.filled))) }
     ensures intake { OnOk result (intake.new ≡ record intake.old { turned = intake.old.turned ++ intake.old.filled; filled = [] }) }
     ensures failures { OnOk result (O.output.failures outlet.new ≡ O.output.failures outlet.old) }
     ensures fault { IfErr result (λ fault. SaysFailures fault (O.output.failures outlet.old) (O.output.failures outlet.new)) }
@@ -89,7 +92,8 @@ fn give_closed<O: Outlet>(
         return Ok(());
     }
     turn_out(alloc, intake, spare)?;
-    give_segments(alloc, outlet, settings, r, spare, playlists)?;
+    let RenditionAt { settings, number } = rendition;
+    give_segments(alloc, outlet, settings, number, spare, playlists)?;
     Ok(())
 }
 

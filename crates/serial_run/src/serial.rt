@@ -9,7 +9,7 @@ ghost use Rattle.ladder_items.specs.Packed.{IsPacked, IsAlone, FaultSays};
 ghost use Rattle.serial_run.specs.Answers.{IsAnswer, IsAnswered};
 ghost use Rattle.serial_run.specs.OneThread.{IsCutAtOnce};
 
-use crate::due::give_due;
+use crate::due::{RenditionAt, give_due};
 use cutter::Spool;
 use ingest::Lane;
 use item_io::{Outlet, PIECE, READS, Source};
@@ -18,6 +18,13 @@ use ladder_items::{
     report_of, standing,
 };
 use std::alloc::Global;
+
+/// What was read of each rendition, and its playlists.
+#[derive(Drop)]
+struct Renditions {
+    lanes: Vec<Lane>,
+    playlists: Vec<Playlists>,
+}
 
 /// Packs the streams of all inputs, one for each rendition, on one thread.
 ///
@@ -80,18 +87,11 @@ pub fn pack_serial_reads<S: Source, O: Outlet>(
     if !is_allowed(settings, sources.len()) {
         return Err(PackFault::Settings);
     }
-    let mut lanes = first_lanes(alloc, settings)?;
-    let mut playlists = first_playlists(alloc, settings)?;
-    turns(
-        alloc,
-        sources,
-        outlet,
-        settings,
-        reads,
-        &mut lanes,
-        &mut playlists,
-    )?;
-    answer_of(alloc, &lanes, &playlists)
+    let lanes = first_lanes(alloc, settings)?;
+    let playlists = first_playlists(alloc, settings)?;
+    let mut renditions = Renditions { lanes, playlists };
+    turns(alloc, sources, outlet, settings, reads, &mut renditions)?;
+    answer_of(alloc, &renditions.lanes, &renditions.playlists)
 }
 
 /// The report of a run that has given everything, or the first standing fault if not each rendition came to its good end.
@@ -115,19 +115,18 @@ fn turns<S: Source, O: Outlet>(
     outlet: &mut O,
     settings: &Settings,
     reads: u64,
-    lanes: &mut Vec<Lane>,
-    playlists: &mut Vec<Playlists>,
+    renditions: &mut Renditions,
 ) -> Result<(), PackFault>
     requires failures { O.output.failures outlet.old < 2 ^ 63 }
     requires allowed { IsAllowed settings.now }
     requires most { reads ≤ READS }
     requires room { HaveRoom S.input reads sources.old.items }
     requires start { NothingDue (run_of S.input O.output reads sources.old.items sources.old.items outlet.old outlet.old) settings.now
-        (turns_of 0 0) lanes.old.items playlists.old.items }
+        (turns_of 0 0) renditions.old.lanes.items renditions.old.playlists.items }
     ensures ok { OnOk result ((rounds : ℕ) × (rounds ≤ reads) ×
         NothingDue (run_of S.input O.output reads sources.old.items sources.new.items outlet.old outlet.new) settings.now
-        (turns_of rounds 0) lanes.new.items playlists.new.items
-        × ((k : ℕ) (lane : Lane) → slice_get lanes.new.items k ≡ Some lane → lane.stop ≡ None → rounds ≡ reads)) }
+        (turns_of rounds 0) renditions.new.lanes.items renditions.new.playlists.items
+        × ((k : ℕ) (lane : Lane) → slice_get renditions.new.lanes.items k ≡ Some lane → lane.stop ≡ None → rounds ≡ reads)) }
     ensures err { OnErr result (IsCutAtOnce (run_of S.input O.output reads sources.old.items sources.new.items outlet.old outlet.new) settings.now) }
     ensures failures { OnOk result (O.output.failures outlet.new ≡ O.output.failures outlet.old) }
     ensures fault { IfErr result (λ fault. SaysFailures fault (O.output.failures outlet.old) (O.output.failures outlet.new)) }
@@ -135,16 +134,27 @@ fn turns<S: Source, O: Outlet>(
     let mut buffer = [0; PIECE];
     let mut spare = Spool::new(alloc);
     for _ in 0..reads {
-        if have_stopped(lanes) {
+        if have_stopped(&renditions.lanes) {
             return Ok(());
         }
-        for r in 0..lanes.len() {
-            let lane = &mut lanes[r];
+        for r in 0..renditions.lanes.len() {
+            let lane = &mut renditions.lanes[r];
             if lane.stop.is_some() {
                 continue;
             }
             lane.turn(&mut sources[r], &mut buffer)?;
-            give_due(alloc, outlet, settings, r, lane, &mut spare, playlists)?;
+            let rendition = RenditionAt {
+                settings,
+                number: r,
+            };
+            give_due(
+                alloc,
+                outlet,
+                rendition,
+                lane,
+                &mut spare,
+                &mut renditions.playlists,
+            )?;
         }
     }
     Ok(())

@@ -19,7 +19,7 @@ turn-requires-clause-reads g c =
     let below : c.loop-r.r < length c.args.settings.now.renditions = omega (arith, c.loop-r-test.true, c.len-r-end.ensures, c.loop.invariant.due.world.same_lanes) in
     (reads-fit _ _ _ _ _ _ _ _ _ _ _ _ _ _ w c.loop-r.r c.index_mut.result.now c.index_mut-lane.result.now
     (slice_get_read c.loop-r.sources.items _ c.loop-r.r c.index_mut.result.now (sym w.same_now) below c.index_mut.ensures.value)
-    (slice_get_read c.loop-r.lanes.items _ c.loop-r.r c.index_mut-lane.result.now (sym w.same_lanes) below c.index_mut-lane.ensures.value)
+    (slice_get_read c.loop-r.renditions.lanes.items _ c.loop-r.r c.index_mut-lane.result.now (sym w.same_lanes) below c.index_mut-lane.ensures.value)
     (none-there _ (sym c.if-is_some.ensures)) (omega (arith, turns-now c.loop.counter c.loop-r.r, c.loop-test.true)) c.requires.most c.requires.room).0
 
 pub turn-requires-clause-failures : goal.turn-requires-clause-failures
@@ -28,7 +28,7 @@ turn-requires-clause-failures g c =
     let below : c.loop-r.r < length c.args.settings.now.renditions = omega (arith, c.loop-r-test.true, c.len-r-end.ensures, c.loop.invariant.due.world.same_lanes) in
     (reads-fit _ _ _ _ _ _ _ _ _ _ _ _ _ _ w c.loop-r.r c.index_mut.result.now c.index_mut-lane.result.now
     (slice_get_read c.loop-r.sources.items _ c.loop-r.r c.index_mut.result.now (sym w.same_now) below c.index_mut.ensures.value)
-    (slice_get_read c.loop-r.lanes.items _ c.loop-r.r c.index_mut-lane.result.now (sym w.same_lanes) below c.index_mut-lane.ensures.value)
+    (slice_get_read c.loop-r.renditions.lanes.items _ c.loop-r.r c.index_mut-lane.result.now (sym w.same_lanes) below c.index_mut-lane.ensures.value)
     (none-there _ (sym c.if-is_some.ensures)) (omega (arith, turns-now c.loop.counter c.loop-r.r, c.loop-test.true)) c.requires.most c.requires.room).1
 
 pub turn-requires-clause-few : goal.turn-requires-clause-few
@@ -37,7 +37,7 @@ turn-requires-clause-few g c =
     let below : c.loop-r.r < length c.args.settings.now.renditions = omega (arith, c.loop-r-test.true, c.len-r-end.ensures, c.loop.invariant.due.world.same_lanes) in
     (reads-fit _ _ _ _ _ _ _ _ _ _ _ _ _ _ w c.loop-r.r c.index_mut.result.now c.index_mut-lane.result.now
     (slice_get_read c.loop-r.sources.items _ c.loop-r.r c.index_mut.result.now (sym w.same_now) below c.index_mut.ensures.value)
-    (slice_get_read c.loop-r.lanes.items _ c.loop-r.r c.index_mut-lane.result.now (sym w.same_lanes) below c.index_mut-lane.ensures.value)
+    (slice_get_read c.loop-r.renditions.lanes.items _ c.loop-r.r c.index_mut-lane.result.now (sym w.same_lanes) below c.index_mut-lane.ensures.value)
     (none-there _ (sym c.if-is_some.ensures)) (omega (arith, turns-now c.loop.counter c.loop-r.r, c.loop-test.true)) c.requires.most c.requires.room).2
 
 pub turn-requires-clause-going : goal.turn-requires-clause-going
@@ -46,7 +46,7 @@ turn-requires-clause-going g c =
     let below : c.loop-r.r < length c.args.settings.now.renditions = omega (arith, c.loop-r-test.true, c.len-r-end.ensures, c.loop.invariant.due.world.same_lanes) in
     let s = stage-at _ _ _ _ _ _ _ _ _ _ _ _ _ _ w c.loop-r.r c.index_mut.result.now c.index_mut-lane.result.now
     (slice_get_read c.loop-r.sources.items _ c.loop-r.r c.index_mut.result.now (sym w.same_now) below c.index_mut.ensures.value)
-    (slice_get_read c.loop-r.lanes.items _ c.loop-r.r c.index_mut-lane.result.now (sym w.same_lanes) below c.index_mut-lane.ensures.value) in
+    (slice_get_read c.loop-r.renditions.lanes.items _ c.loop-r.r c.index_mut-lane.result.now (sym w.same_lanes) below c.index_mut-lane.ensures.value) in
     (s.2.is_at.goes_on (none-there _ (sym c.if-is_some.ensures))).going
 
 pub returns-in_err-turn-clause-err : goal.returns-in_err-turn-clause-err
@@ -56,7 +56,7 @@ returns-in_err-turn-clause-err g c =
     let below : c.loop-r.r < length c.args.settings.now.renditions = omega (arith, c.loop-r-test.true, c.len-r-end.ensures, c.loop.invariant.due.world.same_lanes) in
     rw told.1 (read-cut _ _ _ _ _ _ c.loop.counter c.loop-r.r _ _ _ _ _ _ c.index_mut.result.now c.turn.new.source c.index_mut-lane.result.now _
     (slice_get_read c.loop-r.sources.items _ c.loop-r.r c.index_mut.result.now (sym w.same_now) below c.index_mut.ensures.value)
-    (slice_get_read c.loop-r.lanes.items _ c.loop-r.r c.index_mut-lane.result.now (sym w.same_lanes) below c.index_mut-lane.ensures.value)
+    (slice_get_read c.loop-r.renditions.lanes.items _ c.loop-r.r c.index_mut-lane.result.now (sym w.same_lanes) below c.index_mut-lane.ensures.value)
     (none-there _ (sym c.if-is_some.ensures)) c.in_err-turn.ensures.err.read c.in_err-turn.ensures.no_read_failed
     (closed_of-grow c.loop-r.r c.args.settings.now.cut) c.loop-test.true c.requires.allowed c.loop-r.invariant.due)
 
@@ -66,7 +66,7 @@ give_due-requires-clause-next g c =
     let below : c.loop-r.r < length c.args.settings.now.renditions = omega (arith, c.loop-r-test.true, c.len-r-end.ensures, c.loop.invariant.due.world.same_lanes) in
     let h = has-read _ _ _ _ _ _ c.loop.counter c.loop-r.r _ _ _ _ _ _ c.index_mut.result.now c.turn.new.source c.index_mut-lane.result.now c.turn.new.self
     (slice_get_read c.loop-r.sources.items _ c.loop-r.r c.index_mut.result.now (sym w.same_now) below c.index_mut.ensures.value)
-    (slice_get_read c.loop-r.lanes.items _ c.loop-r.r c.index_mut-lane.result.now (sym w.same_lanes) below c.index_mut-lane.ensures.value)
+    (slice_get_read c.loop-r.renditions.lanes.items _ c.loop-r.r c.index_mut-lane.result.now (sym w.same_lanes) below c.index_mut-lane.ensures.value)
     (none-there _ (sym c.if-is_some.ensures)) c.in_ok-turn.ensures.ok (λ stop r. made_of-at stop r c.args.settings.now.cut) c.loop-r.invariant.due in
     (parts-of c.args.settings.now h.world.events, h.next)
 
@@ -77,11 +77,11 @@ returns-in_err-give_due-clause-err g c =
     let below : c.loop-r.r < length c.args.settings.now.renditions = omega (arith, c.loop-r-test.true, c.len-r-end.ensures, c.loop.invariant.due.world.same_lanes) in
     let h = has-read _ _ _ _ _ _ c.loop.counter c.loop-r.r _ _ _ _ _ _ c.index_mut.result.now c.turn.new.source c.index_mut-lane.result.now c.turn.new.self
     (slice_get_read c.loop-r.sources.items _ c.loop-r.r c.index_mut.result.now (sym w.same_now) below c.index_mut.ensures.value)
-    (slice_get_read c.loop-r.lanes.items _ c.loop-r.r c.index_mut-lane.result.now (sym w.same_lanes) below c.index_mut-lane.ensures.value)
+    (slice_get_read c.loop-r.renditions.lanes.items _ c.loop-r.r c.index_mut-lane.result.now (sym w.same_lanes) below c.index_mut-lane.ensures.value)
     (none-there _ (sym c.if-is_some.ensures)) c.in_ok-turn.ensures.ok (λ stop r. made_of-at stop r c.args.settings.now.cut) c.loop-r.invariant.due in
     rw told.1 (due-cut _ _ _ _ _ _ c.loop.counter c.loop-r.r _ _ _ _ _ _ _ c.index_mut.result.now c.turn.new.source c.index_mut-lane.result.now c.turn.new.self
     (slice_get_read c.loop-r.sources.items _ c.loop-r.r c.index_mut.result.now (sym w.same_now) below c.index_mut.ensures.value)
-    (slice_get_read c.loop-r.lanes.items _ c.loop-r.r c.index_mut-lane.result.now (sym w.same_lanes) below c.index_mut-lane.ensures.value)
+    (slice_get_read c.loop-r.renditions.lanes.items _ c.loop-r.r c.index_mut-lane.result.now (sym w.same_lanes) below c.index_mut-lane.ensures.value)
     (none-there _ (sym c.if-is_some.ensures)) c.in_ok-turn.ensures.ok c.in_ok-turn.ensures.unread (λ filled good. false≢true (c.in_err-give_due.ensures.none filled good))
     c.loop-r.invariant.due _ c.in_ok-turn.ensures.ok.read.short h
     c.in_err-give_due.ensures.err c.loop-test.true c.requires.allowed)
@@ -92,15 +92,15 @@ loop-r-preserved-then-is_some g c =
     let below : c.loop-r.r < length c.args.settings.now.renditions = omega (arith, c.loop-r-test.true, c.len-r-end.ensures, c.loop.invariant.due.world.same_lanes) in
     record {
       failures = c.loop-r.invariant.failures;
-      due = rw (put-back c.loop-r.lanes.items c.loop-r.r c.index_mut-lane.result.now c.index_mut-lane.ensures.value) (due-skip _ _ _ _ _ _ c.loop.counter c.loop-r.r _ _ _ _ _ _ c.index_mut-lane.result.now
-          (slice_get_read c.loop-r.lanes.items _ c.loop-r.r c.index_mut-lane.result.now (sym w.same_lanes) below c.index_mut-lane.ensures.value) (some-there _ (sym c.if-is_some.ensures)) c.loop-r.invariant.due);
+      due = rw (put-back c.loop-r.renditions.lanes.items c.loop-r.r c.index_mut-lane.result.now c.index_mut-lane.ensures.value) (due-skip _ _ _ _ _ _ c.loop.counter c.loop-r.r _ _ _ _ _ _ c.index_mut-lane.result.now
+          (slice_get_read c.loop-r.renditions.lanes.items _ c.loop-r.r c.index_mut-lane.result.now (sym w.same_lanes) below c.index_mut-lane.ensures.value) (some-there _ (sym c.if-is_some.ensures)) c.loop-r.invariant.due);
     }
 
 pub loop-r-preserved : goal.loop-r-preserved
 loop-r-preserved g c =
     let w = c.loop-r.invariant.due.world in
     let below : c.loop-r.r < length c.args.settings.now.renditions = omega (arith, c.loop-r-test.true, c.len-r-end.ensures, c.loop.invariant.due.world.same_lanes) in
-    let there = slice_get_read c.loop-r.lanes.items _ c.loop-r.r c.index_mut-lane.result.now (sym w.same_lanes) below c.index_mut-lane.ensures.value in
+    let there = slice_get_read c.loop-r.renditions.lanes.items _ c.loop-r.r c.index_mut-lane.result.now (sym w.same_lanes) below c.index_mut-lane.ensures.value in
     let h = has-read _ _ _ _ _ _ c.loop.counter c.loop-r.r _ _ _ _ _ _ c.index_mut.result.now c.turn.new.source c.index_mut-lane.result.now c.turn.new.self
     (slice_get_read c.loop-r.sources.items _ c.loop-r.r c.index_mut.result.now (sym w.same_now) below c.index_mut.ensures.value)
     there
