@@ -109,6 +109,7 @@ impl Keeping {
         ensures ok { OnOk result (IsNoted self.old self.new text.now) }
         ensures err { OnErr result (self.new ≡ self.old) }
         ensures on { OnOk result (GoesOn self.new text.now) }
+        ensures next { OnOk result (ComesNext self.old text.now) }
         ensures refused { IsErrOf result NoteFault.Refused → ¬ ComesNext self.old text.now }
         ensures scarce { IsErrOf result NoteFault.NoMemory → WantsMemory text.now ⊎ ComesNext self.old text.now }
     {

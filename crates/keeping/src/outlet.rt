@@ -95,6 +95,9 @@ impl<F: Folder> Outlet for KeepingOutlet<F> {
         // Behind a put that failed nothing is done to the folder.
         ensures untouched { 0 < self.old.files.failures → self.new.files.folder ≡ self.old.files.folder }
 
+        // Nor is it before one that may not come next is refused.
+        ensures unwritten { ¬ MayComeNext (item_value item.now) self.old.renditions → self.new.files.folder ≡ self.old.files.folder }
+
         // An item that wasn't put says nothing of what could be removed.
         ensures still { OnErr result (self.new.lags ≡ self.old.lags) }
 
@@ -147,6 +150,7 @@ fn note(renditions: &mut Vec<Keeping>, alloc: Global, item: &Item) -> Result<(),
     ensures ok { OnOk result (AreNotedBy (item_value item.now) renditions.old.items renditions.new.items) }
     ensures err { OnErr result (renditions.new.items ≡ renditions.old.items) }
     ensures turn { OnOk result (ComesInTurn (item_value item.now) renditions.new.items) }
+    ensures next { OnOk result (MayComeNext (item_value item.now) renditions.old.items) }
     ensures few { OnErr result (MayBeRefused (item_value item.now) renditions.old.items) }
     ensures refused { IsErrOf result NoteFault.Refused → ¬ MayComeNext (item_value item.now) renditions.old.items }
     ensures scarce { IsErrOf result NoteFault.NoMemory → MayWantMemory (item_value item.now) renditions.old.items }
