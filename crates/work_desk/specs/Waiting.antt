@@ -1,10 +1,11 @@
 -- Who waits at a desk.
-use Rattle.std.specs.Prelude.{◌≡◌, ◌<◌, false, []}
+use Rattle.std.specs.Prelude.{◌≡◌, ◌<◌, false, [], length}
 use Rattle.cutter.specs.Plans.{SegmentPlan}
 use Rattle.cutter.specs.Lent.{lent}
 use Rattle.flow_core.specs.declared.fault.FeedFault.{FeedFault}
 use Rattle.flow_core.specs.declared.fault.FeedFault.TheVariants.{Full, Closed, Twice, NoMemory}
 use Rattle.flow_core.specs.Queues.{QueueValue, outstanding}
+use Rattle.work_desk.specs.declared.steps.Seen.{Seen}
 
 -- workers wait while no plan waits for them and more may be fed
 abbrev pub WorkersWait : QueueValue → Type 0
@@ -13,6 +14,10 @@ WorkersWait q = (q.closed ≡ false) × (q.waiting ≡ [])
 -- the taker waits while nothing is done and something is outstanding
 abbrev pub TakerWaits : QueueValue → Type 0
 TakerWaits q = (q.done ≡ []) × (0 < outstanding q)
+
+-- what is seen of a queue
+abbrev pub seen_in : QueueValue → Seen
+seen_in q = record { closed = q.closed; waiting = length q.waiting; outstanding = outstanding q }
 
 -- the plan comes back
 abbrev pub GivesBack : SegmentPlan → FeedFault → Type 0

@@ -1,12 +1,15 @@
 //! A desk: a queue under a lock.
 
-ghost use Rattle.std.specs.Prelude.{OnErr, ◌≡◌, ◌+◌, ◌<◌, ℕ, Some, IfOk, OnOk, IfErr, IfSome, IfNone, vec_len, slice_get};
+ghost use Rattle.std.specs.Prelude.{OnErr, ◌≡◌, ◌+◌, ◌<◌, ℕ, Some, IfOk, OnOk, IfErr, IfSome, IfNone, true, vec_len, slice_get};
 ghost use Rattle.cutter.specs.Lent.{lent};
-ghost use Rattle.flow_core.specs.Queues.{IsOwnOutcome};
+ghost use Rattle.flow_core.specs.Queues.{IsOwnOutcome, first_queue};
 ghost use Rattle.work_desk.specs.Waiting.{GivesBack};
 
 use crate::pass::Pass;
-use crate::steps::{claim, claim_more, deliver, take, take_awaited, taker_waits, workers_wait};
+use crate::steps::{
+    Ended, Seen, claim, claim_more, close, deliver, stop, take, take_awaited, taker_waits,
+    workers_wait,
+};
 use cutter::PlanRef;
 use flow_core::{Claim, Delivery, Fed, FeedFault, Outcome, Queue};
 use std::alloc::{AllocError, Global};
@@ -18,6 +21,8 @@ use std::sync::{Condvar, Mutex, Wait};
 #[derive(Drop)]
 pub struct Desk<'s, L: Ledger, M: Ledger> {
     queue: Mutex<Queue<'s, L, M>>,
+    /// How many plans may be outstanding in it.
+    most: usize,
     /// A plan was fed, or no more are.
     fed: Condvar,
     /// Something is done, or given up.
@@ -74,22 +79,32 @@ impl<'s, L: Ledger, M: Ledger> Desk<'s, L, M> {
         ensures numbers { IfOk result (λ opened. (i : ℕ) (pass : Pass L) → slice_get opened.workers.items i ≡ Some pass →
             (pass.number ≡ i) × (pass.count ≡ 0)) }
         ensures taker { IfOk result (λ opened. opened.taker.number ≡ workers) }
+        ensures most { IfOk result (λ opened. opened.desk.most ≡ queue) }
         ensures scarce { OnErr result (0 < workers) }
     {
         let (claims, mut rest) = claims.open::<L>();
         let (takes, share) = takes.open::<M>();
         let workers_passes = new_passes(alloc, workers, &mut rest)?;
         Ok(Opened {
-            desk: Desk {
-                queue: Mutex::new(Queue::new(alloc, queue, claims, takes)),
-                fed: Condvar::new(),
-                done: Condvar::new(),
-                idle: AtomicUsize::new(workers),
-            },
+            desk: Desk::over(Queue::new(alloc, queue, claims, takes), queue, workers),
             workers: workers_passes,
             taker: Pass::new(workers, share),
             rest,
         })
+    }
+
+    /// A desk over a queue that nothing happened to, of at most so many plans.
+    fn over(queue: Queue<'s, L, M>, most: usize, workers: usize) -> Desk<'s, L, M>
+        requires { queue ≡ first_queue most }
+        ensures { result.most ≡ most }
+    {
+        Desk {
+            queue: Mutex::new(queue),
+            most,
+            fed: Condvar::new(),
+            done: Condvar::new(),
+            idle: AtomicUsize::new(workers),
+        }
     }
 
     /// A plan waits for a worker from now on, and its receipt is returned. Where it may not, the plan comes back.
@@ -109,6 +124,17 @@ impl<'s, L: Ledger, M: Ledger> Desk<'s, L, M> {
         ensures uncounted { IfNone result (pass.new.count ≡ pass.old.count) }
         ensures number { pass.new.number ≡ pass.old.number }
     {
+        self.next_claim(rt, pass).ok()
+    }
+
+    /// The same, with what was seen where there is none.
+    pub(crate) fn next_claim<R: Wait>(&self, rt: &R, pass: &mut Pass<L>) -> Result<Claim<'s>, Seen>
+        ensures worker { IfOk result (λ claim. claim.worker ≡ pass.old.number) }
+        ensures counted { OnOk result (pass.new.count ≡ pass.old.count + 1) }
+        ensures uncounted { OnErr result (pass.new.count ≡ pass.old.count) }
+        ensures number { pass.new.number ≡ pass.old.number }
+        ensures over { IfErr result (λ seen. (seen.closed ≡ true) × (seen.waiting ≡ 0)) }
+    {
         if pass.count > 0 {
             self.idle.fetch_add(1, Ordering::SeqCst);
         }
@@ -124,6 +150,16 @@ impl<'s, L: Ledger, M: Ledger> Desk<'s, L, M> {
         ensures worker { IfSome result (λ claim. claim.worker ≡ pass.old.number) }
         ensures counted { IfSome result (λ _. pass.new.count ≡ pass.old.count + 1) }
         ensures uncounted { IfNone result (pass.new.count ≡ pass.old.count) }
+        ensures number { pass.new.number ≡ pass.old.number }
+    {
+        self.spare_claim(rt, pass).ok()
+    }
+
+    /// The same, with what was seen where there is none.
+    pub(crate) fn spare_claim<R: Wait>(&self, rt: &R, pass: &mut Pass<L>) -> Result<Claim<'s>, Seen>
+        ensures worker { IfOk result (λ claim. claim.worker ≡ pass.old.number) }
+        ensures counted { OnOk result (pass.new.count ≡ pass.old.count + 1) }
+        ensures uncounted { OnErr result (pass.new.count ≡ pass.old.count) }
         ensures number { pass.new.number ≡ pass.old.number }
     {
         let mut queue = self.queue.lock(rt);
@@ -146,6 +182,15 @@ impl<'s, L: Ledger, M: Ledger> Desk<'s, L, M> {
         ensures uncounted { IfNone result (pass.new.count ≡ pass.old.count) }
         ensures number { pass.new.number ≡ pass.old.number }
     {
+        self.look_done(rt, pass).ok()
+    }
+
+    /// The same, with what was seen where there is none.
+    fn look_done<R: Wait>(&self, rt: &R, pass: &mut Pass<M>) -> Result<Delivery<'s>, Seen>
+        ensures counted { OnOk result (pass.new.count ≡ pass.old.count + 1) }
+        ensures uncounted { OnErr result (pass.new.count ≡ pass.old.count) }
+        ensures number { pass.new.number ≡ pass.old.number }
+    {
         take(&mut self.queue.lock(rt), pass)
     }
 
@@ -155,6 +200,16 @@ impl<'s, L: Ledger, M: Ledger> Desk<'s, L, M> {
         ensures uncounted { IfNone result (pass.new.count ≡ pass.old.count) }
         ensures number { pass.new.number ≡ pass.old.number }
     {
+        self.await_done(rt, pass).ok()
+    }
+
+    /// The same, with what was seen where there is none.
+    fn await_done<R: Wait>(&self, rt: &R, pass: &mut Pass<M>) -> Result<Delivery<'s>, Seen>
+        ensures counted { OnOk result (pass.new.count ≡ pass.old.count + 1) }
+        ensures uncounted { OnErr result (pass.new.count ≡ pass.old.count) }
+        ensures number { pass.new.number ≡ pass.old.number }
+        ensures over { IfErr result (λ seen. seen.outstanding ≡ 0) }
+    {
         let locked = self.queue.lock(rt);
         let mut queue = self.done.wait_while(rt, locked, |queue| taker_waits(queue));
         take_awaited(&mut queue, pass)
@@ -162,13 +217,27 @@ impl<'s, L: Ledger, M: Ledger> Desk<'s, L, M> {
 
     /// No more plans are fed. Workers end when none waits.
     pub fn close<R: Wait>(&self, rt: &R) {
-        self.queue.lock(rt).close();
+        let ended = close(&mut self.queue.lock(rt));
+        self.tell_closed(ended);
+    }
+
+    /// Wakes the workers: no more plans are fed, and none was given up.
+    fn tell_closed(&self, _ended: Ended)
+        requires { _ended.given_up ≡ 0 }
+    {
         self.fed.notify_all();
     }
 
     /// No more plans are fed, and those that wait are given up. What is claimed or done goes on.
     pub fn stop<R: Wait>(&self, rt: &R) {
-        self.queue.lock(rt).stop();
+        let ended = stop(&mut self.queue.lock(rt));
+        self.tell_stopped(ended);
+    }
+
+    /// Wakes the workers and the taker: no more plans are fed, and none waits.
+    fn tell_stopped(&self, _ended: Ended)
+        requires { _ended.left ≡ 0 }
+    {
         self.fed.notify_all();
         self.done.notify_all();
     }

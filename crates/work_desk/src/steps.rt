@@ -1,14 +1,34 @@
 //! What the calls of a desk do to its queue, under the lock.
 
-ghost use Rattle.std.specs.Prelude.{◌≡◌, ◌+◌, ◌<◌, ◌≤◌, ◌∷◌, [], IfSome, IfNone, true, length, Decides};
+ghost use Rattle.std.specs.Prelude.{◌≡◌, ◌+◌, ◌<◌, ◌≤◌, ◌∷◌, [], IfOk, IfErr, OnOk, OnErr, true, length, Decides};
 ghost use Rattle.flow_core.specs.Lists.{In};
 ghost use Rattle.flow_core.specs.Queues.{outstanding, IsOwnOutcome};
-ghost use Rattle.flow_core.specs.Steps.{Claims, Delivers, Gives, IsFirst};
-ghost use Rattle.work_desk.specs.Waiting.{WorkersWait, TakerWaits};
+ghost use Rattle.flow_core.specs.Steps.{Claims, Delivers, Gives, IsFirst, closed_queue, stopped_queue};
+ghost use Rattle.work_desk.specs.Waiting.{WorkersWait, TakerWaits, seen_in};
 
 use crate::pass::Pass;
 use flow_core::{Claim, Delivery, Outcome, Queue};
 use std::sync::ledger::Ledger;
+
+/// What a step saw of the queue where it found nothing. Only a step makes one: it is the receipt that somebody looked under
+/// the lock.
+#[derive(Clone, Copy)]
+pub struct Seen {
+    closed: bool,
+    waiting: usize,
+    outstanding: usize,
+}
+
+/// What is seen of a queue.
+fn look<L: Ledger, M: Ledger>(queue: &Queue<'_, L, M>) -> Seen
+    ensures { result ≡ seen_in queue.now }
+{
+    Seen {
+        closed: queue.is_closed(),
+        waiting: queue.waiting(),
+        outstanding: queue.outstanding(),
+    }
+}
 
 /// Whether workers wait.
 pub fn workers_wait<L: Ledger, M: Ledger>(queue: &Queue<'_, L, M>) -> bool
@@ -34,13 +54,14 @@ pub fn taker_waits<L: Ledger, M: Ledger>(queue: &Queue<'_, L, M>) -> bool
 pub fn claim<'s, L: Ledger, M: Ledger>(
     queue: &mut Queue<'s, L, M>,
     pass: &mut Pass<L>,
-) -> Option<Claim<'s>>
+) -> Result<Claim<'s>, Seen>
     requires { WorkersWait queue.old → ⊥ }
-    ensures some { IfSome result (λ claim. Claims queue.old claim queue.new) }
-    ensures first { IfSome result (λ claim. (claim.worker ≡ pass.old.number) × (queue.old.waiting ≡ claim.plan ∷ queue.new.waiting)) }
-    ensures none { IfNone result ((queue.new ≡ queue.old) × (queue.old.closed ≡ true) × (queue.old.waiting ≡ [])) }
-    ensures counted { IfSome result (λ _. pass.new.count ≡ pass.old.count + 1) }
-    ensures uncounted { IfNone result (pass.new.count ≡ pass.old.count) }
+    ensures some { IfOk result (λ claim. Claims queue.old claim queue.new) }
+    ensures first { IfOk result (λ claim. (claim.worker ≡ pass.old.number) × (queue.old.waiting ≡ claim.plan ∷ queue.new.waiting)) }
+    ensures none { OnErr result ((queue.new ≡ queue.old) × (queue.old.closed ≡ true) × (queue.old.waiting ≡ [])) }
+    ensures seen { IfErr result (λ seen. seen ≡ seen_in queue.old) }
+    ensures counted { OnOk result (pass.new.count ≡ pass.old.count + 1) }
+    ensures uncounted { OnErr result (pass.new.count ≡ pass.old.count) }
     ensures number { pass.new.number ≡ pass.old.number }
 {
     let Pass {
@@ -48,9 +69,11 @@ pub fn claim<'s, L: Ledger, M: Ledger>(
         count,
         share,
     } = pass;
-    let claim = queue.claim(*number, share)?;
+    let Some(claim) = queue.claim(*number, share) else {
+        return Err(look(queue));
+    };
     *count += 1;
-    Some(claim)
+    Ok(claim)
 }
 
 /// Claims the plan that waits the longest where more wait than so many workers are idle; none elsewhere.
@@ -58,17 +81,18 @@ pub fn claim_more<'s, L: Ledger, M: Ledger>(
     queue: &mut Queue<'s, L, M>,
     idle: usize,
     pass: &mut Pass<L>,
-) -> Option<Claim<'s>>
-    ensures some { IfSome result (λ claim. Claims queue.old claim queue.new) }
-    ensures first { IfSome result (λ claim. (claim.worker ≡ pass.old.number) × (queue.old.waiting ≡ claim.plan ∷ queue.new.waiting)) }
-    ensures more { IfSome result (λ _. idle < length queue.old.waiting) }
-    ensures none { IfNone result ((queue.new ≡ queue.old) × (length queue.old.waiting ≤ idle)) }
-    ensures counted { IfSome result (λ _. pass.new.count ≡ pass.old.count + 1) }
-    ensures uncounted { IfNone result (pass.new.count ≡ pass.old.count) }
+) -> Result<Claim<'s>, Seen>
+    ensures some { IfOk result (λ claim. Claims queue.old claim queue.new) }
+    ensures first { IfOk result (λ claim. (claim.worker ≡ pass.old.number) × (queue.old.waiting ≡ claim.plan ∷ queue.new.waiting)) }
+    ensures more { OnOk result (idle < length queue.old.waiting) }
+    ensures none { OnErr result ((queue.new ≡ queue.old) × (length queue.old.waiting ≤ idle)) }
+    ensures seen { IfErr result (λ seen. seen ≡ seen_in queue.old) }
+    ensures counted { OnOk result (pass.new.count ≡ pass.old.count + 1) }
+    ensures uncounted { OnErr result (pass.new.count ≡ pass.old.count) }
     ensures number { pass.new.number ≡ pass.old.number }
 {
     if queue.waiting() <= idle {
-        return None;
+        return Err(look(queue));
     }
     claim(queue, pass)
 }
@@ -100,32 +124,69 @@ pub fn deliver<'s, L: Ledger, M: Ledger>(
 pub fn take<'s, L: Ledger, M: Ledger>(
     queue: &mut Queue<'s, L, M>,
     pass: &mut Pass<M>,
-) -> Option<Delivery<'s>>
-    ensures some { IfSome result (λ delivery. Gives queue.old delivery queue.new) }
-    ensures first { IfSome result (λ delivery. IsFirst delivery queue.old.done queue.new.done) }
-    ensures none { IfNone result ((queue.new ≡ queue.old) × (queue.old.done ≡ [])) }
-    ensures counted { IfSome result (λ _. pass.new.count ≡ pass.old.count + 1) }
-    ensures uncounted { IfNone result (pass.new.count ≡ pass.old.count) }
+) -> Result<Delivery<'s>, Seen>
+    ensures some { IfOk result (λ delivery. Gives queue.old delivery queue.new) }
+    ensures first { IfOk result (λ delivery. IsFirst delivery queue.old.done queue.new.done) }
+    ensures none { OnErr result ((queue.new ≡ queue.old) × (queue.old.done ≡ [])) }
+    ensures seen { IfErr result (λ seen. seen ≡ seen_in queue.old) }
+    ensures counted { OnOk result (pass.new.count ≡ pass.old.count + 1) }
+    ensures uncounted { OnErr result (pass.new.count ≡ pass.old.count) }
     ensures number { pass.new.number ≡ pass.old.number }
 {
     let Pass { count, share, .. } = pass;
-    let delivery = queue.take(share)?;
+    let Some(delivery) = queue.take(share) else {
+        return Err(look(queue));
+    };
     *count += 1;
-    Some(delivery)
+    Ok(delivery)
 }
 
 /// Takes what has been done the longest; none where nothing is outstanding.
 pub fn take_awaited<'s, L: Ledger, M: Ledger>(
     queue: &mut Queue<'s, L, M>,
     pass: &mut Pass<M>,
-) -> Option<Delivery<'s>>
+) -> Result<Delivery<'s>, Seen>
     requires { TakerWaits queue.old → ⊥ }
-    ensures some { IfSome result (λ delivery. Gives queue.old delivery queue.new) }
-    ensures first { IfSome result (λ delivery. IsFirst delivery queue.old.done queue.new.done) }
-    ensures none { IfNone result ((queue.new ≡ queue.old) × (outstanding queue.old ≡ 0)) }
-    ensures counted { IfSome result (λ _. pass.new.count ≡ pass.old.count + 1) }
-    ensures uncounted { IfNone result (pass.new.count ≡ pass.old.count) }
+    ensures some { IfOk result (λ delivery. Gives queue.old delivery queue.new) }
+    ensures first { IfOk result (λ delivery. IsFirst delivery queue.old.done queue.new.done) }
+    ensures none { OnErr result ((queue.new ≡ queue.old) × (outstanding queue.old ≡ 0)) }
+    ensures seen { IfErr result (λ seen. seen ≡ seen_in queue.old) }
+    ensures counted { OnOk result (pass.new.count ≡ pass.old.count + 1) }
+    ensures uncounted { OnErr result (pass.new.count ≡ pass.old.count) }
     ensures number { pass.new.number ≡ pass.old.number }
 {
     take(queue, pass)
+}
+
+/// What a step saw that ended the queue: how many plans it gave up, and how many wait still. Only such a step makes one.
+#[derive(Clone, Copy)]
+pub struct Ended {
+    given_up: usize,
+    left: usize,
+}
+
+/// No more plans are fed.
+pub fn close<L: Ledger, M: Ledger>(queue: &mut Queue<'_, L, M>) -> Ended
+    ensures closed { queue.new ≡ closed_queue queue.old }
+    ensures seen { result ≡ record { given_up = 0; left = length queue.old.waiting } }
+{
+    let before = queue.waiting();
+    queue.close();
+    Ended {
+        given_up: before - queue.waiting(),
+        left: queue.waiting(),
+    }
+}
+
+/// No more plans are fed, and those that wait are given up.
+pub fn stop<L: Ledger, M: Ledger>(queue: &mut Queue<'_, L, M>) -> Ended
+    ensures stopped { queue.new ≡ stopped_queue queue.old }
+    ensures seen { result ≡ record { given_up = length queue.old.waiting; left = 0 } }
+{
+    let before = queue.waiting();
+    queue.stop();
+    Ended {
+        given_up: before - queue.waiting(),
+        left: queue.waiting(),
+    }
 }

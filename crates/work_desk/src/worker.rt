@@ -1,13 +1,15 @@
 //! A worker's run.
 
-ghost use Rattle.std.specs.Prelude.{◌≡◌, IfNone, IfSome};
+ghost use Rattle.std.specs.Prelude.{◌≡◌, ◌+◌, IfErr, IfNone, IfOk, IfSome, None, OnErr, Some, true};
 ghost use Rattle.flow_core.specs.Queues.{IsOwnOutcome};
+ghost use Rattle.work_desk.specs.Batches.{AreLetThrough, IsLetThrough};
 ghost use Rattle.work_desk.specs.Works.{IsBegun};
 
 use crate::desk::Desk;
 use crate::gate::Gate;
 use crate::pass::{Pass, Tally};
 use crate::sealing::{Begun, Means, Worked, finish_four, finish_one, finish_two};
+use crate::steps::Seen;
 use flow_core::Claim;
 use segment_job::Keys;
 use std::alloc::Global;
@@ -33,23 +35,65 @@ pub fn work<'s, L: Ledger, M: Ledger, G: Gate, R: Wait>(
     ensures { result.worker ≡ pass.number }
 {
     let mut pass = pass;
-    let means = Means { alloc, keys, gate };
-    for _ in rt.forever() {
-        let Some(batch) = begin_some(rt, desk, &mut pass, &means) else {
-            break;
-        };
-        finish_all(rt, desk, batch);
-    }
+    serve(rt, alloc, desk, &mut pass, keys, gate);
     pass.tally()
 }
 
+/// Claims, seals and delivers until no more plans are fed and none waits, and tells that it saw so.
+fn serve<'s, L: Ledger, M: Ledger, G: Gate, R: Wait>(
+    rt: &R,
+    alloc: Global,
+    desk: &Desk<'s, L, M>,
+    pass: &mut Pass<L>,
+    keys: &[Keys],
+    gate: &G,
+) -> Seen
+    ensures number { pass.new.number ≡ pass.old.number }
+    ensures over { (result.closed ≡ true) × (result.waiting ≡ 0) }
+{
+    let means = Means { alloc, keys, gate };
+    for _ in rt.forever() {
+        match begin_some(rt, desk, pass, &means) {
+            Ok(batch) => finish_all(rt, desk, gate, batch),
+            Err(seen) => return seen,
+        }
+    }
+    unreachable!()
+}
+
 /// Up to four claimed plans whose segments are sealed side by side.
-struct Batch<'s>(
-    Option<Begun<'s>>,
-    Option<Begun<'s>>,
-    Option<Begun<'s>>,
-    Option<Begun<'s>>,
-);
+pub(crate) struct Batch<'s> {
+    first: Option<Begun<'s>>,
+    second: Option<Begun<'s>>,
+    third: Option<Begun<'s>>,
+    fourth: Option<Begun<'s>>,
+    /// What was seen where fewer than four were claimed.
+    no_more: Option<Seen>,
+}
+
+impl<'s> Batch<'s> {
+    /// Of up to three claimed plans, where no more waited than workers were idle.
+    fn short(
+        first: Option<Begun<'s>>,
+        second: Option<Begun<'s>>,
+        third: Option<Begun<'s>>,
+        seen: Seen,
+    ) -> Batch<'s>
+        ensures first { result.first ≡ first.entry }
+        ensures second { result.second ≡ second.entry }
+        ensures third { result.third ≡ third.entry }
+        ensures fourth { result.fourth ≡ None }
+        ensures seen { result.no_more ≡ Some seen }
+    {
+        Batch {
+            first,
+            second,
+            third,
+            fourth: None,
+            no_more: Some(seen),
+        }
+    }
+}
 
 /// Claims a plan, and up to three more where more wait than workers are idle, and makes their segments ready. None where no
 /// more plans are fed and none waits.
@@ -58,25 +102,40 @@ fn begin_some<'s, L: Ledger, M: Ledger, G: Gate, R: Wait>(
     desk: &Desk<'s, L, M>,
     pass: &mut Pass<L>,
     means: &Means<'_, G>,
-) -> Option<Batch<'s>>
+) -> Result<Batch<'s>, Seen>
     ensures number { pass.new.number ≡ pass.old.number }
-    ensures none { IfNone result (pass.new.count ≡ pass.old.count) }
+    ensures none { OnErr result (pass.new.count ≡ pass.old.count) }
+    ensures over { IfErr result (λ seen. (seen.closed ≡ true) × (seen.waiting ≡ 0)) }
+    ensures asked { IfOk result (λ batch. IfNone batch.no_more (pass.new.count ≡ pass.old.count + 4)) }
+    ensures let_through { IfOk result (AreLetThrough (G.lets means.now.gate.now)) }
 {
-    let claim = desk.claim(rt, pass)?;
+    let claim = match desk.next_claim(rt, pass) {
+        Ok(claim) => claim,
+        Err(seen) => return Err(seen),
+    };
     let first = begin(rt, desk, means, claim);
-    let Some(claim) = desk.claim_more(rt, pass) else {
-        return Some(Batch(first, None, None, None));
+    let claim = match desk.spare_claim(rt, pass) {
+        Ok(claim) => claim,
+        Err(seen) => return Ok(Batch::short(first, None, None, seen)),
     };
     let second = begin(rt, desk, means, claim);
-    let Some(claim) = desk.claim_more(rt, pass) else {
-        return Some(Batch(first, second, None, None));
+    let claim = match desk.spare_claim(rt, pass) {
+        Ok(claim) => claim,
+        Err(seen) => return Ok(Batch::short(first, second, None, seen)),
     };
     let third = begin(rt, desk, means, claim);
-    let Some(claim) = desk.claim_more(rt, pass) else {
-        return Some(Batch(first, second, third, None));
+    let claim = match desk.spare_claim(rt, pass) {
+        Ok(claim) => claim,
+        Err(seen) => return Ok(Batch::short(first, second, third, seen)),
     };
     let fourth = begin(rt, desk, means, claim);
-    Some(Batch(first, second, third, fourth))
+    Ok(Batch {
+        first,
+        second,
+        third,
+        fourth,
+        no_more: None,
+    })
 }
 
 /// Makes the segment of a claimed plan ready. What can't be sealed is delivered at once.
@@ -88,6 +147,7 @@ fn begin<'s, L: Ledger, M: Ledger, G: Gate, R: Wait>(
 ) -> Option<Begun<'s>>
     ensures claim { IfSome result (λ begun. begun.claim ≡ claim.entry) }
     ensures begun { IfSome result (λ begun. IsBegun (G.lets means.now.gate.now) means.now.keys.now claim.entry.plan begun.segment) }
+    ensures let_through { IsLetThrough (G.lets means.now.gate.now) result }
 {
     match means.begin(claim) {
         Ok(begun) => Some(begun),
@@ -98,9 +158,22 @@ fn begin<'s, L: Ledger, M: Ledger, G: Gate, R: Wait>(
     }
 }
 
-/// Seals what was begun, side by side, and delivers it.
-fn finish_all<'s, L: Ledger, M: Ledger, R: Wait>(rt: &R, desk: &Desk<'s, L, M>, batch: Batch<'s>) {
-    let Batch(first, second, third, fourth) = batch;
+/// Seals what was begun, side by side, and delivers it. All of it was let through by the gate.
+fn finish_all<'s, L: Ledger, M: Ledger, G: Gate, R: Wait>(
+    rt: &R,
+    desk: &Desk<'s, L, M>,
+    _gate: &G,
+    batch: Batch<'s>,
+)
+    requires { AreLetThrough (G.lets _gate.now) batch }
+{
+    let Batch {
+        first,
+        second,
+        third,
+        fourth,
+        no_more: _,
+    } = batch;
     match (first, second, third, fourth) {
         (Some(first), Some(second), Some(third), Some(fourth)) => {
             let (one, two, three, four) = finish_four(first, second, third, fourth);

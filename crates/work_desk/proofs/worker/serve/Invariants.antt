@@ -1,5 +1,5 @@
 use Rattle.std.specs.Prelude.{◌≡◌}
-use Rattle.work_desk.proofs.worker.work.Given as goal
+use Rattle.work_desk.proofs.worker.serve.Given as goal
 
 -- the pass stays its worker's
 abbrev pub invariant-loop : goal.invariant-loop
