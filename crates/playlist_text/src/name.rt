@@ -2,7 +2,7 @@ ghost use Rattle.std.specs.Prelude.{◌≡◌};
 ghost use Rattle.std.specs.List.{list_all};
 ghost use Rattle.playlist_text.specs.Names;
 
-/// Whether a text may be the name of a rendition: 1 to 64 bytes of UTF-8 without controls, `/`, `.` and `:`, and not
+/// Whether a text may be the name of a rendition: 1 to 64 bytes of UTF-8 without ASCII controls, `/`, `.` and `:`, and not
 /// `master`.
 #[tactic(auto, unfolding(crate::specs::Names::is_name))]
 pub fn is_name(name: &str) -> bool
