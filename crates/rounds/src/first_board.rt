@@ -36,10 +36,15 @@ pub fn opening_board<R: Wait>(
     ensures viewers { IfOk result (λ b. All (λ v. v ≡ b.0) b.1.items) }
     ensures fault { OnErr result ((result ≡ Err NoPlace) ⊎ (result ≡ Err NoMemory)) }
 {
-    match nothing_shown(alloc, renditions) {
-        Ok(first) => board(rt, alloc, first, viewers),
-        Err(_) => Err(BoardFault::NoMemory),
-    }
+    let first = nothing_shown(alloc, renditions).map_err(no_memory)?;
+    board(rt, alloc, first, viewers)
+}
+
+/// Why there is no first snapshot.
+fn no_memory(_: AllocError) -> BoardFault
+    ensures { result ≡ NoMemory }
+{
+    BoardFault::NoMemory
 }
 
 /// The snapshot of renditions that have no segment yet: their playlists have no text.
