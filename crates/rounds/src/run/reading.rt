@@ -6,7 +6,7 @@ ghost use Rattle.ingest.specs.declared.lane.Lane.{Lane};
 ghost use Rattle.rounds.specs.Courses.{HadNone, HadOne, HadOneAtMost, HasClosed, HasTurns, IsRun, LeavesAt, NoneWaits, OthersStay, ReadsMore, ReadsOn};
 ghost use Rattle.rounds.specs.Courses.{ReadsShort, Rests, turns_at, turns_in};
 ghost use Rattle.rounds.specs.Heralds.{AreHeard, TellsAll};
-ghost use Rattle.rounds.specs.Paces.{HasEnough, StopsSoon, closed_in, wanted};
+ghost use Rattle.rounds.specs.Paces.{HasEnough, ReadsEnough, StopsSoon, closed_in, wanted};
 ghost use Rattle.rounds.specs.declared.run.telling.TheConstants.{RENDITIONS};
 ghost use Rattle.item_io.specs.declared.limits.TheConstants.{PIECE, READS};
 
@@ -162,6 +162,7 @@ impl<S: Source, O: Outlet> Course<S, O> {
         ensures playlists { OnOk result (self.new.playlists ≡ self.old.playlists) }
         ensures further { OnOk result (ReadsMore self.old self.new) }
         ensures idle { OnOk result (HasEnough (wanted pace 0 0) self.old → self.new ≡ self.old) }
+        ensures enough { OnOk result (ReadsEnough S.tells pace 0 self.old self.new) }
         ensures some { OnOk result (HasEnough 1 self.new) }
         ensures soon { OnOk result (turns_in self.old < turns_in self.new → StopsSoon S.input O.output pace self.old self.new) }
         ensures none { OnErr result (HasEnough (wanted pace 0 0) self.old → ⊥) }

@@ -7,7 +7,7 @@ ghost use Rattle.rounds.specs.Courses.{HasGoodEnds, IsAllGiven, IsSomeBetween, N
 ghost use Rattle.rounds.specs.Courses.{HasEndDue, IsRun, ReadsMore, ReadsOn, ReadsShort, turns_in};
 ghost use Rattle.rounds.specs.Gated.{IsGatesWord, IsUnheld};
 ghost use Rattle.rounds.specs.Heralds.{AllHeard, AreHeard, TellsAll, complete_in};
-ghost use Rattle.rounds.specs.Paces.{HasEnough, StopsSoon, wanted};
+ghost use Rattle.rounds.specs.Paces.{HasEnough, ReadsEnough, StopsSoon, wanted};
 ghost use Rattle.rounds.specs.Rounds.{SwapsOut, SwapsShort, TakesClosed};
 ghost use Rattle.rounds.specs.Showing.{counts_of};
 ghost use Rattle.rounds.specs.declared.run.telling.TheConstants.{RENDITIONS};
@@ -93,6 +93,7 @@ fn read_between<'r, S: Source, O: Outlet, R: Wait, H: Herald>(
     ensures err { OnErr result.1 (ReadsShort S.input O.output between.entry.broadcast.course result.0.broadcast.course) }
     ensures playlists { OnOk result.1 (result.0.broadcast.course.playlists ≡ between.entry.broadcast.course.playlists) }
     ensures further { OnOk result.1 (ReadsMore between.entry.broadcast.course result.0.broadcast.course) }
+    ensures enough { OnOk result.1 (ReadsEnough S.tells pace 0 between.entry.broadcast.course result.0.broadcast.course) }
     ensures some { OnOk result.1 (HasEnough 1 result.0.broadcast.course) }
     ensures soon { OnOk result.1 (turns_in between.entry.broadcast.course < turns_in result.0.broadcast.course
         → StopsSoon S.input O.output pace between.entry.broadcast.course result.0.broadcast.course) }

@@ -1,8 +1,9 @@
-use Rattle.std.proofs.Common.{◌∙◌, List, refl, ap, sym, subst, rules}
+use Rattle.std.proofs.Common.{◌≡◌, ◌∙◌, ◌-◌, List, inl, inr, refl, ap, arith, sym, subst, rules}
 use Rattle.std.proofs.lemmas.Bool.{false≢true}
 use Rattle.std.proofs.lemmas.Result.{err_from_is_err_and}
 use Rattle.rounds.specs.declared.run.course.Course.{Course}
-use Rattle.rounds.proofs.Pacing.{enough-one, enough-since, still-here}
+use Rattle.rounds.proofs.Pacing.{enough-as, enough-one, enough-since, still-here}
+use Rattle.rounds.specs.Courses.{turns_in}
 use Rattle.rounds.proofs.Soon.{most-before, none-looked}
 use Rattle.ingest.specs.declared.lane.Lane.{Lane}
 use Rattle.rounds.specs.Heralds.{AreHeard, TellsAll}
@@ -157,3 +158,16 @@ pub returns-in_err-read_ready-clause-told : goal.returns-in_err-read_ready-claus
 returns-in_err-read_ready-clause-told g c =
     let told = err_from_is_err_and c.from_residual.result c.from_residual.ensures.1 in
     rw told.1 tt
+
+pub returns-in_err-read_ready-clause-enough : goal.returns-in_err-read_ready-clause-enough
+returns-in_err-read_ready-clause-enough g c =
+    let told = err_from_is_err_and c.from_residual.result c.from_residual.ensures.1 in
+    rw told.1 tt
+
+pub returns-then-is_enough-clause-enough : goal.returns-then-is_enough-clause-enough
+returns-then-is_enough-clause-enough g c =
+    let had : turns_in c.loop.self - turns_in c.args.self.now ≡ c.turns_had.result - c.turns_had-before.result = omega (arith, c.turns_had.ensures.is, c.turns_had-before.ensures.is) in
+    inl (enough-as c.args.pace c.loop.self 0 0 _ _ refl had (c.if-is_enough.ensures.0 refl))
+
+pub returns-then-has_closed-clause-enough : goal.returns-then-has_closed-clause-enough
+returns-then-has_closed-clause-enough g c = inr (c.in_ok-read_ready.ensures.idle c.if-branch.false)
