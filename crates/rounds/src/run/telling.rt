@@ -4,9 +4,10 @@ ghost use Rattle.std.specs.Prelude.{◌≡◌, ◌<◌, false, true, replicate, 
 
 use crate::run::herald::Herald;
 use ladder_items::PackFault;
+use limits::MOST_RENDITIONS;
 
 /// As many renditions as a ladder has at the most.
-pub const RENDITIONS: usize = 32;
+pub const RENDITIONS: usize = MOST_RENDITIONS as usize;
 
 /// A herald, and whose fault it was told, by rendition. Nothing else can tell it one, so that each is told once.
 #[derive(Drop)]
