@@ -132,15 +132,19 @@ fn gather<L: Ledger, R: Threads>(
 fn in_scope<'p, L: Ledger + Send + Sync, M: Ledger + Send + Sync, R: Threads + Wait + Sync>(
     rt: &R,
     alloc: Global,
-    desk: &Desk<'p, L, M>,
-    passes: Vec<Pass<L>>,
-    taker: Pass<M>,
-    rest: Share<L>,
+    opened: Opened<'p, L, M>,
     plans: &'p [Plan],
     keys: &[Keys],
 ) -> Option<Told>
-    requires { (rest.parts + vec_len passes ≡ L.parts) × (M.parts ≡ 1) }
+    requires { (opened.rest.parts + vec_len opened.workers ≡ L.parts) × (M.parts ≡ 1) }
 {
+    let Opened {
+        desk,
+        workers: passes,
+        taker,
+        rest,
+    } = opened;
+    let desk = &desk;
     thread::scope(
         thread::scope_env(),
         rt,
@@ -181,13 +185,8 @@ fn run_with<L: Ledger + Send + Sync, M: Ledger + Send + Sync, R: Threads + Wait 
     requires claims { (claims.name ≡ L.name) × (claims.parts ≡ L.parts) × (L.parts ≡ 2) }
     requires takes { (takes.name ≡ M.name) × (takes.parts ≡ M.parts) × (M.parts ≡ 1) }
 {
-    let Opened {
-        desk,
-        workers,
-        taker,
-        rest,
-    } = Desk::<'_, L, M>::new(alloc, PLANS, WORKERS, claims, takes).ok()?;
-    in_scope(rt, alloc, &desk, workers, taker, rest, plans, keys)
+    let opened = Desk::<'_, L, M>::new(alloc, PLANS, WORKERS, claims, takes).ok()?;
+    in_scope(rt, alloc, opened, plans, keys)
 }
 
 /// A run; none where it told anything wrong, or there was no memory to begin.

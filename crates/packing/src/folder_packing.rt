@@ -7,13 +7,12 @@ ghost use Rattle.packing.specs.LadderPacking.{IsHeard, IsNeverHeld, LadderSays, 
 
 use crate::destination::{Destination, outlet_of};
 use crate::ladder_packing::{PackedLadder, pack};
-use commands::Pool;
+use crate::setup::LadderSetup;
 use folder::Folder;
 use item_io::{FolderOutlet, READS, Source};
 use ladder_laws::names_are_bytes;
 use live_board::Publisher;
-use pipeline::{Herald, Settings};
-use std::alloc::Global;
+use pipeline::Herald;
 use std::io::Write;
 use std::sync::Wait;
 use std::thread::Threads;
@@ -33,44 +32,38 @@ pub fn pack_into_folder<
     R: Threads + Wait + Sync,
     H: Herald,
 >(
-    rt: &R,
-    alloc: Global,
+    setup: &LadderSetup<'_, R, H>,
     sources: Vec<S>,
-    settings: &Settings,
-    pool: Pool,
     publisher: Publisher,
     into: Destination<F>,
     output: &mut W,
-    herald: &H,
 ) -> PackedLadder<S, FolderOutlet<F>>
     requires room { HaveRoom S.input READS sources.items }
     requires fresh { F.made into.folder ≡ [] }
-    ensures killed { LeavesPrefix settings.now into.syncs (F.made result.outlet.folder) }
-    ensures playable { LeavesPlayable settings.now into.syncs (F.made result.outlet.folder) }
+    ensures killed { LeavesPrefix setup.now.settings.now into.syncs (F.made result.outlet.folder) }
+    ensures playable { LeavesPlayable setup.now.settings.now into.syncs (F.made result.outlet.folder) }
     ensures there { IfOk result.answer (IsPackedInto
         (folder_run S.input F.made READS sources.items result.sources.items into result.outlet)
-        settings.now into.syncs (F.made result.outlet.folder)) }
+        setup.now.settings.now into.syncs (F.made result.outlet.folder)) }
     ensures left { IfErr result.answer (FolderSays
         (folder_run S.input F.made READS sources.items result.sources.items into result.outlet)
-        settings.now into.syncs (F.made result.outlet.folder)) }
+        setup.now.settings.now into.syncs (F.made result.outlet.folder)) }
     ensures ok { IfOk result.answer (IsPackedShown
         (folder_run S.input F.made READS sources.items result.sources.items into result.outlet)
-        settings.now pool.workers publisher.list result.publisher.list) }
-    ensures written { IfOk result.answer (λ report. WritesSummary settings.now report (W.contents output.old) (W.contents output.new)) }
+        setup.now.settings.now setup.now.pool.workers publisher.list result.publisher.list) }
+    ensures written { IfOk result.answer (λ report. WritesSummary setup.now.settings.now report (W.contents output.old) (W.contents output.new)) }
     ensures fault { IfErr result.answer (LadderSays
         (folder_run S.input F.made READS sources.items result.sources.items into result.outlet)
-        settings.now pool.workers publisher.list result.publisher.list (W.contents output.old) (W.contents output.new)) }
+        setup.now.settings.now setup.now.pool.workers publisher.list result.publisher.list (W.contents output.old) (W.contents output.new)) }
     ensures board { result.publisher.board ≡ publisher.board }
-    ensures fits { OnOk result.answer (Fits settings.now (length sources.items) pool.workers (counts_shown publisher.list)) }
+    ensures fits { OnOk result.answer (Fits setup.now.settings.now (length sources.items) setup.now.pool.workers (counts_shown publisher.list)) }
     ensures breach { IfErr result.answer (TurnsAway
         (folder_run S.input F.made READS sources.items result.sources.items into result.outlet)
-        settings.now pool.workers publisher.list result.publisher.list) }
+        setup.now.settings.now setup.now.pool.workers publisher.list result.publisher.list) }
     ensures never_held { IfErr result.answer IsNeverHeld }
-    ensures told { IfErr result.answer (IsHeard (H.was_told herald.now)) }
+    ensures told { IfErr result.answer (IsHeard (H.was_told setup.now.herald.now)) }
 {
-    names_are_bytes(settings);
-    let outlet = outlet_of(into, alloc);
-    pack(
-        rt, alloc, sources, settings, pool, publisher, outlet, output, herald,
-    )
+    names_are_bytes(setup.settings);
+    let outlet = outlet_of(into, setup.alloc);
+    pack(setup, sources, publisher, outlet, output)
 }

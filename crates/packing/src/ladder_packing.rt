@@ -8,11 +8,12 @@ ghost use Rattle.rounds.specs.Shown.{Fits, IsPackedShown};
 ghost use Rattle.packing.specs.LadderPacking.{BeginsSummary, IsHeard, IsNeverHeld, LadderSays, TurnsAway, WritesSummary};
 ghost use Rattle.commands.specs.declared.packing_fault.LadderPackingFault.TheVariants.{NoMemory, Unwritten};
 
+use crate::setup::LadderSetup;
 use crate::summaries::summary;
 use commands::{LadderPackingFault, Pool, write_all};
 use item_io::{Outlet, READS, Source};
 use live_board::Publisher;
-use pipeline::{Herald, Ran, Report, Settings, pack_heralded};
+use pipeline::{Endpoints, Herald, Ran, Report, Settings, Setup, pack_heralded};
 use std::alloc::Global;
 use std::io::Write;
 use std::sync::Wait;
@@ -33,51 +34,49 @@ pub struct PackedLadder<S, O> {
 /// Before the whole ladder is packed nothing is written. What was put before a fault stands. The herald is told of a rendition's
 /// fault as soon as it stands.
 pub fn pack<S: Source + Drop, O: Outlet + Drop, W: Write, R: Threads + Wait + Sync, H: Herald>(
-    rt: &R,
-    alloc: Global,
+    setup: &LadderSetup<'_, R, H>,
     sources: Vec<S>,
-    settings: &Settings,
-    pool: Pool,
     publisher: Publisher,
     outlet: O,
     output: &mut W,
-    herald: &H,
 ) -> PackedLadder<S, O>
     requires room { HaveRoom S.input READS sources.items }
     requires failures { O.output.failures outlet < 2 ^ 63 }
     ensures ok { IfOk result.answer (IsPackedShown
         (run_of S.input O.output READS sources.items result.sources.items outlet result.outlet)
-        settings.now pool.workers publisher.list result.publisher.list) }
-    ensures written { IfOk result.answer (λ report. WritesSummary settings.now report (W.contents output.old) (W.contents output.new)) }
+        setup.now.settings.now setup.now.pool.workers publisher.list result.publisher.list) }
+    ensures written { IfOk result.answer (λ report. WritesSummary setup.now.settings.now report (W.contents output.old) (W.contents output.new)) }
     ensures fault { IfErr result.answer (LadderSays
         (run_of S.input O.output READS sources.items result.sources.items outlet result.outlet)
-        settings.now pool.workers publisher.list result.publisher.list (W.contents output.old) (W.contents output.new)) }
+        setup.now.settings.now setup.now.pool.workers publisher.list result.publisher.list (W.contents output.old) (W.contents output.new)) }
     ensures board { result.publisher.board ≡ publisher.board }
-    ensures fits { OnOk result.answer (Fits settings.now (length sources.items) pool.workers (counts_shown publisher.list)) }
+    ensures fits { OnOk result.answer (Fits setup.now.settings.now (length sources.items) setup.now.pool.workers (counts_shown publisher.list)) }
     ensures breach { IfErr result.answer (TurnsAway
         (run_of S.input O.output READS sources.items result.sources.items outlet result.outlet)
-        settings.now pool.workers publisher.list result.publisher.list) }
+        setup.now.settings.now setup.now.pool.workers publisher.list result.publisher.list) }
     ensures never_held { IfErr result.answer IsNeverHeld }
-    ensures told { IfErr result.answer (IsHeard (H.was_told herald.now)) }
+    ensures told { IfErr result.answer (IsHeard (H.was_told setup.now.herald.now)) }
 {
+    let run = Setup {
+        rt: setup.rt,
+        alloc: setup.alloc,
+        settings: setup.settings,
+        workers: setup.pool.workers as usize,
+        gate: &FreeGate,
+        batch: most_closed(setup.pool),
+    };
+    let endpoints = Endpoints {
+        sources,
+        outlet,
+        publisher,
+        reads: READS,
+    };
     let Ran {
         sources,
         publisher,
         outlet,
         answer,
-    } = pack_heralded(
-        rt,
-        alloc,
-        sources,
-        settings,
-        pool.workers as usize,
-        &FreeGate,
-        publisher,
-        outlet,
-        READS,
-        Some(most_closed(pool)),
-        herald,
-    );
+    } = pack_heralded(&run, endpoints, setup.herald);
     match answer {
         Err(fault) => PackedLadder {
             sources,
@@ -89,7 +88,7 @@ pub fn pack<S: Source + Drop, O: Outlet + Drop, W: Write, R: Threads + Wait + Sy
             sources,
             publisher,
             outlet,
-            answer: write_summary(alloc, settings, report, output),
+            answer: write_summary(setup.alloc, setup.settings, report, output),
         },
     }
 }

@@ -5,6 +5,7 @@
 mod destination;
 mod folder_packing;
 mod ladder_packing;
+mod setup;
 mod stream_packing;
 mod summaries;
 mod summary_text;
@@ -12,5 +13,6 @@ mod summary_text;
 pub use destination::Destination;
 pub use folder_packing::pack_into_folder;
 pub use ladder_packing::{PackedLadder, pack};
+pub use setup::LadderSetup;
 pub use stream_packing::{Packed, one};
 pub use summaries::summary;

@@ -7,7 +7,7 @@ pub use ladder_items::{
     FrameRow, Gone, Kind, PackFault, Rendition, Report, Row, Settings, seen_number,
 };
 pub use rounds::{
-    Herald, Nobody, Ran, opening_board, pack_heralded, pack_in_batches, pack_parallel,
+    Endpoints, Herald, Nobody, Ran, Setup, opening_board, pack_heralded, pack_parallel,
     pack_parallel_reads,
 };
 pub use serial_run::{pack_serial, pack_serial_reads};

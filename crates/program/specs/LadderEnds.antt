@@ -3,7 +3,8 @@ use Rattle.std.specs.Prelude.{◌≡◌, ◌⊎◌, ℕ, List, Option}
 use Rattle.std.specs.Io.KnownBytes.{Keeps}
 use Rattle.ladder_items.specs.Ladder.{Ladder}
 use Rattle.ladder_items.specs.declared.report.Report.{Report}
-use Rattle.packing.specs.LadderPacking.{BeginsSummary, IsNeverHeld}
+use Rattle.ladder_items.specs.declared.fault.PackFault.{PackFault}
+use Rattle.packing.specs.LadderPacking.{BeginsSummary, IsHeard, IsNeverHeld}
 use Rattle.commands.specs.declared.packing_fault.LadderPackingFault.{LadderPackingFault}
 use Rattle.commands.specs.declared.packing_fault.LadderPackingFault.TheVariants as packing
 use Rattle.command_line.specs.declared.fault.Fault.{Fault}
@@ -24,3 +25,7 @@ IsUnbegun fault = (fault ≡ NoMemory) ⊎ ((why : InputFault) × (fault ≡ Uno
 abbrev pub FailsLadder : Ladder → Option (List ℕ) → Option (List ℕ) → Fault → Type 0
 FailsLadder ladder held held_then fault =
     (why : LadderPackingFault) × (fault ≡ LadderPacking why) × IsNeverHeld why × LacksSummary ladder held held_then why
+
+-- A ladder ends by a fault of its run. Where a rendition stopped by it, it was told by then.
+abbrev pub HearsOf : (PackFault → Type 0) → Fault → Type 0
+HearsOf was_told fault = (why : LadderPackingFault) × (fault ≡ LadderPacking why) × IsHeard was_told why

@@ -1,5 +1,5 @@
 ghost use Rattle.std.specs.Prelude.{OnErr, ◌≡◌, ◌⊎◌, ◌*◌, ◌<◌, ◌↔◌, [], All, Any, IfErr};
-ghost use Rattle.std.specs.Prelude.{IfOk, IfSome, IsErrOf, IsOk, IsSome, OnOk, false, length, map, option_map, replicate, true};
+ghost use Rattle.std.specs.Prelude.{IfOk, IfSome, IsErrOf, IsOk, IsSome, None, OnOk, false, length, map, option_map, replicate, true};
 ghost use Rattle.std.specs.List.{range_with_len};
 ghost use Rattle.std.specs.Duration.{as_nanos};
 ghost use Rattle.std.specs.String.{string_bytes};
@@ -15,7 +15,7 @@ ghost use Rattle.read_ahead.specs.Sources.{inputs_of};
 ghost use Rattle.read_ahead.specs.declared.starting.InputFault.TheVariants.{Unread};
 ghost use Rattle.program.specs.Asked.{IsAsAsked};
 ghost use Rattle.program.specs.Channels.{GoesNotOn, GoesOn, IsJobBehind, MayHoldFile};
-ghost use Rattle.program.specs.LadderEnds.{FailsLadder, IsUnbegun};
+ghost use Rattle.program.specs.LadderEnds.{FailsLadder, HearsOf, IsUnbegun};
 ghost use Rattle.program.specs.LadderRuns.{IsPrunedRun, IsWholeRun};
 
 use crate::told::Tellings;
@@ -27,7 +27,7 @@ use folder::{FileFolder, Folder, FolderReader};
 use item_io::FolderOutlet;
 use keeping::KeepingOutlet;
 use live_board::{BoardFault, Publisher};
-use packing::{Destination, PackedLadder, pack_into_folder};
+use packing::{Destination, LadderSetup, PackedLadder, pack_into_folder};
 use pipeline::{Herald, Report, opening_board};
 use read_ahead::{Ahead, InputAt, InputFiles, InputsView, Limits, open_paths};
 use removal::{RemovalHerald, keepings, pack_and_remove};
@@ -39,6 +39,7 @@ use std::thread::Threads;
 use std::time::{Clock, Duration};
 
 /// A ladder as it is packed: in its folder it may go on behind an earlier run.
+#[derive(Drop)]
 pub struct Channel<'a> {
     pub job: LadderJob<'a>,
     /// For each rendition the numbers of segments of earlier runs that no playlist lists any more.
@@ -145,8 +146,7 @@ pub fn pack_ladder<
 >(
     rt: R,
     alloc: Global,
-    job: &LadderJob<'_>,
-    older: Vec<Vec<u64>>,
+    channel: &Channel<'_>,
     output: &mut W,
     herald: &H,
     told: Arc<Tellings>,
@@ -158,41 +158,49 @@ where
 
     // It ends well only where all was packed and the summary was written.
     ensures written { IfOk result (λ run. OnOk run.answer ((report : _) ×
-        WritesSummary job.now.options.settings report (W.contents output.old) (W.contents output.new))) }
+        WritesSummary channel.now.job.options.settings report (W.contents output.old) (W.contents output.new))) }
 
     // It ends by a fault of its run, which says what was written.
-    ensures fault { IfOk result (λ run. IfErr run.answer (FailsLadder job.now.options.settings (W.contents output.old) (W.contents output.new))) }
+    ensures fault { IfOk result (λ run. IfErr run.answer (FailsLadder channel.now.job.options.settings (W.contents output.old) (W.contents output.new))) }
+
+    // The herald heard of a rendition's fault that the run ends by.
+    ensures told { IfOk result (λ run. IfErr run.answer (HearsOf (H.was_told herald.now))) }
 
     // Where it wasn't begun, nothing was written.
     ensures unbegun { IfErr result (λ fault. IsUnbegun fault × (W.contents output.new ≡ W.contents output.old)) }
 
     // Each rendition is read from its own path, and its files go to the folder that was asked for.
-    ensures whole { job.now.removes ≡ false → IfOk result (IsWholeRun
-        (map (λ path. R.holds rt path.now) job.now.options.paths.items) job.now (W.contents output.old) (W.contents output.new)) }
+    ensures whole { channel.now.job.removes ≡ false → IfOk result (IsWholeRun
+        (map (λ path. R.holds rt path.now) channel.now.job.options.paths.items) channel.now.job (W.contents output.old) (W.contents output.new)) }
 
     // Segments go if that was asked for, and no others do than may by what the run before left.
-    ensures pruned { job.now.removes ≡ true → IfOk result (IsPrunedRun
-        (map (λ path. R.holds rt path.now) job.now.options.paths.items) job.now (map (λ n. n.items) older.items)
+    ensures pruned { channel.now.job.removes ≡ true → IfOk result (IsPrunedRun
+        (map (λ path. R.holds rt path.now) channel.now.job.options.paths.items) channel.now.job (map (λ n. n.items) channel.now.older.items)
         (W.contents output.old) (W.contents output.new)) }
 {
+    let Channel { job, older } = channel;
     let settings = &job.options.settings;
-    let pool = job.options.pool;
     let Inputs { sources, view } = open_inputs(rt, alloc, &job.options)?;
     let into = destination(rt, alloc, job)?;
-    let kept = keepings(alloc, settings, &older)?;
+    let kept = keepings(alloc, settings, older)?;
     let Board {
         publisher,
         watching,
     } = open_board(rt, alloc, job, view, told)?;
+    let setup = LadderSetup {
+        rt: &rt,
+        alloc,
+        settings,
+        pool: job.options.pool,
+        herald,
+    };
     if job.removes {
         let PackedLadder {
             sources,
             publisher,
             outlet,
             answer,
-        } = pack_and_remove(
-            &rt, alloc, sources, settings, pool, publisher, into, kept, output, herald,
-        );
+        } = pack_and_remove(&setup, sources, publisher, into, kept, output);
         let ended = end_run(&rt, alloc, watching, publisher, answer);
         return Ok(LadderRun {
             sources,
@@ -205,9 +213,7 @@ where
         publisher,
         outlet,
         answer,
-    } = pack_into_folder(
-        &rt, alloc, sources, settings, pool, publisher, into, output, herald,
-    );
+    } = pack_into_folder(&setup, sources, publisher, into, output);
     let ended = end_run(&rt, alloc, watching, publisher, answer);
     Ok(LadderRun {
         sources,

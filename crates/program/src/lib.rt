@@ -18,7 +18,7 @@ mod telling;
 mod told;
 mod watching;
 
-use crate::ladder::{Channel, LadderRun, begin_channel, pack_ladder};
+use crate::ladder::{LadderRun, begin_channel, pack_ladder};
 use crate::obeying::{Line, obey};
 use crate::telling::{Teller, tell};
 use crate::told::Tellings;
@@ -77,15 +77,15 @@ where
         Ok(held) => held,
         Err(fault) => return ended(host, words, Err(fault)),
     };
-    let Channel { job, older } = match begin_channel(rt, host.alloc(), job) {
+    let channel = match begin_channel(rt, host.alloc(), job) {
         Ok(channel) => channel,
         Err(fault) => return ended(host, words, Err(fault)),
     };
     let Ok((told, theirs)) = tellings(host.alloc()) else {
         return ended(host, words, Err(Fault::NoMemory));
     };
-    let teller = Teller::new(rt, *host, words, &job.options.settings, theirs);
-    match pack_ladder(rt, host.alloc(), &job, older, output, &teller, told) {
+    let teller = Teller::new(rt, *host, words, &channel.job.options.settings, theirs);
+    match pack_ladder(rt, host.alloc(), &channel, output, &teller, told) {
         Ok(
             LadderRun {
                 sources: _,

@@ -7,17 +7,16 @@ ghost use Rattle.rounds.specs.Shown.{Fits, IsPackedShown};
 ghost use Rattle.item_io.specs.FolderMoves.{new_outlet};
 ghost use Rattle.keeping.specs.Keepings.{AreTold, Stay};
 ghost use Rattle.keeping.specs.InPlace.{NoneIsListed};
-ghost use Rattle.packing.specs.LadderPacking.{IsNeverHeld, LadderSays, TurnsAway, WritesSummary};
+ghost use Rattle.packing.specs.LadderPacking.{IsHeard, IsNeverHeld, LadderSays, TurnsAway, WritesSummary};
 ghost use Rattle.removal.specs.Removing.{AreAllCleared, LeavesKept, kept_run, new_keeping};
 
 use crate::tally::{RemovalHerald, Tallied};
-use commands::Pool;
 use folder::{Folder, PruningFolder};
 use item_io::{FolderOutlet, READS, Source};
 use keeping::{Keeping, KeepingOutlet};
 use live_board::Publisher;
-use packing::{Destination, PackedLadder, pack};
-use pipeline::{Herald, Settings};
+use packing::{Destination, LadderSetup, PackedLadder, pack};
+use pipeline::Herald;
 use std::alloc::Global;
 use std::io::Write;
 use std::sync::Wait;
@@ -38,52 +37,48 @@ pub fn pack_and_remove<
     R: Threads + Wait + Sync,
     H: Herald + RemovalHerald,
 >(
-    rt: &R,
-    alloc: Global,
+    setup: &LadderSetup<'_, R, H>,
     sources: Vec<S>,
-    settings: &Settings,
-    pool: Pool,
     publisher: Publisher,
     into: Destination<F>,
     renditions: Vec<Keeping>,
     output: &mut W,
-    herald: &H,
 ) -> PackedLadder<S, KeepingOutlet<F>>
     requires room { HaveRoom S.input READS sources.items }
     requires fresh { F.made into.folder ≡ [] }
     requires untold { AreTold renditions.items [] }
-    ensures killed { LeavesKept settings.now into.syncs (F.made result.outlet.files.folder) result.outlet.renditions }
+    ensures killed { LeavesKept setup.now.settings.now into.syncs (F.made result.outlet.files.folder) result.outlet.renditions }
     ensures unlisted { OnOk result.answer (NoneIsListed (F.made result.outlet.files.folder) result.outlet.renditions) }
     ensures ok { IfOk result.answer (IsPackedShown
         (kept_run S.input F.made READS sources.items result.sources.items (new_keeping into renditions.items) result.outlet)
-        settings.now pool.workers publisher.list result.publisher.list) }
-    ensures written { IfOk result.answer (λ report. WritesSummary settings.now report (W.contents output.old) (W.contents output.new)) }
+        setup.now.settings.now setup.now.pool.workers publisher.list result.publisher.list) }
+    ensures written { IfOk result.answer (λ report. WritesSummary setup.now.settings.now report (W.contents output.old) (W.contents output.new)) }
     ensures fault { IfErr result.answer (LadderSays
         (kept_run S.input F.made READS sources.items result.sources.items (new_keeping into renditions.items) result.outlet)
-        settings.now pool.workers publisher.list result.publisher.list (W.contents output.old) (W.contents output.new)) }
+        setup.now.settings.now setup.now.pool.workers publisher.list result.publisher.list (W.contents output.old) (W.contents output.new)) }
     ensures board { result.publisher.board ≡ publisher.board }
-    ensures fits { OnOk result.answer (Fits settings.now (length sources.items) pool.workers (counts_shown publisher.list)) }
+    ensures fits { OnOk result.answer (Fits setup.now.settings.now (length sources.items) setup.now.pool.workers (counts_shown publisher.list)) }
     ensures breach { IfErr result.answer (TurnsAway
         (kept_run S.input F.made READS sources.items result.sources.items (new_keeping into renditions.items) result.outlet)
-        settings.now pool.workers publisher.list result.publisher.list) }
+        setup.now.settings.now setup.now.pool.workers publisher.list result.publisher.list) }
     ensures never_held { IfErr result.answer IsNeverHeld }
+
+    ensures told { IfErr result.answer (IsHeard (H.was_told setup.now.herald.now)) }
 
     // Each rendition that comes back is the one that was handed in: none is lost, made anew, or takes the place of another one.
     ensures same { Stay renditions.items result.outlet.renditions }
 
     // Behind a run that ended well all of its segments went that may go, unless one couldn't be removed.
-    ensures cleared { OnOk result.answer (AreAllCleared settings.now result.outlet.missed result.outlet.renditions) }
+    ensures cleared { OnOk result.answer (AreAllCleared setup.now.settings.now result.outlet.missed result.outlet.renditions) }
 {
-    let outlet = KeepingOutlet::new(outlet_of(into, alloc), alloc, renditions);
-    let outlet = Tallied::over(outlet, herald);
+    let outlet = KeepingOutlet::new(outlet_of(into, setup.alloc), setup.alloc, renditions);
+    let outlet = Tallied::over(outlet, setup.herald);
     let PackedLadder {
         sources,
         publisher,
         outlet,
         answer,
-    } = pack(
-        rt, alloc, sources, settings, pool, publisher, outlet, output, herald,
-    );
+    } = pack(setup, sources, publisher, outlet, output);
     PackedLadder {
         sources,
         publisher,

@@ -1,9 +1,10 @@
 -- When there is enough for the next round.
-use Rattle.std.specs.Prelude.{◌⊎◌, ℕ, Bool, ◌-◌, ◌*◌, ◌<◌, ◌≤◌, ◌==◌, if◌then◌else◌, max, nat_le, List, length, sum_by}
+use Rattle.std.specs.Prelude.{◌⊎◌, ℕ, Bool, ◌-◌, ◌*◌, ◌<◌, ◌≤◌, ◌==◌, if◌then◌else◌, max, min, nat_le, List, length, sum_by}
 use Rattle.ingest.specs.declared.lane.Lane.{Lane}
 use Rattle.item_io.specs.Views.{OutletView, SourceView}
 use Rattle.rounds.specs.declared.run.course.Course.{Course}
 use Rattle.rounds.specs.declared.run.pace.Pace.{Pace}
+use Rattle.rounds.specs.declared.run.setup.Setup.{Setup}
 use Rattle.rounds.specs.declared.run.pace.TheConstants.{TURNS, TURNS_A_WORKER}
 use Rattle.rounds.specs.Courses.{HadOneAtMost, NoneWaits, ReadsMore, ReadsOn, Rests, turns_in}
 
@@ -14,6 +15,14 @@ closed_in lanes = sum_by (λ (lane : Lane). length lane.intake.filled) lanes
 -- After how many turns one closed plan begins the next round: so many for each worker, and never fewer than the least.
 abbrev pub enough_turns : ℕ → ℕ
 enough_turns workers = max TURNS (TURNS_A_WORKER * workers)
+
+-- the pace for so many workers and rounds of so many segments: where all of the round before is given, one for each worker is enough
+abbrev pub pace_of : ℕ → ℕ → Pace
+pace_of workers batch = record { least = min batch workers; most = batch; turns = enough_turns workers }
+
+-- the pace of a run that is set up so
+abbrev pub pace_in : {G R : Type 0} → Setup G R → Pace
+pace_in setup = pace_of setup.workers setup.batch
 
 -- How many closed plans begin the next round: one, once so many turns were had that what was read in them shouldn't grow; before that
 -- the lesser number where all of the round before is given, and else the greater.

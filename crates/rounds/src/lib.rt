@@ -8,5 +8,6 @@ mod run;
 
 pub use first_board::opening_board;
 pub use run::herald::{Herald, Nobody};
-pub use run::packing::{pack_heralded, pack_in_batches, pack_parallel, pack_parallel_reads};
+pub use run::packing::{pack_heralded, pack_parallel, pack_parallel_reads};
 pub use run::ran::Ran;
+pub use run::setup::{Endpoints, Setup};

@@ -5,7 +5,7 @@ use crate::fixtures::{settings, stream_bytes};
 use commands::Pool;
 use folder::MemoryFolder;
 use item_io::FailingReader;
-use packing::{Destination, PackedLadder, pack_into_folder};
+use packing::{Destination, LadderSetup, PackedLadder, pack_into_folder};
 use pipeline::{Nobody, opening_board};
 use std::alloc::Global;
 use std::sync::Wait;
@@ -32,12 +32,18 @@ fn packed<R: Threads + Wait + Sync>(
     let mut sources = Vec::new(alloc);
     sources.push(FailingReader::new(stream_bytes(alloc)?, 188, 0))?;
     let settings = settings(alloc, "640x360")?;
-    let pool = Pool {
-        workers: 2,
-        queue: 16,
-        batch: None,
-        stall: None,
-        ahead: None,
+    let setup = LadderSetup {
+        rt,
+        alloc,
+        settings: &settings,
+        pool: Pool {
+            workers: 2,
+            queue: 16,
+            batch: None,
+            stall: None,
+            ahead: None,
+        },
+        herald: &Nobody,
     };
     let (publisher, _viewers) = opening_board(rt, alloc, 1, 1)?;
     let into = Destination {
@@ -50,17 +56,7 @@ fn packed<R: Threads + Wait + Sync>(
         publisher,
         outlet,
         answer,
-    } = pack_into_folder(
-        rt,
-        alloc,
-        sources,
-        &settings,
-        pool,
-        publisher,
-        into,
-        &mut output,
-        &Nobody,
-    );
+    } = pack_into_folder(&setup, sources, publisher, into, &mut output);
     publisher.end(rt);
     let is_well = answer.is_ok();
     Ok((standing(alloc, &outlet.into_folder())?, is_well))

@@ -2,7 +2,7 @@ use crate::asserts::assert_same;
 use crate::fixtures::{FullWriter, settings, stream_bytes};
 use commands::{LadderPackingFault, Pool};
 use item_io::{FailingOutlet, FailingReader};
-use packing::{PackedLadder, pack};
+use packing::{LadderSetup, PackedLadder, pack};
 use pipeline::{Nobody, PackFault, Report, opening_board};
 use std::alloc::Global;
 use std::io::Write;
@@ -27,12 +27,18 @@ fn packed<W: Write, R: Threads + Wait + Sync>(
     let mut sources = Vec::new(alloc);
     sources.push(FailingReader::new(stream, 188, 0))?;
     let settings = settings(alloc, "640x360")?;
-    let pool = Pool {
-        workers: 2,
-        queue: 16,
-        batch: None,
-        stall: None,
-        ahead: None,
+    let setup = LadderSetup {
+        rt,
+        alloc,
+        settings: &settings,
+        pool: Pool {
+            workers: 2,
+            queue: 16,
+            batch: None,
+            stall: None,
+            ahead: None,
+        },
+        herald: &Nobody,
     };
     let (publisher, _viewers) = opening_board(rt, alloc, 1, 1)?;
     let PackedLadder {
@@ -41,15 +47,11 @@ fn packed<W: Write, R: Threads + Wait + Sync>(
         outlet,
         answer,
     } = pack(
-        rt,
-        alloc,
+        &setup,
         sources,
-        &settings,
-        pool,
         publisher,
         FailingOutlet::new(alloc, 0),
         output,
-        &Nobody,
     );
     publisher.end(rt);
     Ok(Told {

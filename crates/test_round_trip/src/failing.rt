@@ -1,6 +1,6 @@
 //! Reads and puts that fail, each in its turn.
 use crate::asserts::assert_same;
-use crate::many::{Seen, run_seen};
+use crate::many::{Sealers, Seen, run_seen};
 use crate::run::{CUT, PLAY, Play, WELL, Ways, played, settings, told_beside};
 use crate::stream::{Change, TWO_SEGMENTS, stream_of};
 use item_io::Item;
@@ -95,7 +95,11 @@ fn shown_at<R: Threads + Wait + Sync>(
         failing_put,
         ..WELL
     };
-    let seen = run_seen(rt, alloc, inputs, ways, settings, 2, &FreeGate)?;
+    let sealers = Sealers {
+        workers: 2,
+        gate: &FreeGate,
+    };
+    let seen = run_seen(rt, alloc, inputs, ways, settings, sealers)?;
     let (fault, count) = seen.ran.told();
     let is_last = seen.counts.as_slice() == [1, 2].as_slice()
         && seen.ended.as_slice() == [false, true].as_slice();

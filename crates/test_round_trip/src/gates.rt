@@ -1,6 +1,6 @@
 //! A gate that lets the segments of a round through from the last to the first.
 use crate::asserts::assert_same;
-use crate::many::run_on;
+use crate::many::{Sealers, run_on};
 use crate::run::{CUT, PLAY, Play, WELL, played, settings};
 use crate::stream::Video::Key;
 use crate::stream::{Change, stream_of};
@@ -78,7 +78,11 @@ fn told_under<R: Threads + Wait + Sync>(
     whole: &[Item],
 ) -> Result<(Option<PackFault>, usize, bool), Fail> {
     let gate = LastFirst::new(turns);
-    let ran = run_on(rt, alloc, &[stream], WELL, settings, 3, &gate)?;
+    let sealers = Sealers {
+        workers: 3,
+        gate: &gate,
+    };
+    let ran = run_on(rt, alloc, &[stream], WELL, settings, sealers)?;
     let (fault, count) = ran.told();
     Ok((fault, count, whole.starts_with(ran.outlet.items())))
 }

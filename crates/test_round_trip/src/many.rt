@@ -17,6 +17,13 @@ pub struct Seen {
     pub ended: Vec<bool>,
 }
 
+/// How many threads seal, and what they ask before each segment.
+#[derive(Clone, Copy)]
+pub struct Sealers<'g, G> {
+    pub workers: usize,
+    pub gate: &'g G,
+}
+
 /// The counts and the ends that a viewer sees.
 fn look(alloc: Global, viewer: Viewer) -> Result<(Vec<u64>, Vec<bool>), AllocError> {
     let mut counts = Vec::new(alloc);
@@ -32,19 +39,19 @@ fn look(alloc: Global, viewer: Viewer) -> Result<(Vec<u64>, Vec<bool>), AllocErr
     Ok((counts, ended))
 }
 
-/// Packs these inputs on many threads, so many of which seal what the gate lets through, before a viewer.
+/// Packs these inputs on many threads before a viewer.
 pub fn run_seen<G: Gate + Sync, R: Threads + Wait + Sync>(
     rt: &R,
     alloc: Global,
     inputs: &[&[u8]],
     ways: Ways,
     settings: &Settings,
-    workers: usize,
-    gate: &G,
+    sealers: Sealers<'_, G>,
 ) -> Result<Seen, Fail> {
     let sources = sources_of(alloc, inputs, ways)?;
     let (publisher, mut viewers) = opening_board(rt, alloc, settings.renditions.len(), 1)?;
     let outlet = FailingOutlet::new(alloc, ways.failing_put);
+    let Sealers { workers, gate } = sealers;
     let reads = ways.reads();
     let rounds::Ran {
         sources: _,
@@ -72,9 +79,8 @@ pub fn run_on<G: Gate + Sync, R: Threads + Wait + Sync>(
     inputs: &[&[u8]],
     ways: Ways,
     settings: &Settings,
-    workers: usize,
-    gate: &G,
+    sealers: Sealers<'_, G>,
 ) -> Result<Ran, Fail> {
-    let seen = run_seen(rt, alloc, inputs, ways, settings, workers, gate)?;
+    let seen = run_seen(rt, alloc, inputs, ways, settings, sealers)?;
     Ok(seen.ran)
 }

@@ -1,6 +1,6 @@
 ghost use Rattle.std.specs.Prelude.{◌≡◌, ◌≤◌, ◌^◌, All, IfOk};
 
-use crate::many::run_on;
+use crate::many::{Sealers, run_on};
 use crate::same::first_other;
 use crate::stream::{Change, TWO_SEGMENTS, Video, stream_of};
 use cutter::CutSettings;
@@ -244,26 +244,16 @@ pub fn run_beside<R: Threads + Wait + Sync>(
 ) -> Result<Ran, Fail> {
     let ran = run(alloc, inputs, ways, settings)?;
     for workers in numbers {
-        run_like(rt, alloc, inputs, ways, settings, *workers, &ran)?;
+        let sealers = Sealers {
+            workers: *workers,
+            gate: &FreeGate,
+        };
+        let many = run_on(rt, alloc, inputs, ways, settings, sealers)?;
+        if let Some(other) = first_other(&ran, &many, inputs.len(), *workers) {
+            return Err(Fail::new(other));
+        }
     }
     Ok(ran)
-}
-
-/// Packs on many threads, where each rendition gets the same as on one.
-fn run_like<R: Threads + Wait + Sync>(
-    rt: &R,
-    alloc: Global,
-    inputs: &[&[u8]],
-    ways: Ways,
-    settings: &Settings,
-    workers: usize,
-    one: &Ran,
-) -> Result<(), Fail> {
-    let many = run_on(rt, alloc, inputs, ways, settings, workers, &FreeGate)?;
-    match first_other(one, &many, inputs.len(), workers) {
-        Some(other) => Err(Fail::new(other)),
-        None => Ok(()),
-    }
 }
 
 /// Whether the segments that were given have these sizes.

@@ -26,6 +26,13 @@ pub(crate) struct Job<'g, G> {
     pub(crate) gate: &'g G,
 }
 
+/// What a run of a desk works on: the plans, and the keys of their renditions.
+#[derive(Clone, Copy, Drop)]
+struct Stock<'p> {
+    plans: &'p [Plan],
+    keys: &'p [Keys],
+}
+
 /// What came of the plans, how often they were claimed, and what was left in the desk.
 #[derive(Clone, Copy, Debug, PartialEq, Eq)]
 pub(crate) struct Told {
@@ -204,18 +211,22 @@ fn in_scope<
 >(
     rt: &R,
     alloc: Global,
-    desk: &Desk<'p, L, M>,
-    passes: Vec<Pass<L>>,
-    taker: Pass<M>,
-    rest: Share<L>,
-    plans: &'p [Plan],
-    keys: &[Keys],
+    opened: Opened<'p, L, M>,
+    stock: Stock<'p>,
     job: &Job<'_, G>,
     taken: Taken,
 ) -> Told
-    requires parts { rest.parts + vec_len passes ≡ L.parts }
+    requires parts { opened.rest.parts + vec_len opened.workers ≡ L.parts }
     requires one { M.parts ≡ 1 }
 {
+    let Opened {
+        desk,
+        workers: passes,
+        taker,
+        rest,
+    } = opened;
+    let desk = &desk;
+    let Stock { plans, keys } = stock;
     thread::scope(
         thread::scope_env(),
         rt,
@@ -259,23 +270,15 @@ fn run_with<
     alloc: Global,
     claims: Blank,
     takes: Blank,
-    plans: &[Plan],
-    keys: &[Keys],
+    stock: Stock<'_>,
     job: &Job<'_, G>,
 ) -> Result<Told, Fail>
     requires claims { (claims.name ≡ L.name) × (claims.parts ≡ L.parts) × (L.parts ≡ job.now.workers) }
     requires takes { (takes.name ≡ M.name) × (takes.parts ≡ M.parts) × (M.parts ≡ 1) }
 {
     let taken = Taken::new(alloc, job.plans)?;
-    let Opened {
-        desk,
-        workers,
-        taker,
-        rest,
-    } = Desk::<'_, L, M>::new(alloc, job.queue, job.workers, claims, takes)?;
-    Ok(in_scope(
-        rt, alloc, &desk, workers, taker, rest, plans, keys, job, taken,
-    ))
+    let opened = Desk::<'_, L, M>::new(alloc, job.queue, job.workers, claims, takes)?;
+    Ok(in_scope(rt, alloc, opened, stock, job, taken))
 }
 
 /// Runs a job so often, and tells what all runs told, or the first that told otherwise.
@@ -288,14 +291,17 @@ pub(crate) fn run<G: Gate + Sync, R: Threads + Wait + Sync>(
 ) -> Result<Told, Fail> {
     let plans = plans(alloc).ok_or("no plans")?;
     let keys = keys(alloc).ok_or("no keys")?;
+    let stock = Stock {
+        plans: &plans,
+        keys: &keys,
+    };
     for _ in 0..times {
         let told = run_with::<Brand, Brand, G, R>(
             rt,
             alloc,
             Blank::new(job.workers as u64),
             Blank::new(1),
-            &plans,
-            &keys,
+            stock,
             job,
         )?;
         if told != wanted {

@@ -261,8 +261,7 @@ fn fed_with<'s, L: Ledger, M: Ledger, R: Wait>(
     claims: Blank,
     takes: Blank,
     queue: usize,
-    first: PlanRef<'s>,
-    second: PlanRef<'s>,
+    plans: [PlanRef<'s>; 2],
 ) -> Result<(Vec<(&'static str, u64)>, bool, bool), Fail>
     requires claims { (claims.name ≡ L.name) × (claims.parts ≡ L.parts) × (L.parts ≡ 1) }
     requires takes { (takes.name ≡ M.name) × (takes.parts ≡ M.parts) × (M.parts ≡ 1) }
@@ -276,6 +275,7 @@ fn fed_with<'s, L: Ledger, M: Ledger, R: Wait>(
     let Some(mut pass) = workers.pop() else {
         return Err(Fail::from("no pass"));
     };
+    let [first, second] = plans;
     let mut told = Vec::new(alloc);
     told.push(feed(rt, &desk, first))?;
     told.push(feed(rt, &desk, first))?;
@@ -306,8 +306,7 @@ fn fed<R: Wait>(
         Blank::new(1),
         Blank::new(1),
         queue,
-        first.lend(),
-        second.lend(),
+        [first.lend(), second.lend()],
     )
 }
 

@@ -9,7 +9,7 @@ use fixture_standard_stream::append_packets;
 use item_io::{FailingOutlet, FailingReader, READS};
 use ladder_items::{PackFault, Settings};
 use live_board::{Publisher, board};
-use rounds::{Herald, Ran, pack_heralded};
+use rounds::{Endpoints, Herald, Ran, Setup, pack_heralded};
 use std::alloc::{AllocError, Global};
 use std::sync::{Mutex, Wait};
 use std::test::Fail;
@@ -94,24 +94,26 @@ fn run<R: Threads + Wait + Sync, H: Herald>(
 ) -> Option<PackFault>
     requires { All (λ source. (source.reads ≡ 0) × (source.failures ≡ 0)) sources.items }
 {
+    let setup = Setup {
+        rt,
+        alloc,
+        settings,
+        workers: 1,
+        gate: &FreeGate,
+        batch: 1,
+    };
+    let endpoints = Endpoints {
+        sources,
+        outlet: FailingOutlet::new(alloc, 0),
+        publisher,
+        reads: READS,
+    };
     let Ran {
         sources: _,
         publisher,
         outlet: _,
         answer,
-    } = pack_heralded(
-        rt,
-        alloc,
-        sources,
-        settings,
-        1,
-        &FreeGate,
-        publisher,
-        FailingOutlet::new(alloc, 0),
-        READS,
-        None,
-        herald,
-    );
+    } = pack_heralded(&setup, endpoints, herald);
     publisher.end(rt);
     answer.err()
 }

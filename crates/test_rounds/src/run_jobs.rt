@@ -7,7 +7,7 @@ use fixture_standard_stream::{KEY_FRAME, PAT, PMT, append_packets};
 use item_io::{FailingOutlet, FailingReader, Item, READS};
 use ladder_items::{PackFault, Report, Settings};
 use live_board::{Publisher, Snapshot, Viewer, board};
-use rounds::{Ran, pack_in_batches, pack_parallel};
+use rounds::{Endpoints, Nobody, Ran, Setup, pack_heralded, pack_parallel};
 use std::alloc::{AllocError, Global};
 use std::sync::Wait;
 use std::test::Fail;
@@ -136,21 +136,27 @@ fn sources(alloc: Global, job: &Job) -> Result<Vec<FailingReader>, AllocError>
     Ok(sources)
 }
 
-/// Packs the stream of these sources, of which nothing was read.
+/// Packs the stream of these endpoints, of which nothing was read.
 fn run<G: Gate + Sync, R: Threads + Wait + Sync>(
     rt: &R,
     alloc: Global,
     job: &Job,
     settings: &Settings,
     gate: &G,
-    sources: Vec<FailingReader>,
-    publisher: Publisher,
+    endpoints: Endpoints<FailingReader, FailingOutlet>,
 ) -> Ran<FailingReader, FailingOutlet>
-    requires { All (λ source. (source.reads ≡ 0) × (source.failures ≡ 0)) sources.items }
-    ensures { result.publisher.board ≡ publisher.board }
+    requires read { All (λ source. (source.reads ≡ 0) × (source.failures ≡ 0)) endpoints.sources.items }
+    requires put { endpoints.outlet.failures ≡ 0 }
+    requires reads { endpoints.reads ≡ READS }
+    ensures { result.publisher.board ≡ endpoints.publisher.board }
 {
-    let outlet = FailingOutlet::new(alloc, job.failing_put);
-    if job.batch.is_none() {
+    let Some(batch) = job.batch else {
+        let Endpoints {
+            sources,
+            outlet,
+            publisher,
+            reads: _,
+        } = endpoints;
         return pack_parallel(
             rt,
             alloc,
@@ -161,19 +167,16 @@ fn run<G: Gate + Sync, R: Threads + Wait + Sync>(
             publisher,
             outlet,
         );
-    }
-    pack_in_batches(
+    };
+    let setup = Setup {
         rt,
         alloc,
-        sources,
         settings,
-        job.workers,
+        workers: job.workers,
         gate,
-        publisher,
-        outlet,
-        READS,
-        job.batch,
-    )
+        batch,
+    };
+    pack_heralded(&setup, endpoints, &Nobody)
 }
 
 /// Packs the stream, and shows it. Without memory for the input there is no run.
@@ -190,12 +193,18 @@ pub(crate) fn pack<G: Gate + Sync, R: Threads + Wait + Sync>(
     let Ok(sources) = sources(alloc, job) else {
         return (publisher, None);
     };
+    let endpoints = Endpoints {
+        sources,
+        outlet: FailingOutlet::new(alloc, job.failing_put),
+        publisher,
+        reads: READS,
+    };
     let Ran {
         sources,
         publisher,
         outlet,
         answer,
-    } = run(rt, alloc, job, settings, gate, sources, publisher);
+    } = run(rt, alloc, job, settings, gate, endpoints);
     let ended = Ended {
         answer,
         outlet,

@@ -103,7 +103,6 @@ fn sees_the_run(viewer: Viewer, items: &[Item]) -> bool {
 /// Packs while each viewer looks in a thread of its own, and tells how many saw a prefix of what the run shows, up to its
 /// end.
 fn watched<'r, R: Threads + Wait + Sync>(
-    rt: &'r R,
     alloc: Global,
     job: &Job,
     settings: &Settings,
@@ -111,6 +110,7 @@ fn watched<'r, R: Threads + Wait + Sync>(
     held: HeldPublisher<'r, R>,
     viewers: Vec<Viewer>,
 ) -> (HeldPublisher<'r, R>, Option<Ended>, usize) {
+    let rt = held.rt;
     thread::scope(
         thread::scope_env(),
         rt,
@@ -146,7 +146,7 @@ fn watched_once<R: Threads + Wait + Sync>(
 ) -> Result<(usize, bool), Fail> {
     let (publisher, viewers) = board(rt, alloc, nothing(alloc)?, VIEWERS)?;
     let held = HeldPublisher { publisher, rt };
-    let (held, ended, right) = watched(rt, alloc, job, settings, items, held, viewers);
+    let (held, ended, right) = watched(alloc, job, settings, items, held, viewers);
     held.release().end(rt);
     Ok((right, matches!(ended, Some(Ended { answer: Ok(_), .. }))))
 }

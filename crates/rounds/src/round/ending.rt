@@ -2,7 +2,7 @@
 
 ghost use Rattle.std.specs.Prelude.{◌≡◌, ◌+◌, ◌<◌, ◌^◌, ℕ, IfErr, OnOk, length, slice_index_or, sum};
 ghost use Rattle.rounds.specs.Gated.{IsGatesWord};
-ghost use Rattle.rounds.specs.Paces.{ReadsForNext};
+ghost use Rattle.rounds.specs.Paces.{ReadsForNext, pace_in};
 ghost use Rattle.rounds.specs.Rounds.{IsBroken, IsDriven, IsSomeFull};
 
 use crate::round::driving::collector_behind;
@@ -37,11 +37,11 @@ pub fn driven<'s, 'r, S: Source, O: Outlet, G: Gate, L: Ledger, M: Ledger, R: Wa
     requires each { length spools.now ≡ length setup.now.settings.now.renditions }
     requires unused { pass.count ≡ 0 }
     requires on { IsSomeFull S.input O.output setup.now.settings.now spools.now between.broadcast }
-    ensures ok { OnOk result.answer (IsDriven S.input O.output setup.now.settings.now spools.now setup.now.pace
+    ensures ok { OnOk result.answer (IsDriven S.input O.output setup.now.settings.now spools.now (pace_in setup.now)
         between.entry.broadcast 0 result.between.broadcast result.taker.right) }
     ensures err { IfErr result.answer (IsBroken S.input O.output setup.now.settings.now spools.now between.entry.broadcast result.between.broadcast) }
     ensures held { IfErr result.answer (IsGatesWord (G.stops setup.now.gate.now)) }
-    ensures enough { OnOk result.answer (ReadsForNext S.tells setup.now.pace between.entry.broadcast.course result.between.broadcast.course) }
+    ensures enough { OnOk result.answer (ReadsForNext S.tells (pace_in setup.now) between.entry.broadcast.course result.between.broadcast.course) }
     ensures books { result.between.books ≡ between.entry.books }
 {
     let BetweenRounds { broadcast, books } = between;
@@ -68,7 +68,7 @@ pub fn driven<'s, 'r, S: Source, O: Outlet, G: Gate, L: Ledger, M: Ledger, R: Wa
         collector,
         taker,
     };
-    let answer = round.drive(&sealer, setup.settings, setup.pace, spools);
+    let answer = round.drive(&sealer, setup.settings, setup.pace(), spools);
     let Round {
         desk: _,
         broadcast,

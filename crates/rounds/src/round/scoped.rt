@@ -3,6 +3,7 @@
 ghost use Rattle.std.specs.Prelude.{◌≡◌, ◌+◌, ◌<◌, ◌^◌, IfErr, OnOk, length, sum, vec_len};
 ghost use Rattle.rounds.specs.Begun.{keys_of};
 ghost use Rattle.rounds.specs.Gated.{IsGatesWord};
+ghost use Rattle.rounds.specs.Paces.{pace_in};
 ghost use Rattle.rounds.specs.Rounds.{IsBroken, IsRound, IsSomeFull};
 
 use crate::round::crew::Crew;
@@ -46,7 +47,7 @@ pub fn in_scope<
     requires unclaimed { (sum crew.claims.items ≡ 0) × (length crew.claims.items ≡ vec_len crew.workers) }
     requires booked { length crew.claims.items ≡ length between.books.workers.items }
     requires rounds { between.books.rounds < 2 ^ 46 }
-    ensures ok { OnOk result.1 (IsRound S.input O.output setup.now.settings.now spools.now setup.now.pace between.entry result.0) }
+    ensures ok { OnOk result.1 (IsRound S.input O.output setup.now.settings.now spools.now (pace_in setup.now) between.entry result.0) }
     ensures err { IfErr result.1 (IsBroken S.input O.output setup.now.settings.now spools.now between.entry.broadcast result.0.broadcast) }
     ensures held { IfErr result.1 (IsGatesWord (G.stops setup.now.gate.now)) }
 {
@@ -61,7 +62,8 @@ pub fn in_scope<
                 × IsSomeFull S.input O.output setup.now.settings.now spools.now between.broadcast × (M.parts ≡ 1)
                 × (crew.rest.parts + vec_len crew.workers ≡ L.parts) × (sum crew.claims.items ≡ 0) × (length crew.claims.items ≡ vec_len crew.workers)
                 × (length crew.claims.items ≡ length between.books.workers.items) × (between.books.rounds < 2 ^ 46) }
-            ensures ok { OnOk result.1 (IsRound S.input O.output setup.entry.now.settings.now spools.entry.now setup.entry.now.pace between.entry result.0) }
+            ensures ok { OnOk result.1 (IsRound S.input O.output setup.entry.now.settings.now spools.entry.now (pace_in setup.entry.now)
+                between.entry result.0) }
             ensures err { IfErr result.1 (IsBroken S.input O.output setup.entry.now.settings.now spools.entry.now between.entry.broadcast result.0.broadcast) }
             ensures held { IfErr result.1 (IsGatesWord (G.stops setup.entry.now.gate.now)) }
         {

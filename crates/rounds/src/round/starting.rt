@@ -4,6 +4,7 @@ ghost use Rattle.std.specs.Prelude.{◌≡◌, ◌<◌, ◌^◌, IfErr, OnOk, le
 ghost use Rattle.rounds.specs.Begun.{keys_of};
 ghost use Rattle.rounds.specs.Gated.{IsGatesWord};
 ghost use Rattle.rounds.specs.Heralds.{complete_in};
+ghost use Rattle.rounds.specs.Paces.{pace_in};
 ghost use Rattle.rounds.specs.Rounds.{HasDueEnds, IsBroken, IsRound, IsSomeFull};
 
 use crate::round::crew::Crew;
@@ -45,7 +46,7 @@ pub fn run_round<
     requires ends { HasDueEnds setup.now.settings.now spools.now between.broadcast.course }
     requires workers { length between.books.workers.items ≡ setup.now.workers }
     requires rounds { between.books.rounds < 2 ^ 46 }
-    ensures ok { OnOk result.1 (IsRound S.input O.output setup.now.settings.now spools.now setup.now.pace between.entry result.0) }
+    ensures ok { OnOk result.1 (IsRound S.input O.output setup.now.settings.now spools.now (pace_in setup.now) between.entry result.0) }
     ensures err { IfErr result.1 (IsBroken S.input O.output setup.now.settings.now spools.now between.entry.broadcast result.0.broadcast) }
     ensures held { IfErr result.1 (IsGatesWord (G.stops setup.now.gate.now)) }
 {
@@ -78,7 +79,7 @@ fn round_with<
     requires rounds { between.books.rounds < 2 ^ 46 }
     requires claims { (claims.name ≡ L.name) × (claims.parts ≡ L.parts) × (L.parts ≡ setup.now.workers) }
     requires takes { (takes.name ≡ M.name) × (takes.parts ≡ M.parts) × (M.parts ≡ 1) }
-    ensures ok { OnOk result.1 (IsRound S.input O.output setup.now.settings.now spools.now setup.now.pace between.entry result.0) }
+    ensures ok { OnOk result.1 (IsRound S.input O.output setup.now.settings.now spools.now (pace_in setup.now) between.entry result.0) }
     ensures err { IfErr result.1 (IsBroken S.input O.output setup.now.settings.now spools.now between.entry.broadcast result.0.broadcast) }
     ensures held { IfErr result.1 (IsGatesWord (G.stops setup.now.gate.now)) }
 {

@@ -1,6 +1,6 @@
 //! A run that fits: it goes from round to round, and answers.
 
-ghost use Rattle.std.specs.Prelude.{◌≡◌, ◌<◌, ◌≤◌, ◌^◌, ℕ, IfErr, IfOk, OnOk, min};
+ghost use Rattle.std.specs.Prelude.{◌≡◌, ◌<◌, ◌≤◌, ◌^◌, ℕ, IfErr, IfOk, OnOk};
 ghost use Rattle.ladder_items.specs.Ladder.{Ladder};
 ghost use Rattle.ladder_items.specs.World.{HaveRoom};
 ghost use Rattle.rounds.specs.Begun.{IsBegun};
@@ -8,7 +8,6 @@ ghost use Rattle.rounds.specs.Courses.{AreLeft, IsBetween};
 ghost use Rattle.rounds.specs.Gated.{IsGatesWord};
 ghost use Rattle.rounds.specs.Heralds.{IsHeardOf};
 ghost use Rattle.rounds.specs.Shown.{EndsFaulted, EndsPacked, FitsStart, start_at};
-ghost use Rattle.rounds.specs.Paces.{enough_turns};
 ghost use Rattle.item_io.specs.declared.limits.TheConstants.{READS};
 
 use crate::giving::broadcast::Broadcast;
@@ -87,8 +86,6 @@ pub fn pack_fitted<
     requires failures { O.output.failures endpoints.outlet < 2 ^ 63 }
     requires fits { FitsStart setup.now.settings.now setup.now.workers (start_at endpoints) }
     requires begun { IsBegun setup.now.settings.now setup.now.workers first }
-    requires pace { setup.now.pace.least ≡ min setup.now.pace.most setup.now.workers }
-    requires turns { setup.now.pace.turns ≡ enough_turns setup.now.workers }
     ensures ok { IfOk result.answer (EndsPacked S.input O.output setup.now.settings.now setup.now.workers (start_at endpoints) result) }
     ensures fault { IfErr result.answer (EndsFaulted S.input O.output setup.now.settings.now setup.now.workers (start_at endpoints) result) }
     ensures board { result.publisher.board ≡ endpoints.publisher.board }

@@ -1,8 +1,7 @@
 //! The pace of a run: how many closed segments make a round.
 
-ghost use Rattle.std.specs.Prelude.{◌≡◌, min};
-ghost use Rattle.std.specs.Option.{unwrap_or};
-ghost use Rattle.rounds.specs.Paces.{enough_turns, wanted};
+ghost use Rattle.std.specs.Prelude.{◌≡◌};
+ghost use Rattle.rounds.specs.Paces.{pace_of, wanted};
 
 /// How many turns are had for a round, at the least, before one segment is enough: what is read in them, at most 18,800 bytes in each,
 /// is 47 MB. So what is held is bounded by bytes too, and not by the number of segments alone.
@@ -23,16 +22,13 @@ pub struct Pace {
 }
 
 impl Pace {
-    /// A pace by the batch that is asked for, or else by how many workers there are and how many segments may be outstanding.
-    pub fn new(workers: usize, queue: usize, batch: Option<usize>) -> Pace
-        ensures most { result.most ≡ unwrap_or batch (min workers queue) }
-        ensures least { result.least ≡ min result.most workers }
-        ensures turns { result.turns ≡ enough_turns workers }
+    /// The pace for this many workers and rounds of `batch` segments.
+    pub fn new(workers: usize, batch: usize) -> Pace
+        ensures { result ≡ pace_of workers batch }
     {
-        let most = batch.unwrap_or(workers.min(queue));
         Pace {
-            least: most.min(workers),
-            most,
+            least: batch.min(workers),
+            most: batch,
             turns: TURNS.max(TURNS_A_WORKER * workers as u128),
         }
     }

@@ -13,7 +13,6 @@ use crate::run::first::{First, beginning};
 use crate::run::fitted::pack_fitted;
 use crate::run::fitting::fits;
 use crate::run::herald::{Herald, Nobody};
-use crate::run::pace::Pace;
 use crate::run::ran::Ran;
 use crate::run::setup::{Endpoints, Setup};
 use item_io::{Outlet, READS, Source};
@@ -92,132 +91,68 @@ pub fn pack_parallel_reads<
     ensures held { IfErr result.answer (IsGatesWord (G.stops gate.now)) }
     ensures left { OnOk result.answer (AreLeft S.input result.sources.items) }
 {
-    pack_in_batches(
-        rt, alloc, sources, settings, workers, gate, publisher, outlet, reads, None,
-    )
-}
-
-/// Packs as `pack_parallel_reads` does, with rounds of `batch` segments.
-///
-/// A round begins once `batch` segments are closed over all renditions, or, when all of the round before has been given, once there is
-/// one for each worker, or at least one and no source is ready; and with one, once 23.5 MB were read for each worker, and 47 MB at
-/// least. While a round is sealed and given, the next one is read. With a batch of 1, a segment waits for no other to be closed; with
-/// fewer than there are workers, some workers are idle in most rounds; with more, workers wait less often for each other, and more
-/// segments are held at a time. The default is the number of workers, or how many segments may be outstanding if that is less. No
-/// clause depends on it.
-pub fn pack_in_batches<
-    S: Source + Drop,
-    O: Outlet + Drop,
-    G: Gate + Sync,
-    R: Threads + Wait + Sync,
->(
-    rt: &R,
-    alloc: Global,
-    sources: Vec<S>,
-    settings: &Settings,
-    workers: usize,
-    gate: &G,
-    publisher: Publisher,
-    outlet: O,
-    reads: u64,
-    batch: Option<usize>,
-) -> Ran<S, O>
-    requires least { 1 ≤ reads }
-    requires most { reads ≤ READS }
-    requires room { HaveRoom S.input reads sources.items }
-    requires failures { O.output.failures outlet < 2 ^ 63 }
-    ensures ok { IfOk result.answer (EndsPacked S.input O.output settings.now workers (start_of sources.items outlet publisher reads) result) }
-    ensures fault { IfErr result.answer (EndsFaulted S.input O.output settings.now workers (start_of sources.items outlet publisher reads) result) }
-    ensures board { result.publisher.board ≡ publisher.board }
-    ensures fits { OnOk result.answer (Fits settings.now (length sources.items) workers (counts_shown publisher.list)) }
-    ensures breach { IfErr result.answer (EndsAway S.input O.output settings.now workers (start_of sources.items outlet publisher reads) result) }
-    ensures held { IfErr result.answer (IsGatesWord (G.stops gate.now)) }
-    ensures left { OnOk result.answer (AreLeft S.input result.sources.items) }
-{
-    pack_heralded(
-        rt, alloc, sources, settings, workers, gate, publisher, outlet, reads, batch, &Nobody,
-    )
-}
-
-/// Packs as `pack_in_batches` does, and tells the herald of each rendition's fault as soon as it stands: before the calling thread
-/// waits for an input again, or, while a round is sealed, when the round is given. A fault of the whole run, and ReadLimit, are told by
-/// the answer alone.
-pub fn pack_heralded<
-    S: Source + Drop,
-    O: Outlet + Drop,
-    G: Gate + Sync,
-    R: Threads + Wait + Sync,
-    H: Herald,
->(
-    rt: &R,
-    alloc: Global,
-    sources: Vec<S>,
-    settings: &Settings,
-    workers: usize,
-    gate: &G,
-    publisher: Publisher,
-    outlet: O,
-    reads: u64,
-    batch: Option<usize>,
-    herald: &H,
-) -> Ran<S, O>
-    requires least { 1 ≤ reads }
-    requires most { reads ≤ READS }
-    requires room { HaveRoom S.input reads sources.items }
-    requires failures { O.output.failures outlet < 2 ^ 63 }
-    ensures ok { IfOk result.answer (EndsPacked S.input O.output settings.now workers (start_of sources.items outlet publisher reads) result) }
-    ensures fault { IfErr result.answer (EndsFaulted S.input O.output settings.now workers (start_of sources.items outlet publisher reads) result) }
-    ensures board { result.publisher.board ≡ publisher.board }
-    ensures fits { OnOk result.answer (Fits settings.now (length sources.items) workers (counts_shown publisher.list)) }
-    ensures breach { IfErr result.answer (EndsAway S.input O.output settings.now workers (start_of sources.items outlet publisher reads) result) }
-    ensures held { IfErr result.answer (IsGatesWord (G.stops gate.now)) }
-    ensures left { OnOk result.answer (AreLeft S.input result.sources.items) }
-    ensures told { IfErr result.answer (IsHeardOf (H.was_told herald.now)) }
-{
+    let setup = Setup {
+        rt,
+        alloc,
+        settings,
+        workers,
+        gate,
+        batch: workers.min(settings.queue as usize),
+    };
     let endpoints = Endpoints {
         sources,
         outlet,
         publisher,
         reads,
     };
-    match begin(
-        alloc,
-        settings,
-        endpoints.sources.len(),
-        workers,
-        &endpoints.publisher,
-    ) {
-        Ok(first) => {
-            let setup = Setup {
-                rt,
-                alloc,
-                settings,
-                workers,
-                gate,
-                pace: Pace::new(workers, settings.queue as usize, batch),
-            };
-            pack_fitted(&setup, first, endpoints, herald)
-        }
-        Err(fault) => turn_away(fault, settings, workers, endpoints),
+    pack_heralded(&setup, endpoints, &Nobody)
+}
+
+/// Packs as `pack_parallel_reads` does, by this setup, and tells the herald of each rendition's fault as soon as it stands: before the
+/// calling thread waits for an input again, or, while a round is sealed, when the round is given. A fault of the whole run, and
+/// ReadLimit, are told by the answer alone.
+pub fn pack_heralded<
+    S: Source + Drop,
+    O: Outlet + Drop,
+    G: Gate + Sync,
+    R: Threads + Wait + Sync,
+    H: Herald,
+>(setup: &Setup<'_, G, R>, endpoints: Endpoints<S, O>, herald: &H) -> Ran<S, O>
+    requires least { 1 ≤ endpoints.reads }
+    requires most { endpoints.reads ≤ READS }
+    requires room { HaveRoom S.input endpoints.reads endpoints.sources.items }
+    requires failures { O.output.failures endpoints.outlet < 2 ^ 63 }
+    ensures ok { IfOk result.answer (EndsPacked S.input O.output setup.now.settings.now setup.now.workers (start_at endpoints) result) }
+    ensures fault { IfErr result.answer (EndsFaulted S.input O.output setup.now.settings.now setup.now.workers (start_at endpoints) result) }
+    ensures board { result.publisher.board ≡ endpoints.publisher.board }
+    ensures fits { OnOk result.answer (Fits setup.now.settings.now (length endpoints.sources.items) setup.now.workers
+        (counts_shown endpoints.publisher.list)) }
+    ensures breach { IfErr result.answer (EndsAway S.input O.output setup.now.settings.now setup.now.workers (start_at endpoints) result) }
+    ensures held { IfErr result.answer (IsGatesWord (G.stops setup.now.gate.now)) }
+    ensures left { OnOk result.answer (AreLeft S.input result.sources.items) }
+    ensures told { IfErr result.answer (IsHeardOf (H.was_told herald.now)) }
+{
+    match begin(setup, &endpoints) {
+        Ok(first) => pack_fitted(setup, first, endpoints, herald),
+        Err(fault) => turn_away(fault, setup.settings, setup.workers, endpoints),
     }
 }
 
 /// What a run begins with, if the run fits.
-fn begin(
-    alloc: Global,
-    settings: &Settings,
-    inputs: usize,
-    workers: usize,
-    publisher: &Publisher,
+fn begin<S, O, G, R>(
+    setup: &Setup<'_, G, R>,
+    endpoints: &Endpoints<S, O>,
 ) -> Result<First, PackFault>
-    ensures fits { OnOk result (Fits settings.now inputs workers (counts_shown publisher.now.list)) }
-    ensures begun { IfOk result (IsBegun settings.now workers) }
-    ensures fault { IfErr result (IsUnbegun settings.now inputs workers (counts_shown publisher.now.list)) }
+    ensures fits { OnOk result (FitsStart setup.now.settings.now setup.now.workers (start_at endpoints.now)) }
+    ensures begun { IfOk result (IsBegun setup.now.settings.now setup.now.workers) }
+    ensures fault { IfErr result (IsUnbegun setup.now.settings.now (length endpoints.now.sources.items) setup.now.workers
+        (counts_shown endpoints.now.publisher.list)) }
 {
-    if !fits(settings, inputs, workers, publisher) {
+    let inputs = endpoints.sources.len();
+    if !fits(setup.settings, inputs, setup.workers, &endpoints.publisher) {
         return Err(PackFault::Settings);
     }
-    Ok(beginning(alloc, settings, workers)?)
+    Ok(beginning(setup.alloc, setup.settings, setup.workers)?)
 }
 
 /// Gives everything back where the run isn't begun.

@@ -170,7 +170,7 @@ pub fn run_rounds<
             if between.broadcast.course.rests() {
                 break;
             }
-            let (now, read) = read_between(setup.rt, setup.pace, between, &mut telling);
+            let (now, read) = read_between(setup.rt, setup.pace(), between, &mut telling);
             between = now;
             if let Err(_) = read {
                 return (between, Err(PackFault::NoMemory));

@@ -1,5 +1,8 @@
 //! What a run is given: the setup that stays the same, and the endpoints that come back.
 
+ghost use Rattle.std.specs.Prelude.{◌≡◌};
+ghost use Rattle.rounds.specs.Paces.{pace_in};
+
 use crate::run::pace::Pace;
 use ladder_items::Settings;
 use live_board::Publisher;
@@ -11,11 +14,26 @@ pub struct Setup<'a, G, R> {
     pub rt: &'a R,
     pub alloc: Global,
     pub settings: &'a Settings,
-    /// How many workers seal.
+    /// How many threads seal, 1 to 64.
     pub workers: usize,
     /// What is asked before a segment is sealed, by a worker or by the calling thread.
     pub gate: &'a G,
-    pub pace: Pace,
+    /// How many closed segments, over all renditions, begin a round at the latest.
+    ///
+    /// When all of the round before has been given, one for each worker is enough, or at least one where no source is ready; and one is,
+    /// once 23.5 MB were read for each worker, and 47 MB at least. With a batch of 1, a segment waits for no other to be closed; with
+    /// fewer than there are workers, some workers are idle in most rounds; with more, workers wait less often for each other, and more
+    /// segments are held at a time. What is given doesn't depend on it.
+    pub batch: usize,
+}
+
+impl<G, R> Setup<'_, G, R> {
+    /// The pace of a run with this setup.
+    pub fn pace(&self) -> Pace
+        ensures { result ≡ pace_in self.now }
+    {
+        Pace::new(self.workers, self.batch)
+    }
 }
 
 /// What a run reads from, gives to and publishes with.

@@ -14,7 +14,7 @@ returns-in-Ok-clause-fault g c =
 pub returns-in-Ok-clause-breach : goal.returns-in-Ok-clause-breach
 returns-in-Ok-clause-breach g c =
     let run = run_of g.S.Source.input g.O.Outlet.output (2 ^ 40) c.args.sources.items c.pack_heralded-sources.result.sources.items c.args.outlet c.pack_heralded-sources.result.outlet in
-    summary-fits run c.args.settings.now c.args.pool.workers c.args.publisher.list c.pack_heralded-sources.result.publisher.list _ _ c.in-Ok.report (IfOk-at_ok _ c.in-Ok.is c.pack_heralded-sources.ensures.fits) c.write_summary.result c.write_summary.ensures.fault
+    summary-fits run c.args.setup.now.settings.now c.args.setup.now.pool.workers c.args.publisher.list c.pack_heralded-sources.result.publisher.list _ _ c.in-Ok.report (IfOk-at_ok _ c.in-Ok.is c.pack_heralded-sources.ensures.fits) c.write_summary.result c.write_summary.ensures.fault
 
 pub returns-in-Err-clause-never_held : goal.returns-in-Err-clause-never_held
 returns-in-Err-clause-never_held g c = IfErr-at_err _ c.in-Err.is c.pack_heralded-sources.ensures.held

@@ -9,6 +9,7 @@ returns-then-job g c =
     record {
       written = told-well _ c.pack_and_remove-sources.result.answer e.result e.ensures.fault p.written;
       fault = told-fault _ _ _ _ _ _ _ c.pack_and_remove-sources.result.answer e.result e.ensures.well e.ensures.fault p.never_held p.fault;
+      told = told-why _ c.pack_and_remove-sources.result.answer e.result e.ensures.well e.ensures.fault p.told;
       unbegun = tt;
       whole = λ stays. absurd (cc stays);
       pruned = λ goes. record {
@@ -48,6 +49,7 @@ returns g c =
     record {
       written = told-well _ c.pack_into_folder-sources.result.answer e.result e.ensures.fault p.written;
       fault = told-fault _ _ _ _ _ _ _ c.pack_into_folder-sources.result.answer e.result e.ensures.well e.ensures.fault p.never_held p.fault;
+      told = told-why _ c.pack_into_folder-sources.result.answer e.result e.ensures.well e.ensures.fault p.told;
       unbegun = tt;
       whole = λ stays. record {
         inputs = c.in_ok-sources.field-0.sources.items;

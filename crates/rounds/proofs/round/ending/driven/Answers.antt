@@ -17,3 +17,6 @@ drive-answer-requires-clause-behind g c =
 
 pub returns-in_default-clause-held : goal.returns-in_default-clause-held
 returns-in_default-clause-held g c = none-word _ _ refl
+
+pub returns-clause-enough : goal.returns-clause-enough
+returns-clause-enough g c = rw c.pace.ensures at c.drive-answer.ensures.enough
