@@ -1,4 +1,5 @@
 ghost use Rattle.std.specs.Prelude.{OnErr, ◌≡◌, ◌⊎◌, ◌*◌, ◌<◌, ◌↔◌, [], All, Any, IfErr};
+ghost use Rattle.program.specs.declared.watching.Watch.TheVariants.{Unasked};
 ghost use Rattle.std.specs.Prelude.{IfOk, IfSome, IsErrOf, IsOk, IsSome, None, OnOk, false, length, map, option_map, replicate, true};
 ghost use Rattle.std.specs.List.{range_with_len};
 ghost use Rattle.std.specs.Duration.{as_nanos};
@@ -19,7 +20,7 @@ ghost use Rattle.program.specs.LadderEnds.{FailsLadder, HearsOf, IsUnbegun};
 ghost use Rattle.program.specs.LadderRuns.{IsPrunedRun, IsWholeRun};
 
 use crate::told::Tellings;
-use crate::watching::{Watched, Watching};
+use crate::watching::{Watch, Watched};
 use channel::{Resumed, resume};
 use command_line::{Fault, LadderJob};
 use commands::{LadderOptions, LadderPackingFault, Pool};
@@ -183,10 +184,7 @@ where
     let Inputs { sources, view } = open_inputs(rt, alloc, &job.options)?;
     let into = destination(rt, alloc, job)?;
     let kept = keepings(alloc, settings, older)?;
-    let Board {
-        publisher,
-        watching,
-    } = open_board(rt, alloc, job, view, told)?;
+    let Board { publisher, watch } = open_board(rt, alloc, job, view, told)?;
     let setup = LadderSetup {
         rt: &rt,
         alloc,
@@ -201,7 +199,7 @@ where
             outlet,
             answer,
         } = pack_and_remove(&setup, sources, publisher, into, kept, output);
-        let ended = end_run(&rt, alloc, watching, publisher, answer);
+        let ended = end_run(&rt, alloc, watch, publisher, answer);
         return Ok(LadderRun {
             sources,
             outlet: LadderOutlet::Pruned(outlet),
@@ -214,7 +212,7 @@ where
         outlet,
         answer,
     } = pack_into_folder(&setup, sources, publisher, into, output);
-    let ended = end_run(&rt, alloc, watching, publisher, answer);
+    let ended = end_run(&rt, alloc, watch, publisher, answer);
     Ok(LadderRun {
         sources,
         outlet: LadderOutlet::Whole(outlet),
@@ -222,10 +220,10 @@ where
     })
 }
 
-/// The board of a ladder, and what watches it, if that was asked for.
+/// The board of a ladder, and whether it is watched.
 struct Board {
     publisher: Publisher,
-    watching: Option<Watching>,
+    watch: Watch,
 }
 
 /// Opens the board of a ladder that is about to begin: it has a place for each rendition, and shows no segment.
@@ -240,7 +238,8 @@ where
     R::File: Send + 'static,
     R::Dir: Send + 'static,
     ensures none { IfOk result (λ board. counts_shown board.publisher.list ≡ replicate (length job.now.options.settings.renditions) 0) }
-    ensures asked { IfOk result (λ board. IfSome board.watching (λ w. IsSome job.now.metrics)) }
+    ensures asked { IfOk result (λ board. board.watch ≡ Unasked → job.now.metrics ≡ None) }
+    ensures unasked { job.now.metrics ≡ None → IfOk result (λ board. board.watch ≡ Unasked) }
 {
     let renditions = &job.options.settings.renditions;
     let (publisher, viewers) = opening_board(&rt, alloc, renditions.len(), 1)?;
@@ -249,27 +248,22 @@ where
         inputs,
         told,
     };
-    let watching = Watching::begin(rt, alloc, renditions, job.metrics, watched);
-    Ok(Board {
-        publisher,
-        watching,
-    })
+    let watch = Watch::begin(rt, alloc, renditions, job.metrics, watched);
+    Ok(Board { publisher, watch })
 }
 
 /// Ends what watches a run, and its board, and tells how the run ended.
 fn end_run<R: Files + Clock + Eprint + Threads + Wait>(
     rt: &R,
     alloc: Global,
-    watching: Option<Watching>,
+    watch: Watch,
     publisher: Publisher,
     answer: Result<Report, LadderPackingFault>,
 ) -> Result<(), Fault>
     ensures well { OnOk answer (IsOk result) }
     ensures fault { IfErr answer (λ why. IsErrOf result (LadderPacking why)) }
 {
-    if let Some(watching) = watching {
-        watching.end(rt, alloc, answer.as_ref().err());
-    }
+    watch.end(rt, alloc, answer.as_ref().err());
     publisher.end(rt);
     match answer {
         Ok(_) => Ok(()),

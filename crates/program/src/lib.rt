@@ -1,7 +1,8 @@
 //! What the program does, whatever processor it's built for.
 #![tactic(auto)]
 
-ghost use Rattle.std.specs.Prelude.{◌≡◌, ◌≢◌, Err, IfErr, IsErrOf, Ok, OnErr, OnOk, false, true};
+ghost use Rattle.std.specs.Prelude.{◌≡◌, ◌≢◌, ◌++◌, Err, IfErr, IfOk, IsErrOf, Ok, OnErr, OnOk, codes, false, true};
+ghost use Rattle.std.specs.String.{string_bytes};
 ghost use Rattle.std.specs.IoError.{error_kind};
 ghost use Rattle.std.specs.Process.{exit_status};
 ghost use Rattle.std.specs.declared.io.ErrorKind.TheVariants.{OutOfMemory};
@@ -166,6 +167,14 @@ fn is_held(taken: Result<(), TryLockError>) -> Result<bool, Fault>
     }
 }
 
+/// The version of the program, built for this processor.
+fn version_of(alloc: Global, processor: &str) -> Result<String, Fault>
+    ensures ok { IfOk result (λ text. string_bytes text ≡ codes "0.1.0 " ++ processor.now) }
+    ensures scarce { OnErr result (result ≡ Err NoMemory) }
+{
+    Ok(version(alloc, processor)?)
+}
+
 /// The program, built for this processor: it reads its words, does what they ask for, and tells how that ends.
 pub fn run<
     R: Threads
@@ -191,8 +200,9 @@ where
         Ok(words) => words,
         Err(fault) => return ended(&host, &[], Err(fault)),
     };
-    let Ok(version) = version(host.alloc(), processor) else {
-        return ended(&host, words.as_slice(), Err(Fault::NoMemory));
+    let version = match version_of(host.alloc(), processor) {
+        Ok(version) => version,
+        Err(fault) => return ended(&host, words.as_slice(), Err(fault)),
     };
     let asked = Line {
         words: words.as_slice(),

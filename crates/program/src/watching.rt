@@ -8,6 +8,7 @@ ghost use Rattle.metrics.specs.Seens.{unseen};
 ghost use Rattle.metrics.specs.declared.glance.Glance.{Glance};
 ghost use Rattle.program.specs.Asked.{input_sample};
 ghost use Rattle.program.specs.Faulted.{last_fault, name_of, named_in, rendition_of};
+ghost use Rattle.program.specs.declared.watching.Watch.TheVariants.{Unasked};
 ghost use Rattle.program.specs.Metered.{AreSamplesOf, IsMetered, IsSeenAgain, IsSeenOn, seen_then};
 
 use crate::metrics_file::replace;
@@ -391,7 +392,7 @@ fn look_and_write<R: Files + Clock + Eprint + Wait>(
 }
 
 /// What the thread does: it looks at each tick, until it's stopped.
-fn watch<R: Files + Clock + Eprint + Wait>(
+fn look_at_ticks<R: Files + Clock + Eprint + Wait>(
     rt: &R,
     alloc: Global,
     viewer: Viewer,
@@ -417,7 +418,18 @@ pub struct Watched {
     pub told: Arc<Tellings>,
 }
 
-/// A run that is watched.
+/// Whether a run is watched.
+#[derive(Drop)]
+pub enum Watch {
+    /// Nobody asked for it.
+    Unasked,
+    /// It can't be, which was told.
+    Unwritten,
+    /// A thread does.
+    Runs(Watching),
+}
+
+/// The thread that watches a run.
 #[derive(Drop)]
 pub struct Watching {
     stop: Arc<StopSignal>,
@@ -454,33 +466,16 @@ impl Watching {
         let mut viewers = viewers;
         let viewer = viewers.pop()?;
         let writer = Writer::new(&rt, alloc, renditions, path, inputs, told).ok()?;
-        let thread = thread::spawn(&rt, move || watch(&rt, alloc, viewer, writer, &theirs)).ok()?;
+        let thread = thread::spawn(
+            &rt,
+            move || look_at_ticks(&rt, alloc, viewer, writer, &theirs),
+        )
+        .ok()?;
         Some(Watching { stop, thread })
     }
 
-    /// As `start`, if there is a path. Where it can't be watched, that is told, and the run goes on.
-    pub fn begin<R: Files + Clock + Eprint + Threads + Wait + Copy + Send + Drop + 'static>(
-        rt: R,
-        alloc: Global,
-        renditions: &[Rendition],
-        path: Option<&str>,
-        watched: Watched,
-    ) -> Option<Watching>
-    where
-        R::File: Send + 'static,
-        R::Dir: Send + 'static,
-        ensures asked { IfSome result (λ w. IsSome path.entry) }
-    {
-        let path = path?;
-        let watching = Watching::start(rt, alloc, renditions, path, watched);
-        if watching.is_none() {
-            let _ = rt.eprint(UNWRITTEN);
-        }
-        watching
-    }
-
     /// Stops, and writes the last metrics of a run that ended so. Its board has to be there still.
-    pub fn end<R: Files + Clock + Eprint + Threads + Wait>(
+    fn end<R: Files + Clock + Eprint + Threads + Wait>(
         self,
         rt: &R,
         alloc: Global,
@@ -490,6 +485,46 @@ impl Watching {
         stop.tell(rt);
         let (viewer, mut writer) = thread.join(rt);
         let _viewer = look_and_write(rt, alloc, viewer, &mut writer, last_of(fault));
+    }
+}
+
+impl Watch {
+    /// Watches a run of these renditions that is about to begin, if there is a path. Where it can't, that is told, and the run goes on.
+    pub fn begin<R: Files + Clock + Eprint + Threads + Wait + Copy + Send + Drop + 'static>(
+        rt: R,
+        alloc: Global,
+        renditions: &[Rendition],
+        path: Option<&str>,
+        watched: Watched,
+    ) -> Watch
+    where
+        R::File: Send + 'static,
+        R::Dir: Send + 'static,
+        ensures asked { result ≡ Unasked → path.entry ≡ None }
+        ensures none { path.entry ≡ None → result ≡ Unasked }
+    {
+        let Some(path) = path else {
+            return Watch::Unasked;
+        };
+        match Watching::start(rt, alloc, renditions, path, watched) {
+            Some(watching) => Watch::Runs(watching),
+            None => {
+                let _ = rt.eprint(UNWRITTEN);
+                Watch::Unwritten
+            }
+        }
+    }
+
+    /// Ends with the run, which ended so. Its board has to be there still.
+    pub fn end<R: Files + Clock + Eprint + Threads + Wait>(
+        self,
+        rt: &R,
+        alloc: Global,
+        fault: Option<&LadderPackingFault>,
+    ) {
+        if let Watch::Runs(watching) = self {
+            watching.end(rt, alloc, fault);
+        }
     }
 }
 
