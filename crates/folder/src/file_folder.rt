@@ -1,4 +1,5 @@
-ghost use Rattle.std.specs.Prelude.{◌≡◌, ◌≢◌, ◌⊎◌, ◌++◌, ◌∷◌, [], true, false, List, IfErr, IfOk, IsErr, IsOk, OnErr, OnOk};
+ghost use Rattle.std.specs.Prelude.{◌≡◌, ◌≢◌, ◌⊎◌, ◌++◌, ◌∷◌, [], true, false, List, None, Some, Decides, IfErr, IfOk, IsErr, IsOk, IsSome, OnErr, OnOk};
+ghost use Rattle.std.specs.Option.{unwrap_or};
 ghost use Rattle.std.specs.IoError.{error_kind};
 ghost use Rattle.std.specs.Path.{path_buf_bytes, path_join};
 ghost use Rattle.std.specs.String.{string_bytes};
@@ -14,7 +15,7 @@ use crate::ghost_move::GhostMove;
 use crate::notes::{note_failed_write, note_remove, note_rename, note_seen, note_sync, note_write};
 use ghost_list::GhostList;
 use std::alloc::{AllocError, Global};
-use std::fs::{File, Files, OpenFile};
+use std::fs::{File, Files, Metadata, OpenFile};
 use std::io::Write;
 use std::os::unix::fs::MetadataExt;
 use std::path::{Path, PathBuf};
@@ -91,19 +92,27 @@ impl<R> FileFolder<R> {
 }
 
 impl<R: Files> FileFolder<R> {
-    ghost use Rattle.folder.specs.FileFolders.{file_moves, may_sync};
-
-    /// Whether the folder at the path is still the one that was first written to.
-    fn is_same(&mut self) -> bool
-        ensures made { file_moves self.new ≡ file_moves self.old }
-        ensures syncs { may_sync self.new ≡ may_sync self.old }
-        ensures path { folder_path self.new ≡ folder_path self.old }
+    /// Whether the folder that was found at the path is the one that was first written to, which it becomes where none was.
+    fn is_first(&mut self, found: (u64, u64)) -> bool
+        ensures same { Decides result (self.new.node ≡ Some found) }
+        ensures kept { self.new ≡ record self.old { node = Some (unwrap_or self.old.node found) } }
     {
-        let Ok(found) = fs::metadata(&self.files, self.path.as_str()) else {
-            return false;
-        };
-        let node = (found.dev(), found.ino());
-        *self.node.get_or_insert(node) == node
+        *self.node.get_or_insert(found) == found
+    }
+
+    /// Writes a new file into the folder that was found at the path, and syncs it if all are. One of its name that was there is
+    /// removed before, so that whoever has it open keeps what it was.
+    fn write_anew(&self, found: (u64, u64), path: Path<'_>, bytes: &[u8]) -> io::Result<()>
+        requires { self.now.node ≡ Some found }
+    {
+        let _ = fs::remove_file(&self.files, path);
+        let mut file = File::create_new(&self.files, path)?;
+        file.write_all(bytes)?;
+        file.flush()?;
+        if self.syncs {
+            file.sync_all()?;
+        }
+        Ok(())
     }
 }
 
@@ -124,10 +133,13 @@ impl<R: Files> Folder for FileFolder<R> {
         ensures path { folder_path self.new ≡ folder_path self.old }
     {
         let path = self.path_of(name)?;
-        if !self.is_same() {
+        let Some(found) = node_of(fs::metadata(&self.files, self.path.as_str())) else {
+            return Err(FolderFault);
+        };
+        if !self.is_first(found) {
             return Err(FolderFault);
         }
-        match write_anew(&self.files, path.as_path(), bytes, self.syncs) {
+        match self.write_anew(found, path.as_path(), bytes) {
             Ok(()) => {
                 note_write(&mut self.made, name, bytes);
                 Ok(())
@@ -216,17 +228,13 @@ fn gone(removed: io::Result<()>) -> Result<(), FolderFault>
     }
 }
 
-/// Writes a new file, and syncs it if asked to. One of its name that was there is removed before, so that whoever has it
-/// open keeps what it was.
-fn write_anew<R: Files>(files: &R, path: Path<'_>, bytes: &[u8], syncs: bool) -> io::Result<()> {
-    let _ = fs::remove_file(files, path);
-    let mut file = File::create_new(files, path)?;
-    file.write_all(bytes)?;
-    file.flush()?;
-    if syncs {
-        file.sync_all()?;
-    }
-    Ok(())
+/// The device and the inode of what the system looked at; none where it couldn't.
+fn node_of(looked: io::Result<Metadata>) -> Option<(u64, u64)>
+    ensures some { OnOk looked (IsSome result) }
+    ensures none { OnErr looked (result ≡ None) }
+{
+    let metadata = looked.ok()?;
+    Some((metadata.dev(), metadata.ino()))
 }
 
 /// Syncs a folder: which files it has, and under which names.
