@@ -36,7 +36,7 @@ each_new P backlogs number [] new = All-nil P
 each_new P backlogs number (l ∷ lefts) new =
     All-cons P (new_seen backlogs number l) (all_seen backlogs (number + 1) lefts) (new number l) (each_new P backlogs (number + 1) lefts new)
 
-all_length : (backlogs : Backlogs) (number : ℕ) (lefts : List (Option (List ℕ))) → length (all_seen backlogs number lefts) ≡ length lefts
+pub all_length : (backlogs : Backlogs) (number : ℕ) (lefts : List (Option (List ℕ))) → length (all_seen backlogs number lefts) ≡ length lefts
 all_length backlogs number [] = refl
 all_length backlogs number (l ∷ lefts) = ap suc (all_length backlogs (number + 1) lefts)
 
@@ -62,10 +62,3 @@ made_on {A} {B} f made now all old rest one x grew is steps so_far =
     ∙ ap (λ (y : B). made ++ y ∷ map f rest) is
     ∙ sym (ap (λ (l : List A). made ++ map f l) steps)
     ∙ so_far
-
--- sources are of the inputs that were waited for
-pub all_as_seen : {I : Type 0} (holds : I → Option (List ℕ)) (backlogs : Backlogs) (lefts : List (Option (List ℕ))) (sources : List Seen) (now waited before started : List (Incoming I)) →
-    sources ≡ map (seen_first holds) now → now ≡ waited → map (seen_first holds) waited ≡ map (seen_first holds) before → before ≡ started →
-    map (seen_first holds) started ≡ all_seen backlogs 0 lefts → sources ≡ all_seen backlogs 0 lefts
-all_as_seen holds backlogs lefts sources now waited before started are is same given seen =
-    are ∙ ap (map (seen_first holds)) is ∙ same ∙ ap (map (seen_first holds)) given ∙ seen

@@ -1,5 +1,5 @@
 -- Sources that read ahead.
-use Rattle.std.specs.Prelude.{◌≡◌, ◌≢◌, ◌⊎◌, ℕ, zero, suc, ◌+◌, ◌-◌, ◌<◌, ◌≤◌, Bool, true, false, List, [], ◌∷◌, ◌++◌, length, drop, max, Option, Some, None, slice_index_or}
+use Rattle.std.specs.Prelude.{◌≡◌, ◌≢◌, ◌⊎◌, ℕ, zero, suc, ◌+◌, ◌-◌, ◌<◌, ◌≤◌, Bool, true, false, ◌&&◌, List, [], ◌∷◌, ◌++◌, length, drop, max, Option, Some, None, slice_index_or}
 use Rattle.std.specs.Time.{instant_nanos}
 use Rattle.std.specs.declared.time.Duration.{Duration}
 use Rattle.std.specs.declared.time.Instant.{Instant}
@@ -82,6 +82,11 @@ seen_first holds i = new_seen (arc_value i.backlogs) i.number (rest_of holds i)
 pub record MayBegin {I : Type 0} (i : Incoming I) : Type 0 where
   pub stands : i.phase ≢ Failed
   pub waits : i.phase ≡ Opening → i.may_wait ≡ true
+
+-- whether a run may begin with the input isn't known: it is being opened, and that may not wait, or the moment for it isn't over
+pub record IsUnknown {I : Type 0} (is_over : Bool) (i : Incoming I) : Type 0 where
+  pub opening : i.phase ≡ Opening
+  pub unawaited : (is_over && i.may_wait) ≡ false
 
 -- how an input stands that was being opened, by what was told next
 abbrev pub opened_by : {I : Type 0} → Message I → Phase

@@ -88,7 +88,7 @@ impl<R: Wait + Clock, I: Contents> Ahead<R, I> {
 
     /// Waits until something came of any input since then.
     pub fn wait_past(&self, seen: u64) {
-        self.incoming.backlogs.wait_past(&self.rt, seen);
+        let _ = self.incoming.backlogs.wait_past(&self.rt, seen);
     }
 }
 

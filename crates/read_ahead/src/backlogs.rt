@@ -1,17 +1,18 @@
 //! The backlogs of all inputs under one lock, and who waits for them. No claim on bytes rests on it.
-ghost use Rattle.std.specs.Prelude.{◌≡◌, ◌<◌, ◌-◌, ◌*◌, ◌^◌, None, Some, IfOk, IfSome, OnErr, false, length, max};
+ghost use Rattle.std.specs.Prelude.{◌≡◌, ◌≢◌, ◌<◌, ◌-◌, ◌*◌, ◌^◌, Option, None, Some, Decides, IfOk, IfSome, OnErr, false, length, max};
 ghost use Rattle.std.specs.Arc.{arc_value};
 ghost use Rattle.std.specs.Duration.{as_nanos};
+ghost use Rattle.read_ahead.specs.Counts.{Begin};
 ghost use Rattle.read_ahead.specs.Shares.{room_for};
 ghost use Rattle.read_ahead.specs.Sources.{longest_silence};
 ghost use Rattle.read_ahead.specs.declared.limits.TheConstants.{LEAST_WAIT};
 
-use crate::backlog::Backlog;
 use crate::counts::Counts;
 use crate::limits::{LEAST_WAIT, Limits};
-use crate::view::{InputState, state_of};
+use crate::view::InputState;
+use crate::wait_end::WaitEnd;
 use std::alloc::{AllocError, Global};
-use std::sync::{Arc, Condvar, Mutex, Wait};
+use std::sync::{Arc, Condvar, Mutex, MutexGuard, Wait};
 use std::time::{Clock, Duration, Instant};
 
 /// The backlogs of all inputs, by number.
@@ -40,27 +41,34 @@ impl Backlogs {
         ensures room { IfOk result (λ backlogs. (arc_value backlogs).room ≡ room_for limits.ahead count) }
         ensures taken { IfOk result (λ backlogs. length (arc_value backlogs).taken.items ≡ count) }
     {
-        let now = Instant::now(rt).ok();
-        let mut backlogs = Vec::with_capacity(alloc, count)?;
-        let mut since = Vec::with_capacity(alloc, count)?;
         let mut taken = Vec::with_capacity(alloc, count)?;
         for _ in 0..count {
-            backlogs.push(Backlog::new())?;
-            since.push(now)?;
             taken.push(Condvar::new())?;
         }
-        let counts = Mutex::new(Counts {
-            backlogs,
-            since,
-            news: 0,
-        });
+        let counts = Counts::new(alloc, count, Instant::now(rt).ok())?;
+        Backlogs::under_lock(alloc, counts, taken, limits)
+    }
+
+    /// Those of inputs of which none gave anything yet: their counts, and what their threads wait for.
+    fn under_lock(
+        alloc: Global,
+        counts: Counts,
+        taken: Vec<Condvar>,
+        limits: Limits,
+    ) -> Result<Arc<Backlogs, Global>, AllocError>
+        requires { (since : Option Instant) × Begin counts (length taken.items) since }
+        ensures stall { IfOk result (λ backlogs. (arc_value backlogs).stall ≡ limits.stall) }
+        ensures room { IfOk result (λ backlogs. (arc_value backlogs).room ≡ room_for limits.ahead (length taken.items)) }
+        ensures taken { IfOk result (λ backlogs. (arc_value backlogs).taken ≡ taken) }
+    {
+        let room = limits.room(taken.len());
         Ok(Arc::new(
             alloc,
             Backlogs {
-                counts,
+                counts: Mutex::new(counts),
                 came: Condvar::new(),
                 taken,
-                room: limits.room(count),
+                room,
                 stall: limits.stall,
             },
         )?)
@@ -93,28 +101,56 @@ impl Backlogs {
         self.counts.lock(rt).news
     }
 
-    /// Waits until something came since then, or an input may have fallen silent.
-    pub fn wait_past<R: Wait + Clock>(&self, rt: &R, seen: u64) {
+    /// Waits until something came since then, or an input may have fallen silent, which none does without a stall.
+    pub fn wait_past<R: Wait + Clock>(&self, rt: &R, seen: u64) -> WaitEnd
+        ensures over { Decides result.is_over (result.news ≡ seen) }
+        ensures patient { self.now.stall ≡ None → result.news ≢ seen }
+    {
         let counts = self.counts.lock(rt);
-        let Some(patience) = self.patience(rt, &counts) else {
-            let _ = self
-                .came
-                .wait_while(rt, counts, |counts| counts.news == seen);
-            return;
-        };
-        let _ = self
-            .came
-            .wait_timeout_while(rt, counts, patience, |counts| counts.news == seen);
+        match self.patience(rt, &counts) {
+            Some(patience) => self.wait_at_most(rt, counts, seen, patience),
+            None => self.wait_news(rt, counts, seen),
+        }
     }
 
     /// Waits until something came since then, but not longer than this.
-    pub fn wait_for<R: Wait + Clock>(&self, rt: &R, seen: u64, most: Duration) {
-        let _ = self.came.wait_timeout_while(
-            rt,
-            self.counts.lock(rt),
-            most,
-            |counts| counts.news == seen,
-        );
+    pub fn wait_for<R: Wait + Clock>(&self, rt: &R, seen: u64, most: Duration) -> WaitEnd
+        ensures { Decides result.is_over (result.news ≡ seen) }
+    {
+        self.wait_at_most(rt, self.counts.lock(rt), seen, most)
+    }
+
+    /// Waits, under the lock, until something came since then.
+    fn wait_news<R: Wait>(&self, rt: &R, counts: MutexGuard<'_, Counts>, seen: u64) -> WaitEnd
+        ensures over { result.is_over ≡ false }
+        ensures news { result.news ≢ seen }
+    {
+        let counts = self
+            .came
+            .wait_while(rt, counts, |counts| !counts.has_news(seen));
+        WaitEnd {
+            news: counts.news,
+            is_over: false,
+        }
+    }
+
+    /// Waits, under the lock, until something came since then, but not longer than this.
+    fn wait_at_most<R: Wait + Clock>(
+        &self,
+        rt: &R,
+        counts: MutexGuard<'_, Counts>,
+        seen: u64,
+        most: Duration,
+    ) -> WaitEnd
+        ensures { Decides result.is_over (result.news ≡ seen) }
+    {
+        let (counts, end) = self
+            .came
+            .wait_timeout_while(rt, counts, most, |counts| !counts.has_news(seen));
+        WaitEnd {
+            news: counts.news,
+            is_over: end.timed_out(),
+        }
     }
 
     /// How long no input falls silent that is given. None where none ever does.
@@ -147,13 +183,8 @@ impl Backlogs {
         let Some(stall) = self.stall else {
             return false;
         };
-        let Some(Some(since)) = self.counts.lock(rt).since.get(number).copied() else {
-            return false;
-        };
-        match since.elapsed(rt) {
-            Ok(time) => time >= stall,
-            Err(_) => false,
-        }
+        let now = Instant::now(rt).ok();
+        self.counts.lock(rt).is_silent(number, stall, now)
     }
 
     /// How each input stands, by number.
@@ -165,17 +196,10 @@ impl Backlogs {
         ensures each { IfOk result (λ states. length states.items ≡ length self.now.taken.items) }
         ensures scarce { OnErr result (0 < length self.now.taken.items) }
     {
+        let count = self.taken.len();
+        let room = Vec::with_capacity(alloc, count)?;
         let now = Instant::now(rt).ok();
-        let mut states = Vec::with_capacity(alloc, self.taken.len())?;
-        let counts = self.counts.lock(rt);
-        for number in 0..self.taken.len() {
-            let since = counts.since.get(number).copied().unwrap_or(None);
-            states.push(match counts.backlogs.get(number) {
-                Some(backlog) => state_of(backlog, since, now),
-                None => state_of(&Backlog::new(), since, now),
-            })?;
-        }
-        Ok(states)
+        self.counts.lock(rt).states(room, count, now)
     }
 
     /// A block of an input was begun.

@@ -1,14 +1,19 @@
 //! What the calls of the backlogs do to their counts, under the lock.
-ghost use Rattle.std.specs.Prelude.{◌≡◌, ◌+◌, ◌-◌, ◌<◌, ◌≤◌, ◌%◌, ◌^◌, None, Some, false, not, true, length, slice_get, slice_set, IfNone, IfSome, OnSome};
+ghost use Rattle.std.specs.Prelude.{◌≡◌, ◌≢◌, ◌+◌, ◌-◌, ◌<◌, ◌≤◌, ◌%◌, ◌^◌, [], None, Some, false, not, true, length, map, slice_get, slice_index_or, slice_set};
+ghost use Rattle.std.specs.Prelude.{Decides, IfNone, IfOk, IfSome, OnErr, OnSome};
 ghost use Rattle.std.specs.Duration.{as_nanos};
+ghost use Rattle.read_ahead.specs.Counts.{Begin, shown, stand_of, standing};
 ghost use Rattle.read_ahead.specs.Shares.{backlog_of, is_full, is_low, share, turns, with_block};
 ghost use Rattle.read_ahead.specs.Sources.{longest_silence};
+ghost use Rattle.read_ahead.specs.Times.{is_past};
 ghost use Rattle.read_ahead.specs.declared.limits.TheConstants.{BLOCKS};
 
 use crate::backlog::Backlog;
 use crate::limits::BLOCKS;
 use crate::shares::{share_of, turns_of};
-use crate::view::silence;
+use crate::times::has_passed;
+use crate::view::{InputState, silence, state_of};
+use std::alloc::{AllocError, Global};
 use std::time::{Duration, Instant};
 
 /// What stands under the lock.
@@ -22,6 +27,72 @@ pub struct Counts {
 }
 
 impl Counts {
+    /// Of so many inputs, of which none gave anything yet, and each is waited for since then.
+    pub fn new(alloc: Global, count: usize, since: Option<Instant>) -> Result<Counts, AllocError>
+        ensures ok { IfOk result (λ counts. Begin counts count since) }
+        ensures scarce { OnErr result (0 < count) }
+    {
+        let mut backlogs = Vec::with_capacity(alloc, count)?;
+        let mut all_since = Vec::with_capacity(alloc, count)?;
+        for _ in 0..count {
+            backlogs.push(Backlog::new())?;
+            all_since.push(since)?;
+        }
+        Ok(Counts {
+            backlogs,
+            since: all_since,
+            news: 0,
+        })
+    }
+
+    /// Whether something came of an input since so much news was seen.
+    pub fn has_news(&self, seen: u64) -> bool
+        ensures { Decides result (self.now.news ≢ seen) }
+    {
+        self.news != seen
+    }
+
+    /// Whether the thread of an input waits for its bytes for too long by then.
+    pub fn is_silent(&self, number: usize, stall: Duration, now: Option<Instant>) -> bool
+        ensures { result ≡ is_past (slice_index_or self.now.since.items number None) now (as_nanos stall) false }
+    {
+        let since = self.since.get(number).copied().unwrap_or(None);
+        has_passed(since, now, stall, false)
+    }
+
+    /// How an input stands. One that isn't there has nothing.
+    fn state(&self, number: usize, now: Option<Instant>) -> InputState
+        ensures { shown result ≡ stand_of now self.now.backlogs.items self.now.since.items number }
+    {
+        let Some(backlog) = self.backlogs.get(number) else {
+            return InputState {
+                bytes: 0,
+                silent: Duration::ZERO,
+            };
+        };
+        let since = self.since.get(number).copied().unwrap_or(None);
+        state_of(backlog, since, now)
+    }
+
+    /// How each of the first inputs stands, by number, in a vector that has room for them.
+    pub fn states(
+        &self,
+        room: Vec<InputState>,
+        count: usize,
+        now: Option<Instant>,
+    ) -> Result<Vec<InputState>, AllocError>
+        requires { room.items ≡ [] }
+        ensures ok { IfOk result (λ states. map shown states.items ≡ standing now self.now.backlogs.items self.now.since.items count) }
+        ensures each { IfOk result (λ states. length states.items ≡ count) }
+        ensures scarce { OnErr result (0 < count) }
+    {
+        let mut states = room;
+        for number in 0..count {
+            states.push(self.state(number, now))?;
+        }
+        Ok(states)
+    }
+
     /// Counts a block of an input, unless it has to wait: none then. Otherwise answers whether more of the input is given.
     pub fn put(&mut self, number: usize, room: usize, count: usize) -> Option<bool>
         ensures some { IfSome result (λ given. (is_full room BLOCKS count (backlog_of self.old.backlogs.items number) ≡ false)

@@ -365,7 +365,7 @@ fn wait_message<R: Wait + Clock, I: Contents>(
         if backlogs.is_silent(rt, number) {
             return None;
         }
-        backlogs.wait_past(rt, seen);
+        let _ = backlogs.wait_past(rt, seen);
     }
     unreachable!()
 }

@@ -14,7 +14,9 @@ mod reading;
 mod sender;
 mod shares;
 mod starting;
+mod times;
 mod view;
+mod wait_end;
 mod waiting;
 
 pub use ahead::Ahead;

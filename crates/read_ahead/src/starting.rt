@@ -1,8 +1,9 @@
 //! A thread for each input, and the sources of what they read.
-ghost use Rattle.std.specs.Prelude.{◌≡◌, ◌<◌, [], All, false, map, length, IfOk, IsErrOf, IsOk, OnErr};
+ghost use Rattle.std.specs.Prelude.{◌≡◌, ◌+◌, ◌<◌, ◌≤◌, [], All, false, map, length, IfOk, IsErrOf, IsOk, OnErr};
 ghost use Rattle.std.specs.Arc.{arc_value};
 ghost use Rattle.std.specs.List.{range_with_len};
 ghost use Rattle.std.specs.String.{string_bytes};
+ghost use Rattle.std.specs.Vec.{vec_capacity, vec_len};
 ghost use Rattle.rtrb.specs.Ring.{received, sent};
 ghost use Rattle.read_ahead.specs.Messages.{Asks};
 ghost use Rattle.read_ahead.specs.Shares.{room_for};
@@ -19,7 +20,7 @@ use crate::limits::{Limits, SLOTS};
 use crate::message::{InOrder, Message};
 use crate::reading::{open_and_read, throw_away};
 use crate::sender::Sender;
-use crate::waiting::wait_open;
+use crate::waiting::{Unopened, wait_open};
 use rtrb::{Producer, RingBuffer};
 use std::alloc::{AllocError, Global};
 use std::snapshot::Snapshot;
@@ -45,6 +46,14 @@ impl From<AllocError> for InputFault {
 
     fn from(_: AllocError) -> InputFault {
         InputFault::NoMemory
+    }
+}
+
+impl From<Unopened> for InputFault {
+    ghost from_gives = { λ _ fault. fault ≡ Unread };
+
+    fn from(_: Unopened) -> InputFault {
+        InputFault::Unread
     }
 }
 
@@ -91,12 +100,27 @@ where
     ensures none { IsErrOf result InputFault.Unread → 0 < length inputs.items }
 {
     let backlogs = Backlogs::new(&rt, alloc, inputs.len(), limits)?;
-    let sources = Vec::with_capacity(alloc, inputs.len())?;
-    let mut incoming = start_all(rt, alloc, &backlogs, inputs)?;
-    if !wait_open(&rt, &backlogs, &mut incoming) {
-        return Err(InputFault::Unread);
-    }
-    Ok(sources_of(rt, sources, incoming)?)
+    let room = Vec::with_capacity(alloc, inputs.len())?;
+    let incoming = start_all(rt, alloc, &backlogs, inputs)?;
+    Ok(begin(rt, &backlogs, room, incoming)?)
+}
+
+/// Waits until a run may begin with all inputs, and answers their sources, in a vector that has room for them.
+fn begin<R: Wait + Clock + Copy + Drop, I: Contents + Drop>(
+    rt: R,
+    backlogs: &Backlogs,
+    room: Vec<Ahead<R, I>>,
+    incoming: Vec<Incoming<I>>,
+) -> Result<Vec<Ahead<R, I>>, Unopened>
+    requires empty { room.items ≡ [] }
+    requires room { vec_len room + length incoming.items ≤ vec_capacity room }
+    requires sound { All (IsSound I.holds) incoming.items }
+    ensures ok { IfOk result (λ sources. sources.items ≡ map (seen_first I.holds) incoming.items) }
+    ensures none { incoming.items ≡ [] → IsOk result }
+{
+    let mut incoming = incoming;
+    wait_open(&rt, backlogs, &mut incoming)?;
+    Ok(sources_of(rt, room, incoming))
 }
 
 /// The sources of inputs with which a run may begin, in a vector that has room for them.
@@ -104,18 +128,18 @@ fn sources_of<R: Wait + Clock + Copy + Drop, I: Contents + Drop>(
     rt: R,
     room: Vec<Ahead<R, I>>,
     incoming: Vec<Incoming<I>>,
-) -> Result<Vec<Ahead<R, I>>, AllocError>
+) -> Vec<Ahead<R, I>>
     requires empty { room.items ≡ [] }
+    requires room { vec_len room + length incoming.items ≤ vec_capacity room }
     requires sound { All (IsSound I.holds) incoming.items }
     requires begun { All MayBegin incoming.items }
-    ensures ok { IfOk result (λ sources. sources.items ≡ map (seen_first I.holds) incoming.items) }
-    ensures scarce { OnErr result (0 < length incoming.items) }
+    ensures { result.items ≡ map (seen_first I.holds) incoming.items }
 {
     let mut sources = room;
     for one in incoming {
-        sources.push(Ahead::new(rt, one))?;
+        sources.push_reserved(Ahead::new(rt, one));
     }
-    Ok(sources)
+    sources
 }
 
 /// Starts a thread for each input, and answers what comes of them.

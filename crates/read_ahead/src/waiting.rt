@@ -1,70 +1,71 @@
 //! Waiting for several inputs at once.
-ghost use Rattle.std.specs.Prelude.{◌≡◌, ◌<◌, [], All, Any, Some, false, length, map, true};
-ghost use Rattle.read_ahead.specs.Sources.{IsSound, MayBegin, seen_first};
-ghost use Rattle.read_ahead.specs.declared.incoming.Phase.TheVariants.{Failed};
+ghost use Rattle.std.specs.Prelude.{◌≡◌, ◌≢◌, ◌<◌, [], All, Any, IsOk, None, OnErr, OnOk, Some, false, length, map, true};
+ghost use Rattle.read_ahead.specs.Sources.{IsSound, IsUnknown, MayBegin, seen_first};
+ghost use Rattle.read_ahead.specs.Times.{is_moment_over};
+ghost use Rattle.read_ahead.specs.declared.incoming.Phase.TheVariants.{Failed, Opening};
 
 use crate::ahead::Ahead;
 use crate::backlogs::Backlogs;
 use crate::incoming::Incoming;
 use crate::input::Contents;
 use crate::limits::MOMENT;
+use crate::times::has_passed;
 use item_io::Source;
-use std::io;
 use std::sync::Wait;
 use std::time::{Clock, Duration, Instant};
 
-/// Waits until a run may begin with all inputs, and answers true; false as soon as one can't be opened. Those that may wait for their
-/// writers are waited for a moment.
+/// An input can't be opened, or was silent for too long.
+#[derive(Clone, Copy)]
+pub struct Unopened;
+
+/// Waits until a run may begin with all inputs; fails as soon as one can't be opened. Those that may wait for their writers are
+/// waited for a moment.
 pub fn wait_open<R: Wait + Clock, I: Contents>(
     rt: &R,
     backlogs: &Backlogs,
     inputs: &mut [Incoming<I>],
-) -> bool
+) -> Result<(), Unopened>
     requires { All (IsSound I.holds) inputs.old }
     ensures sound { All (IsSound I.holds) inputs.new }
     ensures same { map (seen_first I.holds) inputs.new ≡ map (seen_first I.holds) inputs.old }
-    ensures open { result ≡ true → All MayBegin inputs.new }
-    ensures refused { result ≡ false → Any (λ i. i.phase ≡ Failed) inputs.new }
-    ensures none { inputs.old ≡ [] → result ≡ true }
+    ensures open { OnOk result (All MayBegin inputs.new) }
+    ensures refused { OnErr result (Any (λ i. i.phase ≡ Failed) inputs.new) }
+    ensures none { inputs.old ≡ [] → IsOk result }
 {
-    let begun = Instant::now(rt);
+    let begun = Instant::now(rt).ok();
     for _ in rt.forever() {
         let seen = backlogs.news(rt);
-        if let Some(open) = are_open(rt, inputs, is_over(rt, &begun)) {
-            return open;
+        let now = Instant::now(rt).ok();
+        if let Some(are_open) = are_open(rt, inputs, begun, now) {
+            return if are_open { Ok(()) } else { Err(Unopened) };
         }
-        backlogs.wait_for(rt, seen, Duration::from_millis(MOMENT));
+        let _ = backlogs.wait_for(rt, seen, Duration::from_millis(MOMENT));
     }
     unreachable!()
 }
 
-/// Whether the moment since then is over, as far as the clock can be read.
-fn is_over<R: Clock>(rt: &R, begun: &io::Result<Instant>) -> bool {
-    let Ok(begun) = begun else {
-        return true;
-    };
-    match begun.elapsed(rt) {
-        Ok(time) => time >= Duration::from_millis(MOMENT),
-        Err(_) => true,
-    }
-}
-
-/// Whether a run may begin with all inputs: false where one can't be opened, none while that isn't known.
+/// Whether a run may begin with all inputs: false where one can't be opened, none while that isn't known. They have been waited
+/// for since then.
 fn are_open<R: Wait + Clock, I: Contents>(
     rt: &R,
     inputs: &mut [Incoming<I>],
-    were_awaited: bool,
+    begun: Option<Instant>,
+    now: Option<Instant>,
 ) -> Option<bool>
     requires { All (IsSound I.holds) inputs.old }
     ensures sound { All (IsSound I.holds) inputs.new }
     ensures same { map (seen_first I.holds) inputs.new ≡ map (seen_first I.holds) inputs.old }
     ensures open { result ≡ Some true → All MayBegin inputs.new }
+    ensures early { result ≡ Some true → is_moment_over begun now ≡ false → All (λ i. i.phase ≢ Opening) inputs.new }
     ensures refused { result ≡ Some false → Any (λ i. i.phase ≡ Failed) inputs.new }
+    ensures unknown { result ≡ None → Any (IsUnknown (is_moment_over begun now)) inputs.new }
+    ensures unfailed { result ≡ None → All (λ i. i.phase ≢ Failed) inputs.new }
     ensures none { inputs.old ≡ [] → result ≡ Some true }
 {
+    let is_over = has_passed(begun, now, Duration::from_millis(MOMENT), true);
     let mut are_known = true;
     for number in 0..inputs.len() {
-        let Some(is_open) = inputs[number].is_open(rt, were_awaited) else {
+        let Some(is_open) = inputs[number].is_open(rt, is_over) else {
             are_known = false;
             continue;
         };
