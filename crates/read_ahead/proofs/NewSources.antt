@@ -1,5 +1,5 @@
 -- Sources of inputs that were just opened.
-use Rattle.std.proofs.Common.{All, arith, ◌≡◌, refl, ◌∙◌, ap, ap₂, sym, ℕ, zero, suc, ◌+◌, ◌<◌, List, [], ◌∷◌, ◌++◌, append_assoc, length, map, Option}
+use Rattle.std.proofs.Common.{All, arith, ◌≡◌, refl, ◌∙◌, ap, ap₂, sym, ℕ, suc, ◌+◌, List, [], ◌∷◌, ◌++◌, append_assoc, length, map, Option}
 use Rattle.std.proofs.lemmas.List.{map-append, length-map}
 use Rattle.std.proofs.lemmas.List.Elements.{All-cons, All-nil}
 use Rattle.std.specs.Arc.{arc_value}

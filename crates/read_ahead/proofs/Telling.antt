@@ -43,7 +43,7 @@ module _ {I : Type 0} where
 
   -- an input that was asked for may be refused where it may refuse
   refused_by : (refuses : I → Type 0) (message : Message I) (input : I) → AsksFor input message → refuses input → RefusedBy refuses message
-  refused_by refuses (Asked s) input same may = subst refuses (sym same) may
+  refused_by refuses (Asked s n) input same may = subst refuses (sym same) may
   refused_by refuses Opened input same may = absurd same
   refused_by refuses (Bytes block) input same may = absurd same
   refused_by refuses End input same may = absurd same
@@ -55,8 +55,8 @@ module _ {I : Type 0} where
   may_refuse refuses (message ∷ more) input first may = refused_by refuses message input first may
 
   -- an input that was asked for is open, and nothing of it was told
-  pub tells_first : (holds : I → Option (List ℕ)) → (told : List (Message I)) (input : I) (rest : Option (List ℕ)) → Asks told input → rest ≡ holds input → Tells holds (told ++ Opened ∷ []) rest
-  tells_first holds told input rest asks is = let some : 0 < length told = omega (arith, asks.one) in record {
+  pub tells_first : (holds : I → Option (List ℕ)) → (told : List (Message I)) (number : ℕ) (input : I) (rest : Option (List ℕ)) → Asks told number input → rest ≡ holds input → Tells holds (told ++ Opened ∷ []) rest
+  tells_first holds told number input rest asks is = let some : 0 < length told = omega (arith, asks.one) in record {
     opened = open_snoc told Opened some asks.going refl;
     all = rw (held_snoc holds told Opened some, joined_snoc told Opened, asks.none, asks.same holds, is) (consumes_none (holds input));
   }

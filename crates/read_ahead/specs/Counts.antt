@@ -1,5 +1,5 @@
 -- What stands under the lock of the backlogs.
-use Rattle.std.specs.Prelude.{◌≡◌, ℕ, zero, suc, false, List, [], ◌∷◌, ◌++◌, Option, None, Some, replicate, slice_index_or}
+use Rattle.std.specs.Prelude.{◌≡◌, ℕ, zero, suc, false, List, [], ◌∷◌, ◌++◌, Option, None, replicate, slice_index_or}
 use Rattle.std.specs.Duration.{as_nanos}
 use Rattle.std.specs.declared.time.Instant.{Instant}
 use Rattle.read_ahead.specs.Shares.{backlog_of}

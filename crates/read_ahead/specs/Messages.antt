@@ -7,7 +7,7 @@ use Rattle.read_ahead.specs.declared.message.Message.TheVariants.{Asked, Opened,
 
 module _ {I : Type 0} where
   abbrev pub bytes_of : Message I → List ℕ
-  bytes_of (Asked s) = []
+  bytes_of (Asked s n) = []
   bytes_of Opened = []
   bytes_of (Bytes block) = block.items
   bytes_of End = []
@@ -16,7 +16,7 @@ module _ {I : Type 0} where
 
   -- nothing is told behind it
   abbrev pub is_last : Message I → Bool
-  is_last (Asked s) = false
+  is_last (Asked s n) = false
   is_last Opened = false
   is_last (Bytes block) = false
   is_last End = true
@@ -25,7 +25,7 @@ module _ {I : Type 0} where
 
   -- what the input holds that is asked for; holds: what each does
   abbrev pub held_by : (I → Option (List ℕ)) → Message I → Option (List ℕ)
-  held_by holds (Asked s) = holds s.value
+  held_by holds (Asked s n) = holds s.value
   held_by holds Opened = None
   held_by holds (Bytes block) = None
   held_by holds End = None
@@ -53,7 +53,7 @@ module _ {I : Type 0} where
 
   -- the input that is asked for may be refused; refuses: which may
   abbrev pub RefusedBy : (I → Type 0) → Message I → Type 0
-  RefusedBy refuses (Asked s) = refuses s.value
+  RefusedBy refuses (Asked s n) = refuses s.value
   RefusedBy refuses Opened = ⊥
   RefusedBy refuses (Bytes block) = ⊥
   RefusedBy refuses End = ⊥
@@ -66,7 +66,7 @@ module _ {I : Type 0} where
 
   -- the message asks for this input
   abbrev pub AsksFor : I → Message I → Type 0
-  AsksFor input (Asked s) = s.value ≡ input
+  AsksFor input (Asked s n) = s.value ≡ input
   AsksFor input Opened = ⊥
   AsksFor input (Bytes block) = ⊥
   AsksFor input End = ⊥
@@ -77,17 +77,32 @@ module _ {I : Type 0} where
   IsFirst input [] = ⊥
   IsFirst input (message ∷ more) = AsksFor input message
 
+  -- the message is for the thread of the input of this number
+  abbrev pub IsFor : ℕ → Message I → Type 0
+  IsFor number (Asked s n) = n.value ≡ number
+  IsFor number Opened = ⊥
+  IsFor number (Bytes block) = ⊥
+  IsFor number End = ⊥
+  IsFor number Failed = ⊥
+  IsFor number Refused = ⊥
+
+  -- the first one is
+  abbrev pub IsNumbered : ℕ → List (Message I) → Type 0
+  IsNumbered number [] = ⊥
+  IsNumbered number (message ∷ more) = IsFor number message
+
   -- this message was told last
   abbrev pub EndsWith : Message I → List (Message I) → Type 0
   EndsWith message told = (before : List (Message I)) × (told ≡ before ++ message ∷ [])
 
-  -- this input was asked for, and nothing else was told
-  pub record Asks (told : List (Message I)) (input : I) : Type 0 where
+  -- this input, of this number, was asked for, and nothing else was told
+  pub record Asks (told : List (Message I)) (number : ℕ) (input : I) : Type 0 where
     pub one : length told ≡ 1
     pub none : joined told ≡ []
     pub going : goes_on told ≡ true
     pub same : (holds : I → Option (List ℕ)) → held holds told ≡ holds input
     pub first : IsFirst input told
+    pub numbered : IsNumbered number told
 
   -- an input that was opened, and of which more may be told
   pub record IsOpen (told : List (Message I)) : Type 0 where
@@ -108,7 +123,7 @@ module _ {I : Type 0} where
   -- An input is asked for first, then it's opened or, where it may be, refused. The blocks, joined, begin what it holds. The end is told only where
   -- they are all, and nothing is told behind the end, a failure or a refusal.
   abbrev pub MayFollow : (I → Option (List ℕ)) → (I → Type 0) → List (Message I) → Message I → Type 0
-  MayFollow holds refuses before (Asked s) = before ≡ []
+  MayFollow holds refuses before (Asked s n) = before ≡ []
   MayFollow holds refuses before Opened = length before ≡ 1
   MayFollow holds refuses before (Bytes block) = MayTell holds before block.items
   MayFollow holds refuses before End = MayEnd holds before

@@ -90,7 +90,7 @@ pub record IsUnknown {I : Type 0} (is_over : Bool) (i : Incoming I) : Type 0 whe
 
 -- how an input stands that was being opened, by what was told next
 abbrev pub opened_by : {I : Type 0} → Message I → Phase
-opened_by (Told.Asked s) = Failed
+opened_by (Told.Asked s n) = Failed
 opened_by Told.Opened = Going
 opened_by (Told.Bytes block) = Failed
 opened_by Told.End = Failed
@@ -99,7 +99,7 @@ opened_by Told.Refused = Failed
 
 -- how an open one stands
 abbrev pub going_by : {I : Type 0} → Message I → Phase
-going_by (Told.Asked s) = Failed
+going_by (Told.Asked s n) = Failed
 going_by Told.Opened = Failed
 going_by (Told.Bytes block) = Going
 going_by Told.End = Ended

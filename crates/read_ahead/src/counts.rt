@@ -1,6 +1,6 @@
 //! What the calls of the backlogs do to their counts, under the lock.
-ghost use Rattle.std.specs.Prelude.{◌≡◌, ◌≢◌, ◌+◌, ◌-◌, ◌<◌, ◌≤◌, ◌%◌, ◌^◌, [], None, Some, false, not, true, length, map, slice_get, slice_index_or, slice_set};
-ghost use Rattle.std.specs.Prelude.{Decides, IfNone, IfOk, IfSome, OnErr, OnSome};
+ghost use Rattle.std.specs.Prelude.{◌≡◌, ◌≢◌, ◌+◌, ◌-◌, ◌<◌, ◌≤◌, ◌%◌, ◌^◌, [], None, Some, false, not, true, length, map};
+ghost use Rattle.std.specs.Prelude.{slice_get, slice_index_or, slice_set, Decides, IfNone, IfOk, IfSome, OnErr, OnSome};
 ghost use Rattle.std.specs.Duration.{as_nanos};
 ghost use Rattle.read_ahead.specs.Counts.{Begin, shown, stand_of, standing};
 ghost use Rattle.read_ahead.specs.Shares.{backlog_of, is_full, is_low, share, turns, with_block};

@@ -153,7 +153,7 @@ impl<I: Contents> Incoming<I> {
         match message {
             Message::Opened => self.phase = Phase::Going,
             Message::Refused => self.phase = Phase::Failed,
-            Message::Asked(_) => self.phase = Phase::Failed,
+            Message::Asked(_, _) => self.phase = Phase::Failed,
             Message::Bytes(_) => self.phase = Phase::Failed,
             Message::End => self.phase = Phase::Failed,
             Message::Failed => self.phase = Phase::Failed,
@@ -190,7 +190,7 @@ impl<I: Contents> Incoming<I> {
             Message::Failed => self.phase = Phase::Failed,
             Message::Refused => self.phase = Phase::Failed,
             Message::Opened => self.phase = Phase::Failed,
-            Message::Asked(_) => self.phase = Phase::Failed,
+            Message::Asked(_, _) => self.phase = Phase::Failed,
         }
     }
 

@@ -1,5 +1,5 @@
 //! Inputs before they are open.
-ghost use Rattle.std.specs.Prelude.{◌≡◌, ⊤, ℕ, List, Option, Some, IfNone, IfSome};
+ghost use Rattle.std.specs.Prelude.{◌≡◌, ⊤, ℕ, Bool, List, Option, Some, false, IfNone, IfSome};
 
 use std::io::Read;
 
@@ -17,10 +17,12 @@ pub trait Input: Contents {
     /// What reads it once it's open.
     type Reader: Read + Drop;
 
-    /// Whether opening it may wait for a writer. No clause says.
-    fn may_wait(&self) -> bool {
-        false
-    }
+    /// What it may answer whether opening it waits for a writer.
+    ghost waits: { Self → Bool → Type 0 } = { λ _ _. ⊤ };
+
+    /// Whether opening it may wait for a writer.
+    fn may_wait(&self) -> bool
+        ensures { waits self.now result };
 
     /// Opens it; None where it can't be opened. Of a FIFO it waits for a writer.
     fn open(self) -> Option<Self::Reader>
@@ -42,6 +44,12 @@ impl<I: Read> Contents for OpenInput<I> {
 
 impl<I: Read + Drop> Input for OpenInput<I> {
     type Reader = I;
+
+    ghost waits = { λ _ may_wait. may_wait ≡ false };
+
+    fn may_wait(&self) -> bool {
+        false
+    }
 
     fn open(self) -> Option<I>
         ensures { result ≡ Some self.reader }

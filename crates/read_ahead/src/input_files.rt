@@ -1,5 +1,5 @@
 //! Inputs by their paths.
-ghost use Rattle.std.specs.Prelude.{◌≡◌, ◌<◌, ⊤, ℕ, List, Option, None, IfNone, IfSome, IfOk, OnErr, length, map};
+ghost use Rattle.std.specs.Prelude.{◌≡◌, ◌<◌, ⊤, ℕ, Bool, List, Option, None, IfNone, IfSome, IfOk, OnErr, length, map};
 ghost use Rattle.std.specs.String.{string_bytes};
 
 use crate::input::{Contents, Input};
@@ -20,8 +20,12 @@ pub trait InputFiles {
     /// It may be that the input at a path can't be opened.
     ghost refuses: { Self → List ℕ → Type 0 };
 
-    /// Whether the input at a path is a FIFO, whose opening waits for a writer. No clause says.
-    fn is_fifo(&self, path: &str) -> bool;
+    /// What may be answered whether the input at a path is a FIFO.
+    ghost waits: { Self → List ℕ → Bool → Type 0 } = { λ _ _ _. ⊤ };
+
+    /// Whether the input at a path is a FIFO, whose opening waits for a writer.
+    fn is_fifo(&self, path: &str) -> bool
+        ensures { waits self.now path.now result };
 
     /// Opens the input at a path; None where it can't be opened. Of a FIFO it waits for a writer.
     fn open(&self, path: &str) -> Option<Self::Reader>
@@ -65,7 +69,11 @@ impl<F: InputFiles> Contents for InputAt<F> {
 }
 
 impl<F: InputFiles + Drop> Input for InputAt<F> {
+    ghost use Rattle.std.specs.String.{string_bytes};
+
     type Reader = F::Reader;
+
+    ghost waits = { λ input may_wait. F.waits input.files (string_bytes input.path) may_wait };
 
     fn may_wait(&self) -> bool {
         self.files.is_fifo(self.path.as_str())

@@ -6,8 +6,8 @@ use std::snapshot::Snapshot;
 /// What the thread that reads an input tells the source that gives its bytes.
 #[derive(Drop)]
 pub enum Message<I> {
-    /// The thread is started. For proofs: the input that it's to open.
-    Asked(Snapshot<I>),
+    /// The thread is started. For proofs: the input that it's to open, and its number.
+    Asked(Snapshot<I>, Snapshot<usize>),
     /// The input is open.
     Opened,
     /// Its next bytes.

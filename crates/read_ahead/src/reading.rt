@@ -36,7 +36,7 @@ pub fn open_and_read<R: Wait + Clock, I: Input>(
     sender: &mut Sender<I>,
     input: I,
 ) -> Option<I::Reader>
-    requires { Asks (sent sender.old.producer) input }
+    requires { Asks (sent sender.old.producer) sender.old.number input }
     ensures none { IfNone result (goes_on (sent sender.new.producer) ≡ false) }
     ensures some { IfSome result (λ reader. (goes_on (sent sender.new.producer) ≡ false)
         ⊎ LeavesOut I.holds (sent sender.new.producer) (I.Reader.remaining reader)) }

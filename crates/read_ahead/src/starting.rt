@@ -5,7 +5,7 @@ ghost use Rattle.std.specs.List.{range_with_len};
 ghost use Rattle.std.specs.String.{string_bytes};
 ghost use Rattle.std.specs.Vec.{vec_capacity, vec_len};
 ghost use Rattle.rtrb.specs.Ring.{received, sent};
-ghost use Rattle.read_ahead.specs.Messages.{Asks};
+ghost use Rattle.read_ahead.specs.Messages.{Asks, IsNumbered};
 ghost use Rattle.read_ahead.specs.Shares.{room_for};
 ghost use Rattle.read_ahead.specs.Sources.{IsSound, MayBegin, all_seen, rest_of, seen_first};
 ghost use Rattle.read_ahead.specs.declared.incoming.Phase.TheVariants.{Opening};
@@ -180,20 +180,22 @@ where
     ensures opening { IfOk result (λ incoming. incoming.phase ≡ Opening) }
     ensures left { IfOk result (λ incoming. rest_of I.holds incoming ≡ I.holds input) }
     ensures number { IfOk result (λ incoming. incoming.number ≡ number) }
+    ensures asked { IfOk result (λ incoming. IsNumbered number (received incoming.consumer)) }
+    ensures waits { IfOk result (λ incoming. I.waits input incoming.may_wait) }
     ensures backlogs { IfOk result (λ incoming. arc_value incoming.backlogs ≡ arc_value backlogs.now) }
 {
     let may_wait = input.may_wait();
     let (mut producer, mut consumer) = RingBuffer::with_protocol::<Global, InOrder<I>>(
         alloc, SLOTS,
     )?;
-    producer.push_reserved(Message::Asked(Snapshot::of(&input)));
+    producer.push_reserved(Message::Asked(Snapshot::of(&input), Snapshot::of(&number)));
     consumer.slots_beside(&mut producer);
     let _ = consumer.pop_known();
     let theirs = Arc::try_clone(backlogs)?;
     thread::spawn(
         &rt,
         move ||
-            requires { Asks (sent producer) input }
+            requires { Asks (sent producer) number input }
         { run(&rt, alloc, producer, theirs, number, input) },
     )?;
     Ok(Incoming {
@@ -216,7 +218,7 @@ fn run<R: Wait + Clock, I: Input>(
     number: usize,
     input: I,
 )
-    requires { Asks (sent producer) input }
+    requires { Asks (sent producer) number input }
 {
     let mut sender = Sender::new(producer, backlogs, number);
     let untold = open_and_read(rt, alloc, &mut sender, input);

@@ -1,4 +1,4 @@
-use Rattle.std.proofs.Common.{arith, rules, ◌≡◌, refl, ap, length, map, false, All, ◌∙◌}
+use Rattle.std.proofs.Common.{arith, rules, ◌≡◌, refl, ap, length, map, false, ◌∙◌}
 use Rattle.std.specs.Arc.{arc_value}
 use Rattle.std.specs.List.{range_with_len}
 use Rattle.std.proofs.lemmas.List.{length-map}
@@ -11,8 +11,15 @@ pub begin-requires-clause-room : goal.begin-requires-clause-room
 begin-requires-clause-room g c =
     let incoming = c.in_ok-incoming.incoming.items in
     let lefts = map g.I.Contents.holds c.args.inputs.items in
-    omega (arith, c.in_ok-room.ensures.capacity, c.in_ok-room.ensures.len, ap length c.in_ok-incoming.ensures.seen, length-map incoming (seen_first g.I.Contents.holds),
-    all_length (arc_value c.in_ok-backlogs.backlogs) 0 lefts, length-map c.args.inputs.items g.I.Contents.holds)
+    omega (
+      arith,
+      c.in_ok-room.ensures.capacity,
+      c.in_ok-room.ensures.len,
+      ap length c.in_ok-incoming.ensures.seen,
+      length-map incoming (seen_first g.I.Contents.holds),
+      all_length (arc_value c.in_ok-backlogs.backlogs) 0 lefts,
+      length-map c.args.inputs.items g.I.Contents.holds,
+    )
 
 pub returns-clause-left : goal.returns-clause-left
 returns-clause-left g c =

@@ -1,4 +1,4 @@
-use Rattle.std.proofs.Common.{arith, rules, ◌≡◌, ◌≢◌, ◌<◌, ◌∙◌, ap, sym, length, true, false, get_or, None, Some, Any, All, Bool, subst, take}
+use Rattle.std.proofs.Common.{arith, rules, ◌≡◌, ◌≢◌, ◌<◌, ◌∙◌, ap, sym, length, true, false, get_or, None, Some, Any, Bool, subst, take}
 use Rattle.std.specs.Arc.{arc_value}
 use Rattle.std.proofs.lemmas.List.{take_all, take_more_set}
 use Rattle.std.proofs.lemmas.List.Elements.{All-push, All-set}
@@ -82,7 +82,7 @@ returns-clause-unknown g c = λ none.
     let not_known : c.loop-number.are_known ≡ false = search (rules, none) in
     let over : c.has_passed-is_over.result ≡ is_moment_over c.args.begun c.args.now = search rules in
     let found : Any (IsUnknown c.has_passed-is_over.result) c.loop-number.inputs =
-        rw (take_all c.loop-number.number c.loop-number.inputs (search rules)) at (c.loop-number.invariant.unknown not_known) in
+    rw (take_all c.loop-number.number c.loop-number.inputs (search rules)) at (c.loop-number.invariant.unknown not_known) in
     subst (λ (b : Bool). Any (IsUnknown b) c.loop-number.inputs) over found
 
 pub returns-clause-unfailed : goal.returns-clause-unfailed
