@@ -1,7 +1,8 @@
 -- Files that give the segments of a playlist, one behind another.
-use Rattle.std.proofs.Common.{◌≡◌, Vec, Global, ℕ, suc, ◌+◌, ◌<◌, List, [], ◌∷◌, ◌++◌, map, length, take, get_or, ap, sym, ◌∙◌, subst, arith}
-use Rattle.std.proofs.Math.Seq.{take-suc}
-use Rattle.std.proofs.lemmas.List.{map-append, get_or-map}
+use Rattle.std.proofs.Common.{◌≡◌, Vec, Global, ℕ, ◌+◌, ◌<◌, List, [], ◌∷◌, ◌++◌, map, length, take, set, get_or, ap, sym, ◌∙◌, arith}
+use Rattle.std.proofs.lemmas.List.{map-append, get_or-map, length-map, take_more, take_more_set}
+use Rattle.std.specs.Path.{path_buf_bytes}
+use Rattle.std.specs.declared.path.buf.PathBuf.{PathBuf}
 use Rattle.playlist_text.specs.MediaLines.{Entry, Listing}
 use Rattle.commands.specs.Checking.{AllGive, segment_path, segment_paths}
 
@@ -18,13 +19,21 @@ give-more gives (p ∷ paths) [] path bytes each last = absurd each
 give-more gives (p ∷ paths) (b ∷ all) path bytes each last = (each.0, give-more gives paths all path bytes each.1 last)
 
 -- one file more
-pub segment-given : (gives : List ℕ → List ℕ → Type 0) (paths : List (List ℕ)) (i : ℕ) (old new : List (Vec ℕ Global)) (x : Vec ℕ Global)
-    → i < length paths → new ≡ old ++ x ∷ [] → AllGive gives (take i paths) (map (λ s. s.items) old) → gives (get_or paths i []) x.items
-    → AllGive gives (take (i + 1) paths) (map (λ s. s.items) new)
-segment-given gives paths i old new x below pushed each last =
+pub segment-given : (gives : List ℕ → List ℕ → Type 0) (paths : List (List ℕ)) (segments : List (Vec ℕ Global)) (i : ℕ) (x : Vec ℕ Global)
+    → i < length paths → i < length segments → AllGive gives (take i paths) (map (λ s. s.items) (take i segments)) → gives (get_or paths i []) x.items
+    → AllGive gives (take (i + 1) paths) (map (λ s. s.items) (take (i + 1) (set segments i x)))
+segment-given gives paths segments i x below within each last =
     let items = λ (v : Vec ℕ Global). v.items in
-    let next : suc i ≡ i + 1 = omega arith in
-    let so_far : take i paths ++ get_or paths i [] ∷ [] ≡ take (i + 1) paths = sym (take-suc paths i [] below) ∙ ap (λ k. take k paths) next in
-    let gave : map items old ++ x.items ∷ [] ≡ map items new = sym (ap (map items) pushed ∙ map-append items old (x ∷ [])) in
-    subst (λ all. AllGive gives (take (i + 1) paths) all) gave
-    (subst (λ ps. AllGive gives ps (map items old ++ x.items ∷ [])) so_far (give-more gives (take i paths) (map items old) (get_or paths i []) x.items each last))
+    rw (take_more paths i [] below, take_more_set segments i x within, map-append items (take i segments) (x ∷ []))
+    (give-more gives (take i paths) (map items (take i segments)) (get_or paths i []) x.items each last)
+
+-- one path more
+pub path-more : (playlist : List ℕ) (listing : Listing) (i : ℕ) (e : Entry) (old new : List (PathBuf Global)) (path : PathBuf Global) → i < length listing.entries
+    → map path_buf_bytes old ≡ take i (segment_paths playlist listing) → new ≡ old ++ path ∷ []
+    → path_buf_bytes path ≡ segment_path playlist listing.name (get_or listing.entries i e).number
+    → map path_buf_bytes new ≡ take (i + 1) (segment_paths playlist listing)
+path-more playlist listing i e old new path below so_far pushed is =
+    let paths = segment_paths playlist listing in
+    let inside : i < length paths = omega (arith, below, length-map listing.entries (λ x. segment_path playlist listing.name x.number)) in
+    ap (map path_buf_bytes) pushed ∙ map-append path_buf_bytes old (path ∷ []) ∙ ap (λ ps. ps ++ path_buf_bytes path ∷ []) so_far
+    ∙ ap (λ p. take i paths ++ p ∷ []) (is ∙ sym (path-at playlist listing i e below)) ∙ sym (take_more paths i [] inside)

@@ -1,4 +1,4 @@
-ghost use Rattle.std.specs.Prelude.{◌≡◌, ◌≢◌, ◌<◌, OnOk, IfOk, IfErr, IsErr, IsErrOf, length, map};
+ghost use Rattle.std.specs.Prelude.{◌≡◌, ◌≢◌, ◌<◌, OnOk, OnErr, IfOk, IfErr, IsErr, IsErrOf, length, map};
 ghost use Rattle.std.specs.Path.{path_buf_bytes};
 ghost use Rattle.std.specs.String.{string_bytes};
 ghost use Rattle.commands.specs.Checking;
@@ -122,6 +122,47 @@ fn read_text<F: FileReader>(alloc: Global, files: &F, playlist: &str) -> Result<
     }
 }
 
+/// The paths of the segments that a playlist lists, and a place for the bytes of each.
+#[derive(Drop)]
+struct SegmentRoom {
+    paths: Vec<PathBuf>,
+    segments: Vec<Vec<u8>>,
+}
+
+/// Takes the memory for that, before any segment is read.
+fn segment_room(alloc: Global, playlist: &str, listing: &Listing) -> Result<SegmentRoom, AllocError>
+    ensures paths { IfOk result (λ room. map path_buf_bytes room.paths.items ≡ Checking.segment_paths playlist.now listing.now) }
+    ensures places { IfOk result (λ room. length room.segments.items ≡ length room.paths.items) }
+    ensures none { OnErr result (0 < length listing.now.entries) }
+{
+    let mut paths = Vec::new(alloc);
+    let mut segments = Vec::new(alloc);
+    for entry in &listing.entries {
+        let path = segment_path(alloc, playlist, &listing.name, entry.number)?;
+        paths.push(path)?;
+        segments.push(Vec::new(alloc))?;
+    }
+    Ok(SegmentRoom { paths, segments })
+}
+
+/// Reads the file at each path into its place. Only a file wants memory here.
+fn fill_segments<F: FileReader>(
+    alloc: Global,
+    files: &F,
+    paths: &[PathBuf],
+    segments: &mut [Vec<u8>],
+) -> Result<(), FileFault>
+    requires places { length segments.now ≡ length paths.now }
+    ensures ok { OnOk result (Checking.AllGive (F.gives files.now) (map path_buf_bytes paths.now) (map (λ s. s.items) segments.new)) }
+    ensures unread { IsErrOf result FileFault.Unread → Checking.RefusesOne (F.refuses files.now) (map path_buf_bytes paths.now) }
+    ensures no_memory { IsErrOf result FileFault.NoMemory → Checking.RefusesOne (F.wants files.now) (map path_buf_bytes paths.now) }
+{
+    for place in 0..paths.len() {
+        segments[place] = files.read(alloc, paths[place].as_str())?;
+    }
+    Ok(())
+}
+
 /// The bytes of the segments that a playlist lists, in the order of its entries.
 fn read_segments<F: FileReader>(
     alloc: Global,
@@ -134,11 +175,11 @@ fn read_segments<F: FileReader>(
     ensures unread { IsErrOf result FileFault.Unread → Checking.RefusesOne (F.refuses files.now) (Checking.segment_paths playlist.now listing.now) }
     ensures none { IsErr result → 0 < length listing.now.entries }
 {
-    let mut segments = Vec::new(alloc);
-    for entry in &listing.entries {
-        let path = segment_path(alloc, playlist, &listing.name, entry.number)?;
-        segments.push(files.read(alloc, path.as_str())?)?;
-    }
+    let SegmentRoom {
+        paths,
+        mut segments,
+    } = segment_room(alloc, playlist, listing)?;
+    fill_segments(alloc, files, &paths, &mut segments)?;
     Ok(segments)
 }
 
