@@ -1,12 +1,12 @@
 //! The keys and the playlist of `check`, as its words tell them.
-ghost use Rattle.std.specs.Prelude.{◌≡◌, ◌↔◌, ℕ, false, IfOk, IsErrOf};
+ghost use Rattle.std.specs.Prelude.{◌≡◌, ◌↔◌, ℕ, false, IfOk, IsErrOf, length, map};
 ghost use Rattle.std.specs.String.{string_bytes};
-ghost use Rattle.commands.specs.KeyFiles.{TellKeys};
+ghost use Rattle.commands.specs.KeyFiles.{TellKeys, counted, told};
 ghost use Rattle.commands.specs.KeyLists.{IsBadKeyFile, IsUnreadKey, key_texts, are_keys};
 
 use crate::files::FileReader;
-use crate::key_list::{KeyListFault, are_keys, key_room, read_keys};
-use std::alloc::Global;
+use crate::key_list::{KeyListFault, KeyRoom, are_keys, key_room, read_keys};
+use std::alloc::{AllocError, Global};
 
 /// The words of the keys of a rendition and of a playlist's path, as they stand.
 #[derive(Clone, Copy, Debug, Drop)]
@@ -20,6 +20,25 @@ pub struct CheckWords<'a> {
 pub struct CheckOptions {
     pub keys: Vec<[u8; 16]>,
     pub playlist: String,
+}
+
+/// What the options take memory for: a place for each key, and the playlist's path.
+#[derive(Drop)]
+struct CheckRoom<'a> {
+    keys: KeyRoom<'a>,
+    playlist: String,
+}
+
+/// Takes that memory, before any file is read.
+fn check_room(alloc: Global, words: CheckWords<'_>) -> Result<CheckRoom<'_>, AllocError>
+    ensures words { IfOk result (λ room. map told room.keys.words.items ≡ counted 1 (key_texts words.entry.keys.now)) }
+    ensures places { IfOk result (λ room. length room.keys.keys.items ≡ length room.keys.words.items) }
+    ensures playlist { IfOk result (λ room. string_bytes room.playlist ≡ words.entry.playlist.now) }
+{
+    Ok(CheckRoom {
+        keys: key_room(alloc, words.keys)?,
+        playlist: String::from_str(alloc, words.playlist)?,
+    })
 }
 
 /// The options that the words of `check` ask for, with the keys that they tell.
@@ -40,8 +59,7 @@ pub fn read_check_options<F: FileReader>(
     if !are_keys(words.keys) {
         return Err(KeyListFault::BadKey);
     }
-    let playlist = String::from_str(alloc, words.playlist)?;
-    let room = key_room(alloc, words.keys)?;
-    let keys = read_keys(alloc, files, room, words.keys)?;
+    let CheckRoom { keys, playlist } = check_room(alloc, words)?;
+    let keys = read_keys(alloc, files, keys, words.keys)?;
     Ok(CheckOptions { keys, playlist })
 }
