@@ -10,3 +10,4 @@ pub mod Checked
 pub mod Finishing
 pub mod Decoding
 pub mod SettingsFacts
+pub mod RangeFacts

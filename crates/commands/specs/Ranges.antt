@@ -1,6 +1,6 @@
 -- The ranges of the options that are numbers: docs/COMMANDS.md.
 use Rattle.std.specs.Prelude.{⊤, ℕ, ◌≤◌, ◌&&◌, Bool, not, nat_le, if◌then◌else◌, Option, None, Some}
-use Rattle.std.specs.Option.{unwrap_or}
+use Rattle.std.specs.Option.{option_or, unwrap_or}
 use Rattle.commands.specs.declared.numbers.Numbers.{Numbers}
 use Rattle.commands.specs.declared.outside.Ranged.{Ranged}
 use Rattle.commands.specs.declared.outside.Ranged.TheVariants.{Target, Segment, Window, Frame, Gap, Most, Program, Workers, Queue, Batch, Stall, Ahead}
@@ -91,6 +91,10 @@ AreWithinBefore Batch numbers pool = BeforeBatch numbers pool
 AreWithinBefore Stall numbers pool = BeforeStall numbers pool
 AreWithinBefore Ahead numbers pool = BeforeAhead numbers pool
 
+-- a packager's numbers are within their ranges, whatever the pool's are
+pub record AreNumbersWithin (numbers : Numbers) : Type 0 where
+  pub before : (pool : Pool) → AreWithinBefore Workers numbers pool
+
 -- whether a number is from 1 to the most that an option takes
 abbrev pub is_up_to : ℕ → ℕ → Bool
 is_up_to number most = nat_le LEAST number && nat_le number most
@@ -105,9 +109,9 @@ outside_of_pool pool =
     else if not (is_up_to (unwrap_or pool.ahead LEAST) MOST_AHEAD) then Some Ahead
     else None
 
--- the first of a packager's numbers, in that order, else the first of the pool
-unfoldable pub outside_of : Numbers → Pool → Option Ranged
-outside_of numbers pool =
+-- the first of a packager's numbers, in that order
+unfoldable pub outside_of_numbers : Numbers → Option Ranged
+outside_of_numbers numbers =
     if not (is_up_to numbers.target MOST_TARGET) then Some Target
     else if not (is_up_to numbers.segment numbers.target) then Some Segment
     else if not (is_up_to numbers.window MOST_WINDOW) then Some Window
@@ -115,4 +119,8 @@ outside_of numbers pool =
     else if not (is_up_to numbers.gap MOST_GAP) then Some Gap
     else if not (is_up_to numbers.most MOST_PACKETS) then Some Most
     else if not (is_up_to (unwrap_or numbers.program LEAST) MOST_PROGRAM) then Some Program
-    else outside_of_pool pool
+    else None
+
+-- the first of a packager's numbers, else the first of the pool
+abbrev pub outside_of : Numbers → Pool → Option Ranged
+outside_of numbers pool = option_or (outside_of_numbers numbers) (outside_of_pool pool)

@@ -1,6 +1,7 @@
 ghost use Rattle.std.specs.Prelude.{◌≡◌};
 
 use crate::key_word::KeyFileFault;
+use crate::within::OutsideLimits;
 use std::alloc::{AllocError, AllocFailed};
 use thiserror::Error;
 
@@ -65,6 +66,16 @@ impl<T: Drop> From<AllocFailed<T>> for LadderFault {
 
     fn from(_: AllocFailed<T>) -> LadderFault {
         LadderFault::NoMemory
+    }
+}
+
+impl From<OutsideLimits> for LadderFault {
+    ghost use Rattle.commands.specs.declared.ladder_fault.LadderFault.TheVariants.{Settings};
+
+    ghost from_gives = { λ _ fault. fault ≡ Settings };
+
+    fn from(_: OutsideLimits) -> LadderFault {
+        LadderFault::Settings
     }
 }
 

@@ -2,6 +2,8 @@
 ghost use Rattle.std.specs.Prelude.{length, ◌<◌, OnErr, ◌≡◌, ◌≢◌, ◌↔◌, ◌⊎◌, ℕ, map, IfOk, IfErr, IsErrOf, OnOk};
 ghost use Rattle.commands.specs.Defaults.{numbers_of};
 ghost use Rattle.commands.specs.Pools.{pool_of, IsPool};
+ghost use Rattle.commands.specs.Ranges.{AreNumbersWithin, IsUpTo};
+ghost use Rattle.limits.specs.declared.TheConstants.{MOST_RENDITIONS};
 ghost use Rattle.commands.specs.Settings.{FitsCut};
 ghost use Rattle.commands.specs.Entries.{entry_value};
 ghost use Rattle.commands.specs.LadderOptions.{asked_of, IsBadEntry, HasBadSalt, HasTooMany, HasNoPeriod, HasTurns, IsOutside};
@@ -10,7 +12,7 @@ ghost use Rattle.commands.specs.LadderOptions.{HasUnreadKey, HasBadKeyFile, AreO
 use crate::entry::{EntryWords, entries, first_bad};
 use crate::files::FileReader;
 use crate::ladder_fault::LadderFault;
-use crate::ladder_settings::{has_room, has_too_many, read_ladder};
+use crate::ladder_settings::{are_in_range, has_too_many, read_ladder};
 use crate::numbers::{NumberWords, Numbers};
 use crate::pool::{Pool, PoolWords};
 use crate::settings::read_salt;
@@ -78,9 +80,9 @@ fn paths<'a>(alloc: Global, entries: &[EntryWords<'a>]) -> Result<Vec<&'a str>, 
 /// The settings of a ladder with the keys that its entries tell, the numbers of its pool, and the paths of its inputs.
 ///
 /// BadEntry is told before BadVector, that before TooMany, that before ZeroPeriod, and that before Settings. For Settings
-/// NoMemory may stand, but not where the settings have no room for a number or the pool is out of its ranges: that is told
-/// before any memory is taken, as all the others are. All of them are told before any file is read, and so is NoMemory where
-/// memory was wanted for the settings; Unread and BadKeyFile are told of the first key whose file gives none.
+/// NoMemory may stand, but not where a number or that of the renditions is outside its range: that is told before any memory
+/// is taken, as all the others are. All of them are told before any file is read, and so is NoMemory where memory was wanted
+/// for the settings; Unread and BadKeyFile are told of the first key whose file gives none.
 pub fn read_ladder_options<'a, F: FileReader>(
     alloc: Global,
     files: &F,
@@ -102,6 +104,8 @@ pub fn read_ladder_options<'a, F: FileReader>(
         HasBadKeyFile (F.gives files.now) (asked_of words.entry (numbers_of numbers) (pool_of pool)) n }
     ensures no_memory { IsErrOf result LadderFault.NoMemory → HasTurns (asked_of words.entry (numbers_of numbers) (pool_of pool)) ×
         FitsCut (numbers_of numbers) × IsPool (pool_of pool) }
+    ensures in_range { IsErrOf result LadderFault.NoMemory → IsUpTo (length words.entry.entries.now) MOST_RENDITIONS ×
+        AreNumbersWithin (numbers_of numbers) }
 
     // A ladder without entries wants none.
     ensures scarce { IsErrOf result LadderFault.NoMemory → 0 < length words.entry.entries.now }
@@ -109,7 +113,7 @@ pub fn read_ladder_options<'a, F: FileReader>(
     let numbers = numbers.numbers();
     let pool = pool.pool();
     look(words, numbers, pool)?;
-    if !has_room(numbers, pool) {
+    if !are_in_range(words.entries.len(), &numbers, pool) {
         return Err(LadderFault::Settings);
     }
     let entries = entries(alloc, words.entries)?;

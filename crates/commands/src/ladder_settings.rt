@@ -7,6 +7,7 @@ ghost use Rattle.commands.specs.LadderOptions.{asked_of, key_count, key_total, I
 ghost use Rattle.commands.specs.LadderOptions.{IsWithin, IsOutside, IsReadLadder};
 ghost use Rattle.commands.specs.LadderOptions.{HasUnreadKey, HasBadKeyFile, IsBehindTexts};
 ghost use Rattle.commands.specs.Pools.{IsPool};
+ghost use Rattle.commands.specs.Ranges.{AreNumbersWithin, IsUpTo};
 ghost use Rattle.commands.specs.Settings.{FitsCut, IsRenditionOf};
 
 use crate::entry::{EntryWords, cut_entry};
@@ -16,10 +17,12 @@ use crate::ladder_fault::LadderFault;
 use crate::ladder_keys::ladder_words;
 use crate::ladder_options::LadderWords;
 use crate::numbers::{Numbers, cut};
+use crate::outside::{are_within, is_up_to};
 use crate::pool::Pool;
 use crate::settings::{PackingWords, kind, rendition_of};
-use ladder_items::{Rendition, Settings, is_allowed};
-use limits::MOST_KEYS;
+use crate::within::within_limits;
+use ladder_items::{Rendition, Settings};
+use limits::{MOST_KEYS, MOST_RENDITIONS};
 use std::alloc::{AllocError, Global};
 
 /// Whether an entry has more than 4,096 keys.
@@ -100,14 +103,20 @@ fn renditions(
     Ok(renditions)
 }
 
-/// Whether the settings have room for the numbers, and the pool is within its ranges.
-pub(crate) fn has_room(numbers: Numbers, pool: Pool) -> bool
-    ensures { Decides result (FitsCut numbers × IsPool pool) }
+/// Whether the number of renditions, the numbers and the pool are within their ranges.
+pub(crate) fn are_in_range(renditions: usize, numbers: &Numbers, pool: Pool) -> bool
+    ensures { Decides result (IsUpTo renditions MOST_RENDITIONS × AreNumbersWithin numbers.now × IsPool pool) }
 {
-    numbers.cut_settings().is_some() && pool.is_allowed()
+    if !is_up_to(renditions as u64, MOST_RENDITIONS) {
+        return false;
+    }
+    if !are_within(numbers) {
+        return false;
+    }
+    pool.is_allowed()
 }
 
-/// The settings of the ladder that is asked for, under these keys; Settings where it isn't within its limits.
+/// The settings of the ladder that is asked for, under these keys.
 fn ladder_under(
     alloc: Global,
     words: LadderWords<'_, '_>,
@@ -115,28 +124,22 @@ fn ladder_under(
     keys: &[[u8; 16]],
     numbers: Numbers,
     pool: Pool,
-) -> Result<Settings, LadderFault>
+) -> Result<Settings, AllocError>
     requires turns { HasTurns (asked_of words numbers pool) }
     requires each { map entry_value entries.now ≡ map entry_of (map (λ t. t.now) words.entries.now) }
     requires keys { length keys.now ≡ key_total (map entry_value entries.now) }
-    requires fits { FitsCut numbers × IsPool pool }
+    requires fits { FitsCut numbers }
     ensures ladder { IfOk result (λ made. IsAskedLadder (asked_of words.entry numbers pool) keys.now made) }
-    ensures within { IfOk result (λ made. IsWithin (asked_of words.entry numbers pool) made) }
-    ensures outside { IsErrOf result LadderFault.Settings → IsOutside (asked_of words.entry numbers pool) }
-    ensures only { IfErr result (λ fault. (fault ≡ LadderFault.Settings) ⊎ (fault ≡ LadderFault.NoMemory)) }
-    ensures scarce { IsErrOf result LadderFault.NoMemory → 0 < length entries.now }
+    ensures scarce { OnErr result (0 < length entries.now) }
 {
-    let settings = Settings {
-        renditions: renditions(alloc, words, entries, keys, numbers.period)?,
+    let renditions = renditions(alloc, words, entries, keys, numbers.period)?;
+    Ok(Settings {
+        renditions,
         cut: cut(numbers),
         kind: kind(words.event),
         window: numbers.window,
         queue: pool.queue,
-    };
-    if !is_allowed(&settings, settings.renditions.len()) {
-        return Err(LadderFault::Settings);
-    }
-    Ok(settings)
+    })
 }
 
 /// The settings of the ladder that is asked for, with the keys that its entries tell; Settings where it isn't within its
@@ -162,6 +165,7 @@ pub(crate) fn read_ladder<F: FileReader>(
     let key_words = ladder_words(alloc, entries)?;
     let blank = room(alloc, key_words.len())?;
     let settings = ladder_under(alloc, words, entries, &blank, numbers, pool)?;
+    within_limits(&settings)?;
     let keys = filled(alloc, files, &key_words, blank)?;
     let renditions = renditions(alloc, words, entries, &keys, numbers.period)?;
     Ok(Settings {

@@ -25,6 +25,7 @@ mod ranges;
 mod reading;
 mod sealing;
 mod settings;
+mod within;
 
 pub use check_options::{CheckOptions, CheckWords, read_check_options};
 pub use checking::{CheckingFault, check};

@@ -2,7 +2,9 @@
 ghost use Rattle.std.specs.Prelude.{◌≡◌, None, IfSome, Decides};
 ghost use Rattle.std.specs.Option.{unwrap_or};
 ghost use Rattle.commands.specs.declared.numbers.Numbers.{Numbers as NumbersValue};
-ghost use Rattle.commands.specs.Ranges.{IsUpTo, IsWithin, AreWithin, AreWithinBefore, is_up_to, outside_of, outside_of_pool};
+ghost use Rattle.commands.specs.Ranges.{IsUpTo, IsWithin, AreNumbersWithin, AreWithin, AreWithinBefore, is_up_to};
+ghost use Rattle.commands.specs.Ranges.{outside_of, outside_of_numbers, outside_of_pool};
+ghost use Rattle.commands.specs.declared.pool.Pool.{Pool as PoolValue};
 ghost use Rattle.commands.specs.declared.outside.Ranged.TheVariants.{Workers};
 ghost use Rattle.commands.specs.declared.pool.TheConstants.{MOST_AHEAD, MOST_STALL};
 ghost use Rattle.limits.specs.declared.TheConstants.{LEAST, MOST_QUEUE, MOST_WORKERS};
@@ -31,7 +33,7 @@ pub enum Ranged {
     Ahead,
 }
 
-fn is_up_to(number: u64, most: u64) -> bool
+pub(crate) fn is_up_to(number: u64, most: u64) -> bool
     ensures ok { Decides result (IsUpTo number most) }
     ensures same { result ≡ is_up_to number most }
 {
@@ -40,12 +42,32 @@ fn is_up_to(number: u64, most: u64) -> bool
 
 /// The first option whose number is outside its range: a packager's numbers come before those of the pool, and both in the order
 /// in which help lists them. None where all numbers are within their ranges; the period has none.
-#[tactic(auto, unfolding(crate::specs::Ranges::outside_of))]
 pub fn first_outside(numbers: &Numbers, pool: Pool) -> Option<Ranged>
     ensures some { IfSome result (λ option. ¬ IsWithin option numbers.now pool) }
     ensures first { IfSome result (λ option. AreWithinBefore option numbers.now pool) }
     ensures none { result ≡ None → AreWithin numbers.now pool }
     ensures exact { result ≡ outside_of numbers.now pool }
+{
+    if let Some(option) = first_outside_of_numbers(numbers) {
+        return Some(option);
+    }
+    first_outside_of_pool(pool)
+}
+
+/// Whether a packager's numbers are within their ranges, whatever the pool's are.
+pub(crate) fn are_within(numbers: &Numbers) -> bool
+    ensures { Decides result (AreNumbersWithin numbers.now) }
+{
+    first_outside_of_numbers(numbers).is_none()
+}
+
+/// The first of a packager's numbers.
+#[tactic(auto, unfolding(crate::specs::Ranges::outside_of_numbers))]
+fn first_outside_of_numbers(numbers: &Numbers) -> Option<Ranged>
+    ensures some { IfSome result (λ option. (pool : PoolValue) → ¬ IsWithin option numbers.now pool) }
+    ensures first { IfSome result (λ option. (pool : PoolValue) → AreWithinBefore option numbers.now pool) }
+    ensures none { result ≡ None → AreNumbersWithin numbers.now }
+    ensures exact { result ≡ outside_of_numbers numbers.now }
 {
     if !is_up_to(numbers.target, MOST_TARGET) {
         return Some(Ranged::Target);
@@ -68,7 +90,7 @@ pub fn first_outside(numbers: &Numbers, pool: Pool) -> Option<Ranged>
     if !is_up_to(numbers.program.unwrap_or(LEAST), MOST_PROGRAM) {
         return Some(Ranged::Program);
     }
-    first_outside_of_pool(pool)
+    None
 }
 
 /// The same of the threads that seal, and of reading ahead.

@@ -4,6 +4,7 @@ ghost use Rattle.std.specs.Option.{option_map};
 ghost use Rattle.commands.specs.Defaults.{numbers_of};
 ghost use Rattle.commands.specs.Hex.{chosen_salt};
 ghost use Rattle.commands.specs.KeyLists.{IsBadKeyFile, IsUnreadKey, are_keys, key_texts};
+ghost use Rattle.commands.specs.Ranges.{AreNumbersWithin};
 ghost use Rattle.commands.specs.Sizes.{IsSize, HasSize};
 ghost use Rattle.commands.specs.Settings.{words_of, kind_of, AreGoodWords, HasSalt, AreFit, IsRenditionOf, IsReadLadderOf, FitsCut, TakeTurns};
 ghost use Rattle.commands.specs.Settings.{AreInside, AreOutside, IsBehindWords, IsLadderOf};
@@ -14,7 +15,9 @@ use crate::frame_size::{FrameSize, size};
 use crate::key_list::{are_keys, key_count, key_room, read_keys};
 use crate::key_word::KeyFileFault;
 use crate::numbers::{NumberWords, Numbers, cut, name};
-use ladder_items::{Gone, Kind, Rendition, Settings, is_allowed};
+use crate::outside::are_within;
+use crate::within::{OutsideLimits, within_limits};
+use ladder_items::{Gone, Kind, Rendition, Settings};
 use limits::MOST_KEYS;
 use segment_job::Keys;
 use std::alloc::{AllocError, AllocFailed, Global};
@@ -95,6 +98,16 @@ impl<T: Drop> From<AllocFailed<T>> for SettingsFault {
 
     fn from(_: AllocFailed<T>) -> SettingsFault {
         SettingsFault::NoMemory
+    }
+}
+
+impl From<OutsideLimits> for SettingsFault {
+    ghost use Rattle.commands.specs.declared.settings.SettingsFault.TheVariants.{Settings};
+
+    ghost from_gives = { λ _ fault. fault ≡ Settings };
+
+    fn from(_: OutsideLimits) -> SettingsFault {
+        SettingsFault::Settings
     }
 }
 
@@ -263,26 +276,6 @@ fn settings_under(
     })
 }
 
-/// Whether those settings are within their limits: Settings where they aren't, whatever the keys are.
-fn check_limits(
-    alloc: Global,
-    words: PackingWords<'_>,
-    keys: &[[u8; 16]],
-    numbers: Numbers,
-) -> Result<(), SettingsFault>
-    requires fit { AreFit (words_of words) numbers }
-    requires keys { length keys.now ≡ length (key_texts words.keys.now) }
-    ensures inside { OnOk result (AreInside (words_of words.entry) numbers) }
-    ensures outside { IsErrOf result SettingsFault.Settings → AreOutside (words_of words.entry) numbers }
-    ensures only { IfErr result (λ fault. (fault ≡ SettingsFault.Settings) ⊎ (fault ≡ SettingsFault.NoMemory)) }
-{
-    let settings = settings_under(alloc, words, keys, numbers)?;
-    if !is_allowed(&settings, settings.renditions.len()) {
-        return Err(SettingsFault::Settings);
-    }
-    Ok(())
-}
-
 /// The settings of one rendition with the keys that its words tell; Settings where they aren't within their limits, which is
 /// told before any file is read.
 fn read_within<F: FileReader>(
@@ -302,7 +295,8 @@ fn read_within<F: FileReader>(
     ensures only { IfErr result IsBehindWords }
 {
     let room = key_room(alloc, words.keys)?;
-    check_limits(alloc, words, &room.keys, numbers)?;
+    let blank = settings_under(alloc, words, &room.keys, numbers)?;
+    within_limits(&blank)?;
     let keys = read_keys(alloc, files, room, words.keys)?;
     let settings = settings_under(alloc, words, &keys, numbers)?;
     Ok(settings)
@@ -311,9 +305,9 @@ fn read_within<F: FileReader>(
 /// The settings of one rendition, with the keys that its words tell.
 ///
 /// BadKey is told before BadSize, that before BadVector, that before TooMany, that before ZeroPeriod, and that before Settings.
-/// For Settings NoMemory may stand, but not where the settings have no room for a number: that is told before any memory is
-/// taken, as all the others are. All of them are told before any file is read, and so is NoMemory where memory was wanted for
-/// the settings. Unread and BadKeyFile are told of the first key whose file gives none, counted from 1.
+/// For Settings NoMemory may stand, but not where a number is outside its range: that is told before any memory is taken, as
+/// all the others are. All of them are told before any file is read, and so is NoMemory where memory was wanted for the
+/// settings. Unread and BadKeyFile are told of the first key whose file gives none, counted from 1.
 pub fn read_settings<F: FileReader>(
     alloc: Global,
     files: &F,
@@ -339,10 +333,11 @@ pub fn read_settings<F: FileReader>(
     ensures bad_file { (n : ℕ) → IsErrOf result (SettingsFault.BadKeyFile n) → AreInside (words_of words.entry) (numbers_of numbers) ×
         IsBadKeyFile (F.gives files.now) words.entry.keys.now n }
     ensures no_memory { IsErrOf result SettingsFault.NoMemory → AreFit (words_of words.entry) (numbers_of numbers) }
+    ensures in_range { IsErrOf result SettingsFault.NoMemory → AreNumbersWithin (numbers_of numbers) }
 {
     let numbers = numbers.numbers();
     look(words, numbers.period)?;
-    if numbers.cut_settings().is_none() {
+    if !are_within(&numbers) {
         return Err(SettingsFault::Settings);
     }
     read_within(alloc, files, words, numbers)

@@ -1,12 +1,17 @@
-use Rattle.std.proofs.Common.{◌≡◌, ◌∙◌, Err, ap, map, rules, sym}
+use Rattle.std.proofs.Common.{◌≡◌, ◌∙◌, Err, ap, length, map, rules, subst, sym}
+use Rattle.std.proofs.lemmas.List.{length-map}
 use Rattle.std.proofs.lemmas.Simd.{map-map}
 use Rattle.commands.specs.declared.ladder_fault.LadderFault.TheVariants.{BadEntry, BadKeyFile}
 use Rattle.commands.specs.declared.entry.EntryWords.{EntryWords}
 use Rattle.commands.specs.Entries.{Entry, entry_of, entry_value}
 use Rattle.commands.specs.Defaults.{numbers_of}
-use Rattle.commands.specs.LadderOptions.{asked_of}
-use Rattle.commands.specs.Pools.{pool_of}
+use Rattle.commands.specs.LadderOptions.{asked_of, HasTurns}
+use Rattle.commands.specs.Pools.{IsPool, pool_of}
+use Rattle.commands.specs.Ranges.{IsUpTo}
+use Rattle.commands.specs.Settings.{FitsCut}
+use Rattle.limits.specs.declared.TheConstants.{MOST_RENDITIONS}
 use Rattle.commands.proofs.LadderFacts.{no-turns, outside-answer}
+use Rattle.commands.proofs.RangeFacts.{fits, outside-asked}
 use Rattle.commands.proofs.ladder_options.read_ladder_options.Goals as goal
 
 pub returns-in_err-look-clause-bad_entry : goal.returns-in_err-look-clause-bad_entry
@@ -27,6 +32,33 @@ returns-in_err-look-clause-outside g c = λ out. absurd (no-turns (asked_of c.ar
     (λ n is. c.look.ensures.bad_file n (c.in_err-look.was ∙ ap Err is))
     c.in_err-look.ensures.only
     (rw (c.numbers-numbers.ensures, c.pool-pool.ensures) out.turns))
+
+pub returns-then-not-are_in_range-clause-settings : goal.returns-then-not-are_in_range-clause-settings
+returns-then-not-are_in_range-clause-settings g c = λ told.
+    rw (c.numbers-numbers.ensures, c.pool-pool.ensures) at (outside-asked (asked_of c.args.words c.numbers-numbers.result c.pool-pool.result) c.in_ok-look.ensures.ok (λ are.
+    let many : length (map (λ t. t.now) c.args.words.entries.now) ≡ length c.args.words.entries.now = length-map c.args.words.entries.now (λ t. t.now) in
+    let is = c.are_in_range.ensures.1 (subst (λ n. IsUpTo n MOST_RENDITIONS) many are.0, are.1, are.2) in
+    let other = c.if-not-are_in_range.true in
+    cc (is, other)))
+
+pub returns-in_err-entries-clause-no_memory : goal.returns-in_err-entries-clause-no_memory
+returns-in_err-entries-clause-no_memory g c = λ told.
+    let range = c.are_in_range.ensures.0 c.if-not-are_in_range.false in
+    let asked = asked_of c.args.words c.numbers-numbers.result c.pool-pool.result in
+    let all : HasTurns asked × FitsCut c.numbers-numbers.result × IsPool c.pool-pool.result = (c.in_ok-look.ensures.ok, fits c.numbers-numbers.result range.1, range.2) in
+    rw (c.numbers-numbers.ensures, c.pool-pool.ensures) at all
+
+pub read_ladder-requires-clause-fits : goal.read_ladder-requires-clause-fits
+read_ladder-requires-clause-fits g c =
+    let range = c.are_in_range.ensures.0 c.if-not-are_in_range.false in
+    (fits c.numbers-numbers.result range.1, range.2)
+
+pub returns-in_err-settings-clause-no_memory : goal.returns-in_err-settings-clause-no_memory
+returns-in_err-settings-clause-no_memory g c = λ told.
+    let range = c.are_in_range.ensures.0 c.if-not-are_in_range.false in
+    let asked = asked_of c.args.words c.numbers-numbers.result c.pool-pool.result in
+    let all : HasTurns asked × FitsCut c.numbers-numbers.result × IsPool c.pool-pool.result = (c.in_ok-look.ensures.ok, fits c.numbers-numbers.result range.1, range.2) in
+    rw (c.numbers-numbers.ensures, c.pool-pool.ensures) at all
 
 pub returns-clause-ok : goal.returns-clause-ok
 returns-clause-ok g c = record {

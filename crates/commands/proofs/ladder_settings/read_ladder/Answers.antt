@@ -33,6 +33,14 @@ renditions-requires-clause-keys g c =
     ∙ length-map (map told c.deref-2.result.now) (λ (w : ToldWord). w.text) ∙ ap (λ ws. length (map told ws)) items ∙ ap length c.in_ok-key_words.ensures.ok
     ∙ words-length 1 (map entry_value c.args.entries.now)
 
+pub returns-in_err-within_limits-clause-outside : goal.returns-in_err-within_limits-clause-outside
+returns-in_err-within_limits-clause-outside g c = λ told. record {
+  turns = c.requires.turns;
+  outside = λ keys made is within.
+      let asked = asked_of c.args.words c.args.numbers c.args.pool in
+      c.in_err-within_limits.ensures.outside (within-any asked keys c.deref.result.now made c.in_ok-settings.settings is c.in_ok-settings.ensures.ladder within).allowed;
+}
+
 pub returns-clause-ok : goal.returns-clause-ok
 returns-clause-ok g c =
     let asked = asked_of c.args.words c.args.numbers c.args.pool in
@@ -58,5 +66,6 @@ returns-clause-ok g c =
       keys = keys;
       told = subst (λ ws. TellKeys (g.F.FileReader.gives c.args.files.now) (texts_of ws) keys) words c.in_ok-keys.ensures.ok;
       ladder_is = is_made;
-      within = within-any asked c.deref.result.now keys c.in_ok-settings.settings made c.in_ok-settings.ensures.ladder is_made c.in_ok-settings.ensures.within;
+      within = within-any asked c.deref.result.now keys c.in_ok-settings.settings made c.in_ok-settings.ensures.ladder is_made
+          (record { cut_fits = c.requires.fits.0; pool_fits = c.requires.fits.1; allowed = c.in_ok-within_limits.ensures.inside });
     }
