@@ -1,5 +1,5 @@
 -- The two playlists of a rendition as they were read of a folder.
-use Rattle.std.specs.Prelude.{◌≡◌, ℕ, Bool, false, ◌||◌, Option, Some, None, List, [], ◌∷◌, codes, ◌^◌}
+use Rattle.std.specs.Prelude.{◌≡◌, ◌⊎◌, ℕ, Bool, false, ◌||◌, Option, Some, None, List, [], ◌∷◌, codes, ◌^◌}
 use Rattle.std.specs.Option.{option_or}
 use Rattle.std.specs.Str.{bytes_eq}
 use Rattle.playlist_text.specs.Uris.{segment_uri}
@@ -20,6 +20,11 @@ pub record TextsValue : Type 0 where
 pub record AreTexts (Gives : List ℕ → List ℕ → Type 0) (Lacks : List ℕ → Type 0) (name : List ℕ) (t : TextsValue) : Type 0 where
   pub media_is : IsFound Gives Lacks (media_file name) t.media
   pub frames_are : IsFound Gives Lacks (frames_file name) t.frames
+
+-- one of both alone
+abbrev pub IsHalfOf : TextsValue → Type 0
+IsHalfOf t =
+    ((bytes : List ℕ) × (t.media ≡ Some bytes) × (t.frames ≡ None)) ⊎ ((bytes : List ℕ) × (t.media ≡ None) × (t.frames ≡ Some bytes))
 
 -- what lines tell: the number of the last segment that has its URI among them, and whether the playlist has ended
 pub record Told : Type 0 where

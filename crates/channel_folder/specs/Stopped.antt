@@ -97,6 +97,11 @@ pub record IsFirstFrom (next : ℕ) (numbers : List ℕ) (n : ℕ) : Type 0 wher
   pub below : All (λ m. m < next) front
   pub from : next ≤ n
 
+-- that it is
+abbrev pub IsAheadOf : ℕ → List ℕ → WhyNot → Type 0
+IsAheadOf next numbers (Ahead n) = Contains numbers n × (next ≤ n) × IsFirstFrom next numbers n
+IsAheadOf next numbers why = ⊥
+
 -- a segment's file is there that isn't listed, and comes next or later: of several the first that was found
 pub record IsAhead (Gives : List ℕ → List ℕ → Type 0) (Lacks : List ℕ → Type 0) (numbers : List ℕ) (asked : Asked) (n : ℕ) : Type 0 where
   pub one : Option RestoredValue

@@ -100,6 +100,16 @@ impl<T: Drop> From<AllocFailed<T>> for ReopenStop {
     }
 }
 
+impl From<WhyNot> for ReopenStop {
+    ghost use Rattle.channel_folder.specs.declared.fault.ReopenStop.TheVariants.{Why};
+
+    ghost from_gives = { λ why stop. stop ≡ Why why };
+
+    fn from(why: WhyNot) -> ReopenStop {
+        ReopenStop::Why(why)
+    }
+}
+
 impl From<FolderReadFault> for ReopenStop {
     ghost use Rattle.channel_folder.specs.StopOf.{stop_of_read};
 

@@ -1,13 +1,15 @@
 //! One rendition goes on by itself, or has no playlists.
-ghost use Rattle.std.specs.Prelude.{◌≡◌, ◌<◌, ◌≤◌, All, Contains, IfOk, IfErr, IfSome, MatchOption};
+ghost use Rattle.std.specs.Prelude.{◌≡◌, ◌<◌, ◌≤◌, All, Contains, IfOk, IfErr, IfSome, MatchOption, OnOk};
+ghost use Rattle.std.specs.Option.{option_map};
+ghost use Rattle.channel_folder.specs.ReadTexts.{IsHalfOf};
 ghost use Rattle.channel_folder.specs.Reopened;
 ghost use Rattle.channel_folder.specs.Reopened.{Stands, IsOf};
-ghost use Rattle.channel_folder.specs.Stopped.{IsFirstFrom, IsStop, IsStopFrom};
+ghost use Rattle.channel_folder.specs.Stopped.{IsAheadOf, IsFirstFrom, IsStop, IsStopFrom};
 
 use crate::asked::Asked;
 use crate::fault::{ReopenStop, WhyNot};
 use crate::reading_back::restored_from;
-use crate::texts::read_texts;
+use crate::texts::{Texts, read_texts};
 use folder::FolderReader;
 use resume::Restored;
 use std::alloc::Global;
@@ -23,10 +25,18 @@ pub(crate) fn stands<F: FolderReader>(
     ensures err { IfErr result (IsStop (F.refuses folder.now) (F.gives folder.now) (F.lacks folder.now) numbers.now asked.now) }
 {
     let found = read_one(alloc, folder, asked)?;
-    let next = next_of(&found);
+    none_ahead(numbers, next_of(&found))?;
+    Ok(found)
+}
+
+/// Ahead where a number isn't below the next one.
+fn none_ahead(numbers: &[u64], next: u64) -> Result<(), WhyNot>
+    ensures ok { OnOk result (All (λ n. n < next) numbers.now) }
+    ensures err { IfErr result (IsAheadOf next numbers.now) }
+{
     match first_from(numbers, next) {
-        Some(n) => Err(ReopenStop::Why(WhyNot::Ahead(n))),
-        None => Ok(found),
+        Some(n) => Err(WhyNot::Ahead(n)),
+        None => Ok(()),
     }
 }
 
@@ -63,12 +73,28 @@ fn read_one<F: FolderReader>(
     ensures err { IfErr result (IsStopFrom (F.refuses folder.now) (F.gives folder.now) (F.lacks folder.now) asked.now) }
 {
     let texts = read_texts(alloc, folder, asked.name)?;
-    match (&texts.media, &texts.frames) {
+    let Some(found) = both(texts)? else {
+        return Ok(None);
+    };
+    let restored = restored_from(alloc, folder, asked, &found.media, &found.frames)?;
+    Ok(Some(restored))
+}
+
+/// The bytes of both playlists of a rendition.
+#[derive(Drop)]
+struct Playlists {
+    media: Vec<u8>,
+    frames: Vec<u8>,
+}
+
+/// Those that were read, where both were; none where neither was; Foreign where only one was.
+fn both(texts: Texts) -> Result<Option<Playlists>, WhyNot>
+    ensures ok { IfOk result (λ found. texts ≡ record { media = option_map (λ b. b.media.items) found; frames = option_map (λ b. b.frames.items) found }) }
+    ensures err { IfErr result (λ why. (why ≡ WhyNot.Foreign) × IsHalfOf texts) }
+{
+    match (texts.media, texts.frames) {
         (None, None) => Ok(None),
-        (Some(media), Some(frames)) => {
-            let restored = restored_from(alloc, folder, asked, media, frames)?;
-            Ok(Some(restored))
-        }
-        _ => Err(ReopenStop::Why(WhyNot::Foreign)),
+        (Some(media), Some(frames)) => Ok(Some(Playlists { media, frames })),
+        _ => Err(WhyNot::Foreign),
     }
 }
