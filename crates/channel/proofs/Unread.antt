@@ -1,24 +1,32 @@
 -- What stands in the folder couldn't be read.
-use Rattle.std.proofs.Common.{◌≡◌, refl, ℕ, List}
+use Rattle.std.proofs.Common.{◌≡◌, ◌∙◌, refl, ap, subst, ℕ, List}
 use Rattle.folder.specs.declared.read_fault.FolderReadFault.{FolderReadFault}
 use Rattle.folder.specs.declared.read_fault.FolderReadFault.TheVariants as Read
 use Rattle.ladder_items.specs.Ladder.{RenditionValue}
 use Rattle.media_playlist.specs.Rows.{SegmentRow}
 use Rattle.channel.specs.Faults.{of_reading}
-use Rattle.channel.specs.Looking.{IsRowFault}
+use Rattle.channel.specs.Looking.{IsReadFault, IsRowFault}
 use Rattle.channel.specs.Reading.{IsScanFault}
 use Rattle.channel.specs.Rolling.{IsRollFault}
 use Rattle.channel.specs.Views.{FolderView}
-use Rattle.channel.specs.declared.fault.ResumingFault.TheVariants.{Outlet}
+use Rattle.channel.specs.declared.fault.ResumingFault.{ResumingFault}
+use Rattle.channel.specs.declared.fault.ResumingFault.TheVariants.{Unread, Outlet, NoMemory, Not, OtherKeys}
+use Rattle.channel_folder.specs.declared.fault.WhyNot.TheVariants.{Lost}
+use Rattle.item_io.specs.FileNames.{segment_file_name}
 
 pub not-read : {F : Type 0} (folder : FolderView F) (name : List ℕ) (now : F) (why : FolderReadFault) → (why ≡ Read.Unread → folder.refuses now) → IsRollFault folder name now now (of_reading why)
 not-read folder name now Read.Unread refuses = (refl, refuses refl)
 not-read folder name now Read.NoMemory refuses = refl
 
-pub row-not-read : (Refuses : Type 0) (Gives : List ℕ → List ℕ → Type 0) (Lacks : List ℕ → Type 0) (r : ℕ) (rendition : RenditionValue) (row : SegmentRow) (why : FolderReadFault) →
-    (why ≡ Read.Unread → Refuses) → IsRowFault Refuses Gives Lacks r rendition row (of_reading why)
-row-not-read Refuses Gives Lacks r rendition row Read.Unread refuses = refuses refl
-row-not-read Refuses Gives Lacks r rendition row Read.NoMemory refuses = tt
+-- a segment's file couldn't be
+pub row-not-read : (Refuses Wants : Type 0) (Gives : List ℕ → List ℕ → Type 0) (Lacks : List ℕ → Type 0) (r : ℕ) (rendition : RenditionValue) (row : SegmentRow) (file : List ℕ) (number : ℕ)
+    (fault : ResumingFault) → file ≡ segment_file_name rendition.name row.number → number ≡ row.number → IsReadFault Refuses Wants (Lacks file) r number fault
+    → IsRowFault Refuses Gives Lacks r rendition row fault
+row-not-read Refuses Wants Gives Lacks r rendition row file number Unread named numbered is = is
+row-not-read Refuses Wants Gives Lacks r rendition row file number Outlet named numbered is = is
+row-not-read Refuses Wants Gives Lacks r rendition row file number NoMemory named numbered is = tt
+row-not-read Refuses Wants Gives Lacks r rendition row file number (Not q why) named numbered is = (is.0, is.1 ∙ ap Lost numbered, subst Lacks named is.2)
+row-not-read Refuses Wants Gives Lacks r rendition row file number (OtherKeys q key) named numbered is = absurd is
 
 pub names-not-read : (Refuses : Type 0) (why : FolderReadFault) → (why ≡ Read.Unread → Refuses) → IsScanFault Refuses (of_reading why)
 names-not-read Refuses Read.Unread refuses = refuses refl

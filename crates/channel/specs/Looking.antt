@@ -27,6 +27,14 @@ pub record IsClosed (Gives : List ℕ → List ℕ → Type 0) (rendition : Rend
   pub gives : Gives (segment_file_name rendition.name row.number) bytes
   pub closed : ¬ HasHead (alone rendition row bytes) 0
 
+-- why the file of a segment of rendition r isn't read
+abbrev pub IsReadFault : Type 0 → Type 0 → Type 0 → ℕ → ℕ → ResumingFault → Type 0
+IsReadFault Refuses Wants Lacks r number Unread = Refuses
+IsReadFault Refuses Wants Lacks r number Outlet = ⊥
+IsReadFault Refuses Wants Lacks r number NoMemory = Wants
+IsReadFault Refuses Wants Lacks r number (Not q why) = (q ≡ r) × (why ≡ Lost number) × Lacks
+IsReadFault Refuses Wants Lacks r number (OtherKeys q key) = ⊥
+
 -- why a segment of rendition r isn't opened: its file isn't there, or doesn't open
 abbrev pub IsRowFault : Type 0 → (List ℕ → List ℕ → Type 0) → (List ℕ → Type 0) → ℕ → RenditionValue → SegmentRow → ResumingFault → Type 0
 IsRowFault Refuses Gives Lacks r rendition row Unread = Refuses

@@ -9,7 +9,7 @@ ghost use Rattle.media_playlist.specs.Lines.{entry_of};
 ghost use Rattle.channel.specs.Looking;
 ghost use Rattle.hls_check.specs.Unpacking.{HasHead};
 ghost use Rattle.hls_check.specs.declared.fault.UnpackFault.TheVariants.{NoMemory};
-ghost use Rattle.channel.specs.Looking.{alone, AllKeysOpen, IsKeyFault, IsLookFault, IsRowFault, KeysOpen, OpensAsListed, TakeTurns};
+ghost use Rattle.channel.specs.Looking.{alone, AllKeysOpen, IsKeyFault, IsLookFault, IsReadFault, IsRowFault, KeysOpen, OpensAsListed, TakeTurns};
 
 use crate::fault::ResumingFault;
 use channel_folder::WhyNot;
@@ -124,11 +124,35 @@ fn open_row<F: FolderReader>(
     ensures err { IfErr result (IsRowFault (F.refuses folder.now) (F.gives folder.now) (F.lacks folder.now) r rendition.now row.now) }
 {
     let file = segment_file(alloc, &rendition.name, row.number)?;
-    let Some(bytes) = folder.read(alloc, &file)? else {
-        return Err(ResumingFault::Not(r, WhyNot::Lost(row.number)));
-    };
-    if !opens(alloc, rendition, row, bytes)? {
-        return Err(ResumingFault::OtherKeys(r, row.key));
+    let bytes = read_row(alloc, folder, r, &file, row.number)?;
+    let is_open = opens(alloc, rendition, row, bytes)?;
+    opened(is_open, r, row.key)
+}
+
+/// The bytes of a segment's file, which is listed.
+fn read_row<F: FolderReader>(
+    alloc: Global,
+    folder: &F,
+    r: usize,
+    file: &str,
+    number: u64,
+) -> Result<Vec<u8>, ResumingFault>
+    ensures ok { IfOk result (λ bytes. F.gives folder.now file.now bytes.items) }
+    ensures err { IfErr result (IsReadFault (F.refuses folder.now) (F.wants folder.now) (F.lacks folder.now file.now) r number) }
+{
+    match folder.read(alloc, file)? {
+        Some(bytes) => Ok(bytes),
+        None => Err(ResumingFault::Not(r, WhyNot::Lost(number))),
+    }
+}
+
+/// OtherKeys where a segment that is listed under this key isn't open.
+fn opened(is_open: bool, r: usize, key: u64) -> Result<(), ResumingFault>
+    ensures ok { OnOk result (is_open ≡ true) }
+    ensures err { IfErr result (λ fault. (is_open ≡ false) × (fault ≡ ResumingFault.OtherKeys r key)) }
+{
+    if !is_open {
+        return Err(ResumingFault::OtherKeys(r, key));
     }
     Ok(())
 }
