@@ -9,3 +9,4 @@ pub mod Reasons
 pub mod EntryTexts
 pub mod SettingsWords
 pub mod FaultWords
+pub mod Shown

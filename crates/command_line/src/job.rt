@@ -9,8 +9,8 @@ ghost use Rattle.command_line.specs.Jobs.{AreCheckOptions, AreCipherOptions, Are
 ghost use Rattle.command_line.specs.Refusals.{AreNoKeys, AreNoSettings, IsNoCipher, IsNoJob, IsNoLadder, files_view};
 ghost use Rattle.command_line.specs.Options.{GetsCommand, check_options, cipher_options, command_of, ladder_options, stream_options, tshls};
 
+use crate::bare_commands::{bare_check, bare_one, bare_open, bare_pack, bare_seal};
 use crate::fault::Fault;
-use crate::help;
 use crate::options::{
     check_words, cipher_words, number_words, packing_words, with_check_options,
     with_cipher_options, with_stream,
@@ -196,56 +196,35 @@ fn ladder_job<'a, F: FileReader>(
 fn with_seal<'a>(alloc: Global, program: Command<'a>) -> Result<Command<'a>, AllocError>
     ensures { IfOk result (λ made. GetsCommand program.entry (command_of (codes "seal") cipher_options) made) }
 {
-    let seal = Command::new(alloc, "seal")
-        .about("Read a transport stream, and print its packets, sealed, as one line of hex digits")
-        .after_help(help::SEAL);
-    program.subcommand(with_cipher_options(alloc, seal)?)
+    program.subcommand(with_cipher_options(alloc, bare_seal(alloc))?)
 }
 
 /// The program with its command `open`.
 fn with_open<'a>(alloc: Global, program: Command<'a>) -> Result<Command<'a>, AllocError>
     ensures { IfOk result (λ made. GetsCommand program.entry (command_of (codes "open") cipher_options) made) }
 {
-    let open = Command::new(alloc, "open")
-        .about("Read what seal prints, and print what was sealed, as one line of hex digits")
-        .after_help(help::OPEN);
-    program.subcommand(with_cipher_options(alloc, open)?)
+    program.subcommand(with_cipher_options(alloc, bare_open(alloc))?)
 }
 
 /// The program with its command `one`.
 fn with_one<'a>(alloc: Global, program: Command<'a>) -> Result<Command<'a>, AllocError>
     ensures { IfOk result (λ made. GetsCommand program.entry (command_of (codes "one") stream_options) made) }
 {
-    let one = Command::new(alloc, "one")
-        .about(
-            "Read a transport stream, and print its segments, sealed, and its playlists as lines",
-        )
-        .after_help(help::ONE);
-    program.subcommand(with_stream(alloc, one)?)
+    program.subcommand(with_stream(alloc, bare_one(alloc))?)
 }
 
 /// The program with its command `pack`.
 fn with_pack<'a>(alloc: Global, program: Command<'a>) -> Result<Command<'a>, AllocError>
     ensures { IfOk result (λ made. GetsCommand program.entry (command_of (codes "pack") ladder_options) made) }
 {
-    let pack = Command::new(alloc, "pack")
-        .about(
-            "Read the transport streams of a ladder, and write its segments, sealed, and its playlists as files of a folder",
-        )
-        .after_help(help::PACK);
-    program.subcommand(with_ladder(alloc, pack)?)
+    program.subcommand(with_ladder(alloc, bare_pack(alloc))?)
 }
 
 /// The program with its command `check`.
 fn with_check<'a>(alloc: Global, program: Command<'a>) -> Result<Command<'a>, AllocError>
     ensures { IfOk result (λ made. GetsCommand program.entry (command_of (codes "check") check_options) made) }
 {
-    let check = Command::new(alloc, "check")
-        .about(
-            "Read a media playlist and the segments beside it, and print how many bytes they unpack to",
-        )
-        .after_help(help::CHECK);
-    program.subcommand(with_check_options(alloc, check)?)
+    program.subcommand(with_check_options(alloc, bare_check(alloc))?)
 }
 
 /// The program, with its commands in the order in which help shows them.

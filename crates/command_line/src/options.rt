@@ -5,6 +5,7 @@ ghost use Rattle.command_line.specs.Options.{GetsOptions, check_options, cipher_
 ghost use Rattle.command_line.specs.Options.{needed, rendition_options, stream_options, text_option, word};
 ghost use Rattle.command_line.specs.Words.{AreNumberWords, IsFlagOf, IsGivenNumber, IsNumberOf, given_text, is_given, text_of};
 
+use crate::shown;
 use clap::parser::ValueSource;
 use clap::{Arg, ArgAction, ArgMatches, Command};
 use commands::{CheckWords, CipherWords, NumberWords, PackingWords};
@@ -17,12 +18,8 @@ pub fn with_cipher_options<'a>(
 ) -> Result<Command<'a>, AllocError>
     ensures { IfOk result (λ made. GetsOptions command.entry cipher_options made) }
 {
-    let key = "The key: 32 hex digits, or @FILE, which holds its 16 bytes or those digits";
-    let seq = "The segment's number, which gives the vector";
-    let command = command
-        .arg(needed(alloc, "key", "HEX", key))?
-        .arg(number(alloc, "seq", "NUMBER", seq))?;
-    command.arg(text(alloc, "iv", "HEX", "The vector itself: 32 hex digits"))
+    let command = command.arg(shown::key(alloc))?.arg(shown::seq(alloc))?;
+    command.arg(shown::iv(alloc))
 }
 
 /// The words of a key and a vector.
@@ -51,26 +48,19 @@ pub fn with_stream<'a>(alloc: Global, command: Command<'a>) -> Result<Command<'a
 fn with_rendition<'a>(alloc: Global, command: Command<'a>) -> Result<Command<'a>, AllocError>
     ensures { IfOk result (λ made. GetsOptions command.entry rendition_options made) }
 {
-    let codecs = "The codecs, as a master playlist lists them";
-    let size = "The width and the height of the pictures, 1 to 16384 pixels each";
-    let keys = "The keys, 32 hex digits or @FILE each, 1 to 4096 of them";
-    let name = "The name of the rendition";
     command
-        .arg(needed(alloc, "codecs", "CODECS", codecs))?
-        .arg(needed(alloc, "size", "WIDTHxHEIGHT", size))?
-        .arg(needed(alloc, "keys", "KEY[+KEY..]", keys))?
-        .arg(text(alloc, "name", "NAME", name).default_value("v"))
+        .arg(shown::codecs(alloc))?
+        .arg(shown::size(alloc))?
+        .arg(shown::keys(alloc))?
+        .arg(shown::name(alloc))
 }
 
 /// The command with the options of vectors, and of which segments are listed.
 pub fn with_forms<'a>(alloc: Global, command: Command<'a>) -> Result<Command<'a>, AllocError>
     ensures { IfOk result (λ made. GetsOptions command.entry form_options made) }
 {
-    let salt =
-        "A salt of the segments' vectors, 32 hex digits: each is then the salt xor the number, and is listed";
-    let command = command.arg(text(alloc, "salt", "HEX", salt))?;
-    let event = "List all segments, as those of an event";
-    command.arg(flag(alloc, "event", event))
+    let command = command.arg(shown::salt(alloc))?;
+    command.arg(shown::event(alloc))
 }
 
 /// The words of a rendition.
@@ -210,10 +200,8 @@ pub fn with_check_options<'a>(
 ) -> Result<Command<'a>, AllocError>
     ensures { IfOk result (λ made. GetsOptions command.entry check_options made) }
 {
-    let keys = "The keys of the rendition, 32 hex digits or @FILE each";
-    let command = command.arg(needed(alloc, "keys", "KEY[+KEY..]", keys))?;
-    let playlist = "The media playlist; its segments lie in the same folder";
-    command.arg(word(alloc, "playlist", "PLAYLIST", playlist))
+    let command = command.arg(shown::sealed_under(alloc))?;
+    command.arg(shown::playlist(alloc))
 }
 
 /// The words of `check`.
@@ -240,7 +228,7 @@ pub(crate) fn flag<'a>(alloc: Global, name: &'a str, help: &'a str) -> Arg<'a>
 }
 
 /// A word that stands alone, and has to be there.
-fn word<'a>(alloc: Global, name: &'a str, value: &'a str, help: &'a str) -> Arg<'a>
+pub(crate) fn word<'a>(alloc: Global, name: &'a str, value: &'a str, help: &'a str) -> Arg<'a>
     ensures rule { rule_of result ≡ word name.entry.now }
     ensures alone { result.global ≡ false }
     ensures value { items_of result.val_names ≡ value.entry ∷ [] }

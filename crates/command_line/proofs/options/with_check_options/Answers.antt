@@ -6,5 +6,5 @@ pub returns : goal.returns
 returns c =
     let command = c.args.command in
     IfOk-weaker c.arg-2.result _ _ (λ made adds.
-    gets-more command _ made _ _ _ (gets-more command _ _ _ _ _ (gets-none command) c.in_ok-command.ensures c.needed.ensures.alone c.needed.ensures.rule) adds
-    c.word.ensures.alone c.word.ensures.rule) c.arg-2.ensures
+    gets-more command _ made _ _ _ (gets-more command _ _ _ _ _ (gets-none command) c.in_ok-command.ensures c.sealed_under.ensures.alone c.sealed_under.ensures.rule) adds
+    c.playlist.ensures.alone c.playlist.ensures.rule) c.arg-2.ensures

@@ -1,0 +1,130 @@
+//! The options of the commands, each with what help shows of it.
+ghost use Rattle.std.specs.Prelude.{◌≡◌, Some, codes, false, option_map};
+ghost use Rattle.clap.specs.Words.{rule_of};
+ghost use Rattle.command_line.specs.Options.{flag, needed, number_option, text_option, with_default, word};
+ghost use Rattle.command_line.specs.Shown.{IsShown};
+
+use crate::options::{flag, needed, number, text, word};
+use clap::Arg;
+use std::alloc::Global;
+
+/// The key of `seal` and `open`.
+pub(crate) fn key<'a>(alloc: Global) -> Arg<'a>
+    ensures rule { rule_of result ≡ needed (text_option (codes "key")) }
+    ensures alone { result.global ≡ false }
+    ensures shown { IsShown (codes "HEX")
+        (codes "The key: 32 hex digits, or @FILE, which holds its 16 bytes or those digits") result }
+{
+    let help = "The key: 32 hex digits, or @FILE, which holds its 16 bytes or those digits";
+    needed(alloc, "key", "HEX", help)
+}
+
+/// The number of the segment that is sealed.
+pub(crate) fn seq<'a>(alloc: Global) -> Arg<'a>
+    ensures rule { rule_of result ≡ number_option (codes "seq") }
+    ensures alone { result.global ≡ false }
+    ensures shown { IsShown (codes "NUMBER")
+        (codes "The segment's number, which gives the vector") result }
+{
+    let help = "The segment's number, which gives the vector";
+    number(alloc, "seq", "NUMBER", help)
+}
+
+/// The vector.
+pub(crate) fn iv<'a>(alloc: Global) -> Arg<'a>
+    ensures rule { rule_of result ≡ text_option (codes "iv") }
+    ensures alone { result.global ≡ false }
+    ensures shown { IsShown (codes "HEX")
+        (codes "The vector itself: 32 hex digits") result }
+{
+    let help = "The vector itself: 32 hex digits";
+    text(alloc, "iv", "HEX", help)
+}
+
+/// The codecs of a rendition.
+pub(crate) fn codecs<'a>(alloc: Global) -> Arg<'a>
+    ensures rule { rule_of result ≡ needed (text_option (codes "codecs")) }
+    ensures alone { result.global ≡ false }
+    ensures shown { IsShown (codes "CODECS")
+        (codes "The codecs, as a master playlist lists them") result }
+{
+    let help = "The codecs, as a master playlist lists them";
+    needed(alloc, "codecs", "CODECS", help)
+}
+
+/// The size of its pictures.
+pub(crate) fn size<'a>(alloc: Global) -> Arg<'a>
+    ensures rule { rule_of result ≡ needed (text_option (codes "size")) }
+    ensures alone { result.global ≡ false }
+    ensures shown { IsShown (codes "WIDTHxHEIGHT")
+        (codes "The width and the height of the pictures, 1 to 16384 pixels each") result }
+{
+    let help = "The width and the height of the pictures, 1 to 16384 pixels each";
+    needed(alloc, "size", "WIDTHxHEIGHT", help)
+}
+
+/// Its keys.
+pub(crate) fn keys<'a>(alloc: Global) -> Arg<'a>
+    ensures rule { rule_of result ≡ needed (text_option (codes "keys")) }
+    ensures alone { result.global ≡ false }
+    ensures shown { IsShown (codes "KEY[+KEY..]")
+        (codes "The keys, 32 hex digits or @FILE each, 1 to 4096 of them") result }
+{
+    let help = "The keys, 32 hex digits or @FILE each, 1 to 4096 of them";
+    needed(alloc, "keys", "KEY[+KEY..]", help)
+}
+
+/// Its name.
+pub(crate) fn name<'a>(alloc: Global) -> Arg<'a>
+    ensures rule { rule_of result ≡ with_default (codes "v") (text_option (codes "name")) }
+    ensures alone { result.global ≡ false }
+    ensures shown { IsShown (codes "NAME")
+        (codes "The name of the rendition") result }
+{
+    let help = "The name of the rendition";
+    text(alloc, "name", "NAME", help).default_value("v")
+}
+
+/// The salt of its vectors.
+pub(crate) fn salt<'a>(alloc: Global) -> Arg<'a>
+    ensures rule { rule_of result ≡ text_option (codes "salt") }
+    ensures alone { result.global ≡ false }
+    ensures shown { IsShown (codes "HEX")
+        (codes "A salt of the segments' vectors, 32 hex digits: each is then the salt xor the number, and is listed") result }
+{
+    let help =
+        "A salt of the segments' vectors, 32 hex digits: each is then the salt xor the number, and is listed";
+    text(alloc, "salt", "HEX", help)
+}
+
+/// Whether its playlists list all segments.
+pub(crate) fn event<'a>(alloc: Global) -> Arg<'a>
+    ensures rule { rule_of result ≡ flag (codes "event") }
+    ensures alone { result.global ≡ false }
+    ensures help { option_map (λ t. t.now) result.help ≡ Some (codes "List all segments, as those of an event") }
+{
+    let help = "List all segments, as those of an event";
+    flag(alloc, "event", help)
+}
+
+/// The keys of a playlist that is checked.
+pub(crate) fn sealed_under<'a>(alloc: Global) -> Arg<'a>
+    ensures rule { rule_of result ≡ needed (text_option (codes "keys")) }
+    ensures alone { result.global ≡ false }
+    ensures shown { IsShown (codes "KEY[+KEY..]")
+        (codes "The keys of the rendition, 32 hex digits or @FILE each") result }
+{
+    let help = "The keys of the rendition, 32 hex digits or @FILE each";
+    needed(alloc, "keys", "KEY[+KEY..]", help)
+}
+
+/// That playlist.
+pub(crate) fn playlist<'a>(alloc: Global) -> Arg<'a>
+    ensures rule { rule_of result ≡ word (codes "playlist") }
+    ensures alone { result.global ≡ false }
+    ensures shown { IsShown (codes "PLAYLIST")
+        (codes "The media playlist; its segments lie in the same folder") result }
+{
+    let help = "The media playlist; its segments lie in the same folder";
+    word(alloc, "playlist", "PLAYLIST", help)
+}
