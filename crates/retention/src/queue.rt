@@ -1,9 +1,32 @@
 //! The two queues of a retention: the segments that are listed, and those that wait to go.
-ghost use Rattle.std.specs.Prelude.{◌≡◌, ◌+◌, ◌-◌, ◌<◌, ◌≤◌, ◌^◌, ◌++◌, List, ℕ, All, false, length, take, drop, map, sum};
+ghost use Rattle.std.specs.Prelude.{◌≡◌, ◌⊎◌, ◌+◌, ◌-◌, ◌<◌, ◌≤◌, ◌^◌, ◌++◌, List, ℕ, All, IfOk, OnErr, OnOk, false, length, take, drop, map, sum};
 ghost use Rattle.std.specs.VecDeque.{deque_len, deque_capacity};
 ghost use Rattle.retention.specs.Waiting.{is_due};
 
+use std::alloc::AllocError;
 use std::collections::VecDeque;
+
+/// Makes room for one more that is listed, and for those before `first` to wait, where those before `gone` wait already. Answers how
+/// many they are.
+pub fn make_room(
+    listed: &mut VecDeque<u64>,
+    due: &mut VecDeque<u128>,
+    gone: u64,
+    first: u64,
+) -> Result<u64, AllocError>
+    requires { first < 2 ^ 63 }
+    ensures out { IfOk result (λ out. out ≡ first - gone) }
+    ensures listed { listed.new.items ≡ listed.old.items }
+    ensures due { due.new.items ≡ due.old.items }
+    ensures len { (deque_len listed.new ≡ deque_len listed.old) × (deque_len due.new ≡ deque_len due.old) }
+    ensures room { OnOk result ((deque_len listed.new < deque_capacity listed.new) × (deque_len due.new + (first - gone) ≤ deque_capacity due.new)) }
+    ensures scarce { OnErr result ((deque_capacity listed.old ≤ deque_len listed.old) ⊎ (deque_capacity due.old < deque_len due.old + (first - gone))) }
+{
+    let out = first.saturating_sub(gone);
+    listed.reserve(1)?;
+    due.reserve(out as usize)?;
+    Ok(out)
+}
 
 /// Moves the first `count` segments from those that are listed to those that wait: each may go at `time` and its own
 /// duration. Answers how long the others last together, in microseconds.

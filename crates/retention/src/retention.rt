@@ -2,7 +2,7 @@
 ghost use Rattle.std.specs.Prelude.{◌≡◌, ℕ, ◌+◌, ◌-◌, ◌<◌, ◌≤◌, ◌^◌, [], ◌∷◌, ◌++◌, length, OnOk, OnErr};
 ghost use Rattle.retention.specs.Steps.{first_of, IsKeptFrom};
 
-use crate::queue::{let_go, move_on};
+use crate::queue::{let_go, make_room, move_on};
 use crate::step::Step;
 use ghost_list::GhostList;
 use std::alloc::{AllocError, Global};
@@ -90,9 +90,7 @@ impl Retention {
         ensures ok { OnOk result (self.new ≡ record self.old { steps = self.old.steps ++ record { micros = micros; first = first } ∷ [] }) }
         ensures err { OnErr result (self.new ≡ self.old) }
     {
-        let out = first.saturating_sub(self.first);
-        self.listed.reserve(1)?;
-        self.due.reserve(out as usize)?;
+        let out = make_room(&mut self.listed, &mut self.due, self.first, first)?;
         let clock = self.clock + u128::from(micros);
         let left = move_on(
             &mut self.listed,
