@@ -57,14 +57,7 @@ pub fn pack<S: Source + Drop, O: Outlet + Drop, W: Write, R: Threads + Wait + Sy
     ensures never_held { IfErr result.answer IsNeverHeld }
     ensures told { IfErr result.answer (IsHeard (H.was_told setup.now.herald.now)) }
 {
-    let run = Setup {
-        rt: setup.rt,
-        alloc: setup.alloc,
-        settings: setup.settings,
-        workers: setup.pool.workers as usize,
-        gate: &FreeGate,
-        batch: most_closed(setup.pool),
-    };
+    let run = run_setup(setup, &FreeGate);
     let endpoints = Endpoints {
         sources,
         outlet,
@@ -90,6 +83,22 @@ pub fn pack<S: Source + Drop, O: Outlet + Drop, W: Write, R: Threads + Wait + Sy
             outlet,
             answer: write_summary(setup.alloc, setup.settings, report, output),
         },
+    }
+}
+
+/// The setup of the run of a ladder, which lets all segments through.
+fn run_setup<'a, R, H>(setup: &LadderSetup<'a, R, H>, gate: &'a FreeGate) -> Setup<'a, FreeGate, R>
+    ensures settings { result.settings ≡ setup.now.settings }
+    ensures workers { result.workers ≡ setup.now.pool.workers }
+    ensures batch { result.batch ≡ unwrap_or setup.now.pool.batch setup.now.pool.queue }
+{
+    Setup {
+        rt: setup.rt,
+        alloc: setup.alloc,
+        settings: setup.settings,
+        workers: setup.pool.workers as usize,
+        gate,
+        batch: most_closed(setup.pool),
     }
 }
 

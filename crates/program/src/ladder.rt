@@ -19,6 +19,7 @@ ghost use Rattle.program.specs.Channels.{GoesNotOn, GoesOn, IsJobBehind, MayHold
 ghost use Rattle.program.specs.LadderEnds.{FailsLadder, HearsOf, IsUnbegun};
 ghost use Rattle.program.specs.LadderRuns.{IsPrunedRun, IsWholeRun};
 
+use crate::holding::Held;
 use crate::told::Tellings;
 use crate::watching::{Watch, Watched};
 use channel::{Resumed, resume};
@@ -47,10 +48,11 @@ pub struct Channel<'a> {
     pub older: Vec<Vec<u64>>,
 }
 
-/// The ladder that was asked for, behind what an earlier run left in its folder, if it is to go on.
+/// The ladder that was asked for, behind what an earlier run left in its folder, if it is to go on. The folder is held.
 pub fn begin_channel<'a, R: Files + AllocGlobal + Clone + Copy + Drop>(
     rt: R,
     alloc: Global,
+    _held: &Held,
     job: LadderJob<'a>,
 ) -> Result<Channel<'a>, Fault>
     ensures behind { IfOk result (λ channel. IsJobBehind job.entry channel.job) }
@@ -263,7 +265,7 @@ fn end_run<R: Files + Clock + Eprint + Threads + Wait>(
     ensures well { OnOk answer (IsOk result) }
     ensures fault { IfErr answer (λ why. IsErrOf result (LadderPacking why)) }
 {
-    watch.end(rt, alloc, answer.as_ref().err());
+    watch.end(rt, alloc, &publisher, answer.as_ref().err());
     publisher.end(rt);
     match answer {
         Ok(_) => Ok(()),

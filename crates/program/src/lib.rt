@@ -6,11 +6,11 @@ ghost use Rattle.std.specs.String.{string_bytes};
 ghost use Rattle.std.specs.IoError.{error_kind};
 ghost use Rattle.std.specs.Process.{exit_status};
 ghost use Rattle.std.specs.declared.io.ErrorKind.TheVariants.{OutOfMemory};
-ghost use Rattle.std.specs.declared.fs.locks.TryLockError.TheVariants.{WouldBlock};
 ghost use Rattle.command_line.specs.Faults.{status_of};
-ghost use Rattle.command_line.specs.declared.fault.Fault.TheVariants.{Busy, NoMemory, NotUtf8};
+ghost use Rattle.command_line.specs.declared.fault.Fault.TheVariants.{NoMemory, NotUtf8};
 ghost use Rattle.program.specs.Lines.{PackEnds};
 
+mod holding;
 mod ladder;
 mod metrics_file;
 mod obeying;
@@ -19,6 +19,7 @@ mod telling;
 mod told;
 mod watching;
 
+use crate::holding::hold;
 use crate::ladder::{LadderRun, begin_channel, pack_ladder};
 use crate::obeying::{Line, obey};
 use crate::telling::{Teller, tell};
@@ -27,13 +28,14 @@ pub use crate::told::each_has_a_place;
 use command_line::{Fault, LadderJob, line, version};
 use read_ahead::InputFiles;
 use std::alloc::{AllocError, AllocGlobal, Global};
-use std::fs::{File, Files, TryLockError};
+use std::env::{self, Args};
+use std::fs::Files;
+use std::io;
 use std::io::{Eprint, Write};
 use std::process::ExitCode;
 use std::sync::{Arc, Wait};
 use std::thread::Threads;
 use std::time::Clock;
-use std::{env, io};
 
 /// Why the words of the command line can't be had.
 fn unread_words(error: io::Error) -> Fault
@@ -48,7 +50,19 @@ fn unread_words(error: io::Error) -> Fault
 
 /// The words of the command line.
 fn words(rt: &HostRuntime) -> Result<Vec<String>, Fault> {
-    Ok(env::args(rt).map_err(unread_words)?.collect(rt.alloc())?)
+    words_of(rt.alloc(), env::args(rt))
+}
+
+/// The words, if they could be read.
+fn words_of(alloc: Global, args: io::Result<Args>) -> Result<Vec<String>, Fault>
+    ensures memory { IfErr args (λ error. error_kind error ≡ OutOfMemory → result ≡ Err NoMemory) }
+    ensures utf8 { IfErr args (λ error. error_kind error ≢ OutOfMemory → result ≡ Err NotUtf8) }
+    ensures scarce { OnOk args (OnErr result (result ≡ Err NoMemory)) }
+{
+    match args {
+        Ok(args) => Ok(args.collect(alloc)?),
+        Err(error) => Err(unread_words(error)),
+    }
 }
 
 /// Packs a ladder, and tells how that ends. A fault that was told as it stood isn't told once more.
@@ -74,11 +88,11 @@ where
     R::Dir: Send + 'static,
     ensures { PackEnds R (R.holds rt) job.entry (W.contents output.old) (W.contents output.new) (exit_status result) }
 {
-    let _held = match hold(host, job.folder) {
+    let held = match hold(host, job.folder) {
         Ok(held) => held,
         Err(fault) => return ended(host, words, Err(fault)),
     };
-    let channel = match begin_channel(rt, host.alloc(), job) {
+    let channel = match begin_channel(rt, host.alloc(), &held, job) {
         Ok(channel) => channel,
         Err(fault) => return ended(host, words, Err(fault)),
     };
@@ -137,33 +151,6 @@ fn ended(rt: &HostRuntime, words: &[String], answer: Result<(), Fault>) -> ExitC
             tell(rt, words, &fault);
             ExitCode::from(fault.status())
         }
-    }
-}
-
-/// Takes the lock on a folder, so that one packager alone changes it. None where it can't be opened or locked: what is to be
-/// told of that is told where the first file is put.
-fn hold(rt: &HostRuntime, folder: &str) -> Result<Option<File>, Fault>
-    ensures { OnErr result (result ≡ Err Busy) }
-{
-    let Ok(held) = File::open(rt, folder) else {
-        return Ok(None);
-    };
-    if is_held(held.try_lock())? {
-        return Ok(Some(held));
-    }
-    Ok(None)
-}
-
-/// Whether a lock was taken, by what the system answered. One that another packager has is a fault.
-fn is_held(taken: Result<(), TryLockError>) -> Result<bool, Fault>
-    ensures taken { OnOk taken (result ≡ Ok true) }
-    ensures busy { IsErrOf taken WouldBlock → result ≡ Err Busy }
-    ensures none { IfErr taken (λ why. why ≢ WouldBlock → result ≡ Ok false) }
-{
-    match taken {
-        Ok(()) => Ok(true),
-        Err(TryLockError::WouldBlock) => Err(Fault::Busy),
-        Err(TryLockError::Error(_)) => Ok(false),
     }
 }
 

@@ -1,10 +1,11 @@
 //! The file of a run's metrics, which is replaced as a whole.
-ghost use Rattle.std.specs.Prelude.{IfOk};
+ghost use Rattle.std.specs.Prelude.{◌≡◌, IfOk, OnErr, false, true};
+ghost use Rattle.std.specs.Fs.{IsFile, file_type};
 ghost use Rattle.std.specs.String.{string_bytes};
 ghost use Rattle.program.specs.PartPaths.{IsPartPath};
 
 use std::alloc::{AllocError, Global};
-use std::fs::{self, File, Files};
+use std::fs::{self, File, Files, Metadata};
 use std::io::{self, Write};
 
 /// The path of the file until it is whole: a hidden one in the same folder.
@@ -19,7 +20,16 @@ fn part_path(alloc: Global, path: &str) -> Result<String, AllocError>
 
 /// Whether there is something else than a file at the path, which isn't to be replaced by one.
 fn is_taken<R: Files>(files: &R, path: &str) -> bool {
-    match fs::symlink_metadata(files, path) {
+    is_other(fs::symlink_metadata(files, path))
+}
+
+/// Whether something was found that isn't a file.
+fn is_other(found: io::Result<Metadata>) -> bool
+    ensures file { IfOk found (λ there. IsFile (file_type there) → result ≡ false) }
+    ensures other { IfOk found (λ there. ¬ IsFile (file_type there) → result ≡ true) }
+    ensures none { OnErr found (result ≡ false) }
+{
+    match found {
         Ok(there) => !there.is_file(),
         Err(_) => false,
     }

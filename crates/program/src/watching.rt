@@ -1,6 +1,7 @@
 //! Watches a run: a thread with a viewer of its board writes its metrics to a file. The run waits for nothing of it.
-ghost use Rattle.std.specs.Prelude.{◌≡◌, ◌<◌, ◌⊎◌, ◌++◌, ℕ, IfOk, IfSome, IsErr, IsSome, List, None, OnErr, false, true};
+ghost use Rattle.std.specs.Prelude.{◌≡◌, ◌<◌, ◌⊎◌, ◌/◌, ◌++◌, ℕ, IfOk, IfSome, IsErr, IsSome, List, None, OnErr, false, true};
 ghost use Rattle.std.specs.Prelude.{fold, length, map, option_copied, option_map, replicate};
+ghost use Rattle.std.specs.Duration.{as_nanos};
 ghost use Rattle.std.specs.String.{string_bytes};
 ghost use Rattle.live_board.specs.Snapshots.{SnapshotFacts};
 ghost use Rattle.metrics.specs.Glances.{IsOfTheLast};
@@ -14,7 +15,7 @@ ghost use Rattle.program.specs.Metered.{AreSamplesOf, IsMetered, IsSeenAgain, Is
 use crate::metrics_file::replace;
 use crate::told::{Bulletin, RENDITIONS, Tellings};
 use commands::LadderPackingFault;
-use live_board::Viewer;
+use live_board::{Publisher, Viewer};
 use metrics::{
     Glance, InputSample, Known, RunSample, Seen, look, metrics_text, samples, seen_again, waiting,
 };
@@ -314,10 +315,7 @@ fn since_1970<R: Clock>(rt: &R) -> u128 {
     let Ok(now) = SystemTime::now(rt) else {
         return 0;
     };
-    match now.duration_since(UNIX_EPOCH) {
-        Ok(time) => time.as_micros(),
-        Err(_) => 0,
-    }
+    micros_in(now.duration_since(UNIX_EPOCH).ok())
 }
 
 /// Microseconds since then; 0 where there is no clock.
@@ -325,9 +323,17 @@ fn since<R: Clock>(rt: &R, begun: Option<Instant>) -> u128 {
     let Some(begun) = begun else {
         return 0;
     };
-    match begun.elapsed(rt) {
-        Ok(time) => time.as_micros(),
-        Err(_) => 0,
+    micros_in(begun.elapsed(rt).ok())
+}
+
+/// How many microseconds have passed; 0 where that isn't known.
+fn micros_in(passed: Option<Duration>) -> u128
+    ensures some { IfSome passed (λ time. result ≡ as_nanos time / 1000) }
+    ensures none { passed ≡ None → result ≡ 0 }
+{
+    match passed {
+        Some(time) => time.as_micros(),
+        None => 0,
     }
 }
 
@@ -418,8 +424,7 @@ pub struct Watched {
     pub told: Arc<Tellings>,
 }
 
-/// Whether a run is watched.
-#[derive(Drop)]
+/// Whether a run is watched. It ends with the run.
 pub enum Watch {
     /// Nobody asked for it.
     Unasked,
@@ -430,7 +435,6 @@ pub enum Watch {
 }
 
 /// The thread that watches a run.
-#[derive(Drop)]
 pub struct Watching {
     stop: Arc<StopSignal>,
     thread: JoinHandle<(Viewer, Writer)>,
@@ -515,15 +519,17 @@ impl Watch {
         }
     }
 
-    /// Ends with the run, which ended so. Its board has to be there still.
+    /// Ends with the run, which ended so. Its board is there still.
     pub fn end<R: Files + Clock + Eprint + Threads + Wait>(
         self,
         rt: &R,
         alloc: Global,
+        _board: &Publisher,
         fault: Option<&LadderPackingFault>,
     ) {
-        if let Watch::Runs(watching) = self {
-            watching.end(rt, alloc, fault);
+        match self {
+            Watch::Unasked | Watch::Unwritten => {}
+            Watch::Runs(watching) => watching.end(rt, alloc, fault),
         }
     }
 }
