@@ -82,19 +82,19 @@ fn read_one<F: FolderReader>(
 
 /// The bytes of both playlists of a rendition.
 #[derive(Drop)]
-struct Playlists {
+struct PlaylistTexts {
     media: Vec<u8>,
     frames: Vec<u8>,
 }
 
 /// Those that were read, where both were; none where neither was; Foreign where only one was.
-fn both(texts: Texts) -> Result<Option<Playlists>, WhyNot>
+fn both(texts: Texts) -> Result<Option<PlaylistTexts>, WhyNot>
     ensures ok { IfOk result (λ found. texts ≡ record { media = option_map (λ b. b.media.items) found; frames = option_map (λ b. b.frames.items) found }) }
     ensures err { IfErr result (λ why. (why ≡ WhyNot.Foreign) × IsHalfOf texts) }
 {
     match (texts.media, texts.frames) {
         (None, None) => Ok(None),
-        (Some(media), Some(frames)) => Ok(Some(Playlists { media, frames })),
+        (Some(media), Some(frames)) => Ok(Some(PlaylistTexts { media, frames })),
         _ => Err(WhyNot::Foreign),
     }
 }

@@ -7,34 +7,34 @@ use command_line::Fault;
 use std::fs::{File, TryLockError};
 use std::io;
 
-/// A folder that no other packager changes, for as long as this lives. One that can't be opened or locked isn't held: what is to be told
+/// The lock on a folder: no other packager changes it while this lives. One that can't be opened or locked isn't held: what is to be told
 /// of that is told where the first file is put.
 #[derive(Drop)]
-pub struct Held {
+pub struct FolderLock {
     _lock: Option<File>,
 }
 
 /// Takes the lock on a folder.
-pub fn hold(rt: &HostRuntime, folder: &str) -> Result<Held, Fault>
+pub fn hold(rt: &HostRuntime, folder: &str) -> Result<FolderLock, Fault>
     ensures { OnErr result (result ≡ Err Busy) }
 {
     held_by(File::open(rt, folder))
 }
 
 /// Takes the lock on a folder, if it could be opened.
-fn held_by(opened: io::Result<File>) -> Result<Held, Fault>
+fn held_by(opened: io::Result<File>) -> Result<FolderLock, Fault>
     ensures busy { OnErr result (result ≡ Err Busy) }
     ensures unopened { OnErr opened (IsOk result) }
 {
     let Ok(folder) = opened else {
-        return Ok(Held { _lock: None });
+        return Ok(FolderLock { _lock: None });
     };
     if is_held(folder.try_lock())? {
-        return Ok(Held {
+        return Ok(FolderLock {
             _lock: Some(folder),
         });
     }
-    Ok(Held { _lock: None })
+    Ok(FolderLock { _lock: None })
 }
 
 /// Whether a lock was taken, by what the system answered. One that another packager has is a fault.

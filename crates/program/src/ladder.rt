@@ -1,5 +1,5 @@
 ghost use Rattle.std.specs.Prelude.{OnErr, ◌≡◌, ◌⊎◌, ◌*◌, ◌<◌, ◌↔◌, [], All, Any, IfErr};
-ghost use Rattle.program.specs.declared.watching.Watch.TheVariants.{Unasked};
+ghost use Rattle.program.specs.declared.watching.RunWatch.TheVariants.{Unasked};
 ghost use Rattle.std.specs.Prelude.{IfOk, IfSome, IsErrOf, IsOk, IsSome, None, OnOk, false, length, map, option_map, replicate, true};
 ghost use Rattle.std.specs.List.{range_with_len};
 ghost use Rattle.std.specs.Duration.{as_nanos};
@@ -19,9 +19,9 @@ ghost use Rattle.program.specs.Channels.{GoesNotOn, GoesOn, IsJobBehind, MayHold
 ghost use Rattle.program.specs.LadderEnds.{FailsLadder, HearsOf, IsUnbegun};
 ghost use Rattle.program.specs.LadderRuns.{IsPrunedRun, IsWholeRun};
 
-use crate::holding::Held;
+use crate::holding::FolderLock;
 use crate::told::Tellings;
-use crate::watching::{Watch, Watched};
+use crate::watching::{RunWatch, Watched};
 use channel::{Resumed, resume};
 use command_line::{Fault, LadderJob};
 use commands::{LadderOptions, LadderPackingFault, Pool};
@@ -52,7 +52,7 @@ pub struct Channel<'a> {
 pub fn begin_channel<'a, R: Files + AllocGlobal + Clone + Copy + Drop>(
     rt: R,
     alloc: Global,
-    _held: &Held,
+    _held: &FolderLock,
     job: LadderJob<'a>,
 ) -> Result<Channel<'a>, Fault>
     ensures behind { IfOk result (λ channel. IsJobBehind job.entry channel.job) }
@@ -225,7 +225,7 @@ where
 /// The board of a ladder, and whether it is watched.
 struct Board {
     publisher: Publisher,
-    watch: Watch,
+    watch: RunWatch,
 }
 
 /// Opens the board of a ladder that is about to begin: it has a place for each rendition, and shows no segment.
@@ -250,7 +250,7 @@ where
         inputs,
         told,
     };
-    let watch = Watch::begin(rt, alloc, renditions, job.metrics, watched);
+    let watch = RunWatch::begin(rt, alloc, renditions, job.metrics, watched);
     Ok(Board { publisher, watch })
 }
 
@@ -258,7 +258,7 @@ where
 fn end_run<R: Files + Clock + Eprint + Threads + Wait>(
     rt: &R,
     alloc: Global,
-    watch: Watch,
+    watch: RunWatch,
     publisher: Publisher,
     answer: Result<Report, LadderPackingFault>,
 ) -> Result<(), Fault>

@@ -9,7 +9,7 @@ ghost use Rattle.metrics.specs.Seens.{unseen};
 ghost use Rattle.metrics.specs.declared.glance.Glance.{Glance};
 ghost use Rattle.program.specs.Asked.{input_sample};
 ghost use Rattle.program.specs.Faulted.{last_fault, name_of, named_in, rendition_of};
-ghost use Rattle.program.specs.declared.watching.Watch.TheVariants.{Unasked};
+ghost use Rattle.program.specs.declared.watching.RunWatch.TheVariants.{Unasked};
 ghost use Rattle.program.specs.Metered.{AreSamplesOf, IsMetered, IsSeenAgain, IsSeenOn, seen_then};
 
 use crate::metrics_file::replace;
@@ -80,7 +80,7 @@ struct Writer {
 /// What is known of a run at one moment, besides what its board shows: what it told, how its inputs stand, the fault that ended it,
 /// if one did, and the time, in microseconds.
 #[derive(Drop)]
-struct Moment<'a> {
+struct RunMoment<'a> {
     told: &'a Bulletin,
     inputs: &'a [InputSample],
     last: Option<PackFault>,
@@ -195,7 +195,7 @@ impl Writer {
     {
         let told = self.told.so_far(rt);
         let inputs = self.input_samples(rt, alloc)?;
-        let moment = Moment {
+        let moment = RunMoment {
             told: &told,
             inputs: &inputs,
             last: fault,
@@ -210,7 +210,7 @@ impl Writer {
         &self,
         alloc: Global,
         glance: &Glance,
-        moment: &Moment<'_>,
+        moment: &RunMoment<'_>,
     ) -> Result<Vec<u8>, AllocError>
         ensures { IfOk result (λ text. IsMetered (map string_bytes self.now.names.items) self.now.start glance.now
             moment.now.told.now self.now.seen.items moment.now.inputs.now moment.now.last moment.now.time text.items) }
@@ -425,7 +425,7 @@ pub struct Watched {
 }
 
 /// Whether a run is watched. It ends with the run.
-pub enum Watch {
+pub enum RunWatch {
     /// Nobody asked for it.
     Unasked,
     /// It can't be, which was told.
@@ -492,7 +492,7 @@ impl Watching {
     }
 }
 
-impl Watch {
+impl RunWatch {
     /// Watches a run of these renditions that is about to begin, if there is a path. Where it can't, that is told, and the run goes on.
     pub fn begin<R: Files + Clock + Eprint + Threads + Wait + Copy + Send + Drop + 'static>(
         rt: R,
@@ -500,7 +500,7 @@ impl Watch {
         renditions: &[Rendition],
         path: Option<&str>,
         watched: Watched,
-    ) -> Watch
+    ) -> RunWatch
     where
         R::File: Send + 'static,
         R::Dir: Send + 'static,
@@ -508,13 +508,13 @@ impl Watch {
         ensures none { path.entry ≡ None → result ≡ Unasked }
     {
         let Some(path) = path else {
-            return Watch::Unasked;
+            return RunWatch::Unasked;
         };
         match Watching::start(rt, alloc, renditions, path, watched) {
-            Some(watching) => Watch::Runs(watching),
+            Some(watching) => RunWatch::Runs(watching),
             None => {
                 let _ = rt.eprint(UNWRITTEN);
-                Watch::Unwritten
+                RunWatch::Unwritten
             }
         }
     }
@@ -528,8 +528,8 @@ impl Watch {
         fault: Option<&LadderPackingFault>,
     ) {
         match self {
-            Watch::Unasked | Watch::Unwritten => {}
-            Watch::Runs(watching) => watching.end(rt, alloc, fault),
+            RunWatch::Unasked | RunWatch::Unwritten => {}
+            RunWatch::Runs(watching) => watching.end(rt, alloc, fault),
         }
     }
 }
