@@ -1,10 +1,11 @@
-ghost use Rattle.std.specs.Prelude.{◌≡◌, IfOk, false, length, true};
+ghost use Rattle.std.specs.Prelude.{◌≡◌, Decides, IfOk, false, length, true};
 ghost use Rattle.std.specs.Arc.{arc_value};
 ghost use Rattle.read_ahead.specs.Sources.{IsSound, MayBegin, ahead_input, inputs_of, seen_first};
 
 use crate::incoming::Incoming;
 use crate::input::Contents;
 use crate::view::InputsView;
+use crate::wait_end::WaitEnd;
 use crate::waiting::wait_ready;
 use item_io::{ReadFault, Source};
 use std::alloc::AllocError;
@@ -87,8 +88,10 @@ impl<R: Wait + Clock, I: Contents> Ahead<R, I> {
     }
 
     /// Waits until something came of any input since then.
-    pub fn wait_past(&self, seen: u64) {
-        let _ = self.incoming.backlogs.wait_past(&self.rt, seen);
+    pub(crate) fn wait_past(&self, seen: u64) -> WaitEnd
+        ensures { Decides result.is_over (result.news ≡ seen) }
+    {
+        self.incoming.backlogs.wait_past(&self.rt, seen)
     }
 }
 

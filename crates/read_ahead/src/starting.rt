@@ -52,7 +52,8 @@ impl From<AllocError> for InputFault {
 impl From<Unopened> for InputFault {
     ghost from_gives = { λ _ fault. fault ≡ Unread };
 
-    fn from(_: Unopened) -> InputFault {
+    fn from(unopened: Unopened) -> InputFault {
+        let Unopened = unopened;
         InputFault::Unread
     }
 }

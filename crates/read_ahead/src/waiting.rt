@@ -14,8 +14,7 @@ use item_io::Source;
 use std::sync::Wait;
 use std::time::{Clock, Duration, Instant};
 
-/// An input can't be opened, or was silent for too long.
-#[derive(Clone, Copy)]
+/// An input can't be opened, or was silent for too long. It can't be let go, so that it's told as that.
 pub struct Unopened;
 
 /// Waits until a run may begin with all inputs; fails as soon as one can't be opened. Those that may wait for their writers are
@@ -86,7 +85,7 @@ pub fn wait_ready<R: Wait + Clock + Copy, I: Contents>(rt: &R, sources: &mut [Ah
         if is_any_ready(sources) {
             return;
         }
-        sources[0].wait_past(seen);
+        let _ = sources[0].wait_past(seen);
     }
     unreachable!()
 }
