@@ -69,6 +69,14 @@ impl Taken {
     }
 }
 
+/// Who uses a desk, and the share to which those of the workers are merged.
+#[derive(Drop)]
+struct Crew<L: Ledger, M: Ledger> {
+    workers: Vec<Pass<L>>,
+    taker: Pass<M>,
+    rest: Share<L>,
+}
+
 /// Feeds all plans, which are two with other numbers, closes the desk and takes what came of them.
 fn drive<'p, L: Ledger, M: Ledger, R: Wait>(
     rt: &R,
@@ -132,19 +140,18 @@ fn gather<L: Ledger, R: Threads>(
 fn in_scope<'p, L: Ledger + Send + Sync, M: Ledger + Send + Sync, R: Threads + Wait + Sync>(
     rt: &R,
     alloc: Global,
-    opened: Opened<'p, L, M>,
+    desk: &Desk<'p, L, M>,
+    crew: Crew<L, M>,
     plans: &'p [Plan],
     keys: &[Keys],
 ) -> Option<Told>
-    requires { (opened.rest.parts + vec_len opened.workers ≡ L.parts) × (M.parts ≡ 1) }
+    requires { (crew.rest.parts + vec_len crew.workers ≡ L.parts) × (M.parts ≡ 1) }
 {
-    let Opened {
-        desk,
+    let Crew {
         workers: passes,
         taker,
         rest,
-    } = opened;
-    let desk = &desk;
+    } = crew;
     thread::scope(
         thread::scope_env(),
         rt,
@@ -185,8 +192,18 @@ fn run_with<L: Ledger + Send + Sync, M: Ledger + Send + Sync, R: Threads + Wait 
     requires claims { (claims.name ≡ L.name) × (claims.parts ≡ L.parts) × (L.parts ≡ 2) }
     requires takes { (takes.name ≡ M.name) × (takes.parts ≡ M.parts) × (M.parts ≡ 1) }
 {
-    let opened = Desk::<'_, L, M>::new(alloc, PLANS, WORKERS, claims, takes).ok()?;
-    in_scope(rt, alloc, opened, plans, keys)
+    let Opened {
+        desk,
+        workers,
+        taker,
+        rest,
+    } = Desk::<'_, L, M>::new(alloc, PLANS, WORKERS, claims, takes).ok()?;
+    let crew = Crew {
+        workers,
+        taker,
+        rest,
+    };
+    in_scope(rt, alloc, &desk, crew, plans, keys)
 }
 
 /// A run; none where it told anything wrong, or there was no memory to begin.

@@ -3,7 +3,7 @@
 ghost use Rattle.std.specs.Prelude.{◌≡◌, ◌-◌, sum};
 
 use crate::glance::Glance;
-use crate::seen::Seen;
+use crate::seen::Sighting;
 
 /// How a rendition's input stands.
 #[derive(Clone, Copy, Debug, PartialEq, Eq, Drop)]
@@ -18,7 +18,7 @@ pub struct InputSample {
 /// it ended by. What isn't known of one is nothing.
 #[derive(Clone, Copy, Debug, Drop)]
 pub struct Known<'a> {
-    pub seen: &'a [Seen],
+    pub seen: &'a [Sighting],
     pub inputs: &'a [InputSample],
     pub faults: &'a [Option<&'static str>],
 }

@@ -18,5 +18,5 @@ pub use glance::{Glance, GlanceFault, look};
 pub use known::{InputSample, Known, waiting};
 pub use sample::{RunSample, Sample};
 pub use sampling::samples;
-pub use seen::{Seen, seen_again};
+pub use seen::{Sighting, seen_again};
 pub use text::metrics_text;

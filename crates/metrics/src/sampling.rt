@@ -9,7 +9,7 @@ ghost use Rattle.metrics.specs.Samples.{facts_of};
 use crate::glance::Glance;
 use crate::known::{InputSample, Known};
 use crate::sample::Sample;
-use crate::seen::Seen;
+use crate::seen::Sighting;
 use live_board::Totals;
 use std::alloc::{AllocError, Global};
 
@@ -22,7 +22,7 @@ const NO_TOTALS: Totals = Totals {
 };
 
 /// What was seen of a rendition that wasn't looked at.
-const UNSEEN: Seen = Seen { count: 0, at: 0 };
+const UNSEEN: Sighting = Sighting { count: 0, at: 0 };
 
 /// An input of which nothing came yet, and for which nobody waits.
 const NO_INPUT: InputSample = InputSample {

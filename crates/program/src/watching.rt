@@ -17,7 +17,8 @@ use crate::told::{Bulletin, RENDITIONS, Tellings};
 use commands::LadderPackingFault;
 use live_board::{Publisher, Viewer};
 use metrics::{
-    Glance, InputSample, Known, RunSample, Seen, look, metrics_text, samples, seen_again, waiting,
+    Glance, InputSample, Known, RunSample, Sighting, look, metrics_text, samples, seen_again,
+    waiting,
 };
 use pipeline::{PackFault, Rendition};
 use read_ahead::{InputState, InputsView};
@@ -69,7 +70,7 @@ struct Writer {
     start: u128,
     /// When it began; none where there is no clock.
     begun: Option<Instant>,
-    seen: Vec<Seen>,
+    seen: Vec<Sighting>,
     /// The inputs; none where the ladder has none.
     inputs: Option<InputsView>,
     told: Arc<Tellings>,
@@ -272,13 +273,13 @@ fn names_of(alloc: Global, renditions: &[Rendition]) -> Result<Vec<String>, Allo
 }
 
 /// So many renditions, none of which was seen yet.
-fn none_seen(alloc: Global, count: usize) -> Result<Vec<Seen>, AllocError>
+fn none_seen(alloc: Global, count: usize) -> Result<Vec<Sighting>, AllocError>
     ensures ok { IfOk result (λ seen. seen.items ≡ replicate count unseen) }
     ensures scarce { OnErr result (0 < count) }
 {
     let mut seen = Vec::new(alloc);
     for _ in 0..count {
-        seen.push(Seen { count: 0, at: 0 })?;
+        seen.push(Sighting { count: 0, at: 0 })?;
     }
     Ok(seen)
 }

@@ -26,11 +26,13 @@ pub(crate) struct Job<'g, G> {
     pub(crate) gate: &'g G,
 }
 
-/// What a run of a desk works on: the plans, and the keys of their renditions.
-#[derive(Clone, Copy, Drop)]
-struct Stock<'p> {
-    plans: &'p [Plan],
-    keys: &'p [Keys],
+/// Who uses a desk, the share to which those of the workers are merged, and what was taken so far.
+#[derive(Drop)]
+struct Crew<L: Ledger, M: Ledger> {
+    workers: Vec<Pass<L>>,
+    taker: Pass<M>,
+    rest: Share<L>,
+    taken: Taken,
 }
 
 /// What came of the plans, how often they were claimed, and what was left in the desk.
@@ -211,22 +213,21 @@ fn in_scope<
 >(
     rt: &R,
     alloc: Global,
-    opened: Opened<'p, L, M>,
-    stock: Stock<'p>,
+    desk: &Desk<'p, L, M>,
+    crew: Crew<L, M>,
+    plans: &'p [Plan],
+    keys: &[Keys],
     job: &Job<'_, G>,
-    taken: Taken,
 ) -> Told
-    requires parts { opened.rest.parts + vec_len opened.workers ≡ L.parts }
+    requires parts { crew.rest.parts + vec_len crew.workers ≡ L.parts }
     requires one { M.parts ≡ 1 }
 {
-    let Opened {
-        desk,
+    let Crew {
         workers: passes,
         taker,
         rest,
-    } = opened;
-    let desk = &desk;
-    let Stock { plans, keys } = stock;
+        taken,
+    } = crew;
     thread::scope(
         thread::scope_env(),
         rt,
@@ -270,15 +271,27 @@ fn run_with<
     alloc: Global,
     claims: Blank,
     takes: Blank,
-    stock: Stock<'_>,
+    plans: &[Plan],
+    keys: &[Keys],
     job: &Job<'_, G>,
 ) -> Result<Told, Fail>
     requires claims { (claims.name ≡ L.name) × (claims.parts ≡ L.parts) × (L.parts ≡ job.now.workers) }
     requires takes { (takes.name ≡ M.name) × (takes.parts ≡ M.parts) × (M.parts ≡ 1) }
 {
     let taken = Taken::new(alloc, job.plans)?;
-    let opened = Desk::<'_, L, M>::new(alloc, job.queue, job.workers, claims, takes)?;
-    Ok(in_scope(rt, alloc, opened, stock, job, taken))
+    let Opened {
+        desk,
+        workers,
+        taker,
+        rest,
+    } = Desk::<'_, L, M>::new(alloc, job.queue, job.workers, claims, takes)?;
+    let crew = Crew {
+        workers,
+        taker,
+        rest,
+        taken,
+    };
+    Ok(in_scope(rt, alloc, &desk, crew, plans, keys, job))
 }
 
 /// Runs a job so often, and tells what all runs told, or the first that told otherwise.
@@ -291,17 +304,14 @@ pub(crate) fn run<G: Gate + Sync, R: Threads + Wait + Sync>(
 ) -> Result<Told, Fail> {
     let plans = plans(alloc).ok_or("no plans")?;
     let keys = keys(alloc).ok_or("no keys")?;
-    let stock = Stock {
-        plans: &plans,
-        keys: &keys,
-    };
     for _ in 0..times {
         let told = run_with::<Brand, Brand, G, R>(
             rt,
             alloc,
             Blank::new(job.workers as u64),
             Blank::new(1),
-            stock,
+            &plans,
+            &keys,
             job,
         )?;
         if told != wanted {

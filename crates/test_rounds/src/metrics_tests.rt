@@ -3,7 +3,7 @@ ghost use Rattle.std.specs.Prelude.{◌≡◌};
 use crate::asserts::assert_same;
 use live_board::{HeldPublisher, Snapshot, Totals, Viewer, board};
 use metrics::{
-    Glance, GlanceFault, InputSample, Known, RunSample, Seen, look, metrics_text, samples,
+    Glance, GlanceFault, InputSample, Known, RunSample, Sighting, look, metrics_text, samples,
     seen_again, waiting,
 };
 use std::alloc::{AllocError, Global};
@@ -90,7 +90,7 @@ fn shown(alloc: Global) -> Result<Snapshot, AllocError> {
 
 /// The text of what was seen, where both had been looked at before.
 fn text(alloc: Global, seen: &Glance) -> Result<Vec<u8>, AllocError> {
-    let before = [Seen { count: 2, at: 1 }, Seen { count: 1, at: 1 }];
+    let before = [Sighting { count: 2, at: 1 }, Sighting { count: 1, at: 1 }];
     let now = 9_000_001;
     let next = seen_again(alloc, &before, &seen.counts, now)?;
     let input = InputSample {
