@@ -4,7 +4,7 @@ ghost use Rattle.clap.specs.Values.{kind_of};
 ghost use Rattle.clap.specs.Words.{app_of, found_of, subcommand_of, subcommand_rows_of};
 ghost use Rattle.clap.specs.declared.builder.command.Command.TheViews.{out-Command};
 ghost use Rattle.clap.specs.declared.error.Error.{Error};
-ghost use Rattle.command_line.specs.Faults.{IsRefused};
+ghost use Rattle.command_line.specs.Faults.{IsRefusal, IsRefused};
 ghost use Rattle.command_line.specs.Jobs.{AreCheckOptions, AreCipherOptions, AreSettings, IsCommand, IsJobOf, IsLadderJob, IsNoCall};
 ghost use Rattle.command_line.specs.Refusals.{AreNoKeys, AreNoSettings, IsNoCipher, IsNoJob, IsNoLadder, files_view};
 ghost use Rattle.command_line.specs.Options.{GetsCommand, check_options, cipher_options, command_of, ladder_options, stream_options, tshls};
@@ -126,7 +126,15 @@ fn no_command(command: &mut Command<'_>) -> Fault
     ensures refused { IsRefused ⊤ result }
     ensures told { (error : Error) → result ≡ Fault.Usage error → kind_of error ≡ ErrorKind.MissingSubcommand }
 {
-    match command.error(ErrorKind::MissingSubcommand, "a command is wanted") {
+    refusal(command.error(ErrorKind::MissingSubcommand, "a command is wanted"))
+}
+
+/// What clap refuses, as a fault; want of memory where its refusal couldn't be made.
+fn refusal(made: Result<clap::Error, AllocError>) -> Fault
+    ensures made { IfOk made (λ error. IsRefusal error result) }
+    ensures scarce { IfErr made (λ _. result ≡ Fault.NoMemory) }
+{
+    match made {
         Ok(error) => Fault::from(error),
         Err(_) => Fault::NoMemory,
     }
