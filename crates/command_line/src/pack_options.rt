@@ -5,9 +5,10 @@ ghost use Rattle.command_line.specs.Options.{GetsOptions, entries, flagged, ladd
 ghost use Rattle.command_line.specs.Words.{ArePoolWords, IsFlagOf, text_of, texts_of};
 
 use crate::options::{
-    NUMBERS, NumberOption, flag, given_number, needed, needed_text, text, with_forms, with_numbers,
+    NUMBERS, NumberOption, flag, given_number, needed_text, with_forms, with_numbers,
 };
-use clap::{Arg, ArgAction, ArgMatches, Command};
+use crate::shown;
+use clap::{Arg, ArgMatches, Command};
 use commands::{LadderWords, PoolWords};
 use std::alloc::{AllocError, Global};
 
@@ -15,8 +16,7 @@ use std::alloc::{AllocError, Global};
 pub fn with_ladder<'a>(alloc: Global, command: Command<'a>) -> Result<Command<'a>, AllocError>
     ensures { IfOk result (λ made. GetsOptions command.entry ladder_options made) }
 {
-    let out = "The folder that the files are written to, which has to be there";
-    let command = command.arg(needed(alloc, "out", "DIR", out))?;
+    let command = command.arg(shown::out(alloc))?;
     let command = with_flags(alloc, command, &FOLDER)?;
     let command = with_metrics(alloc, command)?;
     let command = with_numbers(alloc, command, &POOL)?;
@@ -74,9 +74,7 @@ fn with_flags<'a>(
 fn with_metrics<'a>(alloc: Global, command: Command<'a>) -> Result<Command<'a>, AllocError>
     ensures { IfOk result (λ made. GetsOptions command.entry (text_option (codes "metrics") ∷ []) made) }
 {
-    let help =
-        "A file that is replaced every five seconds and at the end: the run's numbers, in the text format of Prometheus";
-    command.arg(text(alloc, "metrics", "FILE", help))
+    command.arg(shown::metrics(alloc))
 }
 
 /// The numbers of the threads that seal, and of reading ahead.
@@ -117,15 +115,7 @@ const POOL: [NumberOption; 5] = [
 fn with_entries<'a>(alloc: Global, command: Command<'a>) -> Result<Command<'a>, AllocError>
     ensures { IfOk result (λ made. GetsOptions command.entry (entries ∷ []) made) }
 {
-    let entry =
-        "A rendition: its name, codecs, size, keys and the path of its stream, with a colon between";
-    let entries = Arg::new(alloc, "entries")
-        .value_name("NAME:CODECS:WxH:KEY[+KEY..]:PATH")
-        .required(true)
-        .num_args(1..)
-        .action(ArgAction::Append)
-        .help(entry);
-    command.arg(entries)
+    command.arg(shown::entries(alloc))
 }
 
 /// The texts of a ladder's renditions.

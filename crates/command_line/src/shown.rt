@@ -1,11 +1,11 @@
 //! The options of the commands, each with what help shows of it.
 ghost use Rattle.std.specs.Prelude.{◌≡◌, Some, codes, false, option_map};
 ghost use Rattle.clap.specs.Words.{rule_of};
-ghost use Rattle.command_line.specs.Options.{flag, needed, number_option, text_option, with_default, word};
+ghost use Rattle.command_line.specs.Options.{entries, flag, needed, number_option, text_option, with_default, word};
 ghost use Rattle.command_line.specs.Shown.{IsShown};
 
 use crate::options::{flag, needed, number, text, word};
-use clap::Arg;
+use clap::{Arg, ArgAction};
 use std::alloc::Global;
 
 /// The key of `seal` and `open`.
@@ -105,6 +105,43 @@ pub(crate) fn event<'a>(alloc: Global) -> Arg<'a>
 {
     let help = "List all segments, as those of an event";
     flag(alloc, "event", help)
+}
+
+/// The folder that `pack` writes to.
+pub(crate) fn out<'a>(alloc: Global) -> Arg<'a>
+    ensures rule { rule_of result ≡ needed (text_option (codes "out")) }
+    ensures alone { result.global ≡ false }
+    ensures shown { IsShown (codes "DIR")
+        (codes "The folder that the files are written to, which has to be there") result }
+{
+    let help = "The folder that the files are written to, which has to be there";
+    needed(alloc, "out", "DIR", help)
+}
+
+/// The file of its metrics.
+pub(crate) fn metrics<'a>(alloc: Global) -> Arg<'a>
+    ensures rule { rule_of result ≡ text_option (codes "metrics") }
+    ensures alone { result.global ≡ false }
+    ensures shown { IsShown (codes "FILE")
+        (codes "A file that is replaced every five seconds and at the end: the run's numbers, in the text format of Prometheus") result }
+{
+    let help =
+        "A file that is replaced every five seconds and at the end: the run's numbers, in the text format of Prometheus";
+    text(alloc, "metrics", "FILE", help)
+}
+
+/// Its renditions.
+pub(crate) fn entries<'a>(alloc: Global) -> Arg<'a>
+    ensures rule { rule_of result ≡ entries }
+    ensures alone { result.global ≡ false }
+    ensures shown { IsShown (codes "NAME:CODECS:WxH:KEY[+KEY..]:PATH")
+        (codes "A rendition: its name, codecs, size, keys and the path of its stream, with a colon between") result }
+{
+    let help =
+        "A rendition: its name, codecs, size, keys and the path of its stream, with a colon between";
+    word(alloc, "entries", "NAME:CODECS:WxH:KEY[+KEY..]:PATH", help)
+        .num_args(1..)
+        .action(ArgAction::Append)
 }
 
 /// The keys of a playlist that is checked.

@@ -5,4 +5,4 @@ use Rattle.command_line.proofs.pack_options.with_metrics.Goals as goal
 pub returns : goal.returns
 returns c =
     let command = c.args.command in
-    IfOk-weaker c.arg.result _ _ (λ made adds. gets-more command _ made _ _ _ (gets-none command) adds c.text.ensures.alone c.text.ensures.rule) c.arg.ensures
+    IfOk-weaker c.arg.result _ _ (λ made adds. gets-more command _ made _ _ _ (gets-none command) adds c.metrics.ensures.alone c.metrics.ensures.rule) c.arg.ensures
