@@ -1,5 +1,5 @@
 //! How faults print: their names, and the numbers that they have.
-ghost use Rattle.std.specs.Prelude.{◌≡◌, Some};
+ghost use Rattle.std.specs.Prelude.{◌≡◌, Some, false, is_none};
 ghost use Rattle.std.specs.Fmt.{DisplaysOnOk};
 ghost use Rattle.command_line.specs.FaultLines.{
   checking_text,
@@ -35,13 +35,28 @@ impl fmt::Display for Fault {
     ghost output = { fault_line };
 
     fn fmt<W: fmt::Write>(&self, f: &mut fmt::Formatter<W>) -> fmt::Result {
-        if let Fault::Usage(error) = self {
-            return write!(f, "{error}");
+        if is_bare(self) {
+            return write_fault(f, self);
         }
-        f.write_str("tshls: ")?;
-        write_fault(f, self)?;
-        f.write_str("\n")
+        write_named(f, self)
     }
+}
+
+/// Whether what clap says is the whole line, without the program's name.
+fn is_bare(fault: &Fault) -> bool
+    ensures { result ≡ is_none (fault_text fault.now) }
+{
+    matches!(fault, Fault::Usage(_))
+}
+
+/// The line of a fault behind the program's name.
+fn write_named<W: fmt::Write>(f: &mut fmt::Formatter<W>, fault: &Fault) -> fmt::Result
+    requires { is_none (fault_text fault.now) ≡ false }
+    ensures { DisplaysOnOk W.write_str_gives f.old result (fault_line fault.now) f.new }
+{
+    f.write_str("tshls: ")?;
+    write_fault(f, fault)?;
+    f.write_str("\n")
 }
 
 /// The name of a fault and its numbers; of a command line that isn't one, what clap says.
