@@ -1,5 +1,5 @@
 //! Files that are read by their paths.
-ghost use Rattle.std.specs.Prelude.{◌≡◌, ◌≢◌, ⊤, List, ℕ, IfOk, IsErrOf};
+ghost use Rattle.std.specs.Prelude.{◌≡◌, ◌≢◌, ⊤, List, ℕ, Ok, IfErr, IfOk, IfSome, IsErrOf, take};
 ghost use Rattle.std.specs.IoError.{error_kind};
 ghost use Rattle.std.specs.declared.io.ErrorKind.TheVariants.{OutOfMemory};
 ghost use Rattle.commands.specs.declared.files.FileFault.TheVariants.{NoMemory, Unread};
@@ -75,12 +75,31 @@ fn fault_of(error: io::Error) -> FileFault
     }
 }
 
+/// What was read, with why nothing was.
+fn told(read: io::Result<Vec<u8>>) -> Result<Vec<u8>, FileFault>
+    ensures ok { IfOk read (λ bytes. result ≡ Ok bytes) }
+    ensures no_memory { IfErr read (λ error. error_kind error ≡ OutOfMemory → IsErrOf result FileFault.NoMemory) }
+    ensures unread { IfErr read (λ error. error_kind error ≢ OutOfMemory → IsErrOf result FileFault.Unread) }
+{
+    match read {
+        Ok(bytes) => Ok(bytes),
+        Err(error) => Err(fault_of(error)),
+    }
+}
+
+/// The first bytes that reads give.
+fn first_of<R: Read + Drop>(alloc: Global, reader: R, most: usize) -> io::Result<Vec<u8>>
+    ensures { IfOk result (λ bytes. IfSome (R.remaining reader) (λ left. bytes.items ≡ take most left)) }
+{
+    let mut bytes = Vec::new(alloc);
+    reader.take(most as u64).read_to_end(&mut bytes)?;
+    Ok(bytes)
+}
+
 /// The first bytes of a file of the system.
 fn front(rt: &HostRuntime, path: &str, most: usize) -> io::Result<Vec<u8>> {
     let file = File::open(rt, path)?;
-    let mut bytes = Vec::new(rt.alloc());
-    file.take(most as u64).read_to_end(&mut bytes)?;
-    Ok(bytes)
+    first_of(rt.alloc(), file, most)
 }
 
 /// The files of the system. What they hold is the system's, so nothing is claimed of it.
@@ -92,16 +111,10 @@ impl FileReader for HostRuntime {
     ghost wants = { λ _ _. ⊤ };
 
     fn read(&self, _alloc: Global, path: &str) -> Result<Vec<u8>, FileFault> {
-        match fs::read(self, path) {
-            Ok(bytes) => Ok(bytes),
-            Err(error) => Err(fault_of(error)),
-        }
+        told(fs::read(self, path))
     }
 
     fn read_front(&self, _alloc: Global, path: &str, most: usize) -> Result<Vec<u8>, FileFault> {
-        match front(self, path, most) {
-            Ok(bytes) => Ok(bytes),
-            Err(error) => Err(fault_of(error)),
-        }
+        told(front(self, path, most))
     }
 }
