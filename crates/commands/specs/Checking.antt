@@ -12,7 +12,8 @@ use Rattle.hls_check.specs.declared.checking.CheckFault.TheVariants.{Text, Segme
 use Rattle.media_reading.specs.declared.list_fault.ListFault.TheVariants.{NoMemory as NoMemoryForText}
 use Rattle.media_reading.specs.MediaTexts.{IsListing, listing_text, IsUnread, WantsMemory}
 use Rattle.hls_check.specs.declared.fault.UnpackFault.TheVariants.{NoMemory as NoMemoryForSegments}
-use Rattle.hls_check.specs.Checks.{AreWhole, IsFaulty, WantsBytes}
+use Rattle.hls_check.specs.Checks.{AreUnpacked, AreWhole, IsFaulty, WantsBytes}
+use Rattle.hls_check.specs.Unpacking.{HasBytes, IsTold, packed}
 use Rattle.commands.specs.declared.checking.CheckingFault.{CheckingFault}
 use Rattle.commands.specs.declared.checking.CheckingFault.TheVariants.{Unread, Faulty, Unwritten, NoMemory}
 use Rattle.item_io.specs.Writing.{WritesBeginning}
@@ -60,6 +61,22 @@ pub record ChecksWell (gives : List ℕ → List ℕ → Type 0) (keys : List (L
   pub segments : List (List ℕ)
   pub read : GivesAll gives playlist text segments
   pub whole : AreWhole text segments keys c
+
+-- the files at these paths gave the segments of a playlist, and those unpack: so many, to so many bytes
+pub record UnpackWell (gives : List ℕ → List ℕ → Type 0) (keys : List (List ℕ)) (listing : Listing) (paths : List (List ℕ)) (c : Checked) : Type 0 where
+  pub segments : List (List ℕ)
+  pub given : AllGive gives paths segments
+  pub unpacked : AreUnpacked (packed listing.salt listing.entries segments keys) c
+
+-- why the files at these paths don't give the segments of a playlist, or those don't unpack
+abbrev pub IsSegmentsFault : (List ℕ → List ℕ → Type 0) → (List ℕ → Type 0) → (List ℕ → Type 0) → List (List ℕ) → Listing → List (List ℕ) → CheckingFault → Type 0
+IsSegmentsFault gives refuses wants keys listing paths Unread = RefusesOne refuses paths
+IsSegmentsFault gives refuses wants keys listing paths (Faulty (Text why)) = ⊥
+IsSegmentsFault gives refuses wants keys listing paths (Faulty (Segments why)) =
+    (segments : List (List ℕ)) × AllGive gives paths segments × IsTold (packed listing.salt listing.entries segments keys) why
+    × (why ≡ NoMemoryForSegments → HasBytes (packed listing.salt listing.entries segments keys))
+IsSegmentsFault gives refuses wants keys listing paths Unwritten = ⊥
+IsSegmentsFault gives refuses wants keys listing paths NoMemory = RefusesOne wants paths
 
 -- the file of a playlist was refused, or gave what isn't UTF-8
 abbrev pub IsNoText : (List ℕ → List ℕ → Type 0) → (List ℕ → Type 0) → List ℕ → Type 0

@@ -1,4 +1,4 @@
-ghost use Rattle.std.specs.Prelude.{◌≡◌, ◌≢◌, ◌<◌, OnOk, OnErr, IfOk, IfErr, IsErr, IsErrOf, length, map};
+ghost use Rattle.std.specs.Prelude.{◌≡◌, ◌≢◌, ◌<◌, OnOk, OnErr, IfOk, IfErr, IsErrOf, length, map};
 ghost use Rattle.std.specs.Path.{path_buf_bytes};
 ghost use Rattle.std.specs.String.{string_bytes};
 ghost use Rattle.commands.specs.Checking;
@@ -163,24 +163,41 @@ fn fill_segments<F: FileReader>(
     Ok(())
 }
 
-/// The bytes of the segments that a playlist lists, in the order of its entries.
+/// The bytes of the files at these paths, each read into its place. Only a file wants memory here.
 fn read_segments<F: FileReader>(
     alloc: Global,
     files: &F,
-    playlist: &str,
-    listing: &Listing,
+    room: SegmentRoom,
 ) -> Result<Vec<Vec<u8>>, FileFault>
-    ensures ok { IfOk result (λ segments. Checking.AllGive (F.gives files.now) (Checking.segment_paths playlist.now listing.now)
-        (map (λ s. s.items) segments.items)) }
-    ensures unread { IsErrOf result FileFault.Unread → Checking.RefusesOne (F.refuses files.now) (Checking.segment_paths playlist.now listing.now) }
-    ensures none { IsErr result → 0 < length listing.now.entries }
+    requires places { length room.segments.items ≡ length room.paths.items }
+    ensures ok { IfOk result (λ segments. Checking.AllGive (F.gives files.now) (map path_buf_bytes room.paths.items) (map (λ s. s.items) segments.items)) }
+    ensures unread { IsErrOf result FileFault.Unread → Checking.RefusesOne (F.refuses files.now) (map path_buf_bytes room.paths.items) }
+    ensures no_memory { IsErrOf result FileFault.NoMemory → Checking.RefusesOne (F.wants files.now) (map path_buf_bytes room.paths.items) }
 {
     let SegmentRoom {
         paths,
         mut segments,
-    } = segment_room(alloc, playlist, listing)?;
+    } = room;
     fill_segments(alloc, files, &paths, &mut segments)?;
     Ok(segments)
+}
+
+/// How many segments a playlist lists, and to how many bytes those at these paths unpack. What a segment holds is told as
+/// such; NoMemory only where a file wanted it.
+fn check_segments<F: FileReader>(
+    alloc: Global,
+    files: &F,
+    keys: &[[u8; 16]],
+    listing: &Listing,
+    room: SegmentRoom,
+) -> Result<Checked, CheckingFault>
+    requires places { length room.segments.items ≡ length room.paths.items }
+    ensures ok { IfOk result (Checking.UnpackWell (F.gives files.now) keys.now listing.now (map path_buf_bytes room.paths.items)) }
+    ensures err { IfErr result (Checking.IsSegmentsFault (F.gives files.now) (F.refuses files.now) (F.wants files.now) keys.now listing.now
+        (map path_buf_bytes room.paths.items)) }
+{
+    let segments = read_segments(alloc, files, room)?;
+    Ok(check_listing(alloc, listing, &segments, keys)?)
 }
 
 /// How many segments a playlist lists, and to how many bytes they unpack.
@@ -195,8 +212,8 @@ fn check_files<F: FileReader>(
 {
     let text = read_text(alloc, files, playlist)?;
     let listing = read_media(alloc, &text)?;
-    let segments = read_segments(alloc, files, playlist, &listing)?;
-    Ok(check_listing(alloc, &listing, &segments, keys)?)
+    let room = segment_room(alloc, playlist, &listing)?;
+    check_segments(alloc, files, keys, &listing, room)
 }
 
 /// The line that says so.
