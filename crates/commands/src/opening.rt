@@ -1,5 +1,6 @@
-ghost use Rattle.std.specs.Prelude.{◌≡◌, ◌≢◌, ◌<◌, ◌⊎◌, ◌%◌, length, OnOk, IfOk, IfErr, IsErrOf, true, false, is_err, Ok};
+ghost use Rattle.std.specs.Prelude.{◌≡◌, ◌≢◌, ◌<◌, ◌⊎◌, ◌%◌, ℕ, List, length, OnOk, IfOk, IfErr, IsErrOf, true, false, is_err, Ok};
 ghost use Rattle.std.specs.List.{list_all};
+ghost use Rattle.aes_cbc.specs.Opening.{Seals, IsInBlocks, IsNotBlocks};
 ghost use Rattle.hex.specs.Hex.{decode_of, is_hex_digit};
 ghost use Rattle.commands.specs.Counts.{HasRoom, ReadsFewer, OpeningCounts};
 ghost use Rattle.commands.specs.Hex.{without_end};
@@ -130,6 +131,24 @@ fn decode_line(alloc: Global, line: &[u8]) -> Result<Vec<u8>, OpeningFault>
     }
 }
 
+/// The text that has these sealed bytes. NoMemory is told only where there is one.
+fn opened(
+    alloc: Global,
+    key: &Key,
+    vector: &[u8; 16],
+    sealed: &[u8],
+) -> Result<Vec<u8>, OpeningFault>
+    ensures ok { IfOk result (λ plain. Seals key.now vector.now plain.items sealed.now) }
+    ensures not_blocks { IsErrOf result OpeningFault.NotBlocks → IsNotBlocks sealed.now }
+    ensures bad_padding { IsErrOf result OpeningFault.BadPadding → IsInBlocks sealed.now × ((plain : List ℕ) → ¬ Seals key.now vector.now plain sealed.now) }
+    ensures no_memory { IsErrOf result OpeningFault.NoMemory → (plain : List ℕ) × Seals key.now vector.now plain sealed.now }
+    ensures scarce { IsErrOf result OpeningFault.NoMemory → 0 < length sealed.now }
+    ensures only { IfErr result (λ fault. (fault ≡ OpeningFault.NotBlocks) ⊎ (fault ≡ OpeningFault.BadPadding) ⊎ (fault ≡ OpeningFault.NoMemory)) }
+{
+    let plain = aes_cbc::open(alloc, key, vector, sealed)?;
+    Ok(plain)
+}
+
 /// What `open` writes of an input that it reads to its end. Nothing is written yet, so no fault here is that of a write.
 fn opened_line<S: Source>(
     alloc: Global,
@@ -150,7 +169,7 @@ fn opened_line<S: Source>(
 {
     let line = read_all(alloc, input)?;
     let sealed = decode_line(alloc, &line)?;
-    let plain = aes_cbc::open(alloc, key, vector, &sealed)?;
+    let plain = opened(alloc, key, vector, &sealed)?;
     Ok(plain)
 }
 

@@ -1,25 +1,10 @@
 use Rattle.std.proofs.Common.{rules, ◌≡◌, ap, Err}
 use Rattle.std.proofs.lemmas.Result.{err_from_is_err_and}
-use Rattle.commands.specs.Told.{opening_of, opening_of_reading}
+use Rattle.commands.specs.Told.{opening_of_reading}
 use Rattle.commands.specs.declared.opening.OpeningFault.TheVariants.{NoMemory, NotBlocks}
 use Rattle.commands.proofs.Decoding.{behind_digits, some-line}
-use Rattle.commands.proofs.SealedTexts.{opening_of-NoMemory, opening_of-NotBlocks, opening_of_reading-NoMemory, some-sealed}
+use Rattle.commands.proofs.SealedTexts.{opening_of_reading-NoMemory}
 use Rattle.commands.proofs.opening.opened_line.Goals as goal
-
-pub returns-in_err-plain-clause-not_blocks : goal.returns-in_err-plain-clause-not_blocks
-returns-in_err-plain-clause-not_blocks g c = λ told.
-    let p = err_from_is_err_and c.from_residual-in_err-plain.result c.from_residual-in_err-plain.ensures.1 in
-    let same : opening_of c.in_err-plain.field-0.0 ≡ NotBlocks = cc (told, p.1, p.2) in
-    let not_blocks = c.in_err-plain.ensures.not_blocks.0 (ap Err (opening_of-NotBlocks _ same)) in
-    record {
-      sealed = c.in_ok-sealed.sealed.items;
-      read = record {
-        bytes = c.in_ok-line.line.items;
-        read = c.in_ok-line.ensures.all;
-        digits = rw c.deref.ensures.value at c.in_ok-sealed.ensures.ok;
-      };
-      not_blocks = rw c.deref-2.ensures.value at not_blocks;
-    }
 
 pub returns-in_err-line-clause-scarce : goal.returns-in_err-line-clause-scarce
 returns-in_err-line-clause-scarce g c = λ told.
@@ -30,9 +15,24 @@ returns-in_err-line-clause-scarce g c = λ told.
 pub returns-in_err-sealed-clause-scarce : goal.returns-in_err-sealed-clause-scarce
 returns-in_err-sealed-clause-scarce g c = search (rules, behind_digits)
 
+pub returns-in_err-plain-clause-not_blocks : goal.returns-in_err-plain-clause-not_blocks
+returns-in_err-plain-clause-not_blocks g c = λ told.
+    let p = err_from_is_err_and c.from_residual-in_err-plain.result c.from_residual-in_err-plain.ensures.1 in
+    let same : c.in_err-plain.field-0.0 ≡ NotBlocks = cc (told, p.1, p.2) in
+    let not_blocks = c.in_err-plain.ensures.not_blocks (ap Err same) in
+    record {
+      sealed = c.in_ok-sealed.sealed.items;
+      read = record {
+        bytes = c.in_ok-line.line.items;
+        read = c.in_ok-line.ensures.all;
+        digits = rw c.deref.ensures.value at c.in_ok-sealed.ensures.ok;
+      };
+      not_blocks = rw c.deref-2.ensures.value at not_blocks;
+    }
+
 pub returns-in_err-plain-clause-scarce : goal.returns-in_err-plain-clause-scarce
 returns-in_err-plain-clause-scarce g c = λ told.
     let p = err_from_is_err_and c.from_residual-in_err-plain.result c.from_residual-in_err-plain.ensures.1 in
-    let same : opening_of c.in_err-plain.field-0.0 ≡ NoMemory = cc (told, p.1, p.2) in
-    let some = some-sealed _ _ (ap Err (opening_of-NoMemory _ same)) c.in_err-plain.ensures.not_blocks.1 in
+    let same : c.in_err-plain.field-0.0 ≡ NoMemory = cc (told, p.1, p.2) in
+    let some = c.in_err-plain.ensures.scarce (ap Err same) in
     c.in_ok-line.ensures.some (some-line c.in_ok-line.line.items c.in_ok-sealed.sealed.items (rw c.deref.ensures.value at c.in_ok-sealed.ensures.ok) (rw c.deref-2.ensures.value at some))
