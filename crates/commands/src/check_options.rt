@@ -1,5 +1,5 @@
 //! The keys and the playlist of `check`, as its words tell them.
-ghost use Rattle.std.specs.Prelude.{◌≡◌, ◌↔◌, ℕ, false, IfOk, IsErrOf, length, map};
+ghost use Rattle.std.specs.Prelude.{◌≡◌, ◌↔◌, ℕ, true, false, IfOk, IsErrOf, length, map};
 ghost use Rattle.std.specs.String.{string_bytes};
 ghost use Rattle.commands.specs.KeyFiles.{TellKeys, counted, told};
 ghost use Rattle.commands.specs.KeyLists.{IsBadKeyFile, IsUnreadKey, key_texts, are_keys};
@@ -41,6 +41,28 @@ fn check_room(alloc: Global, words: CheckWords<'_>) -> Result<CheckRoom<'_>, All
     })
 }
 
+/// The options for which memory was taken. NoMemory is told only of a file that wanted it.
+fn filled_options<F: FileReader>(
+    alloc: Global,
+    files: &F,
+    words: CheckWords<'_>,
+    room: CheckRoom<'_>,
+) -> Result<CheckOptions, KeyListFault>
+    requires good { are_keys words.keys.now ≡ true }
+    requires words { map told room.keys.words.items ≡ counted 1 (key_texts words.keys.now) }
+    requires places { length room.keys.keys.items ≡ length room.keys.words.items }
+    ensures keys { IfOk result (λ options. TellKeys (F.gives files.now) (key_texts words.entry.keys.now) options.keys.items) }
+    ensures playlist { IfOk result (λ options. string_bytes options.playlist ≡ string_bytes room.entry.playlist) }
+    ensures bad { IsErrOf result KeyListFault.BadKey → ⊥ }
+    ensures unread { IsErrOf result KeyListFault.Unread → IsUnreadKey (F.gives files.now) (F.refuses files.now) words.entry.keys.now }
+    ensures bad_file { (n : ℕ) → IsErrOf result (KeyListFault.BadKeyFile n) → IsBadKeyFile (F.gives files.now) words.entry.keys.now n }
+    ensures no_memory { IsErrOf result KeyListFault.NoMemory → IsUnreadKey (F.gives files.now) (F.wants files.now) words.entry.keys.now }
+{
+    let CheckRoom { keys, playlist } = room;
+    let keys = read_keys(alloc, files, keys, words.keys)?;
+    Ok(CheckOptions { keys, playlist })
+}
+
 /// The options that the words of `check` ask for, with the keys that they tell.
 ///
 /// BadKey is told before all else, and NoMemory before any file is read where memory was wanted for the options. Unread and
@@ -59,7 +81,6 @@ pub fn read_check_options<F: FileReader>(
     if !are_keys(words.keys) {
         return Err(KeyListFault::BadKey);
     }
-    let CheckRoom { keys, playlist } = check_room(alloc, words)?;
-    let keys = read_keys(alloc, files, keys, words.keys)?;
-    Ok(CheckOptions { keys, playlist })
+    let room = check_room(alloc, words)?;
+    filled_options(alloc, files, words, room)
 }
