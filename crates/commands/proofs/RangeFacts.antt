@@ -10,7 +10,7 @@ use Rattle.commands.specs.declared.outside.Ranged.{Ranged}
 use Rattle.commands.specs.declared.outside.Ranged.TheVariants.{Target, Segment, Window, Frame, Gap, Most, Program, Workers, Queue, Batch, Stall, Ahead}
 use Rattle.commands.specs.declared.pool.Pool.{Pool}
 use Rattle.commands.specs.Entries.{Entry, entry_of}
-use Rattle.commands.specs.LadderOptions.{Asked, AreRenditionsOf, HasTurns, IsAskedLadder, IsOutside, entry_words}
+use Rattle.commands.specs.LadderOptions.{Asked, AreRenditionsOf, HasTurns, IsOutside, entry_words}
 use Rattle.commands.specs.Pools.{IsPool}
 use Rattle.commands.specs.Ranges.{AreNumbersWithin, IsUpTo, IsWithin}
 use Rattle.commands.specs.Settings.{Words, AreGoodWords, AreOutside, FitsCut, cut_of}

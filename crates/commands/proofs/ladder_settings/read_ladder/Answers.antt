@@ -15,8 +15,8 @@ ladder_under-requires-clause-keys g c =
     let many : length c.deref.result.now ≡ length c.in_ok-key_words.key_words.items = search rules in
     many ∙ sym (length-map c.in_ok-key_words.key_words.items told) ∙ ap length c.in_ok-key_words.ensures.ok ∙ words-length 1 (map entry_value c.args.entries.now)
 
-pub filled-requires-clause-words : goal.filled-requires-clause-words
-filled-requires-clause-words g c =
+pub told_keys-requires-clause-words : goal.told_keys-requires-clause-words
+told_keys-requires-clause-words g c =
     let items : c.deref-2.result.now ≡ c.in_ok-key_words.key_words.items = search rules in
     ap (λ ws. list_all (λ (w : ToldWord). is_key_word w.text) (map told ws)) items ∙ ap (list_all (λ (w : ToldWord). is_key_word w.text)) c.in_ok-key_words.ensures.ok
     ∙ all-good 1 (map entry_value c.args.entries.now) (subst (All IsWhole) (sym c.requires.each) (whole-entries (asked_of c.args.words c.args.numbers c.args.pool) c.requires.turns))
