@@ -1,4 +1,4 @@
-ghost use Rattle.std.specs.Prelude.{◌≡◌, ◌+◌, ◌<◌, ◌≤◌, ◌^◌, [], Option, None, length, OnOk, OnErr};
+ghost use Rattle.std.specs.Prelude.{◌≡◌, ◌⊎◌, ◌+◌, ◌-◌, ◌<◌, ◌≤◌, ◌^◌, [], Option, None, length, OnOk, OnErr};
 ghost use Rattle.std.specs.VecDeque.{deque_len, deque_capacity};
 ghost use Rattle.bandwidth.specs.Runs.{is_in_range};
 ghost use Rattle.bandwidth.specs.Steps.{AreSmall, IsOf, BestOf};
@@ -53,11 +53,14 @@ impl Candidates {
         requires few { place.at < 2 ^ 52 }
         ensures ok { OnOk result (IsOneStartMore self.old place self.new) }
         ensures err { OnErr result (AreSameCandidates self.old self.new) }
+        ensures scarce { OnErr result ((deque_capacity self.old.front.starts ≤ deque_len self.old.front.starts)
+            ⊎ (deque_capacity self.old.back.corners < deque_len self.old.back.corners + (place.at + 1 - self.old.back.until))) }
     {
-        self.back
-            .corners
-            .reserve((place.at + 1 - self.back.until) as usize)?;
-        self.front.starts.push_back(RunStart { place, next: 0 })?;
+        let more = place.at + 1 - self.back.until;
+        make_room(&mut self.front.starts, &mut self.back.corners, more)?;
+        self.front
+            .starts
+            .push_back_reserved(RunStart { place, next: 0 });
         Ok(())
     }
 
@@ -179,4 +182,22 @@ impl Candidates {
         }
         walk_corners(_target, &self.front, &mut self.back, total, best, _spans)
     }
+}
+
+/// Makes room for one start more, and for so many corners more.
+fn make_room(
+    starts: &mut VecDeque<RunStart>,
+    corners: &mut VecDeque<Place>,
+    more: u64,
+) -> Result<(), AllocError>
+    requires { more < 2 ^ 63 }
+    ensures starts { starts.new.items ≡ starts.old.items }
+    ensures corners { corners.new.items ≡ corners.old.items }
+    ensures len { (deque_len starts.new ≡ deque_len starts.old) × (deque_len corners.new ≡ deque_len corners.old) }
+    ensures room { OnOk result ((deque_len starts.new < deque_capacity starts.new) × (deque_len corners.new + more ≤ deque_capacity corners.new)) }
+    ensures scarce { OnErr result ((deque_capacity starts.old ≤ deque_len starts.old) ⊎ (deque_capacity corners.old < deque_len corners.old + more)) }
+{
+    starts.reserve(1)?;
+    corners.reserve(more as usize)?;
+    Ok(())
 }
