@@ -1,18 +1,17 @@
 -- The number in the line of a key.
-use Rattle.std.proofs.Common.{◌≡◌, ◌<◌, ◌^◌, ℕ, List, ◌++◌, Option, Some, None, true, false, refl, sym, ap, ◌∙◌, append_assoc}
-use Rattle.std.specs.Prelude.{IfSome, is_some, not, ◌==◌, ◌||◌, codes, option_map}
+use Rattle.std.proofs.Common.{◌≡◌, ℕ, List, ◌++◌, Option, Some, None, true, false, refl, sym, ap, ◌∙◌, append_assoc}
+use Rattle.std.specs.Prelude.{is_some, not, ◌==◌, ◌||◌, codes, option_map}
 use Rattle.std.specs.Option.{option_and_then}
 use Rattle.std.proofs.lemmas.Bool.{false≢true}
 use Rattle.std.proofs.lemmas.Bool.Decides.{Decides-eqb}
 use Rattle.std.proofs.lemmas.Slice.Eq.{bytes_eq-Decides, starts_is}
 use Rattle.std.specs.Fmt.{decimal}
-use Rattle.std.proofs.lemmas.Option.{IfSome_then}
 use Rattle.playlist_text.specs.Attributes.{quoted, hexadecimal, attribute_list}
 use Rattle.playlist_text.specs.Uris.{escaped, key_uri}
 use Rattle.playlist_text.specs.Vectors.{salted_vector}
 use Rattle.playlist_text.specs.MediaLines.{key_line, vector_key_line, key_line_under}
 use Rattle.media_reading.specs.State.{Progress, begins_key, key_begin, key_end, key_in, keyed, keyed_by, keyed_first, name_in, number_left, salt_in, where_so, with_key}
-use Rattle.media_reading.proofs.Found.{IsRead, found-none}
+use Rattle.media_reading.proofs.Found.{found-none}
 
 -- what stands before the number
 abbrev pub key_front : List ℕ → List ℕ
@@ -26,16 +25,6 @@ key_line_under-parts name (Some salt) n key =
     let uri = escaped name ++ codes "." ++ decimal key in
     let vector = codes ",IV=" ++ hexadecimal (salted_vector (Some salt) n) in
     ap (λ x. key_begin ++ x) (append_assoc (uri ++ codes ".key") (codes "\"") vector ∙ append_assoc uri (codes ".key") (codes "\"" ++ vector))
-
-pub key-read : (line name : List ℕ) (salt : Option (List ℕ)) (n : ℕ) (front end : List ℕ) (r : Option ℕ) → front ≡ key_front name → end ≡ key_end salt n
-    → IfSome r (λ k. line ≡ front ++ decimal k ++ end) → ((k : ℕ) → k < 2 ^ 64 → line ≡ front ++ decimal k ++ end → r ≡ Some k)
-    → IsRead (key_line_under name salt n) line r
-key-read line name salt n front end r is ends found only = record {
-  found = IfSome_then r found (λ k same.
-      same ∙ ap (λ x. x ++ decimal k ++ end) is ∙ ap (λ x. key_front name ++ decimal k ++ x) ends ∙ sym (key_line_under-parts name salt n k));
-  only = λ k small same.
-      only k small (same ∙ key_line_under-parts name salt n k ∙ ap (λ x. key_front name ++ decimal k ++ x) (sym ends) ∙ ap (λ x. x ++ decimal k ++ end) (sym is));
-}
 
 -- the line of a key begins so
 key-begins : (name : List ℕ) (salt : Option (List ℕ)) (n key : ℕ) (line : List ℕ) → line ≡ key_line_under name salt n key → begins_key line ≡ true

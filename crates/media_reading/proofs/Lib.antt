@@ -1,5 +1,6 @@
 pub mod Spellings
 pub mod Found
+pub mod Fronts
 pub mod KeyLines
 pub mod SegmentEnds
 pub mod Salts
@@ -11,6 +12,7 @@ pub mod OneNumber
 pub mod EntrySteps
 pub mod Running
 pub mod EscapedBytes
+pub mod InLines
 pub mod LineEnds
 pub mod Splitting
 pub mod Taking

@@ -72,7 +72,7 @@ last_key-some [] some = absurd (omega (arith, some))
 last_key-some (entry ∷ entries) some = key_behind-some entry.key entries
 
 -- where no entry has one, none is told
-last_key-none : (entries : List Entry) → last_key entries ≡ None → entries ≡ []
+pub last_key-none : (entries : List Entry) → last_key entries ≡ None → entries ≡ []
 last_key-none [] none = refl
 last_key-none (entry ∷ entries) none = absurd (false≢true (ap is_some (sym none) ∙ key_behind-some entry.key entries))
 

@@ -1,25 +1,25 @@
 -- What lines tell that are taken one after another.
 use Rattle.std.proofs.Common.{rules, inl, inr, Bool, false, drop, ◌≤◌, ◌≡◌, ◌≢◌, ◌⊎◌, ℕ, ◌+◌, ◌<◌, true, List, [], ◌∷◌, ◌++◌, length, Option, Some, None, refl, sym, ap, ◌∙◌, subst, arith, append_assoc, append-nil}
-use Rattle.std.specs.Prelude.{All, codes, unwrap_or, option_map, nat_lt, if◌then◌else◌}
+use Rattle.std.specs.Prelude.{All, codes, is_some, unwrap_or, option_map, nat_lt, if◌then◌else◌}
 use Rattle.std.specs.Option.{option_and_then}
 use Rattle.std.specs.Str.{IsUtf8}
 use Rattle.std.proofs.lemmas.Option.{same_Some, none-some}
 use Rattle.std.proofs.lemmas.Str.{IsUtf8-from_ascii}
 use Rattle.playlist_text.specs.Names.{is_name}
-use Rattle.playlist_text.specs.MediaLines.{Listing, discontinuity_lines, head_lines, listing_lines, entries_lines, end_lines}
+use Rattle.playlist_text.specs.MediaLines.{Listing, discontinuity_lines, head_lines, type_lines, listing_lines, entries_lines, end_lines}
 use Rattle.std.proofs.lemmas.List.{take_all, length-append, take-append-drop}
 use Rattle.std.proofs.lemmas.Bool.{false≢true, ltb-true, and_parts}
 use Rattle.media_reading.specs.declared.reading.Stage.{Stage}
 use Rattle.media_reading.specs.declared.reading.Stage.TheVariants.{Fresh, Tagged, Versioned, Targeted, Sequenced, Headed, Between, Broken, Keyed, Timed, Ended}
-use Rattle.media_reading.specs.State.{Tells, begins_key, ends_segment, has_number, may_want, Progress, fresh, step, steps, listing_at, listing_of}
+use Rattle.media_reading.specs.State.{HasEscapes, IsKept, Tells, begins_key, ends_segment, has_number, may_want, Progress, fresh, step, steps, listing_at, listing_of}
 use Rattle.std.proofs.lemmas.List.Elements.{All-cons, All-append, All-nil}
 use Rattle.std.proofs.Math.Seq.{take-append_seam, take-append-add}
 use Rattle.playlist_text.specs.Lines.{text_of}
 use Rattle.playlist_text.proofs.TextLines.{text_of-append}
 use Rattle.media_reading.specs.MediaTexts.{IsListing, AreFirst, IsLine, IsFirstWrong, MayWantMemory, WantsMemory, EndsTimed, Splits, listing_text}
 use Rattle.media_reading.proofs.Splitting.{steps-stop, steps-more, text-more, split-of, lines-same}
-use Rattle.media_reading.proofs.Going.{IsSound, lines_at, listed_lines, front_of, keys_of, name_of}
-use Rattle.media_reading.proofs.Stepping.{step-lines}
+use Rattle.media_reading.proofs.Going.{IsAt, IsSound, last_key, lines_at, listed_lines, head_of, front_of, keys_of, name_of}
+use Rattle.media_reading.proofs.Stepping.{last_key-none, step-lines}
 use Rattle.media_reading.proofs.Completing.{sound-first}
 use Rattle.media_reading.proofs.Running.{listing-steps}
 use Rattle.media_reading.proofs.LineEnds.{listing-IsLine}
@@ -278,9 +278,51 @@ line-wanted Timed p line may = inr (
 )
 line-wanted Ended p line may = absurd (false≢true may)
 
+-- where no key was told, seven lines stand before at most
+type-short : (event : Bool) → length (type_lines event) ≤ 1
+unfolding type_lines
+type-short true = omega arith
+type-short false = omega arith
+
+listed-short : (p : Progress) → p.entries ≡ [] → length (listed_lines p) ≤ 6
+unfolding head_lines entries_lines
+listed-short p none =
+    let entries : length (entries_lines (name_of p) p.salt None p.entries) ≡ 0 = ap (λ es. length (entries_lines (name_of p) p.salt None es)) none in
+    omega (arith, entries, type-short p.event, length-append (head_of p) (type_lines p.event), length-append (front_of p) (entries_lines (name_of p) p.salt None p.entries))
+
+unkeyed : (p : Progress) → last_key p.entries ≡ option_map (λ _. p.key) p.name → p.name ≡ None → p.entries ≡ []
+unkeyed p last none = last_key-none p.entries (last ∙ ap (option_map (λ _. p.key)) none)
+
+first-short : (stage : Stage) (p : Progress) (line : List ℕ) → IsAt stage p → p.name ≡ None → may_want stage p line ≡ true → length (lines_at stage p) ≤ 7
+unfolding head_lines discontinuity_lines
+first-short Fresh p line at none may = absurd (false≢true may)
+first-short Tagged p line at none may = absurd (false≢true may)
+first-short Versioned p line at none may = absurd (false≢true may)
+first-short Targeted p line at none may = absurd (false≢true may)
+first-short Sequenced p line at none may = absurd (false≢true may)
+first-short Headed p line at none may = omega arith
+first-short Between p line at none may = omega (arith, listed-short p (unkeyed p at none))
+first-short Broken p line at none may = omega (arith, listed-short p (unkeyed p at.0 none), length-append (listed_lines p) (discontinuity_lines true))
+first-short Keyed p line at none may = absurd (false≢true may)
+first-short Timed p line at none may = absurd (false≢true (ap is_some (sym none) ∙ at.0))
+first-short Ended p line at none may = absurd (false≢true may)
+
+-- what the line tells is kept
+kept-by : (lines : List (List ℕ)) (p : Progress) (line : List ℕ) (o : Option Progress) → steps fresh lines ≡ Some p → step p line ≡ o → o ≢ None → AreFirst (lines ++ line ∷ [])
+kept-by lines p line None taken next some = absurd (some refl)
+kept-by lines p line (Some q) taken next some = taken-first (lines ++ line ∷ []) q (steps-more fresh p lines line (Some q) taken next)
+
+line-kept : (lines : List (List ℕ)) (p : Progress) (line : List ℕ) → steps fresh lines ≡ Some p → may_want p.stage p line ≡ true → IsKept (step p line) p line
+    → AreFirst (lines ++ line ∷ []) ⊎ (HasEscapes line × (length lines ≤ 7))
+line-kept lines p line taken may (inl some) = inl (kept-by lines p line (step p line) taken refl some)
+line-kept lines p line taken may (inr first) =
+    let told = steps-sound fresh p lines fresh-sound taken in
+    inr (first.1, subst (λ (l : List (List ℕ)). length l ≤ 7) told.1 (first-short p.stage p line told.0.stands first.0 may))
+
 pub wants-line : (text rest line behind : List ℕ) (lines : List (List ℕ)) (p : Progress) → text_of lines ++ rest ≡ text → All IsLine lines
-    → steps fresh lines ≡ Some p → IsLine line → rest ≡ line ++ 10 ∷ behind → may_want p.stage p line ≡ true → WantsMemory text
-wants-line text rest line behind lines p whole each taken is split may =
+    → steps fresh lines ≡ Some p → IsLine line → rest ≡ line ++ 10 ∷ behind → may_want p.stage p line ≡ true
+    → IsKept (step p line) p line → WantsMemory text
+wants-line text rest line behind lines p whole each taken is split may kept =
     let more = split-of behind in
     let told = steps-sound fresh p lines fresh-sound taken in
     record {
@@ -291,4 +333,5 @@ wants-line text rest line behind lines p whole each taken is split may =
       splits = whole-split text rest line behind lines whole each is split;
       begins = subst AreFirst told.1 (sound-first p told.0);
       wants = subst (λ (l : List (List ℕ)). (begins_key line ≡ true) ⊎ (EndsTimed l × (ends_segment line ≡ true))) told.1 (line-wanted p.stage p line may);
+      kept = line-kept lines p line taken may kept;
     }

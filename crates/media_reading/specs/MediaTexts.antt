@@ -5,7 +5,7 @@ use Rattle.playlist_text.specs.Names.{is_name}
 use Rattle.playlist_text.specs.Numbers.{rounded_seconds}
 use Rattle.playlist_text.specs.Lines.{text_of}
 use Rattle.playlist_text.specs.MediaLines.{Entry, Listing, duration_line, listing_lines}
-use Rattle.media_reading.specs.State.{begins_key, ends_segment}
+use Rattle.media_reading.specs.State.{HasEscapes, begins_key, ends_segment}
 use Rattle.media_reading.specs.declared.list_fault.ListFault.{ListFault}
 use Rattle.media_reading.specs.declared.list_fault.ListFault.TheVariants.{NotProfile, NoMemory}
 use Rattle.limits.specs.declared.TheConstants.{MOST_KEYS, MOST_TARGET}
@@ -91,8 +91,9 @@ pub record EndsTimed (lines : List (List ℕ)) : Type 0 where
   pub micros : ℕ
   pub is : lines ≡ front ++ duration_line micros ∷ []
 
--- .. And the line is one of those that are compared with a name or kept: it begins as the line of a key does, or stands behind that of a
--- duration and ends as the line of a segment does.
+-- .. And the line is one of those that are kept: it begins as the line of a key does, or stands behind that of a duration and ends as
+-- the line of a segment does; and either the lines up to it begin those of some playlist too, so that what it tells was to be kept, or it
+-- may be the first line of a key, with a name in it that has escapes. No other text wants memory, whatever is wrong in it.
 pub record WantsMemory (text : List ℕ) : Type 0 where
   pub before : List (List ℕ)
   pub line : List ℕ
@@ -101,6 +102,7 @@ pub record WantsMemory (text : List ℕ) : Type 0 where
   pub splits : Splits text (before ++ line ∷ behind) last
   pub begins : AreFirst before
   pub wants : (begins_key line ≡ true) ⊎ (EndsTimed before × (ends_segment line ≡ true))
+  pub kept : AreFirst (before ++ line ∷ []) ⊎ (HasEscapes line × (length before ≤ 7))
 
 -- why a text isn't read
 abbrev pub IsUnread : List ℕ → ListFault → Type 0

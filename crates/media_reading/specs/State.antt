@@ -4,7 +4,7 @@ use Rattle.std.specs.String.{string_bytes}
 use Rattle.media_reading.specs.declared.reading.Reading.{Reading}
 use Rattle.std.specs.Fmt.{decimal}
 use Rattle.std.specs.List.{before_first, starts_with, ends_with}
-use Rattle.std.specs.Str.{IsUtf8, bytes_eq, is_utf8}
+use Rattle.std.specs.Str.{bytes_eq, is_utf8}
 use Rattle.std.specs.Option.{option_and_then, option_or}
 use Rattle.std.specs.Result.{result_ok}
 use Rattle.hex.specs.Hex.{decode_sized}
@@ -81,15 +81,20 @@ key_begin = codes "#EXT-X-KEY:METHOD=AES-128,URI=\""
 abbrev pub escaped_in : List ℕ → List ℕ
 escaped_in line = before_first (λ b. b == 46) (drop (length key_begin) line)
 
--- reading that name takes memory: it is UTF-8, or escapes stand in it
-abbrev pub NameTakesMemory : List ℕ → Type 0
-NameTakesMemory line = IsUtf8 (percent_decode (escaped_in line)) ⊎ (¬ All (λ b. b ≢ percent_sign) (escaped_in line))
+-- escapes stand in it
+abbrev pub HasEscapes : List ℕ → Type 0
+HasEscapes line = ¬ All (λ b. b ≢ percent_sign) (escaped_in line)
 
 -- the name that the line of a key may have: that of the escaped text up to the first point
 unfoldable pub name_in : List ℕ → Option (List ℕ)
 name_in line =
     let name = percent_decode (before_first (λ b. b == 46) (drop (length key_begin) line)) in
     if is_name name && is_utf8 name then Some name else None
+
+-- the vector at the end of the line of a key
+abbrev pub vector_end : Option (List ℕ) → ℕ → List ℕ
+vector_end None n = []
+vector_end (Some salt) n = codes ",IV=" ++ hexadecimal (salted_vector (Some salt) n)
 
 -- what stands behind the index in the line of a key
 abbrev pub key_end : Option (List ℕ) → ℕ → List ℕ
@@ -272,8 +277,12 @@ begins_key line = starts_with nat_eq line key_begin
 abbrev pub ends_segment : List ℕ → Bool
 ends_segment line = ends_with nat_eq line (codes ".ts")
 
--- A line for which memory may be wanted, to compare it or to keep what it tells: one that begins as that of a key does, where an entry
--- may begin, and one that ends as that of a segment does, where one may stand; none of the others.
+-- Memory is wanted for what a line tells: the line may come next, or the name in it is the first, and has escapes.
+abbrev pub IsKept : Option Progress → Progress → List ℕ → Type 0
+IsKept next p line = (next ≢ None) ⊎ ((p.name ≡ None) × HasEscapes line)
+
+-- A line for which memory may be wanted, to keep what it tells: one that begins as that of a key does, where an entry may begin, and one
+-- that ends as that of a segment does, where one may stand; none of the others.
 abbrev pub key_may_want : Progress → List ℕ → Bool
 key_may_want p line = has_number p && begins_key line
 

@@ -7,6 +7,7 @@ mod listing;
 mod media_text;
 mod numbers;
 mod reading;
+mod spelled;
 
 pub use laws::a_text_lists_one_playlist;
 pub use list_fault::ListFault;

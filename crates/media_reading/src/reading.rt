@@ -1,33 +1,28 @@
 //! The lines of a media playlist, one after another.
 
-ghost use Rattle.std.specs.Prelude.{◌≡◌, ◌≢◌, ◌<◌, ℕ, Some, None, true, false, IfOk, OnErr, IfSome, MatchOption, option_map, ◌++◌, ◌==◌, codes};
-ghost use Rattle.std.specs.String.{string_bytes};
+ghost use Rattle.std.specs.Prelude.{◌≡◌, ◌≢◌, ◌⊎◌, ◌≤◌, Some, None, true, IfOk, OnErr, option_map, ◌==◌, vec_capacity, vec_len};
+ghost use Rattle.std.specs.Cow.{cow_str_bytes};
 ghost use Rattle.std.specs.List.{before_first};
-ghost use Rattle.playlist_text.specs.Uris.{escaped};
-ghost use Rattle.media_reading.specs.State;
-ghost use Rattle.media_reading.specs.State.{step, step_at, fresh, expect, begun, headed, key_in, salt_in, keyed, keyed_or_timed, timed};
-ghost use Rattle.media_reading.specs.State.{listed, listing_at, name_in, number_in, number_left, entered, key_begin, listing_at};
-ghost use Rattle.media_reading.specs.State.{progress_of, Moves, NameTakesMemory, Tells, has_number, key_may_want, may_want};
+ghost use Rattle.media_reading.specs.State.{step, step_at, fresh, expect, begun, headed, salt_in, keyed, keyed_or_timed, timed};
+ghost use Rattle.media_reading.specs.State.{listed, listing_at, name_in, number_left, entered};
+ghost use Rattle.media_reading.specs.State.{progress_of, HasEscapes, IsKept, Moves, Tells, has_number, key_may_want, may_want};
 ghost use Rattle.media_reading.specs.declared.reading.Stage.TheVariants.{Versioned, Targeted, Sequenced, Headed, Timed};
 
 use crate::listing::{Entry, LAST_LISTED, Listing};
-use crate::numbers::{read_between, read_duration, read_tagged};
+use crate::numbers::{read_duration, read_tagged};
+use crate::spelled::{KEY_BEGIN, is_segment_uri, read_key};
 use hex::FromHex;
-use limits::{MOST_KEYS, MOST_TARGET};
+use limits::MOST_TARGET;
 use percent_encoding::{DecodeError, percent_decode};
-use playlist_text::{
-    is_name, push_escaped, push_hexadecimal, push_segment_uri, rounded_seconds, salted_vector,
-};
+use playlist_text::{is_name, rounded_seconds, salted_vector};
 use std::alloc::{AllocError, Global};
+use std::borrow::CowStr;
 
 /// A segment's number is below it.
 const NUMBERS: u64 = LAST_LISTED + 1;
 
 /// A discontinuity sequence is below it too.
 const DISCONTINUITIES: u64 = 1 << 33;
-
-/// What the line of a key begins with, before the name.
-const KEY_BEGIN: &str = "#EXT-X-KEY:METHOD=AES-128,URI=\"";
 
 /// What the line of a segment ends in.
 const SEGMENT_END: &str = ".ts";
@@ -100,6 +95,7 @@ impl Reading {
     pub fn take(&mut self, line: &[u8]) -> Result<bool, AllocError>
         ensures taken { IfOk result (λ taken. Tells taken (step (progress_of self.old) line.now) (progress_of self.new)) }
         ensures scarce { OnErr result (may_want self.old.stage (progress_of self.old) line.now ≡ true) }
+        ensures kept { OnErr result (IsKept (step (progress_of self.old) line.now) (progress_of self.old) line.now) }
     {
         match self.stage {
             Stage::Fresh => Ok(self.take_text(line, b"#EXTM3U", Stage::Tagged)),
@@ -168,6 +164,7 @@ impl Reading {
     fn take_type(&mut self, line: &[u8]) -> Result<bool, AllocError>
         ensures taken { IfOk result (λ taken. Tells taken (headed (progress_of self.old) line.now) (progress_of self.new)) }
         ensures scarce { OnErr result (may_want Headed (progress_of self.old) line.now ≡ true) }
+        ensures kept { OnErr result (IsKept (headed (progress_of self.old) line.now) (progress_of self.old) line.now) }
     {
         if line != b"#EXT-X-PLAYLIST-TYPE:EVENT".as_slice() {
             return self.take_first(line);
@@ -195,6 +192,7 @@ impl Reading {
     fn take_first(&mut self, line: &[u8]) -> Result<bool, AllocError>
         ensures taken { IfOk result (λ taken. Tells taken (begun (progress_of self.old) line.now) (progress_of self.new)) }
         ensures scarce { OnErr result (key_may_want (progress_of self.old) line.now ≡ true) }
+        ensures kept { OnErr result (IsKept (begun (progress_of self.old) line.now) (progress_of self.old) line.now) }
     {
         if line == b"#EXT-X-ENDLIST".as_slice() {
             if self.entries.is_empty() {
@@ -212,6 +210,7 @@ impl Reading {
     fn take_entry(&mut self, line: &[u8]) -> Result<bool, AllocError>
         ensures taken { IfOk result (λ taken. Tells taken (entered (progress_of self.old) line.now) (progress_of self.new)) }
         ensures scarce { OnErr result (key_may_want (progress_of self.old) line.now ≡ true) }
+        ensures kept { OnErr result (IsKept (entered (progress_of self.old) line.now) (progress_of self.old) line.now) }
     {
         if line == b"#EXT-X-DISCONTINUITY".as_slice() {
             self.discontinuity = true;
@@ -225,6 +224,7 @@ impl Reading {
     fn take_key_or_duration(&mut self, line: &[u8]) -> Result<bool, AllocError>
         ensures taken { IfOk result (λ taken. Tells taken (keyed_or_timed (progress_of self.old) line.now) (progress_of self.new)) }
         ensures scarce { OnErr result (key_may_want (progress_of self.old) line.now ≡ true) }
+        ensures kept { OnErr result (IsKept (keyed_or_timed (progress_of self.old) line.now) (progress_of self.old) line.now) }
     {
         if self.take_key(line)? {
             return Ok(true);
@@ -237,6 +237,7 @@ impl Reading {
 
     fn take_key(&mut self, line: &[u8]) -> Result<bool, AllocError>
         ensures scarce { OnErr result (key_may_want (progress_of self.old) line.now ≡ true) }
+        ensures kept { OnErr result (IsKept (keyed (progress_of self.old) line.now) (progress_of self.old) line.now) }
         ensures taken { IfOk result (λ taken. Moves taken (keyed (progress_of self.old) line.now) (progress_of self.old) (progress_of self.new)) }
     {
         if !line.starts_with(KEY_BEGIN.as_bytes()) {
@@ -248,16 +249,16 @@ impl Reading {
     #[tactic(auto, unfolding(crate::specs::State::keyed))]
     fn take_begun_key(&mut self, line: &[u8]) -> Result<bool, AllocError>
         ensures scarce { OnErr result (has_number (progress_of self.old) ≡ true) }
+        ensures kept { OnErr result (IsKept (keyed (progress_of self.old) line.now) (progress_of self.old) line.now) }
         ensures taken { IfOk result (λ taken. Moves taken (keyed (progress_of self.old) line.now) (progress_of self.old) (progress_of self.new)) }
     {
-        let alloc = *self.entries.allocator();
         let Some(number) = self.next_number() else {
             return Ok(false);
         };
         let Some(name) = &self.name else {
             return self.take_first_key(number, line);
         };
-        let Some(key) = read_key(alloc, line, name, self.salt, number)? else {
+        let Some(key) = read_key(line, name, self.salt, number) else {
             return Ok(false);
         };
         if self.salt.is_none() && key == self.key {
@@ -272,7 +273,8 @@ impl Reading {
     fn take_first_key(&mut self, number: u64, line: &[u8]) -> Result<bool, AllocError>
         requires first { self.old.name ≡ None }
         requires number { number_left (progress_of self.old) ≡ Some number }
-        ensures { IfOk result (λ taken. Moves taken (keyed (progress_of self.old) line.now) (progress_of self.old) (progress_of self.new)) }
+        ensures taken { IfOk result (λ taken. Moves taken (keyed (progress_of self.old) line.now) (progress_of self.old) (progress_of self.new)) }
+        ensures kept { OnErr result ((keyed (progress_of self.old) line.now ≢ None) ⊎ HasEscapes line.now) }
     {
         let alloc = *self.entries.allocator();
         let Some(name) = read_name(alloc, line)? else {
@@ -281,10 +283,10 @@ impl Reading {
         let Some(salt) = read_salt(line, number) else {
             return Ok(false);
         };
-        let Some(key) = read_key(alloc, line, &name, salt, number)? else {
+        let Some(key) = read_key(line, &name, salt, number) else {
             return Ok(false);
         };
-        self.name = Some(name);
+        self.name = Some(name.into_owned(alloc)?);
         self.salt = salt;
         self.key = key;
         self.stage = Stage::Keyed;
@@ -312,6 +314,8 @@ impl Reading {
     fn take_segment(&mut self, line: &[u8]) -> Result<bool, AllocError>
         ensures taken { IfOk result (λ taken. Tells taken (listed (progress_of self.old) line.now) (progress_of self.new)) }
         ensures scarce { OnErr result (may_want Timed (progress_of self.old) line.now ≡ true) }
+        ensures kept { OnErr result (listed (progress_of self.old) line.now ≢ None) }
+        ensures full { OnErr result (vec_capacity self.old.entries ≤ vec_len self.old.entries) }
     {
         if !line.ends_with(SEGMENT_END.as_bytes()) {
             return Ok(false);
@@ -323,6 +327,8 @@ impl Reading {
     fn take_ended_segment(&mut self, line: &[u8]) -> Result<bool, AllocError>
         ensures taken { IfOk result (λ taken. Tells taken (listed (progress_of self.old) line.now) (progress_of self.new)) }
         ensures scarce { OnErr result (has_number (progress_of self.old) ≡ true) }
+        ensures kept { OnErr result (listed (progress_of self.old) line.now ≢ None) }
+        ensures full { OnErr result (vec_capacity self.old.entries ≤ vec_len self.old.entries) }
     {
         let Some(number) = self.next_number() else {
             return Ok(false);
@@ -330,9 +336,7 @@ impl Reading {
         let Some(name) = &self.name else {
             return Ok(false);
         };
-        let mut uri = String::new(*self.entries.allocator());
-        push_segment_uri(&mut uri, name, number)?;
-        if line != uri.as_bytes() {
+        if !is_segment_uri(line, name, number) {
             return Ok(false);
         }
         let entry = Entry {
@@ -382,49 +386,6 @@ impl Reading {
     }
 }
 
-/// The index of the key in the line of a key of a rendition, below 4,096. The number is that of the entry behind it.
-fn read_key(
-    alloc: Global,
-    line: &[u8],
-    name: &str,
-    salt: Option<[u8; 16]>,
-    number: u64,
-) -> Result<Option<u64>, AllocError>
-    ensures { IfOk result (λ key. key ≡ key_in name.now salt number line.now) }
-{
-    let front = key_front(alloc, name)?;
-    let end = key_end(alloc, salt, number)?;
-    let Some(key) = read_between(line, front.as_bytes(), end.as_bytes()) else {
-        return Ok(None);
-    };
-    if key >= MOST_KEYS {
-        return Ok(None);
-    }
-    Ok(Some(key))
-}
-
-/// What stands before the index in the line of a key of a rendition.
-fn key_front(alloc: Global, name: &str) -> Result<String, AllocError>
-    ensures { IfOk result (λ front. string_bytes front ≡ key_begin ++ escaped name.now ++ codes ".") }
-{
-    let mut front = String::from_str(alloc, KEY_BEGIN)?;
-    push_escaped(&mut front, name)?;
-    front.push_str(".")?;
-    Ok(front)
-}
-
-/// What stands behind the index in the line of a key: under a salt the vector of the entry's number too.
-fn key_end(alloc: Global, salt: Option<[u8; 16]>, number: u64) -> Result<String, AllocError>
-    ensures { IfOk result (λ end. string_bytes end ≡ State.key_end salt number) }
-{
-    let Some(salt) = salt else {
-        return String::from_str(alloc, ".key\"");
-    };
-    let mut end = String::from_str(alloc, ".key\",IV=")?;
-    push_hexadecimal(&mut end, &salted_vector(Some(salt), number))?;
-    Ok(end)
-}
-
 /// The salt that the first line of a key may have, by the number of its entry: none where the line ends in a quote.
 #[tactic(auto, unfolding(crate::specs::State::salt_in))]
 fn read_salt(line: &[u8], number: u64) -> Option<Option<[u8; 16]>>
@@ -438,14 +399,14 @@ fn read_salt(line: &[u8], number: u64) -> Option<Option<[u8; 16]>>
     Some(Some(salted_vector(Some(vector), number)))
 }
 
-/// The name in the line of a key: that of the escaped text up to the first point. Without escapes, only UTF-8 wants memory.
-fn read_name(alloc: Global, line: &[u8]) -> Result<Option<String>, AllocError>
-    ensures ok { IfOk result (λ name. option_map string_bytes name ≡ name_in line.now) }
-    ensures scarce { OnErr result (NameTakesMemory line.now) }
+/// The name in the line of a key: that of the escaped text up to the first point. Only escapes want memory.
+fn read_name(alloc: Global, line: &[u8]) -> Result<Option<CowStr<'_>>, AllocError>
+    ensures ok { IfOk result (λ name. option_map cow_str_bytes name ≡ name_in line.now) }
+    ensures scarce { OnErr result (HasEscapes line.now) }
 {
     let (_, uri) = line.split_at(usize::min(KEY_BEGIN.len(), line.len()));
     let name = match percent_decode(before_point(uri)).decode_utf8(alloc) {
-        Ok(name) => name.into_owned(alloc)?,
+        Ok(name) => name,
         Err(DecodeError::Utf8(_)) => return Ok(None),
         Err(DecodeError::OutOfMemory) => return Err(AllocError),
     };

@@ -114,4 +114,4 @@ returns-in_err-take-clause-scarce c = λ _.
     let held = c.line.invariant in
     let parts = MatchOption-at_some _ _ _ c.in-Some.is c.split_line.ensures in
     wants-line c.args.text.now c.line.rest.now c.in-Some.line.now c.in-Some.behind.now held.lines (progress_of c.line.reading) held.whole held.each held.taken
-    parts.0 parts.1 c.in_err-take.ensures.scarce
+    parts.0 parts.1 c.in_err-take.ensures.scarce c.in_err-take.ensures.kept
