@@ -1,5 +1,5 @@
 -- Memory may be wanted for each text of a media playlist.
-use Rattle.std.proofs.Common.{◌≡◌, ◌≢◌, ◌∙◌, ℕ, ◌<◌, Option, Some, None, All, List, [], ◌∷◌, ◌++◌, length, drop, sym, ap, subst, refl, inr, true, arith, append-nil, append_assoc}
+use Rattle.std.proofs.Common.{◌≡◌, ◌≢◌, ◌∙◌, ℕ, ◌<◌, Option, Some, None, All, List, [], ◌∷◌, ◌++◌, length, drop, sym, ap, subst, refl, inl, inr, true, arith, append-nil, append_assoc}
 use Rattle.std.specs.Prelude.{codes}
 use Rattle.std.specs.Fmt.{decimal}
 use Rattle.std.proofs.lemmas.Bool.Decides.{Decides-eqb}
@@ -92,6 +92,12 @@ wants-at l e es sound is =
       splits = record { whole = ap text_of lines ∙ sym (append-nil (text_of all)); lines_end = subst (λ (ls : List (List ℕ)). All IsLine ls) lines (listing-IsLine l sound); last_is_open = All-nil (λ b. b ≢ 10) };
       begins = record { listing = l; sound = sound; more = segment_uri l.name e.number ∷ behind-first l e es; begins = lines };
       wants = inr (record { front = before-first l e; micros = e.micros; is = refl }, segment-ends l.name e.number);
+      kept = inl (record {
+            listing = l;
+            sound = sound;
+            more = behind-first l e es;
+            begins = lines ∙ sym (append_assoc (before-first l e ++ duration_line e.micros ∷ []) (segment_uri l.name e.number ∷ []) (behind-first l e es));
+          });
     }
 
 wants-among : (l : Listing) (entries : List Entry) → IsListing l → l.entries ≡ entries → WantsMemory (listing_text l)
