@@ -52,16 +52,15 @@ impl Lane {
         matches!(self.stop, Some(Stop::Good(_)))
     }
 
-    /// Reads once, at most as many bytes as `buffer` has room for, and closes in its spool all segments that they close, or at the
-    /// end of the input the last ones. A fault of the input or of its stream stops the rendition, which is no refusal:
+    /// Reads once, at most as many bytes as `buffer` has room for, which is a whole piece, and closes in its spool all segments that
+    /// they close, or at the end of the input the last ones. A fault of the input or of its stream stops the rendition, which is no refusal:
     /// its source is left.
     ///
     /// It has to go on. Want of memory leaves it of no use.
     pub fn turn<S: Source>(&mut self, source: &mut S, buffer: &mut [u8]) -> Result<(), AllocError>
         requires reads { S.input.reads source.old < 2 ^ 63 }
         requires failures { S.input.failures source.old < 2 ^ 63 }
-        requires some { 0 < length buffer.old }
-        requires short { length buffer.old ≤ PIECE }
+        requires whole { length buffer.old ≡ PIECE }
         requires open { self.old.stop ≡ None }
         requires going { self.old.intake.ended ≡ false }
         requires few { length self.old.intake.stream + PIECE < 2 ^ 63 }
@@ -86,8 +85,7 @@ impl Lane {
     fn read<S: Source>(&mut self, source: &mut S, buffer: &mut [u8]) -> Result<(), AllocError>
         requires reads { S.input.reads source.old < 2 ^ 63 }
         requires failures { S.input.failures source.old < 2 ^ 63 }
-        requires some { 0 < length buffer.old }
-        requires short { length buffer.old ≤ PIECE }
+        requires whole { length buffer.old ≡ PIECE }
         requires open { self.old.stop ≡ None }
         requires going { self.old.intake.ended ≡ false }
         requires few { length self.old.intake.stream + PIECE < 2 ^ 63 }
