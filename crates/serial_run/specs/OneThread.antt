@@ -5,8 +5,10 @@ use Rattle.ingest.specs.declared.lane.Stop.{Stop}
 use Rattle.ladder_items.specs.Ladder.{Ladder}
 use Rattle.ladder_items.specs.Items.{part_at}
 use Rattle.ladder_items.specs.Weave.{Event, AreLegal, after_all, blocks, none_of}
-use Rattle.ladder_items.specs.Runs.{Run}
-use Rattle.ladder_items.specs.World.{stream_at}
+use Rattle.ingest.specs.declared.lane.Lane.{Lane}
+use Rattle.ladder_items.specs.Shown.{Shown}
+use Rattle.ladder_items.specs.Runs.{Run, run_of}
+use Rattle.ladder_items.specs.World.{NothingDue, stream_at, turns_of}
 use Rattle.ladder_items.specs.Lanes.{HasGiven}
 use Rattle.ladder_items.specs.Packed.{IsCutShort}
 use Rattle.item_io.specs.declared.limits.TheConstants.{PIECE}
@@ -30,3 +32,16 @@ pub record IsCutAtOnce {X Y : Type 0} (run : Run X Y) (ladder : Ladder) : Type 0
   pub within : (a : X) × (slice_get run.before in_turn ≡ Some a)
   pub at_once : StopsAtOnce ladder in_turn cut.streams cut.some.given
   pub unfailed : (a b : X) → slice_get run.before in_turn ≡ Some a → slice_get run.now in_turn ≡ Some b → run.input.failures b ≡ run.input.failures a
+
+-- A run was stopped in a turn of one rendition: until then all had their turns in order, round by round, and nothing that was due was
+-- left; and no other was read since.
+pub record StopsInOrder {X Y : Type 0} (run : Run X Y) (ladder : Ladder) : Type 0 where
+  pub rounds : ℕ
+  pub in_turn : ℕ
+  pub few : rounds < run.most_reads
+  pub earlier : List X
+  pub put : Y
+  pub lanes : List Lane
+  pub shown : List Shown
+  pub due : NothingDue (run_of run.input run.out run.most_reads run.before earlier run.outlet put) ladder (turns_of rounds in_turn) lanes shown
+  pub others : (k : ℕ) → (k ≡ in_turn → ⊥) → slice_get run.now k ≡ slice_get earlier k

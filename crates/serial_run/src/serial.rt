@@ -7,7 +7,7 @@ ghost use Rattle.ladder_items.specs.Putting.{PutAll, SaysFailures};
 ghost use Rattle.ladder_items.specs.World.{HaveRoom, NothingDue, turns_of};
 ghost use Rattle.ladder_items.specs.Packed.{IsPacked, IsAlone, FaultSays};
 ghost use Rattle.serial_run.specs.Answers.{IsAnswer, IsAnswered};
-ghost use Rattle.serial_run.specs.OneThread.{IsCutAtOnce};
+ghost use Rattle.serial_run.specs.OneThread.{IsCutAtOnce, StopsInOrder};
 
 use crate::due::{RenditionAt, give_due};
 use cutter::Spool;
@@ -128,6 +128,7 @@ fn turns<S: Source, O: Outlet>(
         (turns_of rounds 0) renditions.new.lanes.items renditions.new.playlists.items
         × ((k : ℕ) (lane : Lane) → slice_get renditions.new.lanes.items k ≡ Some lane → lane.stop ≡ None → rounds ≡ reads)) }
     ensures err { OnErr result (IsCutAtOnce (run_of S.input O.output reads sources.old.items sources.new.items outlet.old outlet.new) settings.now) }
+    ensures order { OnErr result (StopsInOrder (run_of S.input O.output reads sources.old.items sources.new.items outlet.old outlet.new) settings.now) }
     ensures failures { OnOk result (O.output.failures outlet.new ≡ O.output.failures outlet.old) }
     ensures fault { IfErr result (λ fault. SaysFailures fault (O.output.failures outlet.old) (O.output.failures outlet.new)) }
 {

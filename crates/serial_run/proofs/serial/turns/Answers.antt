@@ -3,7 +3,7 @@ use Rattle.std.proofs.lemmas.Bool.{false≢true}
 use Rattle.std.proofs.lemmas.Option.{slice_get_read}
 use Rattle.std.proofs.lemmas.Result.{err_from_is_err_and}
 use Rattle.ingest.proofs.Ordered.{closed_of-grow, made_of-at}
-use Rattle.ladder_items.proofs.Elsewhere.{none-there, some-there}
+use Rattle.ladder_items.proofs.Elsewhere.{none-there, set-elsewhere, some-there}
 use Rattle.ladder_items.proofs.Stages.{turns-now}
 use Rattle.ladder_items.proofs.Worlds.{put-back, parts-of, reads-fit, stage-at}
 use Rattle.serial_run.proofs.Stepping.{has-read, due-step, due-cut, read-cut, due-skip, due-round}
@@ -117,3 +117,33 @@ loop-preserved g c =
       failures = c.loop-r.invariant.failures;
       due = due-round _ _ _ _ _ _ c.loop.counter c.loop-r.r _ _ _ _ _ _ (omega (arith, c.loop-r-test.false, c.len-r-end.ensures, c.loop.invariant.due.world.same_lanes)) c.loop-r.invariant.due;
     }
+
+pub returns-in_err-turn-clause-order : goal.returns-in_err-turn-clause-order
+returns-in_err-turn-clause-order g c =
+    let told = err_from_is_err_and c.from_residual.result c.from_residual.ensures.1 in
+    rw told.1 (record {
+      rounds = c.loop.counter;
+      in_turn = c.loop-r.r;
+      few = c.loop-test.true;
+      earlier = c.loop-r.sources.items;
+      put = c.loop-r.outlet;
+      lanes = c.loop-r.renditions.lanes.items;
+      shown = c.loop-r.renditions.playlists.items;
+      due = c.loop-r.invariant.due;
+      others = λ k other. set-elsewhere c.loop-r.sources.items c.loop-r.r k c.turn.new.source other;
+    })
+
+pub returns-in_err-give_due-clause-order : goal.returns-in_err-give_due-clause-order
+returns-in_err-give_due-clause-order g c =
+    let told = err_from_is_err_and c.from_residual-in_err-give_due.result c.from_residual-in_err-give_due.ensures.1 in
+    rw told.1 (record {
+      rounds = c.loop.counter;
+      in_turn = c.loop-r.r;
+      few = c.loop-test.true;
+      earlier = c.loop-r.sources.items;
+      put = c.loop-r.outlet;
+      lanes = c.loop-r.renditions.lanes.items;
+      shown = c.loop-r.renditions.playlists.items;
+      due = c.loop-r.invariant.due;
+      others = λ k other. set-elsewhere c.loop-r.sources.items c.loop-r.r k c.turn.new.source other;
+    })
