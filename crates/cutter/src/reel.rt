@@ -1,6 +1,6 @@
 //! Plans that are closed, and the body that goes on behind them.
 
-ghost use Rattle.std.specs.Prelude.{◌≡◌, ◌≤◌, ◌++◌, ◌∷◌, [], List, Some, None, IfSome, IfNone, IsOk, OnOk, OnErr, slice_get, slice_range, length};
+ghost use Rattle.std.specs.Prelude.{◌≡◌, ◌≤◌, ◌++◌, ◌∷◌, [], List, Some, None, IfSome, IfNone, IsOk, OnOk, OnErr, slice_get, slice_range, length, vec_capacity};
 ghost use Rattle.cutter.specs.Plans.{SegmentPlan};
 ghost use Rattle.cutter.specs.Lent.{lent};
 ghost use Rattle.cutter.specs.Segments.{bytes_of, AddsNothing};
@@ -202,9 +202,7 @@ impl Reel {
     pub(crate) fn clear(&mut self)
         ensures { self.new ≡ unfilled }
     {
-        self.bytes.clear();
-        self.frames.clear();
-        self.plans_at.clear();
+        empty(&mut self.bytes, &mut self.frames, &mut self.plans_at);
         self.body_at = 0;
         self.frames_at = 0;
         self.pending = None;
@@ -226,6 +224,17 @@ impl Reel {
         self.pending = other.pending;
         Ok(())
     }
+}
+
+/// Empties what a reel holds, and leaves each its memory.
+fn empty(bytes: &mut Vec<u8>, frames: &mut Vec<Frame>, plans_at: &mut Vec<PlanAt>)
+    ensures bytes { (bytes.new.items ≡ []) × (vec_capacity bytes.new ≡ vec_capacity bytes.old) }
+    ensures frames { (frames.new.items ≡ []) × (vec_capacity frames.new ≡ vec_capacity frames.old) }
+    ensures plans { (plans_at.new.items ≡ []) × (vec_capacity plans_at.new ≡ vec_capacity plans_at.old) }
+{
+    bytes.clear();
+    frames.clear();
+    plans_at.clear();
 }
 
 /// A closed plan, lent.
