@@ -1,6 +1,7 @@
 //! The publisher, and the board that it begins.
 
-ghost use Rattle.std.specs.Prelude.{◌≡◌, ◌≤◌, ◌++◌, ◌∷◌, [], length, All, vec_len, vec_capacity, IfSome, IfOk, OnOk, OnErr, IfErr, Err, None, Ok, ◌⊎◌};
+ghost use Rattle.std.specs.Prelude.{◌≡◌, ◌≤◌, ◌++◌, ◌∷◌, [], length, All, vec_len, vec_capacity, IfSome, IfOk, OnOk, OnErr, IfErr, Err, None, ◌⊎◌};
+ghost use Rattle.std.specs.Option.{ForSome};
 ghost use Rattle.ghost_list.specs.Lists.{IsBeginning};
 ghost use Rattle.left_right.specs.Sides.{view as known_by};
 ghost use Rattle.live_board.specs.declared.fault.BoardFault.TheVariants.{NoMemory, NoPlace};
@@ -55,20 +56,41 @@ pub fn board<R: Wait>(
     ensures viewers { IfOk result (λ b. All (λ v. v ≡ b.0) b.1.items) }
     ensures fault { OnErr result ((result ≡ Err NoPlace) ⊎ (result ≡ Err NoMemory)) }
 {
-    let room = made(Vec::with_capacity(alloc, viewers).ok())?;
-    let publisher = made(alone(rt, alloc, first, viewers))?;
-    publisher.with_viewers(rt, room, viewers)
+    opened(rt, ready(rt, alloc, first, viewers), viewers)
 }
 
-/// What was made; NoMemory where it wasn't.
-fn made<T>(one: Option<T>) -> Result<T, BoardFault>
-    ensures some { IfSome one (λ it. result ≡ Ok it) }
-    ensures none { one ≡ None → result ≡ Err NoMemory }
+/// With its viewers, a publisher that is ready; NoMemory where none is, and NoPlace only where one is and a viewer gets no place.
+fn opened<R: Wait>(
+    rt: &R,
+    ready: Option<(Publisher, Vec<Viewer>)>,
+    viewers: usize,
+) -> Result<(Publisher, Vec<Viewer>), BoardFault>
+    requires { ForSome ready (λ r. (r.1.items ≡ []) × (vec_len r.1 ≡ 0) × (viewers ≤ vec_capacity r.1)) }
+    ensures list { IfSome ready (λ r. IfOk result (λ b. b.0 ≡ r.0)) }
+    ensures count { IfOk result (λ b. length b.1.items ≡ viewers) }
+    ensures viewers { IfOk result (λ b. All (λ v. v ≡ b.0) b.1.items) }
+    ensures none { ready ≡ None → result ≡ Err NoMemory }
+    ensures no_place { IfSome ready (λ _. OnErr result (result ≡ Err NoPlace)) }
 {
-    match one {
-        Some(it) => Ok(it),
+    match ready {
+        Some((publisher, room)) => publisher.with_viewers(rt, room, viewers),
         None => Err(BoardFault::NoMemory),
     }
+}
+
+/// A publisher that shows the snapshot, and room for so many viewers. `None` for want of memory.
+fn ready<R: Wait>(
+    rt: &R,
+    alloc: Global,
+    first: Snapshot,
+    viewers: usize,
+) -> Option<(Publisher, Vec<Viewer>)>
+    requires { (1 ≤ viewers) × (viewers ≤ MOST_VIEWERS) }
+    ensures list { IfSome result (λ r. r.0.list ≡ first ∷ []) }
+    ensures room { IfSome result (λ r. (r.1.items ≡ []) × (vec_len r.1 ≡ 0) × (viewers ≤ vec_capacity r.1)) }
+{
+    let room = Vec::with_capacity(alloc, viewers).ok()?;
+    Some((alone(rt, alloc, first, viewers)?, room))
 }
 
 /// What the bounds are.
