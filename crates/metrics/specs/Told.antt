@@ -1,6 +1,5 @@
 -- What is told of renditions that a board shows.
-use Rattle.std.specs.Prelude.{ℕ, ◌-◌, List, [], Option, None, option_map, false, get_or}
-use Rattle.std.specs.Borrow.{Bor}
+use Rattle.std.specs.Prelude.{ℕ, ◌-◌, List, [], None, option_map, false, get_or}
 use Rattle.live_board.specs.declared.totals.Totals.{Totals}
 use Rattle.metrics.specs.Samples.{SampleFacts}
 use Rattle.metrics.specs.Seens.{unseen}

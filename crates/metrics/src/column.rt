@@ -1,14 +1,14 @@
 //! The values of a metric, one for each rendition.
 
-ghost use Rattle.std.specs.Prelude.{◌≡◌, IfOk};
+ghost use Rattle.std.specs.Prelude.{◌≡◌, ◌<◌, ◌≤◌, length, OnErr, OnOk};
 ghost use Rattle.std.specs.Fmt.{decimal};
-ghost use Rattle.std.specs.String.{string_bytes};
+ghost use Rattle.std.specs.String.{string_bytes, string_capacity};
 ghost use Rattle.playlist_text.specs.Numbers.{seconds};
 ghost use Rattle.metrics.specs.Samples.{facts_of, value_of};
 
 use crate::sample::Sample;
 use playlist_text::{push_decimal, push_seconds};
-use std::alloc::{AllocError, Global};
+use std::alloc::AllocError;
 
 /// Which of a rendition's numbers a metric tells.
 #[derive(Clone, Copy, Debug, PartialEq, Eq, Drop)]
@@ -24,46 +24,50 @@ pub(crate) enum Column {
     Ended,
 }
 
-/// A number, without zeros in front.
-fn number(alloc: Global, number: u128) -> Result<String, AllocError>
-    ensures { IfOk result (λ text. string_bytes text ≡ decimal number) }
+/// Writes a number in place of a text, without zeros in front.
+pub(crate) fn write_decimal(text: &mut String, number: u128) -> Result<(), AllocError>
+    ensures ok { OnOk result (string_bytes text.new ≡ decimal number) }
+    ensures full { OnErr result (string_capacity text.old < length (decimal number)) }
+    ensures capacity { string_capacity text.old ≤ string_capacity text.new }
 {
-    let mut text = String::new(alloc);
-    push_decimal(&mut text, number)?;
-    Ok(text)
+    text.clear();
+    push_decimal(text, number)
 }
 
-/// Microseconds as seconds with six digits behind the point.
-fn time(alloc: Global, micros: u128) -> Result<String, AllocError>
-    ensures { IfOk result (λ text. string_bytes text ≡ seconds micros) }
+/// Writes microseconds in place of a text, as seconds with six digits behind the point.
+pub(crate) fn write_seconds(text: &mut String, micros: u128) -> Result<(), AllocError>
+    ensures ok { OnOk result (string_bytes text.new ≡ seconds micros) }
+    ensures full { OnErr result (string_capacity text.old < length (seconds micros)) }
+    ensures capacity { string_capacity text.old ≤ string_capacity text.new }
 {
-    let mut text = String::new(alloc);
-    push_seconds(&mut text, micros)?;
-    Ok(text)
+    text.clear();
+    push_seconds(text, micros)
 }
 
-/// The value of a rendition.
-pub(crate) fn value(
-    alloc: Global,
+/// Writes the value of a rendition in place of a text.
+pub(crate) fn write_value(
+    text: &mut String,
     column: Column,
     sample: &Sample<'_>,
-) -> Result<String, AllocError>
-    ensures { IfOk result (λ text. string_bytes text ≡ value_of column (facts_of sample.now)) }
+) -> Result<(), AllocError>
+    ensures ok { OnOk result (string_bytes text.new ≡ value_of column (facts_of sample.now)) }
+    ensures full { OnErr result (string_capacity text.old < length (value_of column (facts_of sample.now))) }
+    ensures capacity { string_capacity text.old ≤ string_capacity text.new }
 {
     match column {
-        Column::Segments => number(alloc, u128::from(sample.segments)),
-        Column::Time => time(alloc, sample.micros),
-        Column::Bytes => number(alloc, sample.bytes),
-        Column::Peak => number(alloc, u128::from(sample.peak)),
-        Column::Average => number(alloc, u128::from(sample.average)),
-        Column::Quiet => time(alloc, sample.quiet),
-        Column::Ahead => number(alloc, u128::from(sample.ahead)),
-        Column::Silent => time(alloc, sample.silent),
+        Column::Segments => write_decimal(text, u128::from(sample.segments)),
+        Column::Time => write_seconds(text, sample.micros),
+        Column::Bytes => write_decimal(text, sample.bytes),
+        Column::Peak => write_decimal(text, u128::from(sample.peak)),
+        Column::Average => write_decimal(text, u128::from(sample.average)),
+        Column::Quiet => write_seconds(text, sample.quiet),
+        Column::Ahead => write_decimal(text, u128::from(sample.ahead)),
+        Column::Silent => write_seconds(text, sample.silent),
         Column::Ended => {
             if sample.ended {
-                number(alloc, 1)
+                write_decimal(text, 1)
             } else {
-                number(alloc, 0)
+                write_decimal(text, 0)
             }
         }
     }

@@ -1,11 +1,13 @@
 //! A metric of all renditions.
 
-ghost use Rattle.std.specs.Prelude.{◌≡◌, ◌≢◌, ◌<◌, ◌+◌, ◌++◌, length, map, vec_len, vec_capacity, option_map, Any, IsErr, IsOk, None, OnErr, OnOk};
+ghost use Rattle.std.specs.String.{string_capacity};
+ghost use Rattle.std.specs.Prelude.{◌≡◌, ◌≢◌, ◌⊎◌, ◌<◌, ◌≤◌, ◌+◌, ◌++◌, length, map, vec_len, vec_capacity, option_map, Any, IsOk, None, OnErr, OnOk};
 ghost use Rattle.metrics.specs.Format.{head_text, sample_line, fault_line};
 ghost use Rattle.metrics.specs.Samples.{facts_of, value_of, column_text, fault_of, faults_text};
 
-use crate::column::{Column, value};
+use crate::column::{Column, write_value};
 use crate::label::{push, push_label};
+use crate::page::Page;
 use crate::sample::Sample;
 use std::alloc::AllocError;
 
@@ -19,6 +21,7 @@ pub(crate) fn push_head(
 ) -> Result<(), AllocError>
     ensures ok { OnOk result (out.new.items ≡ out.old.items ++ head_text name.now kind.now help.now) }
     ensures full { OnErr result (vec_capacity out.old < vec_len out.old + length (head_text name.now kind.now help.now)) }
+    ensures capacity { vec_capacity out.old ≤ vec_capacity out.new }
 {
     push(out, "# HELP ")?;
     push(out, name)?;
@@ -36,6 +39,7 @@ pub(crate) fn push_head(
 fn push_line(out: &mut Vec<u8>, name: &str, label: &str, value: &str) -> Result<(), AllocError>
     ensures ok { OnOk result (out.new.items ≡ out.old.items ++ sample_line name.now label.now value.now) }
     ensures full { OnErr result (vec_capacity out.old < vec_len out.old + length (sample_line name.now label.now value.now)) }
+    ensures capacity { vec_capacity out.old ≤ vec_capacity out.new }
 {
     push(out, name)?;
     push(out, "{rendition=\"")?;
@@ -47,17 +51,18 @@ fn push_line(out: &mut Vec<u8>, name: &str, label: &str, value: &str) -> Result<
 
 /// Appends a sample of each rendition.
 pub(crate) fn push_column(
-    out: &mut Vec<u8>,
+    page: &mut Page,
     name: &str,
     column: Column,
     samples: &[Sample<'_>],
 ) -> Result<(), AllocError>
-    ensures text { OnOk result (out.new.items ≡ out.old.items ++ column_text name.now column (map facts_of samples.now)) }
-    ensures none { IsErr result → 0 < length samples.now }
+    ensures text { OnOk result (page.new.out.items ≡ page.old.out.items ++ column_text name.now column (map facts_of samples.now)) }
+    ensures full { OnErr result ((vec_capacity page.old.out < vec_len page.old.out + length (column_text name.now column (map facts_of samples.now)))
+        ⊎ Any (λ s. string_capacity page.old.text < length (value_of column (facts_of s))) samples.now) }
 {
     for sample in samples {
-        let text = value(*out.allocator(), column, sample)?;
-        push_line(out, name, sample.name, &text)?;
+        write_value(&mut page.text, column, sample)?;
+        push_line(&mut page.out, name, sample.name, &page.text)?;
     }
     Ok(())
 }

@@ -9,6 +9,7 @@ mod family;
 mod glance;
 mod known;
 mod label;
+mod page;
 mod sample;
 mod sampling;
 mod seen;

@@ -1,77 +1,78 @@
 //! The metrics of a run.
 
-ghost use Rattle.std.specs.Prelude.{◌≡◌, ◌++◌, map, IfOk, OnOk};
+ghost use Rattle.std.specs.Prelude.{◌≡◌, ◌⊎◌, ◌+◌, ◌<◌, ◌++◌, length, map, vec_len, vec_capacity, Any, IfOk, OnErr, OnOk};
+ghost use Rattle.std.specs.String.{string_capacity};
 ghost use Rattle.metrics.specs.Metrics;
 ghost use Rattle.metrics.specs.Metrics.{metric, run_metric, start_text, segments_text, run_text, counters, rates, inputs, states, fault_text};
-ghost use Rattle.metrics.specs.Samples.{facts_of};
+ghost use Rattle.metrics.specs.Samples.{facts_of, value_of};
 
-use crate::column::Column;
+use crate::column::{Column, write_decimal, write_seconds};
 use crate::family::{push_column, push_faults, push_head};
 use crate::label::push;
+use crate::page::Page;
 use crate::sample::{RunSample, Sample};
-use playlist_text::{push_decimal, push_seconds};
 use std::alloc::{AllocError, Global};
 
 /// Appends a metric with a sample of each rendition.
 #[tactic(auto, unfolding(crate::specs::Metrics::metric))]
 fn push_metric(
-    out: &mut Vec<u8>,
+    page: &mut Page,
     name: &str,
     kind: &str,
     help: &str,
     column: Column,
     samples: &[Sample<'_>],
 ) -> Result<(), AllocError>
-    ensures { OnOk result (out.new.items ≡ out.old.items ++ metric name.now kind.now help.now column (map facts_of samples.now)) }
+    ensures ok { OnOk result (page.new.out.items ≡ page.old.out.items ++ metric name.now kind.now help.now column (map facts_of samples.now)) }
+    ensures full { OnErr result ((vec_capacity page.old.out < vec_len page.old.out + length (metric name.now kind.now help.now column (map facts_of samples.now)))
+        ⊎ Any (λ s. string_capacity page.old.text < length (value_of column (facts_of s))) samples.now) }
 {
-    push_head(out, name, kind, help)?;
-    push_column(out, name, column, samples)
+    push_head(&mut page.out, name, kind, help)?;
+    push_column(page, name, column, samples)
 }
 
 /// Appends when the run began.
 #[tactic(auto, unfolding(crate::specs::Metrics::start_text))]
-fn push_start(out: &mut Vec<u8>, start: u128) -> Result<(), AllocError>
-    ensures { OnOk result (out.new.items ≡ out.old.items ++ start_text start) }
+fn push_start(page: &mut Page, start: u128) -> Result<(), AllocError>
+    ensures { OnOk result (page.new.out.items ≡ page.old.out.items ++ start_text start) }
 {
-    let mut text = String::new(*out.allocator());
-    push_seconds(&mut text, start)?;
+    write_seconds(&mut page.text, start)?;
     let help = "When the run began, in seconds since 1970.";
-    push_head(out, "tshls_start_time_seconds", "gauge", help)?;
-    push(out, "tshls_start_time_seconds ")?;
-    push(out, &text)?;
-    push(out, "\n")
+    push_head(&mut page.out, "tshls_start_time_seconds", "gauge", help)?;
+    push(&mut page.out, "tshls_start_time_seconds ")?;
+    push(&mut page.out, &page.text)?;
+    push(&mut page.out, "\n")
 }
 
 /// Appends a metric of the whole run.
 #[tactic(auto, unfolding(crate::specs::Metrics::run_metric))]
 fn push_run_metric(
-    out: &mut Vec<u8>,
+    page: &mut Page,
     name: &str,
     kind: &str,
     help: &str,
     value: u128,
 ) -> Result<(), AllocError>
-    ensures { OnOk result (out.new.items ≡ out.old.items ++ run_metric name.now kind.now help.now value) }
+    ensures { OnOk result (page.new.out.items ≡ page.old.out.items ++ run_metric name.now kind.now help.now value) }
 {
-    let mut text = String::new(*out.allocator());
-    push_decimal(&mut text, value)?;
-    push_head(out, name, kind, help)?;
-    push(out, name)?;
-    push(out, " ")?;
-    push(out, &text)?;
-    push(out, "\n")
+    write_decimal(&mut page.text, value)?;
+    push_head(&mut page.out, name, kind, help)?;
+    push(&mut page.out, name)?;
+    push(&mut page.out, " ")?;
+    push(&mut page.out, &page.text)?;
+    push(&mut page.out, "\n")
 }
 
 /// Appends how many segments wait, and how many were removed.
 #[tactic(auto, unfolding(crate::specs::Metrics::segments_text))]
-fn push_segments(out: &mut Vec<u8>, waiting: u128, removed: u128) -> Result<(), AllocError>
-    ensures { OnOk result (out.new.items ≡ out.old.items ++ segments_text waiting removed) }
+fn push_segments(page: &mut Page, waiting: u128, removed: u128) -> Result<(), AllocError>
+    ensures { OnOk result (page.new.out.items ≡ page.old.out.items ++ segments_text waiting removed) }
 {
     let help = "Complete segments that are being encrypted and aren't listed yet.";
-    push_run_metric(out, "tshls_waiting_segments", "gauge", help, waiting)?;
+    push_run_metric(page, "tshls_waiting_segments", "gauge", help, waiting)?;
     let help = "Segments that were removed.";
     push_run_metric(
-        out,
+        page,
         "tshls_removed_segments_total",
         "counter",
         help,
@@ -81,31 +82,31 @@ fn push_segments(out: &mut Vec<u8>, waiting: u128, removed: u128) -> Result<(), 
 
 /// Appends how the whole run stands.
 #[tactic(auto, unfolding(crate::specs::Metrics::run_text))]
-fn push_run(out: &mut Vec<u8>, run: RunSample) -> Result<(), AllocError>
-    ensures { OnOk result (out.new.items ≡ out.old.items ++ run_text run) }
+fn push_run(page: &mut Page, run: RunSample) -> Result<(), AllocError>
+    ensures { OnOk result (page.new.out.items ≡ page.old.out.items ++ run_text run) }
 {
-    push_start(out, run.start)?;
-    push_segments(out, run.waiting, run.removed)
+    push_start(page, run.start)?;
+    push_segments(page, run.waiting, run.removed)
 }
 
 /// Appends the faults of renditions.
 #[tactic(auto, unfolding(crate::specs::Metrics::fault_text))]
-fn push_fault_metric(out: &mut Vec<u8>, samples: &[Sample<'_>]) -> Result<(), AllocError>
-    ensures { OnOk result (out.new.items ≡ out.old.items ++ fault_text (map facts_of samples.now)) }
+fn push_fault_metric(page: &mut Page, samples: &[Sample<'_>]) -> Result<(), AllocError>
+    ensures { OnOk result (page.new.out.items ≡ page.old.out.items ++ fault_text (map facts_of samples.now)) }
 {
     let help = "1 for a rendition that ended by a fault.";
-    push_head(out, "tshls_fault", "gauge", help)?;
-    push_faults(out, "tshls_fault", samples)
+    push_head(&mut page.out, "tshls_fault", "gauge", help)?;
+    push_faults(&mut page.out, "tshls_fault", samples)
 }
 
 /// Appends what only grows.
 #[tactic(auto, unfolding(crate::specs::Metrics::counters))]
-fn push_counters(out: &mut Vec<u8>, samples: &[Sample<'_>]) -> Result<(), AllocError>
-    ensures { OnOk result (out.new.items ≡ out.old.items ++ counters (map facts_of samples.now)) }
+fn push_counters(page: &mut Page, samples: &[Sample<'_>]) -> Result<(), AllocError>
+    ensures { OnOk result (page.new.out.items ≡ page.old.out.items ++ counters (map facts_of samples.now)) }
 {
     let help = "Segments that were written and listed.";
     push_metric(
-        out,
+        page,
         "tshls_segments_total",
         "counter",
         help,
@@ -114,7 +115,7 @@ fn push_counters(out: &mut Vec<u8>, samples: &[Sample<'_>]) -> Result<(), AllocE
     )?;
     let help = "How long the segments last together.";
     push_metric(
-        out,
+        page,
         "tshls_stream_seconds_total",
         "counter",
         help,
@@ -123,7 +124,7 @@ fn push_counters(out: &mut Vec<u8>, samples: &[Sample<'_>]) -> Result<(), AllocE
     )?;
     let help = "How many bytes the segments have together.";
     push_metric(
-        out,
+        page,
         "tshls_segment_bytes_total",
         "counter",
         help,
@@ -134,12 +135,12 @@ fn push_counters(out: &mut Vec<u8>, samples: &[Sample<'_>]) -> Result<(), AllocE
 
 /// Appends the bit rates.
 #[tactic(auto, unfolding(crate::specs::Metrics::rates))]
-fn push_rates(out: &mut Vec<u8>, samples: &[Sample<'_>]) -> Result<(), AllocError>
-    ensures { OnOk result (out.new.items ≡ out.old.items ++ rates (map facts_of samples.now)) }
+fn push_rates(page: &mut Page, samples: &[Sample<'_>]) -> Result<(), AllocError>
+    ensures { OnOk result (page.new.out.items ≡ page.old.out.items ++ rates (map facts_of samples.now)) }
 {
     let help = "The peak bit rate that the master playlist lists, in bits per second.";
     push_metric(
-        out,
+        page,
         "tshls_peak_bitrate",
         "gauge",
         help,
@@ -148,7 +149,7 @@ fn push_rates(out: &mut Vec<u8>, samples: &[Sample<'_>]) -> Result<(), AllocErro
     )?;
     let help = "The average bit rate that the master playlist lists, in bits per second.";
     push_metric(
-        out,
+        page,
         "tshls_average_bitrate",
         "gauge",
         help,
@@ -159,12 +160,12 @@ fn push_rates(out: &mut Vec<u8>, samples: &[Sample<'_>]) -> Result<(), AllocErro
 
 /// Appends how inputs stand.
 #[tactic(auto, unfolding(crate::specs::Metrics::inputs))]
-fn push_inputs(out: &mut Vec<u8>, samples: &[Sample<'_>]) -> Result<(), AllocError>
-    ensures { OnOk result (out.new.items ≡ out.old.items ++ inputs (map facts_of samples.now)) }
+fn push_inputs(page: &mut Page, samples: &[Sample<'_>]) -> Result<(), AllocError>
+    ensures { OnOk result (page.new.out.items ≡ page.old.out.items ++ inputs (map facts_of samples.now)) }
 {
     let help = "Bytes of the input that were read ahead and aren't packed yet.";
     push_metric(
-        out,
+        page,
         "tshls_read_ahead_bytes",
         "gauge",
         help,
@@ -173,7 +174,7 @@ fn push_inputs(out: &mut Vec<u8>, samples: &[Sample<'_>]) -> Result<(), AllocErr
     )?;
     let help = "For how long nothing came of the input.";
     push_metric(
-        out,
+        page,
         "tshls_input_silent_seconds",
         "gauge",
         help,
@@ -184,12 +185,12 @@ fn push_inputs(out: &mut Vec<u8>, samples: &[Sample<'_>]) -> Result<(), AllocErr
 
 /// Appends how renditions stand.
 #[tactic(auto, unfolding(crate::specs::Metrics::states))]
-fn push_states(out: &mut Vec<u8>, samples: &[Sample<'_>]) -> Result<(), AllocError>
-    ensures { OnOk result (out.new.items ≡ out.old.items ++ states (map facts_of samples.now)) }
+fn push_states(page: &mut Page, samples: &[Sample<'_>]) -> Result<(), AllocError>
+    ensures { OnOk result (page.new.out.items ≡ page.old.out.items ++ states (map facts_of samples.now)) }
 {
     let help = "For how long no segment came.";
     push_metric(
-        out,
+        page,
         "tshls_quiet_seconds",
         "gauge",
         help,
@@ -197,7 +198,7 @@ fn push_states(out: &mut Vec<u8>, samples: &[Sample<'_>]) -> Result<(), AllocErr
         samples,
     )?;
     let help = "Whether the end of the playlist was written.";
-    push_metric(out, "tshls_ended", "gauge", help, Column::Ended, samples)
+    push_metric(page, "tshls_ended", "gauge", help, Column::Ended, samples)
 }
 
 /// The metrics of a run and of its renditions, in the text format of Prometheus, version 0.0.4. The only refusal is want of
@@ -209,12 +210,16 @@ pub fn metrics_text(
 ) -> Result<Vec<u8>, AllocError>
     ensures { IfOk result (λ text. text.items ≡ Metrics.metrics_text run (map facts_of samples.now)) }
 {
-    let mut out = Vec::new(alloc);
-    push_run(&mut out, run)?;
-    push_counters(&mut out, samples)?;
-    push_rates(&mut out, samples)?;
-    push_inputs(&mut out, samples)?;
-    push_states(&mut out, samples)?;
-    push_fault_metric(&mut out, samples)?;
+    let mut page = Page {
+        out: Vec::new(alloc),
+        text: String::new(alloc),
+    };
+    push_run(&mut page, run)?;
+    push_counters(&mut page, samples)?;
+    push_rates(&mut page, samples)?;
+    push_inputs(&mut page, samples)?;
+    push_states(&mut page, samples)?;
+    push_fault_metric(&mut page, samples)?;
+    let Page { out, .. } = page;
     Ok(out)
 }

@@ -11,4 +11,4 @@ unfolding rates
 returns c =
     let peak : List ℕ = metric (codes "tshls_peak_bitrate") (codes "gauge") (codes "The peak bit rate that the master playlist lists, in bits per second.") Peak (map facts_of c.args.samples.now) in
     let average : List ℕ = metric (codes "tshls_average_bitrate") (codes "gauge") (codes "The average bit rate that the master playlist lists, in bits per second.") Average (map facts_of c.args.samples.now) in
-    on_ok_weaker c.push_metric-2.result (λ told. more c.args.out.now.items c.push_metric.new.out.items c.push_metric-2.new.out.items peak average c.in_ok-push_metric.ensures told) c.push_metric-2.ensures
+    on_ok_weaker c.push_metric-2.result (λ told. more c.args.page.now.out.items c.push_metric.new.page.out.items c.push_metric-2.new.page.out.items peak average c.in_ok-push_metric.ensures.ok told) c.push_metric-2.ensures.ok

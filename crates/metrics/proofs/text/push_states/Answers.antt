@@ -11,4 +11,4 @@ unfolding states
 returns c =
     let quiet : List ℕ = metric (codes "tshls_quiet_seconds") (codes "gauge") (codes "For how long no segment came.") Quiet (map facts_of c.args.samples.now) in
     let ended : List ℕ = metric (codes "tshls_ended") (codes "gauge") (codes "Whether the end of the playlist was written.") Ended (map facts_of c.args.samples.now) in
-    on_ok_weaker c.push_metric-2.result (λ told. more c.args.out.now.items c.push_metric.new.out.items c.push_metric-2.new.out.items quiet ended c.in_ok-push_metric.ensures told) c.push_metric-2.ensures
+    on_ok_weaker c.push_metric-2.result (λ told. more c.args.page.now.out.items c.push_metric.new.page.out.items c.push_metric-2.new.page.out.items quiet ended c.in_ok-push_metric.ensures.ok told) c.push_metric-2.ensures.ok
