@@ -1,5 +1,5 @@
 -- The metrics of a run.
-use Rattle.std.specs.Prelude.{ℕ, List, ◌++◌, codes}
+use Rattle.std.specs.Prelude.{ℕ, ◌<◌, ◌⊎◌, length, List, ◌++◌, codes}
 use Rattle.std.specs.Fmt.{decimal}
 use Rattle.playlist_text.specs.Numbers.{seconds}
 use Rattle.metrics.specs.Format.{head_text}
@@ -31,6 +31,10 @@ segments_text waiting removed =
 -- how the whole run stands
 unfoldable pub run_text : RunSample → List ℕ
 run_text run = start_text run.start ++ segments_text run.waiting run.removed
+
+-- room for so many bytes is too little for some number of it
+abbrev pub IsRunShort : ℕ → RunSample → Type 0
+IsRunShort room run = (room < length (seconds run.start)) ⊎ (room < length (decimal run.waiting)) ⊎ (room < length (decimal run.removed))
 
 -- what only grows
 unfoldable pub counters : List SampleFacts → List ℕ

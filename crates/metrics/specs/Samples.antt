@@ -1,5 +1,5 @@
 -- What is told of a rendition, and the samples of all of them.
-use Rattle.std.specs.Prelude.{ℕ, Bool, true, false, List, [], Option, Some, None, option_map}
+use Rattle.std.specs.Prelude.{ℕ, ◌<◌, Any, length, Bool, true, false, List, [], Option, Some, None, option_map}
 use Rattle.std.specs.Fmt.{decimal}
 use Rattle.std.specs.List.{flat_map}
 use Rattle.playlist_text.specs.Numbers.{seconds}
@@ -66,3 +66,7 @@ fault_of name rendition (Some fault) = fault_line name rendition fault
 
 abbrev pub faults_text : List ℕ → List SampleFacts → List ℕ
 faults_text name samples = flat_map (λ s. fault_of name s.name s.fault) samples
+
+-- room for so many bytes is too little for some number of a sample
+abbrev pub IsShort : ℕ → List Sample → Type 0
+IsShort room samples = Any (λ s. (column : Column) × (room < length (value_of column (facts_of s)))) samples

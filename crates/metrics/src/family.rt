@@ -59,6 +59,7 @@ pub(crate) fn push_column(
     ensures text { OnOk result (page.new.out.items ≡ page.old.out.items ++ column_text name.now column (map facts_of samples.now)) }
     ensures full { OnErr result ((vec_capacity page.old.out < vec_len page.old.out + length (column_text name.now column (map facts_of samples.now)))
         ⊎ Any (λ s. string_capacity page.old.text < length (value_of column (facts_of s))) samples.now) }
+    ensures room { (vec_capacity page.old.out ≤ vec_capacity page.new.out) × (string_capacity page.old.text ≤ string_capacity page.new.text) }
 {
     for sample in samples {
         write_value(&mut page.text, column, sample)?;
@@ -72,6 +73,7 @@ pub(crate) fn push_column(
 fn push_fault(out: &mut Vec<u8>, name: &str, label: &str, fault: &str) -> Result<(), AllocError>
     ensures ok { OnOk result (out.new.items ≡ out.old.items ++ fault_line name.now label.now fault.now) }
     ensures full { OnErr result (vec_capacity out.old < vec_len out.old + length (fault_line name.now label.now fault.now)) }
+    ensures capacity { vec_capacity out.old ≤ vec_capacity out.new }
 {
     push(out, name)?;
     push(out, "{rendition=\"")?;
@@ -85,6 +87,8 @@ fn push_fault(out: &mut Vec<u8>, name: &str, label: &str, fault: &str) -> Result
 fn push_fault_of(out: &mut Vec<u8>, name: &str, sample: &Sample<'_>) -> Result<(), AllocError>
     ensures told { OnOk result (out.new.items ≡ out.old.items ++ fault_of name.now (facts_of sample.now).name (facts_of sample.now).fault) }
     ensures none { (facts_of sample.now).fault ≡ None → IsOk result }
+    ensures full { OnErr result (vec_capacity out.old < vec_len out.old + length (fault_of name.now (facts_of sample.now).name (facts_of sample.now).fault)) }
+    ensures capacity { vec_capacity out.old ≤ vec_capacity out.new }
 {
     match sample.fault {
         Some(fault) => push_fault(out, name, sample.name, fault),
@@ -100,6 +104,7 @@ pub(crate) fn push_faults(
 ) -> Result<(), AllocError>
     ensures text { OnOk result (out.new.items ≡ out.old.items ++ faults_text name.now (map facts_of samples.now)) }
     ensures scarce { OnErr result (Any (λ s. (facts_of s).fault ≢ None) samples.now) }
+    ensures full { OnErr result (vec_capacity out.old < vec_len out.old + length (faults_text name.now (map facts_of samples.now))) }
 {
     for sample in samples {
         push_fault_of(out, name, sample)?;

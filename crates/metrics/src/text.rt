@@ -1,10 +1,12 @@
 //! The metrics of a run.
 
-ghost use Rattle.std.specs.Prelude.{◌≡◌, ◌⊎◌, ◌+◌, ◌<◌, ◌++◌, length, map, vec_len, vec_capacity, Any, IfOk, OnErr, OnOk};
+ghost use Rattle.std.specs.Prelude.{◌≡◌, ◌⊎◌, ◌+◌, ◌<◌, ◌≤◌, ◌++◌, length, map, vec_len, vec_capacity, Any, IfOk, OnErr, OnOk};
 ghost use Rattle.std.specs.String.{string_capacity};
+ghost use Rattle.std.specs.Fmt.{decimal};
+ghost use Rattle.playlist_text.specs.Numbers.{seconds};
 ghost use Rattle.metrics.specs.Metrics;
-ghost use Rattle.metrics.specs.Metrics.{metric, run_metric, start_text, segments_text, run_text, counters, rates, inputs, states, fault_text};
-ghost use Rattle.metrics.specs.Samples.{facts_of, value_of};
+ghost use Rattle.metrics.specs.Metrics.{IsRunShort, metric, run_metric, start_text, segments_text, run_text, counters, rates, inputs, states, fault_text};
+ghost use Rattle.metrics.specs.Samples.{IsShort, facts_of, value_of};
 
 use crate::column::{Column, write_decimal, write_seconds};
 use crate::family::{push_column, push_faults, push_head};
@@ -24,8 +26,10 @@ fn push_metric(
     samples: &[Sample<'_>],
 ) -> Result<(), AllocError>
     ensures ok { OnOk result (page.new.out.items ≡ page.old.out.items ++ metric name.now kind.now help.now column (map facts_of samples.now)) }
-    ensures full { OnErr result ((vec_capacity page.old.out < vec_len page.old.out + length (metric name.now kind.now help.now column (map facts_of samples.now)))
+    ensures full { OnErr result (
+        (vec_capacity page.old.out < vec_len page.old.out + length (metric name.now kind.now help.now column (map facts_of samples.now)))
         ⊎ Any (λ s. string_capacity page.old.text < length (value_of column (facts_of s))) samples.now) }
+    ensures room { (vec_capacity page.old.out ≤ vec_capacity page.new.out) × (string_capacity page.old.text ≤ string_capacity page.new.text) }
 {
     push_head(&mut page.out, name, kind, help)?;
     push_column(page, name, column, samples)
@@ -34,7 +38,10 @@ fn push_metric(
 /// Appends when the run began.
 #[tactic(auto, unfolding(crate::specs::Metrics::start_text))]
 fn push_start(page: &mut Page, start: u128) -> Result<(), AllocError>
-    ensures { OnOk result (page.new.out.items ≡ page.old.out.items ++ start_text start) }
+    ensures ok { OnOk result (page.new.out.items ≡ page.old.out.items ++ start_text start) }
+    ensures full { OnErr result ((vec_capacity page.old.out < vec_len page.old.out + length (start_text start))
+        ⊎ (string_capacity page.old.text < length (seconds start))) }
+    ensures room { (vec_capacity page.old.out ≤ vec_capacity page.new.out) × (string_capacity page.old.text ≤ string_capacity page.new.text) }
 {
     write_seconds(&mut page.text, start)?;
     let help = "When the run began, in seconds since 1970.";
@@ -53,7 +60,10 @@ fn push_run_metric(
     help: &str,
     value: u128,
 ) -> Result<(), AllocError>
-    ensures { OnOk result (page.new.out.items ≡ page.old.out.items ++ run_metric name.now kind.now help.now value) }
+    ensures ok { OnOk result (page.new.out.items ≡ page.old.out.items ++ run_metric name.now kind.now help.now value) }
+    ensures full { OnErr result ((vec_capacity page.old.out < vec_len page.old.out + length (run_metric name.now kind.now help.now value))
+        ⊎ (string_capacity page.old.text < length (decimal value))) }
+    ensures room { (vec_capacity page.old.out ≤ vec_capacity page.new.out) × (string_capacity page.old.text ≤ string_capacity page.new.text) }
 {
     write_decimal(&mut page.text, value)?;
     push_head(&mut page.out, name, kind, help)?;
@@ -66,7 +76,10 @@ fn push_run_metric(
 /// Appends how many segments wait, and how many were removed.
 #[tactic(auto, unfolding(crate::specs::Metrics::segments_text))]
 fn push_segments(page: &mut Page, waiting: u128, removed: u128) -> Result<(), AllocError>
-    ensures { OnOk result (page.new.out.items ≡ page.old.out.items ++ segments_text waiting removed) }
+    ensures ok { OnOk result (page.new.out.items ≡ page.old.out.items ++ segments_text waiting removed) }
+    ensures full { OnErr result ((vec_capacity page.old.out < vec_len page.old.out + length (segments_text waiting removed))
+        ⊎ (string_capacity page.old.text < length (decimal waiting)) ⊎ (string_capacity page.old.text < length (decimal removed))) }
+    ensures room { (vec_capacity page.old.out ≤ vec_capacity page.new.out) × (string_capacity page.old.text ≤ string_capacity page.new.text) }
 {
     let help = "Complete segments that are being encrypted and aren't listed yet.";
     push_run_metric(page, "tshls_waiting_segments", "gauge", help, waiting)?;
@@ -83,7 +96,10 @@ fn push_segments(page: &mut Page, waiting: u128, removed: u128) -> Result<(), Al
 /// Appends how the whole run stands.
 #[tactic(auto, unfolding(crate::specs::Metrics::run_text))]
 fn push_run(page: &mut Page, run: RunSample) -> Result<(), AllocError>
-    ensures { OnOk result (page.new.out.items ≡ page.old.out.items ++ run_text run) }
+    ensures ok { OnOk result (page.new.out.items ≡ page.old.out.items ++ run_text run) }
+    ensures full { OnErr result ((vec_capacity page.old.out < vec_len page.old.out + length (run_text run))
+        ⊎ IsRunShort (string_capacity page.old.text) run) }
+    ensures room { (vec_capacity page.old.out ≤ vec_capacity page.new.out) × (string_capacity page.old.text ≤ string_capacity page.new.text) }
 {
     push_start(page, run.start)?;
     push_segments(page, run.waiting, run.removed)
@@ -92,7 +108,8 @@ fn push_run(page: &mut Page, run: RunSample) -> Result<(), AllocError>
 /// Appends the faults of renditions.
 #[tactic(auto, unfolding(crate::specs::Metrics::fault_text))]
 fn push_fault_metric(page: &mut Page, samples: &[Sample<'_>]) -> Result<(), AllocError>
-    ensures { OnOk result (page.new.out.items ≡ page.old.out.items ++ fault_text (map facts_of samples.now)) }
+    ensures ok { OnOk result (page.new.out.items ≡ page.old.out.items ++ fault_text (map facts_of samples.now)) }
+    ensures full { OnErr result (vec_capacity page.old.out < vec_len page.old.out + length (fault_text (map facts_of samples.now))) }
 {
     let help = "1 for a rendition that ended by a fault.";
     push_head(&mut page.out, "tshls_fault", "gauge", help)?;
@@ -102,7 +119,10 @@ fn push_fault_metric(page: &mut Page, samples: &[Sample<'_>]) -> Result<(), Allo
 /// Appends what only grows.
 #[tactic(auto, unfolding(crate::specs::Metrics::counters))]
 fn push_counters(page: &mut Page, samples: &[Sample<'_>]) -> Result<(), AllocError>
-    ensures { OnOk result (page.new.out.items ≡ page.old.out.items ++ counters (map facts_of samples.now)) }
+    ensures ok { OnOk result (page.new.out.items ≡ page.old.out.items ++ counters (map facts_of samples.now)) }
+    ensures full { OnErr result ((vec_capacity page.old.out < vec_len page.old.out + length (counters (map facts_of samples.now)))
+        ⊎ IsShort (string_capacity page.old.text) samples.now) }
+    ensures room { (vec_capacity page.old.out ≤ vec_capacity page.new.out) × (string_capacity page.old.text ≤ string_capacity page.new.text) }
 {
     let help = "Segments that were written and listed.";
     push_metric(
@@ -136,7 +156,10 @@ fn push_counters(page: &mut Page, samples: &[Sample<'_>]) -> Result<(), AllocErr
 /// Appends the bit rates.
 #[tactic(auto, unfolding(crate::specs::Metrics::rates))]
 fn push_rates(page: &mut Page, samples: &[Sample<'_>]) -> Result<(), AllocError>
-    ensures { OnOk result (page.new.out.items ≡ page.old.out.items ++ rates (map facts_of samples.now)) }
+    ensures ok { OnOk result (page.new.out.items ≡ page.old.out.items ++ rates (map facts_of samples.now)) }
+    ensures full { OnErr result ((vec_capacity page.old.out < vec_len page.old.out + length (rates (map facts_of samples.now)))
+        ⊎ IsShort (string_capacity page.old.text) samples.now) }
+    ensures room { (vec_capacity page.old.out ≤ vec_capacity page.new.out) × (string_capacity page.old.text ≤ string_capacity page.new.text) }
 {
     let help = "The peak bit rate that the master playlist lists, in bits per second.";
     push_metric(
@@ -161,7 +184,10 @@ fn push_rates(page: &mut Page, samples: &[Sample<'_>]) -> Result<(), AllocError>
 /// Appends how inputs stand.
 #[tactic(auto, unfolding(crate::specs::Metrics::inputs))]
 fn push_inputs(page: &mut Page, samples: &[Sample<'_>]) -> Result<(), AllocError>
-    ensures { OnOk result (page.new.out.items ≡ page.old.out.items ++ inputs (map facts_of samples.now)) }
+    ensures ok { OnOk result (page.new.out.items ≡ page.old.out.items ++ inputs (map facts_of samples.now)) }
+    ensures full { OnErr result ((vec_capacity page.old.out < vec_len page.old.out + length (inputs (map facts_of samples.now)))
+        ⊎ IsShort (string_capacity page.old.text) samples.now) }
+    ensures room { (vec_capacity page.old.out ≤ vec_capacity page.new.out) × (string_capacity page.old.text ≤ string_capacity page.new.text) }
 {
     let help = "Bytes of the input that were read ahead and aren't packed yet.";
     push_metric(
@@ -186,7 +212,10 @@ fn push_inputs(page: &mut Page, samples: &[Sample<'_>]) -> Result<(), AllocError
 /// Appends how renditions stand.
 #[tactic(auto, unfolding(crate::specs::Metrics::states))]
 fn push_states(page: &mut Page, samples: &[Sample<'_>]) -> Result<(), AllocError>
-    ensures { OnOk result (page.new.out.items ≡ page.old.out.items ++ states (map facts_of samples.now)) }
+    ensures ok { OnOk result (page.new.out.items ≡ page.old.out.items ++ states (map facts_of samples.now)) }
+    ensures full { OnErr result ((vec_capacity page.old.out < vec_len page.old.out + length (states (map facts_of samples.now)))
+        ⊎ IsShort (string_capacity page.old.text) samples.now) }
+    ensures room { (vec_capacity page.old.out ≤ vec_capacity page.new.out) × (string_capacity page.old.text ≤ string_capacity page.new.text) }
 {
     let help = "For how long no segment came.";
     push_metric(
