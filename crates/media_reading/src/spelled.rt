@@ -8,14 +8,11 @@ ghost use Rattle.media_reading.specs.State.{key_begin, key_in, vector_end};
 
 use crate::numbers::read_between;
 use limits::MOST_KEYS;
-use percent_encoding::{AsciiSet, NON_ALPHANUMERIC, ascii_set, utf8_percent_encode};
-use playlist_text::salted_vector;
+use percent_encoding::utf8_percent_encode;
+use playlist_text::{ESCAPED, salted_vector};
 
 /// What the line of a key begins with, before the name.
 pub const KEY_BEGIN: &str = "#EXT-X-KEY:METHOD=AES-128,URI=\"";
-
-/// The bytes of ASCII that are escaped in the URIs of a name.
-const ESCAPED: AsciiSet = ascii_set!(NON_ALPHANUMERIC.remove(b'-').remove(b'_').remove(b'~'));
 
 /// The digits of hexadecimal sequences.
 const DIGITS: &[u8; 16] = b"0123456789ABCDEF";

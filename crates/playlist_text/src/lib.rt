@@ -18,6 +18,7 @@ pub use line::push_line;
 pub use name::{is_codecs, is_name};
 pub use number::{micros, push_decimal, push_seconds, rounded_seconds};
 pub use uri::{
-    MASTER_URI, push_escaped, push_frames_uri, push_key_uri, push_media_uri, push_segment_uri,
+    ESCAPED, MASTER_URI, push_escaped, push_frames_uri, push_key_uri, push_media_uri,
+    push_segment_uri,
 };
 pub use vectors::{salted_vector, vector};

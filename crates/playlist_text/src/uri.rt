@@ -10,7 +10,7 @@ use std::alloc::AllocError;
 pub const MASTER_URI: &str = "master.m3u8";
 
 /// The bytes of ASCII that are escaped in the URIs of a name.
-const ESCAPED: AsciiSet = ascii_set!(NON_ALPHANUMERIC.remove(b'-').remove(b'_').remove(b'~'));
+pub const ESCAPED: AsciiSet = ascii_set!(NON_ALPHANUMERIC.remove(b'-').remove(b'_').remove(b'~'));
 
 /// Appends a name as it stands in URIs: bytes other than letters, digits, `-`, `_` and `~` as `%XX`, in upper case.
 pub fn push_escaped(out: &mut String, name: &str) -> Result<(), AllocError>
