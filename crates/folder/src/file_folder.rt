@@ -8,15 +8,17 @@ ghost use Rattle.folder.specs.FileFolders.{folder_path};
 ghost use Rattle.folder.specs.Kills.{IsFailedWrite};
 ghost use Rattle.folder.specs.Moves.{Looked, Move, Remove, Rename, Sync, Write};
 
+use crate::answers::{Removed, Renamed, Synced, Written, fill, gone, rename_of, sync_of, write_of};
 use crate::fault::FolderFault;
 use crate::file_reader::file_at;
 use crate::folder::Folder;
 use crate::ghost_move::GhostMove;
-use crate::notes::{note_failed_write, note_remove, note_rename, note_seen, note_sync, note_write};
+use crate::notes::{
+    note_failed_write, note_remove, note_rename, note_sight, note_sync, note_write,
+};
 use ghost_list::GhostList;
 use std::alloc::{AllocError, Global};
 use std::fs::{File, Files, Metadata, OpenFile};
-use std::io::Write;
 use std::os::unix::fs::MetadataExt;
 use std::path::{Path, PathBuf};
 use std::{fs, io};
@@ -102,17 +104,20 @@ impl<R: Files> FileFolder<R> {
 
     /// Writes a new file into the folder that was found at the path, and syncs it if all are. One of its name that was there is
     /// removed before, so that whoever has it open keeps what it was.
-    fn write_anew(&self, found: (u64, u64), path: Path<'_>, bytes: &[u8]) -> io::Result<()>
+    fn write_anew(&self, found: (u64, u64), path: &str, bytes: &[u8]) -> io::Result<Written>
         requires { self.now.node ≡ Some found }
+        ensures path { IfOk result (λ written. written.path.items ≡ path.now) }
+        ensures bytes { IfOk result (λ written. written.bytes.items ≡ bytes.now) }
+        ensures synced { IfOk result (λ written. written.is_synced ≡ self.now.syncs) }
     {
         let _ = fs::remove_file(&self.files, path);
         let mut file = File::create_new(&self.files, path)?;
-        file.write_all(bytes)?;
-        file.flush()?;
-        if self.syncs {
-            file.sync_all()?;
+        let filled = fill(&mut file, bytes)?;
+        if !self.syncs {
+            return Ok(write_of(path, filled, None));
         }
-        Ok(())
+        let synced = sync_of(file.sync_all())?;
+        Ok(write_of(path, filled, Some(synced)))
     }
 }
 
@@ -139,13 +144,14 @@ impl<R: Files> Folder for FileFolder<R> {
         if !self.is_first(found) {
             return Err(FolderFault);
         }
-        match self.write_anew(found, path.as_path(), bytes) {
-            Ok(()) => {
-                note_write(&mut self.made, name, bytes);
+        match self.write_anew(found, path.as_str(), bytes) {
+            Ok(written) => {
+                let folder = self.path.as_str();
+                note_write(&mut self.made, folder, name, self.syncs, written);
                 Ok(())
             }
             Err(_) => {
-                let _ = fs::remove_file(&self.files, path.as_path());
+                let _ = fs::remove_file(&self.files, path.as_str());
                 note_failed_write(&mut self.made, name, bytes);
                 // what it left of the file isn't synced
                 self.syncs = false;
@@ -162,10 +168,8 @@ impl<R: Files> Folder for FileFolder<R> {
     {
         let from = self.path_of(old)?;
         let to = self.path_of(new)?;
-        if fs::rename(&self.files, from.as_path(), to.as_path()).is_err() {
-            return Err(FolderFault);
-        }
-        note_rename(&mut self.made, old, new);
+        let renamed = rename_at(&self.files, from.as_str(), to.as_str())?;
+        note_rename(&mut self.made, self.path.as_str(), old, new, renamed);
         Ok(())
     }
 
@@ -176,8 +180,8 @@ impl<R: Files> Folder for FileFolder<R> {
         ensures path { folder_path self.new ≡ folder_path self.old }
     {
         let path = self.path_of(name)?;
-        gone(fs::remove_file(&self.files, path.as_path()))?;
-        note_remove(&mut self.made, name);
+        let removed = remove_at(&self.files, path.as_str())?;
+        note_remove(&mut self.made, self.path.as_str(), name, removed);
         Ok(())
     }
 
@@ -188,12 +192,9 @@ impl<R: Files> Folder for FileFolder<R> {
         ensures path { folder_path self.new ≡ folder_path self.old }
     {
         let path = self.path_of(name)?;
-        let Ok(found) = file_at(&self.files, path.as_path()) else {
-            return Err(FolderFault);
-        };
-        let there = found.is_some();
-        note_seen(&mut self.made, name, there);
-        Ok(there)
+        let sight = file_at(&self.files, path.as_str())?;
+        let folder = self.path.as_str();
+        Ok(note_sight(&mut self.made, folder, name, &sight))
     }
 
     fn sync(&mut self) -> Result<(), FolderFault>
@@ -203,29 +204,30 @@ impl<R: Files> Folder for FileFolder<R> {
         ensures syncs { may_sync self.new ≡ may_sync self.old }
         ensures path { folder_path self.new ≡ folder_path self.old }
     {
-        if !self.syncs || sync_path(&self.files, self.path.as_str()).is_err() {
+        if !self.syncs {
             return Err(FolderFault);
         }
-        note_sync(&mut self.made);
+        let Ok(synced) = sync_path(&self.files, self.path.as_str()) else {
+            return Err(FolderFault);
+        };
+        note_sync(&mut self.made, synced);
         Ok(())
     }
 }
 
-/// A file is gone that was removed, or wasn't there.
-fn gone(removed: io::Result<()>) -> Result<(), FolderFault>
-    ensures removed { OnOk removed (IsOk result) }
-    ensures none { IfErr removed (λ error. error_kind error ≡ NotFound → IsOk result) }
-    ensures failed { IfErr removed (λ error. error_kind error ≢ NotFound → IsErr result) }
+/// Removes the file at a path, if there is one.
+fn remove_at<R: Files>(files: &R, path: &str) -> Result<Removed, FolderFault>
+    ensures { IfOk result (λ removed. removed.path.items ≡ path.now) }
 {
-    match removed {
-        Ok(()) => Ok(()),
-        Err(error) => {
-            if error.kind() == io::ErrorKind::NotFound {
-                return Ok(());
-            }
-            Err(FolderFault)
-        }
-    }
+    gone(path, fs::remove_file(files, path))
+}
+
+/// Gives the file at a path another one.
+fn rename_at<R: Files>(files: &R, from: &str, to: &str) -> Result<Renamed, FolderFault>
+    ensures from { IfOk result (λ renamed. renamed.from.items ≡ from.now) }
+    ensures to { IfOk result (λ renamed. renamed.to.items ≡ to.now) }
+{
+    rename_of(from, to, fs::rename(files, from, to))
 }
 
 /// The device and the inode of what the system looked at; none where it couldn't.
@@ -238,6 +240,6 @@ fn node_of(looked: io::Result<Metadata>) -> Option<(u64, u64)>
 }
 
 /// Syncs a folder: which files it has, and under which names.
-fn sync_path<R: Files>(files: &R, path: &str) -> io::Result<()> {
-    File::open(files, path)?.sync_all()
+fn sync_path<R: Files>(files: &R, path: &str) -> io::Result<Synced> {
+    sync_of(File::open(files, path)?.sync_all())
 }

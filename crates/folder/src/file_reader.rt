@@ -6,12 +6,13 @@ ghost use Rattle.std.specs.String.{string_bytes};
 ghost use Rattle.std.specs.declared.io.ErrorKind.TheVariants.{InvalidFilename, NotFound, OutOfMemory};
 ghost use Rattle.folder.specs.declared.read_fault.FolderReadFault.TheVariants.{NoMemory, Unread};
 
+use crate::answers::{Sight, sight_of};
 use crate::file_folder::FileFolder;
 use crate::read_fault::FolderReadFault;
 use crate::reader::FolderReader;
+use crate::refusal::{Refusal, told, unless};
 use std::alloc::{AllocGlobal, Global};
-use std::fs::{DirEntry, Files, Metadata};
-use std::path::Path;
+use std::fs::{DirEntry, Files};
 use std::{fs, io};
 
 /// What files of the system hold is the system's, so nothing is claimed of it.
@@ -27,10 +28,7 @@ impl<R: Files + AllocGlobal + Clone + Drop> FolderReader for FileFolder<R> {
     ghost wants = { λ _. ⊤ };
 
     fn names(&self, alloc: Global) -> Result<Vec<String>, FolderReadFault> {
-        let entries = match fs::read_dir(self.files(), self.path()) {
-            Ok(entries) => entries,
-            Err(error) => return Err(fault_of(error)),
-        };
+        let entries = told(fs::read_dir(self.files(), self.path()))?;
         let mut names = Vec::new(alloc);
         for entry in entries {
             if let Some(name) = name_of(self.files(), alloc, entry)? {
@@ -42,7 +40,7 @@ impl<R: Files + AllocGlobal + Clone + Drop> FolderReader for FileFolder<R> {
 
     fn size(&self, name: &str) -> Result<Option<u64>, FolderReadFault> {
         let path = self.path_of(name)?;
-        match file_at(self.files(), path.as_path())? {
+        match file_at(self.files(), path.as_str())?.into_found() {
             Some(metadata) => Ok(Some(metadata.len())),
             None => Ok(None),
         }
@@ -50,13 +48,11 @@ impl<R: Files + AllocGlobal + Clone + Drop> FolderReader for FileFolder<R> {
 
     fn read(&self, _alloc: Global, name: &str) -> Result<Option<Vec<u8>>, FolderReadFault> {
         let path = self.path_of(name)?;
-        if file_at(self.files(), path.as_path())?.is_none() {
+        if !file_at(self.files(), path.as_str())?.is_there() {
             return Ok(None);
         }
-        unless(
-            io::ErrorKind::NotFound,
-            fs::read(self.files(), path.as_path()),
-        )
+        let bytes = fs::read(self.files(), path.as_str());
+        Ok(unless(io::ErrorKind::NotFound, bytes)?)
     }
 }
 
@@ -68,67 +64,21 @@ fn name_of<R: Files + Drop>(
 ) -> Result<Option<String>, FolderReadFault>
     ensures name { IfOk entry (λ e. IfOk result (λ found. IfSome found (λ name. string_bytes name ≡ dir_entry_name e))) }
     ensures passed { IfErr entry (λ error. error_kind error ≡ InvalidFilename → result ≡ Ok None) }
-    ensures unread { IfErr entry (λ error. error_kind error ≢ InvalidFilename → IsErr result) }
+    ensures no_memory { IfErr entry (λ error. error_kind error ≢ InvalidFilename → error_kind error ≡ OutOfMemory → result ≡ Err NoMemory) }
+    ensures unread { IfErr entry (λ error. error_kind error ≢ InvalidFilename → error_kind error ≢ OutOfMemory → result ≡ Err Unread) }
 {
     let Some(entry) = unless(io::ErrorKind::InvalidFilename, entry)? else {
         return Ok(None);
     };
-    if file_at(files, entry.path())?.is_none() {
+    if !file_at(files, entry.path().as_str())?.is_there() {
         return Ok(None);
     }
     Ok(Some(String::from_str(alloc, entry.file_name())?))
 }
 
-/// What the system tells of the file at a path; none where there is no file, but perhaps a folder.
-pub(crate) fn file_at<R: Files>(
-    files: &R,
-    path: Path<'_>,
-) -> Result<Option<Metadata>, FolderReadFault>
-    ensures { IfOk result (λ found. IfSome found (λ it. IsFile (file_type it))) }
+/// What is seen at a path: a file, or none where there is none, but perhaps a folder.
+pub(crate) fn file_at<R: Files>(files: &R, path: &str) -> Result<Sight, Refusal>
+    ensures { IfOk result (λ sight. sight.path.items ≡ path.now) }
 {
-    file_of(fs::metadata(files, path))
-}
-
-/// What it tells, where that is of a file, and there is one.
-fn file_of(found: io::Result<Metadata>) -> Result<Option<Metadata>, FolderReadFault>
-    ensures file { IfOk found (λ it. IsFile (file_type it) → result ≡ Ok (Some it)) }
-    ensures other { IfOk found (λ it. ¬ IsFile (file_type it) → result ≡ Ok None) }
-    ensures none { IfErr found (λ error. error_kind error ≡ NotFound → result ≡ Ok None) }
-    ensures no_memory { IfErr found (λ error. error_kind error ≡ OutOfMemory → result ≡ Err NoMemory) }
-    ensures unread { IfErr found (λ error. error_kind error ≢ NotFound → error_kind error ≢ OutOfMemory → result ≡ Err Unread) }
-    ensures is { IfOk result (λ it. IfSome it (λ metadata. IsFile (file_type metadata))) }
-{
-    match unless(io::ErrorKind::NotFound, found)? {
-        Some(metadata) if metadata.is_file() => Ok(Some(metadata)),
-        _ => Ok(None),
-    }
-}
-
-/// What the system answered; none where it failed in a way that is no fault.
-fn unless<T: Drop>(kind: io::ErrorKind, answer: io::Result<T>) -> Result<Option<T>, FolderReadFault>
-    ensures some { IfOk answer (λ it. result ≡ Ok (Some it)) }
-    ensures none { IfErr answer (λ error. error_kind error ≡ kind → result ≡ Ok None) }
-    ensures no_memory { IfErr answer (λ error. error_kind error ≢ kind → error_kind error ≡ OutOfMemory → result ≡ Err NoMemory) }
-    ensures unread { IfErr answer (λ error. error_kind error ≢ kind → error_kind error ≢ OutOfMemory → result ≡ Err Unread) }
-{
-    match answer {
-        Ok(it) => Ok(Some(it)),
-        Err(error) => {
-            if error.kind() == kind {
-                return Ok(None);
-            }
-            Err(fault_of(error))
-        }
-    }
-}
-
-/// Why the system didn't read a file.
-fn fault_of(error: io::Error) -> FolderReadFault
-    ensures no_memory { error_kind error ≡ OutOfMemory → result ≡ NoMemory }
-    ensures unread { error_kind error ≢ OutOfMemory → result ≡ Unread }
-{
-    match error.kind() {
-        io::ErrorKind::OutOfMemory => FolderReadFault::NoMemory,
-        _ => FolderReadFault::Unread,
-    }
+    sight_of(path, fs::metadata(files, path))
 }

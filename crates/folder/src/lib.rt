@@ -15,6 +15,7 @@
 //! [`MemoryFolder`] is for tests, and is proved.
 #![tactic(auto)]
 
+mod answers;
 mod fault;
 mod file_folder;
 mod file_reader;
@@ -29,6 +30,7 @@ mod notes;
 mod pruning_folder;
 mod read_fault;
 mod reader;
+mod refusal;
 mod roll;
 mod staged_file;
 

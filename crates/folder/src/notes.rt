@@ -1,22 +1,42 @@
 //! Appends a move to the ghost list of those made.
-ghost use Rattle.std.specs.Prelude.{◌≡◌, ◌++◌, ◌∷◌, [], List};
+ghost use Rattle.std.specs.Prelude.{◌≡◌, ◌++◌, ◌∷◌, [], List, is_some};
+ghost use Rattle.std.specs.Path.{path_join};
 ghost use Rattle.folder.specs.GhostMoves.{ghost_moves};
 ghost use Rattle.folder.specs.Kills.{IsFailedWrite};
 ghost use Rattle.folder.specs.Moves.{Looked, Move, Remove, Rename, Sync, Write};
 
+use crate::answers::{Removed, Renamed, Sight, Synced, Written};
 use crate::ghost_move::GhostMove;
 use ghost_list::GhostList;
 
-pub(crate) fn note_write(made: &mut GhostList<GhostMove>, name: &str, bytes: &[u8])
-    ensures { ghost_moves made.new.items ≡ ghost_moves made.old.items ++ Write name.now bytes.now ∷ [] }
+/// A file was written anew in the folder at a path, of which all are synced, or none need be.
+pub(crate) fn note_write(
+    made: &mut GhostList<GhostMove>,
+    folder: &str,
+    name: &str,
+    syncs: bool,
+    written: Written,
+)
+    requires path { written.path.items ≡ path_join folder.now name.now }
+    requires synced { written.is_synced ≡ syncs }
+    ensures { ghost_moves made.new.items ≡ ghost_moves made.old.items ++ Write name.now written.bytes.items ∷ [] }
 {
     made.push(&GhostMove::Written {
         name: known(name.as_bytes()),
-        bytes: known(bytes),
+        bytes: written.into_bytes(),
     });
 }
 
-pub(crate) fn note_rename(made: &mut GhostList<GhostMove>, old: &str, new: &str)
+/// A file of the folder at a path has another name.
+pub(crate) fn note_rename(
+    made: &mut GhostList<GhostMove>,
+    folder: &str,
+    old: &str,
+    new: &str,
+    _renamed: Renamed,
+)
+    requires from { _renamed.from.items ≡ path_join folder.now old.now }
+    requires to { _renamed.to.items ≡ path_join folder.now new.now }
     ensures { ghost_moves made.new.items ≡ ghost_moves made.old.items ++ Rename old.now new.now ∷ [] }
 {
     made.push(&GhostMove::Renamed {
@@ -25,24 +45,40 @@ pub(crate) fn note_rename(made: &mut GhostList<GhostMove>, old: &str, new: &str)
     });
 }
 
-pub(crate) fn note_remove(made: &mut GhostList<GhostMove>, name: &str)
+/// A file of the folder at a path is gone.
+pub(crate) fn note_remove(
+    made: &mut GhostList<GhostMove>,
+    folder: &str,
+    name: &str,
+    _removed: Removed,
+)
+    requires { _removed.path.items ≡ path_join folder.now name.now }
     ensures { ghost_moves made.new.items ≡ ghost_moves made.old.items ++ Remove name.now ∷ [] }
 {
-    made.push(&GhostMove::Removed {
-        name: known(name.as_bytes()),
-    });
+    note_gone(made, name);
 }
 
-pub(crate) fn note_seen(made: &mut GhostList<GhostMove>, name: &str, there: bool)
-    ensures { ghost_moves made.new.items ≡ ghost_moves made.old.items ++ Looked name.now there ∷ [] }
+/// It was looked for a file of the folder at a path. Answers whether there is one.
+pub(crate) fn note_sight(
+    made: &mut GhostList<GhostMove>,
+    folder: &str,
+    name: &str,
+    sight: &Sight,
+) -> bool
+    requires { sight.now.path.items ≡ path_join folder.now name.now }
+    ensures there { result ≡ is_some sight.now.found }
+    ensures noted { ghost_moves made.new.items ≡ ghost_moves made.old.items ++ Looked name.now result ∷ [] }
 {
+    let there = sight.is_there();
     made.push(&GhostMove::Seen {
         name: known(name.as_bytes()),
         there,
     });
+    there
 }
 
-pub(crate) fn note_sync(made: &mut GhostList<GhostMove>)
+/// All is on the disk.
+pub(crate) fn note_sync(made: &mut GhostList<GhostMove>, _synced: Synced)
     ensures { ghost_moves made.new.items ≡ ghost_moves made.old.items ++ Sync ∷ [] }
 {
     made.push(&GhostMove::Synced);
@@ -53,11 +89,19 @@ pub(crate) fn note_failed_write(made: &mut GhostList<GhostMove>, name: &str, _by
     ensures { (more : List Move) × (ghost_moves made.new.items ≡ ghost_moves made.old.items ++ more) ×
         IsFailedWrite name.now _bytes.now more }
 {
-    note_remove(made, name);
+    note_gone(made, name);
+}
+
+fn note_gone(made: &mut GhostList<GhostMove>, name: &str)
+    ensures { ghost_moves made.new.items ≡ ghost_moves made.old.items ++ Remove name.now ∷ [] }
+{
+    made.push(&GhostMove::Removed {
+        name: known(name.as_bytes()),
+    });
 }
 
 /// Bytes that only proofs read.
-fn known(bytes: &[u8]) -> GhostList<u8>
+pub(crate) fn known(bytes: &[u8]) -> GhostList<u8>
     ensures { result.items ≡ bytes.now }
 {
     let mut list = GhostList::new();

@@ -1,0 +1,171 @@
+//! What the system answered on the files of a folder, as receipts. Only these functions make them, each of an answer of the
+//! system, and each move that is noted takes one: what the system didn't confirm can't be noted.
+ghost use Rattle.std.specs.Prelude.{◌≡◌, ◌≢◌, Err, IfErr, IfOk, IsErr, IsOk, None, Ok, OnErr, OnOk, Option, Some, is_some};
+ghost use Rattle.std.specs.Fs.{IsFile, file_type};
+ghost use Rattle.std.specs.Io.KnownBytes.{Appends};
+ghost use Rattle.std.specs.IoError.{error_kind};
+ghost use Rattle.std.specs.declared.io.ErrorKind.TheVariants.{NotFound, OutOfMemory};
+ghost use Rattle.folder.specs.declared.read_fault.FolderReadFault.TheVariants.{NoMemory, Unread};
+
+use crate::fault::FolderFault;
+use crate::notes::known;
+use crate::refusal::{Refusal, unless};
+use ghost_list::GhostList;
+use std::fs::Metadata;
+use std::io;
+use std::io::Write;
+
+/// A file or a folder is on the disk.
+#[derive(Drop)]
+pub struct Synced {
+    of: GhostList<u8>,
+}
+
+/// Bytes went into a file, whole.
+#[derive(Drop)]
+pub struct Filled {
+    bytes: GhostList<u8>,
+}
+
+/// A file was written anew.
+#[derive(Drop)]
+pub struct Written {
+    path: GhostList<u8>,
+    bytes: GhostList<u8>,
+    is_synced: bool,
+}
+
+/// A file has another name.
+#[derive(Drop)]
+pub struct Renamed {
+    from: GhostList<u8>,
+    to: GhostList<u8>,
+}
+
+/// A file is gone: it was removed, or there was none.
+#[derive(Drop)]
+pub struct Removed {
+    path: GhostList<u8>,
+}
+
+/// It was looked for a file: what the system told of it, if there is one.
+#[derive(Drop)]
+pub struct Sight {
+    path: GhostList<u8>,
+    found: Option<Metadata>,
+}
+
+impl Written {
+    /// The bytes.
+    pub fn into_bytes(self) -> GhostList<u8>
+        ensures { result.items ≡ self.bytes.items }
+    {
+        self.bytes
+    }
+}
+
+impl Sight {
+    /// Whether there is one.
+    pub fn is_there(&self) -> bool
+        ensures { result ≡ is_some self.now.found }
+    {
+        self.found.is_some()
+    }
+
+    /// What was told of it.
+    pub fn into_found(self) -> Option<Metadata>
+        ensures { result ≡ self.found }
+    {
+        self.found
+    }
+}
+
+/// A sync is done where the system says so.
+pub fn sync_of(answer: io::Result<()>) -> io::Result<Synced>
+    ensures ok { OnOk answer (IsOk result) }
+    ensures err { IfErr answer (λ error. result ≡ Err error) }
+{
+    answer?;
+    Ok(Synced {
+        of: GhostList::new(),
+    })
+}
+
+/// Writes bytes into a file, behind those that it has.
+pub fn fill<W: Write>(file: &mut W, bytes: &[u8]) -> io::Result<Filled>
+    ensures whole { OnOk result (Appends (W.contents file.old) (W.contents file.new) bytes.now) }
+    ensures bytes { IfOk result (λ filled. filled.bytes.items ≡ bytes.now) }
+{
+    file.write_all(bytes)?;
+    file.flush()?;
+    Ok(Filled {
+        bytes: known(bytes),
+    })
+}
+
+/// The new file at a path was filled, and synced if it was.
+pub fn write_of(path: &str, filled: Filled, synced: Option<Synced>) -> Written
+    ensures path { result.path.items ≡ path.now }
+    ensures bytes { result.bytes.items ≡ filled.bytes.items }
+    ensures synced { result.is_synced ≡ is_some synced }
+{
+    Written {
+        path: known(path.as_bytes()),
+        bytes: filled.bytes,
+        is_synced: synced.is_some(),
+    }
+}
+
+/// A file was renamed where the system says so.
+pub fn rename_of(from: &str, to: &str, answer: io::Result<()>) -> Result<Renamed, FolderFault>
+    ensures ok { OnOk answer (IsOk result) }
+    ensures err { OnErr answer (IsErr result) }
+    ensures from { IfOk result (λ renamed. renamed.from.items ≡ from.now) }
+    ensures to { IfOk result (λ renamed. renamed.to.items ≡ to.now) }
+{
+    if answer.is_err() {
+        return Err(FolderFault);
+    }
+    Ok(Renamed {
+        from: known(from.as_bytes()),
+        to: known(to.as_bytes()),
+    })
+}
+
+/// A file is gone that was removed, or wasn't there.
+pub fn gone(path: &str, removed: io::Result<()>) -> Result<Removed, FolderFault>
+    ensures removed { OnOk removed (IsOk result) }
+    ensures none { IfErr removed (λ error. error_kind error ≡ NotFound → IsOk result) }
+    ensures failed { IfErr removed (λ error. error_kind error ≢ NotFound → IsErr result) }
+    ensures path { IfOk result (λ gone. gone.path.items ≡ path.now) }
+{
+    if let Err(error) = removed {
+        if error.kind() != io::ErrorKind::NotFound {
+            return Err(FolderFault);
+        }
+    }
+    Ok(Removed {
+        path: known(path.as_bytes()),
+    })
+}
+
+/// What is seen at a path where the system told this of it: a file, or none where there is none, but perhaps a folder.
+pub fn sight_of(path: &str, told: io::Result<Metadata>) -> Result<Sight, Refusal>
+    ensures file { IfOk told (λ it. IsFile (file_type it) → IfOk result (λ sight. sight.found ≡ Some it)) }
+    ensures other { IfOk told (λ it. ¬ IsFile (file_type it) → IfOk result (λ sight. sight.found ≡ None)) }
+    ensures some { OnOk told (IsOk result) }
+    ensures none { IfErr told (λ error. error_kind error ≡ NotFound → IsOk result × IfOk result (λ sight. sight.found ≡ None)) }
+    ensures no_memory { IfErr told (λ error. error_kind error ≡ OutOfMemory → result ≡ Err (record { fault = NoMemory })) }
+    ensures unread { IfErr told (λ error. error_kind error ≢ NotFound → error_kind error ≢ OutOfMemory →
+        result ≡ Err (record { fault = Unread })) }
+    ensures path { IfOk result (λ sight. sight.path.items ≡ path.now) }
+{
+    let found = match unless(io::ErrorKind::NotFound, told)? {
+        Some(metadata) if metadata.is_file() => Some(metadata),
+        _ => None,
+    };
+    Ok(Sight {
+        path: known(path.as_bytes()),
+        found,
+    })
+}
