@@ -5,6 +5,7 @@ use Rattle.std.proofs.lemmas.Bool.{and_from, and_parts}
 use Rattle.std.specs.Io.KnownBytes.{Consumes, IsAtEnd, Keeps, prepend_known}
 use Rattle.std.specs.Option.{option_map}
 use Rattle.read_ahead.specs.declared.message.Message.{Message}
+use Rattle.read_ahead.specs.declared.opening.Openness.{Openness}
 use Rattle.read_ahead.specs.declared.message.Message.TheVariants.{Asked, Opened, Bytes, End, Failed, Refused}
 use Rattle.read_ahead.specs.Messages.{bytes_of, is_last, joined, goes_on, held, untold, Asks, AsksFor, IsFirst, RefusedBy, MayRefuse, IsOpen, LeavesOut, Tells, MayTell, MayEnd}
 use Rattle.read_ahead.specs.Sources.{StandsByLast, TakesNext, going_by}
@@ -44,7 +45,7 @@ module _ {I : Type 0} where
   -- an input that was asked for may be refused where it may refuse
   refused_by : (refuses : I → Type 0) (message : Message I) (input : I) → AsksFor input message → refuses input → RefusedBy refuses message
   refused_by refuses (Asked s n) input same may = subst refuses (sym same) may
-  refused_by refuses Opened input same may = absurd same
+  refused_by refuses (Opened o) input same may = absurd same
   refused_by refuses (Bytes block) input same may = absurd same
   refused_by refuses End input same may = absurd same
   refused_by refuses Failed input same may = absurd same
@@ -55,10 +56,10 @@ module _ {I : Type 0} where
   may_refuse refuses (message ∷ more) input first may = refused_by refuses message input first may
 
   -- an input that was asked for is open, and nothing of it was told
-  pub tells_first : (holds : I → Option (List ℕ)) → (told : List (Message I)) (number : ℕ) (input : I) (rest : Option (List ℕ)) → Asks told number input → rest ≡ holds input → Tells holds (told ++ Opened ∷ []) rest
-  tells_first holds told number input rest asks is = let some : 0 < length told = omega (arith, asks.one) in record {
-    opened = open_snoc told Opened some asks.going refl;
-    all = rw (held_snoc holds told Opened some, joined_snoc told Opened, asks.none, asks.same holds, is) (consumes_none (holds input));
+  pub tells_first : (holds : I → Option (List ℕ)) → (told : List (Message I)) (number : ℕ) (input : I) (rest : Option (List ℕ)) (o : Openness) → Asks told number input → rest ≡ holds input → Tells holds (told ++ Opened o ∷ []) rest
+  tells_first holds told number input rest o asks is = let some : 0 < length told = omega (arith, asks.one) in record {
+    opened = open_snoc told (Opened o) some asks.going refl;
+    all = rw (held_snoc holds told (Opened o) some, joined_snoc told (Opened o), asks.none, asks.same holds, is) (consumes_none (holds input));
   }
 
   -- what was told, and a read's bytes behind it

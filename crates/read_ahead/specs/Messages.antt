@@ -8,7 +8,7 @@ use Rattle.read_ahead.specs.declared.message.Message.TheVariants.{Asked, Opened,
 module _ {I : Type 0} where
   abbrev pub bytes_of : Message I → List ℕ
   bytes_of (Asked s n) = []
-  bytes_of Opened = []
+  bytes_of (Opened o) = []
   bytes_of (Bytes block) = block.items
   bytes_of End = []
   bytes_of Failed = []
@@ -17,7 +17,7 @@ module _ {I : Type 0} where
   -- nothing is told behind it
   abbrev pub is_last : Message I → Bool
   is_last (Asked s n) = false
-  is_last Opened = false
+  is_last (Opened o) = false
   is_last (Bytes block) = false
   is_last End = true
   is_last Failed = true
@@ -26,7 +26,7 @@ module _ {I : Type 0} where
   -- what the input holds that is asked for; holds: what each does
   abbrev pub held_by : (I → Option (List ℕ)) → Message I → Option (List ℕ)
   held_by holds (Asked s n) = holds s.value
-  held_by holds Opened = None
+  held_by holds (Opened o) = None
   held_by holds (Bytes block) = None
   held_by holds End = None
   held_by holds Failed = None
@@ -54,7 +54,7 @@ module _ {I : Type 0} where
   -- the input that is asked for may be refused; refuses: which may
   abbrev pub RefusedBy : (I → Type 0) → Message I → Type 0
   RefusedBy refuses (Asked s n) = refuses s.value
-  RefusedBy refuses Opened = ⊥
+  RefusedBy refuses (Opened o) = ⊥
   RefusedBy refuses (Bytes block) = ⊥
   RefusedBy refuses End = ⊥
   RefusedBy refuses Failed = ⊥
@@ -67,7 +67,7 @@ module _ {I : Type 0} where
   -- the message asks for this input
   abbrev pub AsksFor : I → Message I → Type 0
   AsksFor input (Asked s n) = s.value ≡ input
-  AsksFor input Opened = ⊥
+  AsksFor input (Opened o) = ⊥
   AsksFor input (Bytes block) = ⊥
   AsksFor input End = ⊥
   AsksFor input Failed = ⊥
@@ -80,7 +80,7 @@ module _ {I : Type 0} where
   -- the message is for the thread of the input of this number
   abbrev pub IsFor : ℕ → Message I → Type 0
   IsFor number (Asked s n) = n.value ≡ number
-  IsFor number Opened = ⊥
+  IsFor number (Opened o) = ⊥
   IsFor number (Bytes block) = ⊥
   IsFor number End = ⊥
   IsFor number Failed = ⊥
@@ -124,7 +124,7 @@ module _ {I : Type 0} where
   -- they are all, and nothing is told behind the end, a failure or a refusal.
   abbrev pub MayFollow : (I → Option (List ℕ)) → (I → Type 0) → List (Message I) → Message I → Type 0
   MayFollow holds refuses before (Asked s n) = before ≡ []
-  MayFollow holds refuses before Opened = length before ≡ 1
+  MayFollow holds refuses before (Opened o) = length before ≡ 1
   MayFollow holds refuses before (Bytes block) = MayTell holds before block.items
   MayFollow holds refuses before End = MayEnd holds before
   MayFollow holds refuses before Failed = IsOpen before

@@ -39,6 +39,17 @@ pub record IsDry {I : Type 0} (i : Incoming I) : Type 0 where
   pub used : length i.front.items ≤ i.at
   pub none : (i.phase ≡ Going) → known_items i.consumer ≡ []
 
+-- a read would answer at once, without a look at how long the input has been silent: a byte lies ready, or the end, or a failure
+abbrev pub LiesReady : {I : Type 0} → Incoming I → Type 0
+LiesReady i = (i.at < length i.front.items) ⊎ (i.phase ≡ Ended) ⊎ (i.phase ≡ Failed) ⊎ (0 < length (known_items i.consumer))
+
+-- it would wait
+pub record Waits {I : Type 0} (i : Incoming I) : Type 0 where
+  pub used : length i.front.items ≤ i.at
+  pub unended : i.phase ≢ Ended
+  pub unfailed : i.phase ≢ Failed
+  pub none : known_items i.consumer ≡ []
+
 -- a source, as its callers see it: the bytes that are left, where the input tells them, how many reads gave a byte, how many
 -- failed, and whether it was left and not read since; its input's number, for how long that may be silent, and how many bytes of it may lie ready; how many inputs were opened
 -- together
@@ -91,7 +102,7 @@ pub record IsUnknown {I : Type 0} (is_over : Bool) (i : Incoming I) : Type 0 whe
 -- how an input stands that was being opened, by what was told next
 abbrev pub opened_by : {I : Type 0} → Message I → Phase
 opened_by (Told.Asked s n) = Failed
-opened_by Told.Opened = Going
+opened_by (Told.Opened o) = Going
 opened_by (Told.Bytes block) = Failed
 opened_by Told.End = Failed
 opened_by Told.Failed = Failed
@@ -100,7 +111,7 @@ opened_by Told.Refused = Failed
 -- how an open one stands
 abbrev pub going_by : {I : Type 0} → Message I → Phase
 going_by (Told.Asked s n) = Failed
-going_by Told.Opened = Failed
+going_by (Told.Opened o) = Failed
 going_by (Told.Bytes block) = Going
 going_by Told.End = Ended
 going_by Told.Failed = Failed

@@ -2,7 +2,7 @@ ghost use Rattle.std.specs.Prelude.{◌≡◌, Decides, IfOk, false, length, tru
 ghost use Rattle.std.specs.Arc.{arc_value};
 ghost use Rattle.read_ahead.specs.Sources.{IsSound, MayBegin, ahead_input, inputs_of, seen_first};
 
-use crate::incoming::Incoming;
+use crate::incoming::{Incoming, Readiness};
 use crate::input::Contents;
 use crate::view::InputsView;
 use crate::wait_end::WaitEnd;
@@ -21,10 +21,12 @@ pub struct Ahead<R: Wait, I: Contents> {
     reads: u64,
     failures: u64,
     is_left: bool,
+    /// Whether it was left ever.
+    was_left: bool,
 }
 
 impl<R: Wait, I: Contents> Model for Ahead<R, I> {
-    ghost use Rattle.std.specs.Prelude.{length};
+    ghost use Rattle.std.specs.Prelude.{◌≡◌, length, true};
     ghost use Rattle.std.specs.Arc.{arc_value};
     ghost use Rattle.read_ahead.specs.Sources.{IsSound, Seen, StopsIfLeft, rest_of};
 
@@ -41,7 +43,7 @@ impl<R: Wait, I: Contents> Model for Ahead<R, I> {
       inputs = length (arc_value s.incoming.backlogs).taken.items;
     } };
 
-    ghost invariant = { λ s. IsSound I.holds s.incoming × StopsIfLeft s.is_left s.incoming.phase };
+    ghost invariant = { λ s. IsSound I.holds s.incoming × StopsIfLeft s.is_left s.incoming.phase × (s.is_left ≡ true → s.was_left ≡ true) };
 }
 
 impl<R: Wait + Clock, I: Contents> Ahead<R, I> {
@@ -57,20 +59,16 @@ impl<R: Wait + Clock, I: Contents> Ahead<R, I> {
             reads: 0,
             failures: 0,
             is_left: false,
+            was_left: false,
         }
     }
 
     /// Whether a byte lies ready, or the end, or a failure, of a source that wasn't left.
-    fn would_answer(&mut self) -> bool
+    pub(crate) fn would_answer(&mut self) -> Readiness
         ensures same { self.new ≡ self.old }
-        ensures left { self.old.is_left ≡ true → result ≡ false }
+        ensures left { self.old.is_left ≡ true → result.is_ready ≡ false }
     {
-        let _ = self.incoming.is_open(&self.rt, true);
-        let number = self.incoming.number;
-        if self.is_left || self.incoming.backlogs.is_left(&self.rt, number) {
-            return false;
-        }
-        self.incoming.is_ready() || self.incoming.backlogs.is_silent(&self.rt, number)
+        self.incoming.readiness(&self.rt, self.was_left)
     }
 
     /// A view of this input and all those that were opened with it.
@@ -122,11 +120,15 @@ impl<R: Wait + Clock + Copy, I: Contents> Source for Ahead<R, I> {
         self.incoming.stop();
         self.incoming.backlogs.leave(&self.rt, self.incoming.number);
         self.is_left = true;
+        self.was_left = true;
     }
 
     /// Whether a byte lies ready, or the end, or a failure.
-    fn is_ready(&mut self) -> bool {
-        self.would_answer()
+    fn is_ready(&mut self) -> bool
+        ensures ok { self.new ≡ self.old }
+        ensures left { self.old.is_left ≡ true → result ≡ false }
+    {
+        self.would_answer().is_ready()
     }
 
     /// Waits until one of these sources is ready. They are of one call of `open_all`.
@@ -136,7 +138,7 @@ impl<R: Wait + Clock + Copy, I: Contents> Source for Ahead<R, I> {
         }
         let first = &sources[0];
         let rt = first.rt;
-        wait_ready(&rt, sources);
+        let _ready = wait_ready(&rt, sources);
     }
 }
 
@@ -149,6 +151,7 @@ impl<R: Wait + Drop, I: Contents> Drop for Ahead<R, I> {
             reads: _,
             failures: _,
             is_left: _,
+            was_left: _,
         } = self;
         incoming.backlogs.leave(&rt, incoming.number);
     }

@@ -1,19 +1,19 @@
 //! The backlogs of all inputs under one lock, and who waits for them. No claim on bytes rests on it.
-ghost use Rattle.std.specs.Prelude.{◌≡◌, ◌≢◌, ◌<◌, ◌-◌, ◌*◌, ◌^◌, Option, None, Some, Decides, IfOk, IfSome, OnErr, false, length, max};
+ghost use Rattle.std.specs.Prelude.{◌≡◌, ◌≢◌, ◌<◌, None, Decides, IfOk, OnErr, false, length};
 ghost use Rattle.std.specs.Arc.{arc_value};
-ghost use Rattle.std.specs.Duration.{as_nanos};
 ghost use Rattle.read_ahead.specs.Counts.{Begin};
 ghost use Rattle.read_ahead.specs.Shares.{room_for};
-ghost use Rattle.read_ahead.specs.Sources.{longest_silence};
-ghost use Rattle.read_ahead.specs.declared.limits.TheConstants.{LEAST_WAIT};
+ghost use Rattle.read_ahead.specs.declared.clock_reading.ClockReading.{ClockReading};
 
-use crate::counts::Counts;
-use crate::limits::{LEAST_WAIT, Limits};
+use crate::clock_reading::ClockReading;
+use crate::counts::{Counts, Room, Silence};
+use crate::limits::Limits;
+use crate::patience::Patience;
 use crate::view::InputState;
 use crate::wait_end::WaitEnd;
 use std::alloc::{AllocError, Global};
 use std::sync::{Arc, Condvar, Mutex, MutexGuard, Wait};
-use std::time::{Clock, Duration, Instant};
+use std::time::{Clock, Duration};
 
 /// The backlogs of all inputs, by number.
 #[derive(Drop)]
@@ -45,7 +45,7 @@ impl Backlogs {
         for _ in 0..count {
             taken.push(Condvar::new())?;
         }
-        let counts = Counts::new(alloc, count, Instant::now(rt).ok())?;
+        let counts = Counts::new(alloc, count, ClockReading::now(rt))?;
         Backlogs::under_lock(alloc, counts, taken, limits)
     }
 
@@ -56,7 +56,7 @@ impl Backlogs {
         taken: Vec<Condvar>,
         limits: Limits,
     ) -> Result<Arc<Backlogs, Global>, AllocError>
-        requires { (since : Option Instant) × Begin counts (length taken.items) since }
+        requires { (since : ClockReading) × Begin counts (length taken.items) since.at }
         ensures stall { IfOk result (λ backlogs. (arc_value backlogs).stall ≡ limits.stall) }
         ensures room { IfOk result (λ backlogs. (arc_value backlogs).room ≡ room_for limits.ahead (length taken.items)) }
         ensures taken { IfOk result (λ backlogs. (arc_value backlogs).taken ≡ taken) }
@@ -74,15 +74,15 @@ impl Backlogs {
         )?)
     }
 
-    /// Waits until there is room for a block, and counts it. False where no more is given.
-    pub fn put<R: Wait>(&self, rt: &R, number: usize, count: usize) -> bool {
+    /// Waits until there is room for a block, and counts it, or until no more is given.
+    pub fn put<R: Wait>(&self, rt: &R, number: usize, count: usize) -> Room {
         let Some(taken) = self.taken.get(number) else {
-            return false;
+            return Room::of_none(&self.taken, number);
         };
         let mut counts = self.counts.lock(rt);
         for _ in rt.forever() {
-            if let Some(is_given) = counts.put(number, self.room, count) {
-                return is_given;
+            if let Some(room) = counts.put(number, self.room, count) {
+                return room;
             }
             counts = taken.wait(rt, counts);
         }
@@ -107,7 +107,7 @@ impl Backlogs {
         ensures patient { self.now.stall ≡ None → result.news ≢ seen }
     {
         let counts = self.counts.lock(rt);
-        match self.patience(rt, &counts) {
+        match self.patience(rt, &counts).most() {
             Some(patience) => self.wait_at_most(rt, counts, seen, patience),
             None => self.wait_news(rt, counts, seen),
         }
@@ -153,21 +153,16 @@ impl Backlogs {
         }
     }
 
-    /// How long no input falls silent that is given. None where none ever does.
-    fn patience<R: Clock>(&self, rt: &R, counts: &Counts) -> Option<Duration>
-        ensures never { self.now.stall ≡ None → result ≡ None }
-        ensures some { IfSome result (λ patience. (now : Instant) × IfSome self.now.stall (λ stall. as_nanos patience
-            ≡ max (LEAST_WAIT * 10 ^ 6) (as_nanos stall
-            - longest_silence (Some now) counts.now.backlogs.items counts.now.since.items (length counts.now.backlogs.items)))) }
+    /// How long no input falls silent that is given.
+    fn patience<R: Clock>(&self, rt: &R, counts: &Counts) -> Patience
+        ensures { self.now.stall ≡ None → result.most ≡ None }
     {
-        let stall = self.stall?;
-        let now = Instant::now(rt).ok()?;
-        Some(time_left(stall, counts.longest_silence(Some(now))))
+        Patience::new(self.stall, ClockReading::now(rt), counts)
     }
 
     /// The thread of an input begins to wait for its next bytes, or still waits for its first ones.
     pub fn begin_wait<R: Wait + Clock>(&self, rt: &R, number: usize) {
-        let now = Instant::now(rt).ok();
+        let now = ClockReading::now(rt);
         self.counts.lock(rt).begin_wait(number, now);
     }
 
@@ -177,14 +172,14 @@ impl Backlogs {
     }
 
     /// Whether an input gave nothing for too long.
-    pub fn is_silent<R: Wait + Clock>(&self, rt: &R, number: usize) -> bool
-        ensures never { self.now.stall ≡ None → result ≡ false }
+    pub fn silence<R: Wait + Clock>(&self, rt: &R, number: usize) -> Silence
+        ensures never { self.now.stall ≡ None → result.is_over ≡ false }
     {
         let Some(stall) = self.stall else {
-            return false;
+            return Silence::without(self.stall);
         };
-        let now = Instant::now(rt).ok();
-        self.counts.lock(rt).is_silent(number, stall, now)
+        let now = ClockReading::now(rt);
+        self.counts.lock(rt).silence(number, stall, now)
     }
 
     /// How each input stands, by number.
@@ -198,7 +193,7 @@ impl Backlogs {
     {
         let count = self.taken.len();
         let room = Vec::with_capacity(alloc, count)?;
-        let now = Instant::now(rt).ok();
+        let now = ClockReading::now(rt);
         self.counts.lock(rt).states(room, count, now)
     }
 
@@ -222,11 +217,6 @@ impl Backlogs {
         }
     }
 
-    /// Whether no more of an input is given.
-    pub fn is_left<R: Wait>(&self, rt: &R, number: usize) -> bool {
-        self.counts.lock(rt).is_left(number)
-    }
-
     /// No more of an input is given.
     pub fn leave<R: Wait>(&self, rt: &R, number: usize) {
         self.counts.lock(rt).leave(number);
@@ -239,16 +229,4 @@ impl Backlogs {
             taken.notify_one();
         }
     }
-}
-
-/// How much of a stall is left behind a silence, but no less than the least time that is waited.
-fn time_left(stall: Duration, silence: Duration) -> Duration
-    ensures { as_nanos result ≡ max (LEAST_WAIT * 10 ^ 6) (as_nanos stall - as_nanos silence) }
-{
-    let left = stall.saturating_sub(silence);
-    let least = Duration::from_millis(LEAST_WAIT);
-    if left.as_nanos() < least.as_nanos() {
-        return least;
-    }
-    left
 }

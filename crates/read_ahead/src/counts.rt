@@ -9,11 +9,13 @@ ghost use Rattle.read_ahead.specs.Times.{is_past};
 ghost use Rattle.read_ahead.specs.declared.limits.TheConstants.{BLOCKS};
 
 use crate::backlog::Backlog;
+use crate::clock_reading::ClockReading;
 use crate::limits::BLOCKS;
 use crate::shares::{share_of, turns_of};
 use crate::times::has_passed;
 use crate::view::{InputState, silence, state_of};
 use std::alloc::{AllocError, Global};
+use std::sync::Condvar;
 use std::time::{Duration, Instant};
 
 /// What stands under the lock.
@@ -26,17 +28,63 @@ pub struct Counts {
     pub news: u64,
 }
 
+/// A block was counted, unless no more of its input is given. Only a look under the lock makes one, or that there is no such input.
+#[derive(Clone, Copy)]
+pub struct Room {
+    is_given: bool,
+}
+
+impl Room {
+    /// Of no input.
+    pub fn of_none(_taken: &[Condvar], _number: usize) -> Room
+        requires { length _taken.now ≤ _number }
+        ensures { result.is_given ≡ false }
+    {
+        Room { is_given: false }
+    }
+
+    /// Whether more of the input is given.
+    pub fn is_given(self) -> bool
+        ensures { result ≡ self.is_given }
+    {
+        self.is_given
+    }
+}
+
+/// How long an input has been silent. Only a look under the lock makes one, or that none is ever silent.
+#[derive(Clone, Copy)]
+pub struct Silence {
+    is_over: bool,
+}
+
+impl Silence {
+    /// Where there is no stall.
+    pub fn without(_stall: Option<Duration>) -> Silence
+        requires { _stall ≡ None }
+        ensures { result.is_over ≡ false }
+    {
+        Silence { is_over: false }
+    }
+
+    /// Whether that was too long.
+    pub fn is_over(self) -> bool
+        ensures { result ≡ self.is_over }
+    {
+        self.is_over
+    }
+}
+
 impl Counts {
     /// Of so many inputs, of which none gave anything yet, and each is waited for since then.
-    pub fn new(alloc: Global, count: usize, since: Option<Instant>) -> Result<Counts, AllocError>
-        ensures ok { IfOk result (λ counts. Begin counts count since) }
+    pub fn new(alloc: Global, count: usize, since: ClockReading) -> Result<Counts, AllocError>
+        ensures ok { IfOk result (λ counts. Begin counts count since.at) }
         ensures scarce { OnErr result (0 < count) }
     {
         let mut backlogs = Vec::with_capacity(alloc, count)?;
         let mut all_since = Vec::with_capacity(alloc, count)?;
         for _ in 0..count {
             backlogs.push(Backlog::new())?;
-            all_since.push(since)?;
+            all_since.push(since.at())?;
         }
         Ok(Counts {
             backlogs,
@@ -53,16 +101,18 @@ impl Counts {
     }
 
     /// Whether the thread of an input waits for its bytes for too long by then.
-    pub fn is_silent(&self, number: usize, stall: Duration, now: Option<Instant>) -> bool
-        ensures { result ≡ is_past (slice_index_or self.now.since.items number None) now (as_nanos stall) false }
+    pub fn silence(&self, number: usize, stall: Duration, now: ClockReading) -> Silence
+        ensures { result.is_over ≡ is_past (slice_index_or self.now.since.items number None) now.at (as_nanos stall) false }
     {
         let since = self.since.get(number).copied().unwrap_or(None);
-        has_passed(since, now, stall, false)
+        Silence {
+            is_over: has_passed(since, now.at(), stall, false),
+        }
     }
 
     /// How an input stands. One that isn't there has nothing.
-    fn state(&self, number: usize, now: Option<Instant>) -> InputState
-        ensures { shown result ≡ stand_of now self.now.backlogs.items self.now.since.items number }
+    fn state(&self, number: usize, now: ClockReading) -> InputState
+        ensures { shown result ≡ stand_of now.at self.now.backlogs.items self.now.since.items number }
     {
         let Some(backlog) = self.backlogs.get(number) else {
             return InputState {
@@ -71,7 +121,7 @@ impl Counts {
             };
         };
         let since = self.since.get(number).copied().unwrap_or(None);
-        state_of(backlog, since, now)
+        state_of(backlog, since, now.at())
     }
 
     /// How each of the first inputs stands, by number, in a vector that has room for them.
@@ -79,10 +129,10 @@ impl Counts {
         &self,
         room: Vec<InputState>,
         count: usize,
-        now: Option<Instant>,
+        now: ClockReading,
     ) -> Result<Vec<InputState>, AllocError>
         requires { room.items ≡ [] }
-        ensures ok { IfOk result (λ states. map shown states.items ≡ standing now self.now.backlogs.items self.now.since.items count) }
+        ensures ok { IfOk result (λ states. map shown states.items ≡ standing now.at self.now.backlogs.items self.now.since.items count) }
         ensures each { IfOk result (λ states. length states.items ≡ count) }
         ensures scarce { OnErr result (0 < count) }
     {
@@ -93,10 +143,10 @@ impl Counts {
         Ok(states)
     }
 
-    /// Counts a block of an input, unless it has to wait: none then. Otherwise answers whether more of the input is given.
-    pub fn put(&mut self, number: usize, room: usize, count: usize) -> Option<bool>
-        ensures some { IfSome result (λ given. (is_full room BLOCKS count (backlog_of self.old.backlogs.items number) ≡ false)
-            × (given ≡ not (backlog_of self.old.backlogs.items number).left)) }
+    /// Counts a block of an input, unless it has to wait: none then.
+    pub fn put(&mut self, number: usize, room: usize, count: usize) -> Option<Room>
+        ensures some { IfSome result (λ it. (is_full room BLOCKS count (backlog_of self.old.backlogs.items number) ≡ false)
+            × (it.is_given ≡ not (backlog_of self.old.backlogs.items number).left)) }
         ensures none { IfNone result (is_full room BLOCKS count (backlog_of self.old.backlogs.items number) ≡ true) }
         ensures kept { IfNone result (self.new.backlogs.items ≡ self.old.backlogs.items) }
         ensures counted { number < length self.old.backlogs.items → OnSome result (self.new.backlogs.items
@@ -104,9 +154,10 @@ impl Counts {
         ensures same { self.new ≡ record self.old { backlogs = self.new.backlogs } }
     {
         if number >= self.backlogs.len() {
-            return Some(false);
+            return Some(Room { is_given: false });
         }
-        self.backlogs[number].try_put(room, BLOCKS, count)
+        let is_given = self.backlogs[number].try_put(room, BLOCKS, count)?;
+        Some(Room { is_given })
     }
 
     /// Something came of an input.
@@ -117,13 +168,13 @@ impl Counts {
     }
 
     /// The thread of an input waits for its next bytes from now on, unless it waits already.
-    pub fn begin_wait(&mut self, number: usize, now: Option<Instant>)
-        ensures begun { slice_get self.old.since.items number ≡ Some None → self.new.since.items ≡ slice_set self.old.since.items number now }
+    pub fn begin_wait(&mut self, number: usize, now: ClockReading)
+        ensures begun { slice_get self.old.since.items number ≡ Some None → self.new.since.items ≡ slice_set self.old.since.items number now.at }
         ensures kept { (since : Instant) → slice_get self.old.since.items number ≡ Some (Some since) → self.new ≡ self.old }
         ensures same { self.new ≡ record self.old { since = self.new.since } }
     {
         if number < self.since.len() && self.since[number].is_none() {
-            self.since[number] = now;
+            self.since[number] = now.at();
         }
     }
 
@@ -173,16 +224,6 @@ impl Counts {
         }
     }
 
-    /// Whether no more of an input is given.
-    pub fn is_left(&self, number: usize) -> bool
-        ensures { result ≡ (backlog_of self.now.backlogs.items number).left }
-    {
-        if number >= self.backlogs.len() {
-            return true;
-        }
-        self.backlogs[number].left
-    }
-
     /// How many bytes a read of an input gives at the most.
     pub fn share(&self, number: usize) -> usize
         ensures some { 0 < result }
@@ -196,13 +237,13 @@ impl Counts {
     }
 
     /// How long that input was waited for until now that was waited for the longest.
-    pub fn longest_silence(&self, now: Option<Instant>) -> Duration
-        ensures { as_nanos result ≡ longest_silence now self.now.backlogs.items self.now.since.items (length self.now.backlogs.items) }
+    pub fn longest_silence(&self, now: ClockReading) -> Duration
+        ensures { as_nanos result ≡ longest_silence now.at self.now.backlogs.items self.now.since.items (length self.now.backlogs.items) }
     {
         let mut longest = Duration::ZERO;
         for number in 0..self.backlogs.len() {
             let since = self.since.get(number).copied().unwrap_or(None);
-            let silence = silence(self.backlogs[number].left, since, now);
+            let silence = silence(self.backlogs[number].left, since, now.at());
             if silence.as_nanos() > longest.as_nanos() {
                 longest = silence;
             }

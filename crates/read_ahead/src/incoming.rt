@@ -1,11 +1,11 @@
 //! What comes of an input: the bytes that its thread told, in the order in which it told them.
-ghost use Rattle.std.specs.Prelude.{◌≡◌, ◌≢◌, ◌+◌, ◌-◌, ◌≤◌, ◌<◌, [], ◌∷◌, ◌++◌, ◌⊎◌, ◌&&◌, if◌then◌else◌, true, false};
+ghost use Rattle.std.specs.Prelude.{◌≡◌, ◌≢◌, ◌+◌, ◌-◌, ◌^◌, ◌≤◌, ◌<◌, [], ◌∷◌, ◌++◌, ◌⊎◌, ◌&&◌, if◌then◌else◌, true, false};
 ghost use Rattle.std.specs.Prelude.{length, take, drop, min, Some, None, IfOk, IfSome, IsOk, IsSome, OnErr};
 ghost use Rattle.std.specs.Arc.{arc_value};
 ghost use Rattle.std.specs.Io.KnownBytes.{Consumes, IsAtEnd, Keeps};
 ghost use Rattle.rtrb.specs.Ring.{known_items, received};
 ghost use Rattle.read_ahead.specs.Messages.{MayFollow};
-ghost use Rattle.read_ahead.specs.Sources.{IsDry, IsSound, StandsBy, StandsByLast, TakesNext, going_by, opened_by, rest_of};
+ghost use Rattle.read_ahead.specs.Sources.{IsDry, IsSound, LiesReady, StandsBy, StandsByLast, TakesNext, Waits, going_by, opened_by, rest_of};
 ghost use Rattle.read_ahead.specs.declared.incoming.Phase.TheVariants.{Opening, Going, Ended, Failed};
 
 use crate::backlogs::Backlogs;
@@ -45,6 +45,45 @@ pub struct Incoming<I: Contents> {
     pub phase: Phase,
 }
 
+/// Whether a read of a source would answer at once, when it was looked at. Only such a look makes one.
+#[derive(Drop)]
+pub struct Readiness {
+    is_ready: bool,
+}
+
+impl Readiness {
+    /// Whether it would.
+    pub fn is_ready(&self) -> bool
+        ensures { result ≡ self.now.is_ready }
+    {
+        self.is_ready
+    }
+}
+
+/// How many looks found a source that isn't ready.
+#[derive(Drop)]
+pub struct Unready {
+    count: usize,
+}
+
+impl Unready {
+    /// Of no look.
+    pub fn none() -> Unready
+        ensures { result.count ≡ 0 }
+    {
+        Unready { count: 0 }
+    }
+
+    /// One more.
+    pub fn add(&mut self, _readiness: Readiness)
+        requires unready { _readiness.is_ready ≡ false }
+        requires few { self.old.count + 1 < 2 ^ 64 }
+        ensures { self.new.count ≡ self.old.count + 1 }
+    {
+        self.count += 1;
+    }
+}
+
 impl<I: Contents> Incoming<I> {
     /// Whether the next message is needed before a byte can be given.
     pub fn is_used_up(&self) -> bool
@@ -68,10 +107,37 @@ impl<I: Contents> Incoming<I> {
         ensures exact { result ≡ true → (self.old.at < length self.old.front.items) ⊎ (self.old.phase ≡ Ended) ⊎ (self.old.phase ≡ Failed)
             ⊎ (0 < length (known_items self.new.consumer)) }
         ensures empty { result ≡ false → known_items self.new.consumer ≡ [] }
+        ensures yes { result ≡ true → LiesReady self.new }
+        ensures no { result ≡ false → Waits self.new }
     {
         self.at < self.front.len()
             || matches!(self.phase, Phase::Ended | Phase::Failed)
             || !self.consumer.is_empty()
+    }
+
+    /// Whether a read would answer at once, of a source that was left if it was: not then. An input that is silent for too long has failed.
+    pub fn readiness<R: Wait + Clock>(&mut self, rt: &R, was_left: bool) -> Readiness
+        requires { IsSound I.holds self.old }
+        ensures sound { IsSound I.holds self.new }
+        ensures number { self.new.number ≡ self.old.number }
+        ensures backlogs { self.new.backlogs ≡ self.old.backlogs }
+        ensures same { rest_of I.holds self.new ≡ rest_of I.holds self.old }
+        ensures phase { self.old.phase ≢ Opening → self.new.phase ≡ self.old.phase }
+        ensures left { was_left ≡ true → result.is_ready ≡ false }
+        ensures waits { was_left ≡ false → result.is_ready ≡ false → Waits self.new }
+        ensures patient { (arc_value self.old.backlogs).stall ≡ None → result.is_ready ≡ true → LiesReady self.new }
+    {
+        let _ = self.is_open(rt, true);
+        if was_left {
+            return Readiness { is_ready: false };
+        }
+        if self.is_ready() {
+            return Readiness { is_ready: true };
+        }
+        let silence = self.backlogs.silence(rt, self.number);
+        Readiness {
+            is_ready: silence.is_over(),
+        }
     }
 
     /// Whether it can be begun with the input: false where that can't be opened, none while that isn't known. An input that may
@@ -151,7 +217,7 @@ impl<I: Contents> Incoming<I> {
             return self.fail();
         };
         match message {
-            Message::Opened => self.phase = Phase::Going,
+            Message::Opened(_) => self.phase = Phase::Going,
             Message::Refused => self.phase = Phase::Failed,
             Message::Asked(_, _) => self.phase = Phase::Failed,
             Message::Bytes(_) => self.phase = Phase::Failed,
@@ -189,7 +255,7 @@ impl<I: Contents> Incoming<I> {
             Message::End => self.phase = Phase::Ended,
             Message::Failed => self.phase = Phase::Failed,
             Message::Refused => self.phase = Phase::Failed,
-            Message::Opened => self.phase = Phase::Failed,
+            Message::Opened(_) => self.phase = Phase::Failed,
             Message::Asked(_, _) => self.phase = Phase::Failed,
         }
     }
@@ -362,7 +428,7 @@ fn wait_message<R: Wait + Clock, I: Contents>(
         if let Ok(message) = consumer.pop() {
             return Some(message);
         }
-        if backlogs.is_silent(rt, number) {
+        if backlogs.silence(rt, number).is_over() {
             return None;
         }
         let _ = backlogs.wait_past(rt, seen);

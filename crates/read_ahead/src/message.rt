@@ -1,4 +1,5 @@
 use crate::input::Contents;
+use crate::opening::Openness;
 use rtrb::Protocol;
 use std::marker::PhantomData;
 use std::snapshot::Snapshot;
@@ -9,7 +10,7 @@ pub enum Message<I> {
     /// The thread is started. For proofs: the input that it's to open, and its number.
     Asked(Snapshot<I>, Snapshot<usize>),
     /// The input is open.
-    Opened,
+    Opened(Openness),
     /// Its next bytes.
     Bytes(Vec<u8>),
     /// Its end.

@@ -1,5 +1,5 @@
 //! What the thread of an input does.
-ghost use Rattle.std.specs.Prelude.{◌≡◌, ◌≢◌, ◌<◌, ◌⊎◌, ◌++◌, ◌∷◌, [], Ok, false, true, length, IfNone, IfOk, IfSome, OnErr, OnOk};
+ghost use Rattle.std.specs.Prelude.{◌≡◌, ◌≢◌, ◌<◌, ◌⊎◌, ◌++◌, ◌∷◌, [], Ok, false, true, length, IfNone, IfOk, IfSome, OnErr};
 ghost use Rattle.std.specs.Io.KnownBytes.{IsAtEnd};
 ghost use Rattle.rtrb.specs.Ring.{sent};
 ghost use Rattle.read_ahead.specs.Messages.{Asks, EndsWith, IsOpen, LeavesOut, MayEnd, Tells, goes_on};
@@ -7,12 +7,13 @@ ghost use Rattle.read_ahead.specs.declared.message.Message.TheVariants.{End, Fai
 ghost use Rattle.read_ahead.specs.declared.reading.ReadingEnd.TheVariants.{AtEnd, Left, NoMemory};
 
 use crate::input::Input;
-use crate::limits::{BLOCK, WASTE};
+use crate::limits::BLOCK;
 use crate::message::Message;
+use crate::opening::open;
 use crate::sender::Sender;
+use crate::untold::Untold;
 use item_io::{ReadFault, read_some};
 use std::alloc::{AllocError, Global};
-use std::io::Read;
 use std::sync::Wait;
 use std::time::Clock;
 
@@ -27,41 +28,27 @@ pub enum ReadingEnd {
     NoMemory,
 }
 
-/// Opens an input, and tells all that it gives. Answers its reader where that is to be read on, so that its writer isn't held up:
-/// no more of the input is given, or memory was refused.
+/// Opens an input, and tells all that it gives. Answers what isn't told: no more of the input is given, or memory was refused.
 #[tactic(auto, using(crate::proofs::Telling::ends_snoc))]
 pub fn open_and_read<R: Wait + Clock, I: Input>(
     rt: &R,
     alloc: Global,
     sender: &mut Sender<I>,
     input: I,
-) -> Option<I::Reader>
+) -> Untold<I::Reader>
     requires { Asks (sent sender.old.producer) sender.old.number input }
-    ensures none { IfNone result (goes_on (sent sender.new.producer) ≡ false) }
-    ensures some { IfSome result (λ reader. (goes_on (sent sender.new.producer) ≡ false)
+    ensures none { IfNone result.reader (goes_on (sent sender.new.producer) ≡ false) }
+    ensures some { IfSome result.reader (λ reader. (goes_on (sent sender.new.producer) ≡ false)
         ⊎ LeavesOut I.holds (sent sender.new.producer) (I.Reader.remaining reader)) }
 {
-    let Some(reader) = input.open() else {
+    let Some((reader, openness)) = open(input) else {
         sender.send(rt, Message::Refused);
-        return None;
+        return Untold::nothing();
     };
-    sender.send(rt, Message::Opened);
+    sender.send(rt, Message::Opened(openness));
     let mut reader = reader;
     let stop = read_ahead(rt, alloc, sender, &mut reader);
-    read_on(stop, reader)
-}
-
-/// The reader of an input that stopped so, where it is to be read on.
-fn read_on<Q: Drop>(stop: Result<ReadingEnd, ReadFault>, reader: Q) -> Option<Q>
-    ensures some { IfSome result (λ q. (q ≡ reader) × ((stop ≡ Ok Left) ⊎ (stop ≡ Ok NoMemory))) }
-    ensures none { IfNone result ((stop ≢ Ok Left) × (stop ≢ Ok NoMemory)) }
-{
-    match stop {
-        Ok(ReadingEnd::AtEnd) => None,
-        Ok(ReadingEnd::Left) => Some(reader),
-        Ok(ReadingEnd::NoMemory) => Some(reader),
-        Err(_) => None,
-    }
+    Untold::of(stop, reader)
 }
 
 /// Tells all that an open input gives, and its end or a failure. Want of memory is told as a failed read; where no more of the input
@@ -147,7 +134,7 @@ fn copy_by<R: Wait + Clock, I: Input>(
         if count == 0 {
             return Ok(ReadingEnd::AtEnd);
         }
-        if !sender.wait_for_room(rt, count) {
+        if !sender.wait_for_room(rt, count).is_given() {
             return Ok(ReadingEnd::Left);
         }
         let Ok(block) = copy_of(alloc, &buffer[..count]) else {
@@ -166,17 +153,4 @@ fn copy_of(alloc: Global, bytes: &[u8]) -> Result<Vec<u8>, AllocError>
     let mut block = Vec::with_capacity(alloc, bytes.len())?;
     block.extend_from_slice(bytes)?;
     Ok(block)
-}
-
-/// Reads an input to its end, and throws away what it gives. This takes no memory.
-pub fn throw_away<R: Wait, Q: Read>(rt: &R, reader: &mut Q) -> Result<(), ReadFault>
-    ensures { OnOk result (IsAtEnd (Q.remaining reader.new)) }
-{
-    let mut buffer = [0; WASTE];
-    for _ in rt.forever() {
-        if read_some(reader, &mut buffer)? == 0 {
-            return Ok(());
-        }
-    }
-    unreachable!()
 }

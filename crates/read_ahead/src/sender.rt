@@ -3,6 +3,7 @@ ghost use Rattle.rtrb.specs.Ring.{sent};
 ghost use Rattle.read_ahead.specs.Messages.{MayFollow};
 
 use crate::backlogs::Backlogs;
+use crate::counts::Room;
 use crate::input::Contents;
 use crate::message::{InOrder, Message};
 use rtrb::{Producer, PushError};
@@ -60,14 +61,14 @@ impl<I: Contents> Sender<I> {
         self.backlogs.end_wait(rt, self.number);
     }
 
-    /// Waits until there is room for a block of so many bytes. False where no more of the input is given.
-    pub fn wait_for_room<R: Wait>(&mut self, rt: &R, count: usize) -> bool
+    /// Waits until there is room for a block of so many bytes, or no more of the input is given.
+    pub fn wait_for_room<R: Wait>(&mut self, rt: &R, count: usize) -> Room
         ensures told { sent self.new.producer ≡ sent self.old.producer }
-        ensures left { self.new.is_left ≡ not result }
+        ensures left { self.new.is_left ≡ not result.is_given }
     {
-        let is_given = self.backlogs.put(rt, self.number, count);
-        self.is_left = !is_given;
-        is_given
+        let room = self.backlogs.put(rt, self.number, count);
+        self.is_left = !room.is_given();
+        room
     }
 }
 

@@ -18,7 +18,7 @@ use crate::input::{Contents, Input};
 use crate::input_files::{InputAt, InputFiles, inputs_at};
 use crate::limits::{Limits, SLOTS};
 use crate::message::{InOrder, Message};
-use crate::reading::{open_and_read, throw_away};
+use crate::reading::open_and_read;
 use crate::sender::Sender;
 use crate::waiting::{Unopened, wait_open};
 use rtrb::{Producer, RingBuffer};
@@ -224,8 +224,5 @@ fn run<R: Wait + Clock, I: Input>(
     let mut sender = Sender::new(producer, backlogs, number);
     let untold = open_and_read(rt, alloc, &mut sender, input);
     drop(sender);
-    if let Some(reader) = untold {
-        let mut reader = reader;
-        let _ = throw_away(rt, &mut reader);
-    }
+    let _ = untold.throw_away(rt);
 }

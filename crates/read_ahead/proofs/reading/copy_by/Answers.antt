@@ -21,8 +21,8 @@ loop-preserved g c =
           (subst (λ (bs : List ℕ). Consumes (remaining c.loop.reader) (remaining c.read_some-read.new.reader) bs) (sym c.in-Ok.ensures.ok) c.in_ok-count.ensures.gave)),
     )
 
-pub returns-then-not-wait_for_room-clause-left : goal.returns-then-not-wait_for_room-clause-left
-returns-then-not-wait_for_room-clause-left g c _ =
+pub returns-then-not-is_given-clause-left : goal.returns-then-not-is_given-clause-left
+returns-then-not-is_given-clause-left g c _ =
     let remaining = g.I.Reader.Read.remaining in
     let block = take c.in_ok-count.count c.read_some-read.new.buffer in
     rw c.wait_for_room.ensures.told (leaves_out g.I.Contents.holds (sent c.loop.sender.producer) block (remaining c.loop.reader) (remaining c.read_some-read.new.reader) c.loop.invariant.1

@@ -74,13 +74,13 @@ returns-clause-open g c = λ yes.
 pub returns-clause-early : goal.returns-clause-early
 returns-clause-early g c = λ yes. λ before.
     let known : c.loop-number.are_known ≡ true = search (rules, yes) in
-    let over : c.has_passed-is_over.result ≡ is_moment_over c.args.begun c.args.now = search rules in
+    let over : c.has_passed-is_over.result ≡ is_moment_over c.args.begun.at c.args.now.at = search rules in
     rw (take_all c.loop-number.number c.loop-number.inputs (search rules)) at (c.loop-number.invariant.early known (over ∙ before))
 
 pub returns-clause-unknown : goal.returns-clause-unknown
 returns-clause-unknown g c = λ none.
     let not_known : c.loop-number.are_known ≡ false = search (rules, none) in
-    let over : c.has_passed-is_over.result ≡ is_moment_over c.args.begun c.args.now = search rules in
+    let over : c.has_passed-is_over.result ≡ is_moment_over c.args.begun.at c.args.now.at = search rules in
     let found : Any (IsUnknown c.has_passed-is_over.result) c.loop-number.inputs =
     rw (take_all c.loop-number.number c.loop-number.inputs (search rules)) at (c.loop-number.invariant.unknown not_known) in
     subst (λ (b : Bool). Any (IsUnknown b) c.loop-number.inputs) over found

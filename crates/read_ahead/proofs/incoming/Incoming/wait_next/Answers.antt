@@ -28,7 +28,7 @@ returns-in-Refused-clause-same g c =
 pub returns-in-Opened-clause-same : goal.returns-in-Opened-clause-same
 returns-in-Opened-clause-same g c =
     let s = c.args.self.now in
-    next_plain g.I.Contents.holds (received s.consumer) (received c.wait_message.new.consumer) Opened (drop s.at s.front.items) (in_order (received s.consumer) (received c.wait_message.new.consumer) c.in-Some.message (Opened) c.in-Some.ensures.order c.in-Opened.is) c.requires.sound.some refl
+    next_plain g.I.Contents.holds (received s.consumer) (received c.wait_message.new.consumer) (Opened c.in-Opened.field-0) (drop s.at s.front.items) (in_order (received s.consumer) (received c.wait_message.new.consumer) c.in-Some.message (Opened c.in-Opened.field-0) c.in-Some.ensures.order c.in-Opened.is) c.requires.sound.some refl
 
 pub returns-in-End-clause-sound : goal.returns-in-End-clause-sound
 returns-in-End-clause-sound g c =
