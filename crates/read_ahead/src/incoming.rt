@@ -1,6 +1,6 @@
 //! What comes of an input: the bytes that its thread told, in the order in which it told them.
 ghost use Rattle.std.specs.Prelude.{◌≡◌, ◌≢◌, ◌+◌, ◌-◌, ◌^◌, ◌≤◌, ◌<◌, [], ◌∷◌, ◌++◌, ◌⊎◌, ◌&&◌, if◌then◌else◌, true, false};
-ghost use Rattle.std.specs.Prelude.{length, take, drop, min, Some, None, IfOk, IfSome, IsOk, IsSome, OnErr};
+ghost use Rattle.std.specs.Prelude.{length, take, drop, min, Some, None, IfErr, IfOk, IsOk, OnErr};
 ghost use Rattle.std.specs.Arc.{arc_value};
 ghost use Rattle.std.specs.Io.KnownBytes.{Consumes, IsAtEnd, Keeps};
 ghost use Rattle.rtrb.specs.Ring.{known_items, received};
@@ -9,6 +9,7 @@ ghost use Rattle.read_ahead.specs.Sources.{IsDry, IsSound, LiesReady, StandsBy, 
 ghost use Rattle.read_ahead.specs.declared.incoming.Phase.TheVariants.{Opening, Going, Ended, Failed};
 
 use crate::backlogs::Backlogs;
+use crate::counts::Silence;
 use crate::input::Contents;
 use crate::message::{InOrder, Message};
 use item_io::ReadFault;
@@ -181,13 +182,14 @@ impl<I: Contents> Incoming<I> {
         ensures failed { self.old.phase ≢ Ended → self.new.phase ≡ Failed }
     {
         if !matches!(self.phase, Phase::Ended) {
-            self.fail();
+            self.phase = Phase::Failed;
         }
     }
 
-    /// No more is given behind the front block, and that is a failure.
-    fn fail(&mut self)
-        requires { IsSound I.holds self.old }
+    /// The input was silent for too long, so no more is given behind the front block, and that is a failure.
+    fn fall_silent(&mut self, _silence: Silence)
+        requires sound { IsSound I.holds self.old }
+        requires silent { _silence.is_over ≡ true }
         ensures sound { IsSound I.holds self.new }
         ensures number { self.new.number ≡ self.old.number }
         ensures backlogs { self.new.backlogs ≡ self.old.backlogs }
@@ -213,8 +215,9 @@ impl<I: Contents> Incoming<I> {
         ensures patient { (arc_value self.old.backlogs).stall ≡ None →
             TakesNext opened_by (received self.old.consumer) (received self.new.consumer) self.new.phase }
     {
-        let Some(message) = wait_message(rt, &self.backlogs, self.number, &mut self.consumer) else {
-            return self.fail();
+        let message = match wait_message(rt, &self.backlogs, self.number, &mut self.consumer) {
+            Ok(message) => message,
+            Err(silence) => return self.fall_silent(silence),
         };
         match message {
             Message::Opened(_) => self.phase = Phase::Going,
@@ -243,8 +246,9 @@ impl<I: Contents> Incoming<I> {
         ensures ready { 0 < length (known_items self.old.consumer) →
             TakesNext going_by (received self.old.consumer) (received self.new.consumer) self.new.phase }
     {
-        let Some(message) = wait_message(rt, &self.backlogs, self.number, &mut self.consumer) else {
-            return self.fail();
+        let message = match wait_message(rt, &self.backlogs, self.number, &mut self.consumer) {
+            Ok(message) => message,
+            Err(silence) => return self.fall_silent(silence),
         };
         match message {
             Message::Bytes(block) => {
@@ -410,26 +414,28 @@ fn copy_some(bytes: &[u8], at: usize, buffer: &mut [u8]) -> usize
     count
 }
 
-/// Waits for what is told next of the input of this number. None where it's silent for too long.
+/// Waits for what is told next of the input of this number; or that is too long, which was seen under the lock.
 fn wait_message<R: Wait + Clock, I: Contents>(
     rt: &R,
     backlogs: &Backlogs,
     number: usize,
     consumer: &mut Consumer<Message<I>, Global, InOrder<I>>,
-) -> Option<Message<I>>
-    ensures order { IfSome result (λ message. received consumer.new ≡ received consumer.old ++ message ∷ []) }
-    ensures allowed { IfSome result (MayFollow I.holds I.refuses (received consumer.old)) }
-    ensures none { result ≡ None → received consumer.new ≡ received consumer.old }
-    ensures ready { 0 < length (known_items consumer.old) → IsSome result }
-    ensures patient { result ≡ None → backlogs.now.stall ≢ None }
+) -> Result<Message<I>, Silence>
+    ensures order { IfOk result (λ message. received consumer.new ≡ received consumer.old ++ message ∷ []) }
+    ensures allowed { IfOk result (MayFollow I.holds I.refuses (received consumer.old)) }
+    ensures none { OnErr result (received consumer.new ≡ received consumer.old) }
+    ensures ready { 0 < length (known_items consumer.old) → IsOk result }
+    ensures silent { IfErr result (λ silence. silence.is_over ≡ true) }
+    ensures patient { OnErr result (backlogs.now.stall ≢ None) }
 {
     for _ in rt.forever() {
         let seen = backlogs.news(rt);
         if let Ok(message) = consumer.pop() {
-            return Some(message);
+            return Ok(message);
         }
-        if backlogs.silence(rt, number).is_over() {
-            return None;
+        let silence = backlogs.silence(rt, number);
+        if silence.is_over() {
+            return Err(silence);
         }
         let _ = backlogs.wait_past(rt, seen);
     }

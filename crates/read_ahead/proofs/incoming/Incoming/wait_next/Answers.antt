@@ -8,37 +8,37 @@ use Rattle.read_ahead.proofs.incoming.Incoming.wait_next.Goals as goal
 pub returns-in-Bytes-clause-same : goal.returns-in-Bytes-clause-same
 returns-in-Bytes-clause-same g c =
     let s = c.args.self.now in
-    next_block g.I.Contents.holds (received s.consumer) (received c.wait_message.new.consumer) s.front.items s.at c.in-Bytes.block (in_order (received s.consumer) (received c.wait_message.new.consumer) c.in-Some.message (Bytes c.in-Bytes.block) c.in-Some.ensures.order c.in-Bytes.is) (subst (MayFollow g.I.Contents.holds g.I.Contents.refuses (received s.consumer)) c.in-Bytes.is c.in-Some.ensures.allowed) c.requires.used
+    next_block g.I.Contents.holds (received s.consumer) (received c.wait_message.new.consumer) s.front.items s.at c.in-Bytes.block (in_order (received s.consumer) (received c.wait_message.new.consumer) c.in-Ok.message (Bytes c.in-Bytes.block) c.in-Ok.ensures.order c.in-Bytes.is) (subst (MayFollow g.I.Contents.holds g.I.Contents.refuses (received s.consumer)) c.in-Bytes.is c.in-Ok.ensures.allowed) c.requires.used
 
 pub returns-in-End-clause-same : goal.returns-in-End-clause-same
 returns-in-End-clause-same g c =
     let s = c.args.self.now in
-    next_plain g.I.Contents.holds (received s.consumer) (received c.wait_message.new.consumer) End (drop s.at s.front.items) (in_order (received s.consumer) (received c.wait_message.new.consumer) c.in-Some.message (End) c.in-Some.ensures.order c.in-End.is) c.requires.sound.some refl
+    next_plain g.I.Contents.holds (received s.consumer) (received c.wait_message.new.consumer) End (drop s.at s.front.items) (in_order (received s.consumer) (received c.wait_message.new.consumer) c.in-Ok.message (End) c.in-Ok.ensures.order c.in-End.is) c.requires.sound.some refl
 
 pub returns-in-Failed-clause-same : goal.returns-in-Failed-clause-same
 returns-in-Failed-clause-same g c =
     let s = c.args.self.now in
-    next_plain g.I.Contents.holds (received s.consumer) (received c.wait_message.new.consumer) Failed (drop s.at s.front.items) (in_order (received s.consumer) (received c.wait_message.new.consumer) c.in-Some.message (Failed) c.in-Some.ensures.order c.in-Failed.is) c.requires.sound.some refl
+    next_plain g.I.Contents.holds (received s.consumer) (received c.wait_message.new.consumer) Failed (drop s.at s.front.items) (in_order (received s.consumer) (received c.wait_message.new.consumer) c.in-Ok.message (Failed) c.in-Ok.ensures.order c.in-Failed.is) c.requires.sound.some refl
 
 pub returns-in-Refused-clause-same : goal.returns-in-Refused-clause-same
 returns-in-Refused-clause-same g c =
     let s = c.args.self.now in
-    next_plain g.I.Contents.holds (received s.consumer) (received c.wait_message.new.consumer) Refused (drop s.at s.front.items) (in_order (received s.consumer) (received c.wait_message.new.consumer) c.in-Some.message (Refused) c.in-Some.ensures.order c.in-Refused.is) c.requires.sound.some refl
+    next_plain g.I.Contents.holds (received s.consumer) (received c.wait_message.new.consumer) Refused (drop s.at s.front.items) (in_order (received s.consumer) (received c.wait_message.new.consumer) c.in-Ok.message (Refused) c.in-Ok.ensures.order c.in-Refused.is) c.requires.sound.some refl
 
 pub returns-in-Opened-clause-same : goal.returns-in-Opened-clause-same
 returns-in-Opened-clause-same g c =
     let s = c.args.self.now in
-    next_plain g.I.Contents.holds (received s.consumer) (received c.wait_message.new.consumer) (Opened c.in-Opened.field-0) (drop s.at s.front.items) (in_order (received s.consumer) (received c.wait_message.new.consumer) c.in-Some.message (Opened c.in-Opened.field-0) c.in-Some.ensures.order c.in-Opened.is) c.requires.sound.some refl
+    next_plain g.I.Contents.holds (received s.consumer) (received c.wait_message.new.consumer) (Opened c.in-Opened.field-0) (drop s.at s.front.items) (in_order (received s.consumer) (received c.wait_message.new.consumer) c.in-Ok.message (Opened c.in-Opened.field-0) c.in-Ok.ensures.order c.in-Opened.is) c.requires.sound.some refl
 
 pub returns-in-End-clause-sound : goal.returns-in-End-clause-sound
 returns-in-End-clause-sound g c =
     let s = c.args.self.now in record {
-      some = some_more (received s.consumer) (received c.wait_message.new.consumer) End (in_order (received s.consumer) (received c.wait_message.new.consumer) c.in-Some.message (End) c.in-Some.ensures.order c.in-End.is);
+      some = some_more (received s.consumer) (received c.wait_message.new.consumer) End (in_order (received s.consumer) (received c.wait_message.new.consumer) c.in-Ok.message (End) c.in-Ok.ensures.order c.in-End.is);
       within = c.requires.sound.within;
       opening = λ e. absurd (search (rules, e));
       empty = λ e. absurd (search (rules, e));
-      ended = λ _. next_end g.I.Contents.holds (received s.consumer) (received c.wait_message.new.consumer) (in_order (received s.consumer) (received c.wait_message.new.consumer) c.in-Some.message (End) c.in-Some.ensures.order c.in-End.is) (subst (MayFollow g.I.Contents.holds g.I.Contents.refuses (received s.consumer)) c.in-End.is c.in-Some.ensures.allowed);
+      ended = λ _. next_end g.I.Contents.holds (received s.consumer) (received c.wait_message.new.consumer) (in_order (received s.consumer) (received c.wait_message.new.consumer) c.in-Ok.message (End) c.in-Ok.ensures.order c.in-End.is) (subst (MayFollow g.I.Contents.holds g.I.Contents.refuses (received s.consumer)) c.in-End.is c.in-Ok.ensures.allowed);
     }
 
-pub returns-in_default-clause-stands : goal.returns-in_default-clause-stands
-returns-in_default-clause-stands g c = inl (c.fail.ensures.told ∙ c.wait_message.ensures.none (search rules), c.fail.ensures.phase)
+pub returns-in-Err-clause-stands : goal.returns-in-Err-clause-stands
+returns-in-Err-clause-stands g c = inl (c.fall_silent.ensures.told ∙ c.in-Err.ensures.none, c.fall_silent.ensures.phase)
