@@ -117,8 +117,8 @@ impl<R: Wait + Clock + Copy, I: Contents> Source for Ahead<R, I> {
     /// What the input still gives is thrown away, so that its writer isn't held up. A read behind this fails, once the bytes of
     /// the front block are given.
     fn leave(&mut self) {
-        self.incoming.stop();
-        self.incoming.backlogs.leave(&self.rt, self.incoming.number);
+        let leaving = self.incoming.backlogs.leave(&self.rt, self.incoming.number);
+        self.incoming.stop(leaving);
         self.is_left = true;
         self.was_left = true;
     }
@@ -153,6 +153,6 @@ impl<R: Wait + Drop, I: Contents> Drop for Ahead<R, I> {
             is_left: _,
             was_left: _,
         } = self;
-        incoming.backlogs.leave(&rt, incoming.number);
+        let _ = incoming.backlogs.leave(&rt, incoming.number);
     }
 }

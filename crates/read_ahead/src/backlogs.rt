@@ -6,9 +6,10 @@ ghost use Rattle.read_ahead.specs.Shares.{room_for};
 ghost use Rattle.read_ahead.specs.declared.clock_reading.ClockReading.{ClockReading};
 
 use crate::clock_reading::ClockReading;
-use crate::counts::{Counts, Room, Silence};
+use crate::counts::{Counts, Leaving, Room, Silence};
 use crate::limits::Limits;
 use crate::patience::Patience;
+use crate::pushing::Pushed;
 use crate::view::InputState;
 use crate::wait_end::WaitEnd;
 use std::alloc::{AllocError, Global};
@@ -89,10 +90,10 @@ impl Backlogs {
         unreachable!()
     }
 
-    /// Something came of an input: wakes whoever waits for it.
-    pub fn tell<R: Wait>(&self, rt: &R) {
+    /// Something came of an input, which was pushed: wakes whoever waits for it.
+    pub fn tell<R: Wait>(&self, rt: &R, pushed: Pushed) {
         let mut counts = self.counts.lock(rt);
-        counts.tell();
+        counts.tell(pushed);
         self.came.notify_all();
     }
 
@@ -218,9 +219,10 @@ impl Backlogs {
     }
 
     /// No more of an input is given.
-    pub fn leave<R: Wait>(&self, rt: &R, number: usize) {
-        self.counts.lock(rt).leave(number);
+    pub fn leave<R: Wait>(&self, rt: &R, number: usize) -> Leaving {
+        let leaving = self.counts.lock(rt).leave(number);
         self.wake(number);
+        leaving
     }
 
     /// Lets the thread go on that reads an input, if it waits for room.

@@ -11,6 +11,7 @@ ghost use Rattle.read_ahead.specs.declared.limits.TheConstants.{BLOCKS};
 use crate::backlog::Backlog;
 use crate::clock_reading::ClockReading;
 use crate::limits::BLOCKS;
+use crate::pushing::Pushed;
 use crate::shares::{share_of, turns_of};
 use crate::times::has_passed;
 use crate::view::{InputState, silence, state_of};
@@ -49,6 +50,12 @@ impl Room {
     {
         self.is_given
     }
+}
+
+/// No more of an input is given. Only that this was said under the lock makes one.
+#[derive(Drop)]
+pub struct Leaving {
+    _of: (),
 }
 
 /// How long an input has been silent. Only a look under the lock makes one, or that none is ever silent.
@@ -160,11 +167,12 @@ impl Counts {
         Some(Room { is_given })
     }
 
-    /// Something came of an input.
-    pub fn tell(&mut self)
+    /// Something came of an input, which was pushed.
+    pub fn tell(&mut self, pushed: Pushed)
         ensures { self.new ≡ record self.old { news = (self.old.news + 1) % 2 ^ 64 } }
     {
         self.news = self.news.wrapping_add(1);
+        pushed.is_told();
     }
 
     /// The thread of an input waits for its next bytes from now on, unless it waits already.
@@ -214,7 +222,7 @@ impl Counts {
     }
 
     /// No more of an input is given.
-    pub fn leave(&mut self, number: usize)
+    pub fn leave(&mut self, number: usize) -> Leaving
         ensures left { number < length self.old.backlogs.items → self.new.backlogs.items
             ≡ slice_set self.old.backlogs.items number (record { bytes = 0; blocks = 0; left = true }) }
         ensures same { self.new ≡ record self.old { backlogs = self.new.backlogs } }
@@ -222,6 +230,7 @@ impl Counts {
         if number < self.backlogs.len() {
             self.backlogs[number].leave();
         }
+        Leaving { _of: () }
     }
 
     /// How many bytes a read of an input gives at the most.

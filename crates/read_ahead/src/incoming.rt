@@ -9,7 +9,7 @@ ghost use Rattle.read_ahead.specs.Sources.{IsDry, IsSound, LiesReady, StandsBy, 
 ghost use Rattle.read_ahead.specs.declared.incoming.Phase.TheVariants.{Opening, Going, Ended, Failed};
 
 use crate::backlogs::Backlogs;
-use crate::counts::Silence;
+use crate::counts::{Leaving, Silence};
 use crate::input::Contents;
 use crate::message::{InOrder, Message};
 use item_io::ReadFault;
@@ -169,8 +169,8 @@ impl<I: Contents> Incoming<I> {
         Some(!matches!(self.phase, Phase::Failed))
     }
 
-    /// No more is given behind the front block.
-    pub fn stop(&mut self)
+    /// No more is given behind the front block, as was said under the lock.
+    pub fn stop(&mut self, _leaving: Leaving)
         requires { IsSound I.holds self.old }
         ensures sound { IsSound I.holds self.new }
         ensures number { self.new.number ≡ self.old.number }

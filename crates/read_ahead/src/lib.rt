@@ -13,6 +13,7 @@ mod limits;
 mod message;
 mod opening;
 mod patience;
+mod pushing;
 mod reading;
 mod sender;
 mod shares;

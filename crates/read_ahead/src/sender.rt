@@ -6,10 +6,10 @@ use crate::backlogs::Backlogs;
 use crate::counts::Room;
 use crate::input::Contents;
 use crate::message::{InOrder, Message};
-use rtrb::{Producer, PushError};
+use crate::pushing::push;
+use rtrb::Producer;
 use std::alloc::Global;
 use std::sync::{Arc, Wait};
-use std::thread;
 use std::time::Clock;
 
 /// The end of a thread that reads an input. `sent` of its producer is what was told.
@@ -47,8 +47,8 @@ impl<I: Contents> Sender<I> {
         ensures ok { sent self.new.producer ≡ sent self.old.producer ++ message ∷ [] }
         ensures left { self.new.is_left ≡ self.old.is_left }
     {
-        push(rt, &mut self.producer, message);
-        self.backlogs.tell(rt);
+        let pushed = push(rt, &mut self.producer, message);
+        self.backlogs.tell(rt, pushed);
     }
 
     /// The next bytes of the input are waited for from now on.
@@ -70,24 +70,4 @@ impl<I: Contents> Sender<I> {
         self.is_left = !room.is_given();
         room
     }
-}
-
-/// Pushes a message, once there is a slot for it. No more blocks lie ready than there are slots.
-fn push<R: Wait, I: Contents>(
-    rt: &R,
-    producer: &mut Producer<Message<I>, Global, InOrder<I>>,
-    message: Message<I>,
-)
-    requires { MayFollow I.holds I.refuses (sent producer.old) message }
-    ensures { sent producer.new ≡ sent producer.old ++ message ∷ [] }
-{
-    let mut message = message;
-    for _ in rt.forever() {
-        match producer.push(message) {
-            Ok(()) => return,
-            Err(PushError::Full(back)) => message = back,
-        }
-        thread::yield_now();
-    }
-    unreachable!()
 }
