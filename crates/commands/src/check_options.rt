@@ -1,11 +1,13 @@
 //! The keys and the playlist of `check`, as its words tell them.
-ghost use Rattle.std.specs.Prelude.{◌≡◌, ◌↔◌, ℕ, true, false, IfOk, IsErrOf, length, map};
+ghost use Rattle.std.specs.Prelude.{◌≡◌, ◌↔◌, ℕ, true, false, IfErr, IfOk, IsErrOf, length, map};
 ghost use Rattle.std.specs.String.{string_bytes};
-ghost use Rattle.commands.specs.KeyFiles.{TellKeys, counted, told};
+ghost use Rattle.commands.specs.KeyFiles.{IsKeyFault, TellKeys, counted, told};
 ghost use Rattle.commands.specs.KeyLists.{IsBadKeyFile, IsUnreadKey, key_texts, are_keys};
 
 use crate::files::FileReader;
+use crate::kept::Kept;
 use crate::key_list::{KeyListFault, KeyRoom, are_keys, key_room, read_keys};
+use crate::key_word::KeyFileFault;
 use std::alloc::{AllocError, Global};
 
 /// The words of the keys of a rendition and of a playlist's path, as they stand.
@@ -47,16 +49,14 @@ fn filled_options<F: FileReader>(
     files: &F,
     words: CheckWords<'_>,
     room: CheckRoom<'_>,
-) -> Result<CheckOptions, KeyListFault>
+) -> Result<CheckOptions, Kept<KeyFileFault>>
     requires good { are_keys words.keys.now ≡ true }
     requires words { map told room.keys.words.items ≡ counted 1 (key_texts words.keys.now) }
     requires places { length room.keys.keys.items ≡ length room.keys.words.items }
     ensures keys { IfOk result (λ options. TellKeys (F.gives files.now) (key_texts words.entry.keys.now) options.keys.items) }
     ensures playlist { IfOk result (λ options. string_bytes options.playlist ≡ string_bytes room.entry.playlist) }
-    ensures bad { IsErrOf result KeyListFault.BadKey → ⊥ }
-    ensures unread { IsErrOf result KeyListFault.Unread → IsUnreadKey (F.gives files.now) (F.refuses files.now) words.entry.keys.now }
-    ensures bad_file { (n : ℕ) → IsErrOf result (KeyListFault.BadKeyFile n) → IsBadKeyFile (F.gives files.now) words.entry.keys.now n }
-    ensures no_memory { IsErrOf result KeyListFault.NoMemory → IsUnreadKey (F.gives files.now) (F.wants files.now) words.entry.keys.now }
+    ensures err { IfErr result (λ why. IsKeyFault (F.gives files.now) (F.refuses files.now) (F.wants files.now)
+        (counted 1 (key_texts words.entry.keys.now)) why.fault) }
 {
     let CheckRoom { keys, playlist } = room;
     let keys = read_keys(alloc, files, keys, words.keys)?;
@@ -82,5 +82,6 @@ pub fn read_check_options<F: FileReader>(
         return Err(KeyListFault::BadKey);
     }
     let room = check_room(alloc, words)?;
-    filled_options(alloc, files, words, room)
+    let options = filled_options(alloc, files, words, room)?;
+    Ok(options)
 }

@@ -4,6 +4,7 @@ ghost use Rattle.std.specs.String.{string_bytes};
 ghost use Rattle.commands.specs.Checking;
 
 use crate::files::{FileFault, FileReader};
+use crate::kept::Kept;
 use crate::output::write_all;
 use hls_check::{CheckFault, Checked, UnpackFault, check_listing};
 use item_io::{OutletFault, push_segment_file_name};
@@ -30,48 +31,57 @@ pub enum CheckingFault {
     NoMemory,
 }
 
-impl From<AllocError> for CheckingFault {
+impl From<Kept<CheckingFault>> for CheckingFault {
+    ghost from_gives = { λ why fault. fault ≡ why.fault };
+
+    fn from(why: Kept<CheckingFault>) -> CheckingFault {
+        why.into_fault()
+    }
+}
+
+impl From<AllocError> for Kept<CheckingFault> {
     ghost use Rattle.commands.specs.declared.checking.CheckingFault.TheVariants.{NoMemory};
 
-    ghost from_gives = { λ _ fault. fault ≡ NoMemory };
+    ghost from_gives = { λ _ why. why.fault ≡ NoMemory };
 
-    fn from(_: AllocError) -> CheckingFault {
-        CheckingFault::NoMemory
+    fn from(_: AllocError) -> Kept<CheckingFault> {
+        CheckingFault::NoMemory.into()
     }
 }
 
-impl From<FileFault> for CheckingFault {
+impl From<FileFault> for Kept<CheckingFault> {
     ghost use Rattle.commands.specs.Told.{checking_of};
 
-    ghost from_gives = { λ why fault. fault ≡ checking_of why };
+    ghost from_gives = { λ found why. why.fault ≡ checking_of found };
 
-    fn from(why: FileFault) -> CheckingFault {
-        match why {
+    fn from(found: FileFault) -> Kept<CheckingFault> {
+        let fault = match found {
             FileFault::Unread => CheckingFault::Unread,
             FileFault::NoMemory => CheckingFault::NoMemory,
-        }
+        };
+        fault.into()
     }
 }
 
-impl From<ListFault> for CheckingFault {
+impl From<ListFault> for Kept<CheckingFault> {
     ghost use Rattle.commands.specs.declared.checking.CheckingFault.TheVariants.{Faulty};
     ghost use Rattle.hls_check.specs.declared.checking.CheckFault.TheVariants.{Text};
 
-    ghost from_gives = { λ why fault. fault ≡ Faulty (Text why) };
+    ghost from_gives = { λ found why. why.fault ≡ Faulty (Text found) };
 
-    fn from(why: ListFault) -> CheckingFault {
-        CheckingFault::Faulty(CheckFault::Text(why))
+    fn from(found: ListFault) -> Kept<CheckingFault> {
+        CheckingFault::Faulty(CheckFault::Text(found)).into()
     }
 }
 
-impl From<UnpackFault> for CheckingFault {
+impl From<UnpackFault> for Kept<CheckingFault> {
     ghost use Rattle.commands.specs.declared.checking.CheckingFault.TheVariants.{Faulty};
     ghost use Rattle.hls_check.specs.declared.checking.CheckFault.TheVariants.{Segments};
 
-    ghost from_gives = { λ why fault. fault ≡ Faulty (Segments why) };
+    ghost from_gives = { λ found why. why.fault ≡ Faulty (Segments found) };
 
-    fn from(why: UnpackFault) -> CheckingFault {
-        CheckingFault::Faulty(CheckFault::Segments(why))
+    fn from(found: UnpackFault) -> Kept<CheckingFault> {
+        CheckingFault::Faulty(CheckFault::Segments(found)).into()
     }
 }
 
@@ -190,11 +200,11 @@ fn check_segments<F: FileReader>(
     keys: &[[u8; 16]],
     listing: &Listing,
     room: SegmentRoom,
-) -> Result<Checked, CheckingFault>
+) -> Result<Checked, Kept<CheckingFault>>
     requires places { length room.segments.items ≡ length room.paths.items }
     ensures ok { IfOk result (Checking.UnpackWell (F.gives files.now) keys.now listing.now (map path_buf_bytes room.paths.items)) }
-    ensures err { IfErr result (Checking.IsSegmentsFault (F.gives files.now) (F.refuses files.now) (F.wants files.now) keys.now listing.now
-        (map path_buf_bytes room.paths.items)) }
+    ensures err { IfErr result (λ why. Checking.IsSegmentsFault (F.gives files.now) (F.refuses files.now) (F.wants files.now) keys.now listing.now
+        (map path_buf_bytes room.paths.items) why.fault) }
 {
     let segments = read_segments(alloc, files, room)?;
     Ok(check_listing(alloc, listing, &segments, keys)?)
@@ -206,9 +216,9 @@ fn check_files<F: FileReader>(
     files: &F,
     keys: &[[u8; 16]],
     playlist: &str,
-) -> Result<Checked, CheckingFault>
+) -> Result<Checked, Kept<CheckingFault>>
     ensures ok { IfOk result (Checking.ChecksWell (F.gives files.now) keys.now playlist.now) }
-    ensures err { IfErr result (Checking.IsCheckFault (F.gives files.now) (F.refuses files.now) (F.wants files.now) keys.now playlist.now) }
+    ensures err { IfErr result (λ why. Checking.IsCheckFault (F.gives files.now) (F.refuses files.now) (F.wants files.now) keys.now playlist.now why.fault) }
 {
     let text = read_text(alloc, files, playlist)?;
     let listing = read_media(alloc, &text)?;
@@ -234,9 +244,9 @@ fn line_of_files<F: FileReader>(
     files: &F,
     keys: &[[u8; 16]],
     playlist: &str,
-) -> Result<String, CheckingFault>
+) -> Result<String, Kept<CheckingFault>>
     ensures ok { IfOk result (λ line. Checking.TellsWhole (F.gives files.now) keys.now playlist.now (string_bytes line)) }
-    ensures err { IfErr result (Checking.IsCheckFault (F.gives files.now) (F.refuses files.now) (F.wants files.now) keys.now playlist.now) }
+    ensures err { IfErr result (λ why. Checking.IsCheckFault (F.gives files.now) (F.refuses files.now) (F.wants files.now) keys.now playlist.now why.fault) }
 {
     let checked = check_files(alloc, files, keys, playlist)?;
     let line = checked_line(alloc, checked)?;

@@ -96,10 +96,20 @@ fn first_of<R: Read + Drop>(alloc: Global, reader: R, most: usize) -> io::Result
     Ok(bytes)
 }
 
-/// The first bytes of a file of the system.
-fn front(rt: &HostRuntime, path: &str, most: usize) -> io::Result<Vec<u8>> {
-    let file = File::open(rt, path)?;
-    first_of(rt.alloc(), file, most)
+/// The first bytes of what was opened, with why nothing was.
+fn front_of<R: Read + Drop>(
+    alloc: Global,
+    opened: io::Result<R>,
+    most: usize,
+) -> Result<Vec<u8>, FileFault>
+    ensures ok { IfOk opened (λ reader. IfOk result (λ bytes. IfSome (R.remaining reader) (λ left. bytes.items ≡ take most left))) }
+    ensures no_memory { IfErr opened (λ error. error_kind error ≡ OutOfMemory → IsErrOf result FileFault.NoMemory) }
+    ensures unread { IfErr opened (λ error. error_kind error ≢ OutOfMemory → IsErrOf result FileFault.Unread) }
+{
+    match opened {
+        Ok(reader) => told(first_of(alloc, reader, most)),
+        Err(why) => Err(fault_of(why)),
+    }
 }
 
 /// The files of the system. What they hold is the system's, so nothing is claimed of it.
@@ -115,6 +125,6 @@ impl FileReader for HostRuntime {
     }
 
     fn read_front(&self, _alloc: Global, path: &str, most: usize) -> Result<Vec<u8>, FileFault> {
-        told(front(self, path, most))
+        front_of(self.alloc(), File::open(self, path), most)
     }
 }

@@ -5,6 +5,7 @@ ghost use Rattle.commands.specs.KeyFiles.{IsKeyFault, TellKeys, counted, is_key_
 ghost use Rattle.commands.specs.KeyLists.{key_texts, are_keys};
 
 use crate::files::FileReader;
+use crate::kept::Kept;
 use crate::key_word::{KeyFileFault, KeyWord, fill_keys, is_key_word};
 use std::alloc::{AllocError, AllocFailed, Global};
 use thiserror::Error;
@@ -59,13 +60,13 @@ impl<T: Drop> From<AllocFailed<T>> for KeyListFault {
     }
 }
 
-impl From<KeyFileFault> for KeyListFault {
+impl From<Kept<KeyFileFault>> for KeyListFault {
     ghost use Rattle.commands.specs.Told.{key_list_fault_of};
 
-    ghost from_gives = { λ why fault. fault ≡ key_list_fault_of why };
+    ghost from_gives = { λ why fault. fault ≡ key_list_fault_of why.fault };
 
-    fn from(why: KeyFileFault) -> KeyListFault {
-        match why {
+    fn from(why: Kept<KeyFileFault>) -> KeyListFault {
+        match why.into_fault() {
             KeyFileFault::Unread => KeyListFault::Unread,
             KeyFileFault::BadKeyFile(number) => KeyListFault::BadKeyFile(number),
             KeyFileFault::NoMemory => KeyListFault::NoMemory,
@@ -143,11 +144,11 @@ pub(crate) fn filled<F: FileReader>(
     files: &F,
     words: &[KeyWord<'_>],
     room: Vec<[u8; 16]>,
-) -> Result<Vec<[u8; 16]>, KeyFileFault>
+) -> Result<Vec<[u8; 16]>, Kept<KeyFileFault>>
     requires words { list_all (λ word. is_key_word word.text) (map told words.now) ≡ true }
     requires places { length words.now ≡ length room.items }
     ensures ok { IfOk result (λ keys. TellKeys (F.gives files.now) (texts_of (map told words.now)) keys.items) }
-    ensures err { IfErr result (IsKeyFault (F.gives files.now) (F.refuses files.now) (F.wants files.now) (map told words.now)) }
+    ensures err { IfErr result (λ why. IsKeyFault (F.gives files.now) (F.refuses files.now) (F.wants files.now) (map told words.now) why.fault) }
 {
     let mut keys = room;
     fill_keys(alloc, files, words, &mut keys)?;
@@ -160,12 +161,12 @@ pub(crate) fn read_keys<F: FileReader>(
     files: &F,
     room: KeyRoom<'_>,
     text: &str,
-) -> Result<Vec<[u8; 16]>, KeyFileFault>
+) -> Result<Vec<[u8; 16]>, Kept<KeyFileFault>>
     requires words { map told room.words.items ≡ counted 1 (key_texts text.now) }
     requires keys { length room.keys.items ≡ length room.words.items }
     requires good { are_keys text.now ≡ true }
     ensures ok { IfOk result (λ keys. TellKeys (F.gives files.now) (key_texts text.now) keys.items) }
-    ensures err { IfErr result (IsKeyFault (F.gives files.now) (F.refuses files.now) (F.wants files.now) (counted 1 (key_texts text.now))) }
+    ensures err { IfErr result (λ why. IsKeyFault (F.gives files.now) (F.refuses files.now) (F.wants files.now) (counted 1 (key_texts text.now)) why.fault) }
 {
     let KeyRoom { words, keys } = room;
     filled(alloc, files, &words, keys)

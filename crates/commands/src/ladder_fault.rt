@@ -1,8 +1,9 @@
 ghost use Rattle.std.specs.Prelude.{◌≡◌};
 
+use crate::kept::Kept;
 use crate::key_word::KeyFileFault;
 use crate::within::OutsideLimits;
-use std::alloc::{AllocError, AllocFailed};
+use std::alloc::AllocError;
 use thiserror::Error;
 
 /// Why words and numbers tell no ladder.
@@ -59,36 +60,46 @@ impl From<AllocError> for LadderFault {
     }
 }
 
-impl<T: Drop> From<AllocFailed<T>> for LadderFault {
+impl From<Kept<LadderFault>> for LadderFault {
+    ghost from_gives = { λ why fault. fault ≡ why.fault };
+
+    fn from(why: Kept<LadderFault>) -> LadderFault {
+        why.into_fault()
+    }
+}
+
+impl From<AllocError> for Kept<LadderFault> {
     ghost use Rattle.commands.specs.declared.ladder_fault.LadderFault.TheVariants.{NoMemory};
 
-    ghost from_gives = { λ _ fault. fault ≡ NoMemory };
+    ghost from_gives = { λ _ why. why.fault ≡ NoMemory };
 
-    fn from(_: AllocFailed<T>) -> LadderFault {
-        LadderFault::NoMemory
+    fn from(_: AllocError) -> Kept<LadderFault> {
+        LadderFault::NoMemory.into()
     }
 }
 
-impl From<OutsideLimits> for LadderFault {
+impl From<OutsideLimits> for Kept<LadderFault> {
     ghost use Rattle.commands.specs.declared.ladder_fault.LadderFault.TheVariants.{Settings};
 
-    ghost from_gives = { λ _ fault. fault ≡ Settings };
+    ghost from_gives = { λ _ why. why.fault ≡ Settings };
 
-    fn from(_: OutsideLimits) -> LadderFault {
-        LadderFault::Settings
+    fn from(found: OutsideLimits) -> Kept<LadderFault> {
+        let OutsideLimits = found;
+        LadderFault::Settings.into()
     }
 }
 
-impl From<KeyFileFault> for LadderFault {
+impl From<Kept<KeyFileFault>> for Kept<LadderFault> {
     ghost use Rattle.commands.specs.Told.{ladder_fault_of};
 
-    ghost from_gives = { λ why fault. fault ≡ ladder_fault_of why };
+    ghost from_gives = { λ found why. why.fault ≡ ladder_fault_of found.fault };
 
-    fn from(why: KeyFileFault) -> LadderFault {
-        match why {
+    fn from(found: Kept<KeyFileFault>) -> Kept<LadderFault> {
+        let fault = match found.into_fault() {
             KeyFileFault::Unread => LadderFault::Unread,
             KeyFileFault::BadKeyFile(number) => LadderFault::BadKeyFile(number),
             KeyFileFault::NoMemory => LadderFault::NoMemory,
-        }
+        };
+        fault.into()
     }
 }

@@ -1,9 +1,7 @@
-ghost use Rattle.std.specs.Prelude.{◌≡◌, ◌≢◌, None, ℕ, ◌<◌, ◌≤◌, ◌⊎◌, map, length, false, true, All, Any, Decides, IfOk, IfErr, IsErrOf, OnErr};
-ghost use Rattle.std.specs.List.{list_all};
+ghost use Rattle.std.specs.Prelude.{◌≡◌, ◌≢◌, None, ℕ, ◌<◌, ◌≤◌, ◌⊎◌, map, length, false, true, All, Any, Decides, IfOk, IfErr, OnErr};
 ghost use Rattle.std.specs.Option.{option_map};
 ghost use Rattle.commands.specs.Hex.{chosen_salt};
 ghost use Rattle.commands.specs.Entries.{entry_of, entry_value, IsGood};
-ghost use Rattle.commands.specs.KeyFiles.{GivesNoKey, StopsAt, TellKeys, is_key_word, texts_of, told};
 ghost use Rattle.commands.specs.KeyLists.{key_texts};
 ghost use Rattle.commands.specs.LadderOptions.{asked_of, key_count, key_total, IsWhole, entry_words, HasTurns, ShareKeys, IsAskedLadder};
 ghost use Rattle.commands.specs.LadderOptions.{IsWithin, IsOutside, IsReadLadder};
@@ -14,8 +12,8 @@ ghost use Rattle.commands.specs.Settings.{FitsCut, IsRenditionOf};
 
 use crate::entry::{EntryWords, cut_entry};
 use crate::files::FileReader;
+use crate::kept::Kept;
 use crate::key_list::{filled, key_count, room};
-use crate::key_word::KeyWord;
 use crate::ladder_fault::LadderFault;
 use crate::ladder_keys::ladder_words;
 use crate::ladder_options::LadderWords;
@@ -145,26 +143,6 @@ fn ladder_under(
     })
 }
 
-/// The room with the key of each word in its place. NoMemory is told only of a file that wanted it.
-fn told_keys<F: FileReader>(
-    alloc: Global,
-    files: &F,
-    words: &[KeyWord<'_>],
-    room: Vec<[u8; 16]>,
-) -> Result<Vec<[u8; 16]>, LadderFault>
-    requires words { list_all (λ word. is_key_word word.text) (map told words.now) ≡ true }
-    requires places { length words.now ≡ length room.items }
-    ensures ok { IfOk result (λ keys. TellKeys (F.gives files.now) (texts_of (map told words.now)) keys.items) }
-    ensures unread { IsErrOf result LadderFault.Unread → (n : ℕ) × StopsAt (F.gives files.now) (F.refuses files.now) (map told words.now) n }
-    ensures bad_file { (n : ℕ) → IsErrOf result (LadderFault.BadKeyFile n) →
-        StopsAt (F.gives files.now) (GivesNoKey (F.gives files.now)) (map told words.now) n }
-    ensures no_memory { IsErrOf result LadderFault.NoMemory → (n : ℕ) × StopsAt (F.gives files.now) (F.wants files.now) (map told words.now) n }
-    ensures only { IfErr result (λ fault. (fault ≡ LadderFault.Unread) ⊎ ((n : ℕ) × (fault ≡ LadderFault.BadKeyFile n)) ⊎ (fault ≡ LadderFault.NoMemory)) }
-{
-    let keys = filled(alloc, files, words, room)?;
-    Ok(keys)
-}
-
 /// The settings of the ladder that is asked for, with the keys that its entries tell; Settings where it isn't within its
 /// limits, which is told before any file is read.
 pub(crate) fn read_ladder<F: FileReader>(
@@ -174,22 +152,24 @@ pub(crate) fn read_ladder<F: FileReader>(
     entries: &[EntryWords<'_>],
     numbers: Numbers,
     pool: Pool,
-) -> Result<Settings, LadderFault>
+) -> Result<Settings, Kept<LadderFault>>
     requires turns { HasTurns (asked_of words numbers pool) }
     requires each { map entry_value entries.now ≡ map entry_of (map (λ t. t.now) words.entries.now) }
     requires fits { FitsCut numbers × IsPool pool }
     ensures ok { IfOk result (IsReadLadder (F.gives files.now) (asked_of words.entry numbers pool)) }
-    ensures outside { IsErrOf result LadderFault.Settings → IsOutside (asked_of words.entry numbers pool) }
-    ensures unread { IsErrOf result LadderFault.Unread → HasUnreadKey (F.gives files.now) (F.refuses files.now) (asked_of words.entry numbers pool) }
-    ensures bad_file { (n : ℕ) → IsErrOf result (LadderFault.BadKeyFile n) → HasBadKeyFile (F.gives files.now) (asked_of words.entry numbers pool) n }
-    ensures only { IfErr result IsBehindTexts }
-    ensures scarce { IsErrOf result LadderFault.NoMemory → 0 < length entries.now }
+    ensures outside { IfErr result (λ why. why.fault ≡ LadderFault.Settings → IsOutside (asked_of words.entry numbers pool)) }
+    ensures unread { IfErr result (λ why. why.fault ≡ LadderFault.Unread →
+        HasUnreadKey (F.gives files.now) (F.refuses files.now) (asked_of words.entry numbers pool)) }
+    ensures bad_file { (n : ℕ) → IfErr result (λ why. why.fault ≡ LadderFault.BadKeyFile n →
+        HasBadKeyFile (F.gives files.now) (asked_of words.entry numbers pool) n) }
+    ensures only { IfErr result (λ why. IsBehindTexts why.fault) }
+    ensures scarce { IfErr result (λ why. why.fault ≡ LadderFault.NoMemory → 0 < length entries.now) }
 {
     let key_words = ladder_words(alloc, entries)?;
     let blank = room(alloc, key_words.len())?;
     let settings = ladder_under(alloc, words, entries, &blank, numbers, pool)?;
     within_limits(&settings)?;
-    let keys = told_keys(alloc, files, &key_words, blank)?;
+    let keys = filled(alloc, files, &key_words, blank)?;
     let renditions = renditions(alloc, words, entries, &keys, numbers.period)?;
     Ok(Settings {
         renditions,

@@ -8,6 +8,7 @@ mod cipher;
 mod entry;
 mod files;
 mod frame_size;
+mod kept;
 mod key_list;
 mod key_word;
 mod ladder_fault;

@@ -6,6 +6,7 @@ ghost use Rattle.commands.specs.Counts.{HasRoom, ReadsFewer, OpeningCounts};
 ghost use Rattle.commands.specs.Hex.{without_end};
 ghost use Rattle.commands.specs.Streams.{WritesOpened, BeginsOpened, OpensInput, ReadsOther, ReadsNoBlocks, ReadsNoSealed};
 
+use crate::kept::Kept;
 use crate::output::write_hex_line;
 use crate::reading::{ReadingFault, read_all};
 use aes_cbc::{Key, OpenFault};
@@ -40,31 +41,41 @@ pub enum OpeningFault {
     NoMemory,
 }
 
-impl From<ReadingFault> for OpeningFault {
-    ghost use Rattle.commands.specs.Told.{opening_of_reading};
+impl From<Kept<OpeningFault>> for OpeningFault {
+    ghost from_gives = { λ why fault. fault ≡ why.fault };
 
-    ghost from_gives = { λ why fault. fault ≡ opening_of_reading why };
-
-    fn from(why: ReadingFault) -> OpeningFault {
-        match why {
-            ReadingFault::Unread => OpeningFault::Unread,
-            ReadingFault::ReadLimit => OpeningFault::ReadLimit,
-            ReadingFault::NoMemory => OpeningFault::NoMemory,
-        }
+    fn from(why: Kept<OpeningFault>) -> OpeningFault {
+        why.into_fault()
     }
 }
 
-impl From<OpenFault> for OpeningFault {
+impl From<ReadingFault> for Kept<OpeningFault> {
+    ghost use Rattle.commands.specs.Told.{opening_of_reading};
+
+    ghost from_gives = { λ found why. why.fault ≡ opening_of_reading found };
+
+    fn from(found: ReadingFault) -> Kept<OpeningFault> {
+        let fault = match found {
+            ReadingFault::Unread => OpeningFault::Unread,
+            ReadingFault::ReadLimit => OpeningFault::ReadLimit,
+            ReadingFault::NoMemory => OpeningFault::NoMemory,
+        };
+        fault.into()
+    }
+}
+
+impl From<OpenFault> for Kept<OpeningFault> {
     ghost use Rattle.commands.specs.Told.{opening_of};
 
-    ghost from_gives = { λ why fault. fault ≡ opening_of why };
+    ghost from_gives = { λ found why. why.fault ≡ opening_of found };
 
-    fn from(why: OpenFault) -> OpeningFault {
-        match why {
+    fn from(found: OpenFault) -> Kept<OpeningFault> {
+        let fault = match found {
             OpenFault::NotBlocks => OpeningFault::NotBlocks,
             OpenFault::BadPadding => OpeningFault::BadPadding,
             OpenFault::NoMemory => OpeningFault::NoMemory,
-        }
+        };
+        fault.into()
     }
 }
 
@@ -105,15 +116,15 @@ fn are_digits(text: &[u8]) -> bool
 
 /// The bytes that a line of hex digits of either case stands for; its end may be missing. An odd number of digits, or
 /// another character, is told though there is no memory.
-fn decode_line(alloc: Global, line: &[u8]) -> Result<Vec<u8>, OpeningFault>
+fn decode_line(alloc: Global, line: &[u8]) -> Result<Vec<u8>, Kept<OpeningFault>>
     ensures ok { IfOk result (λ bytes. decode_of (without_end line.now) ≡ Ok bytes.items) }
-    ensures bad { IsErrOf result OpeningFault.BadHex → is_err (decode_of (without_end line.now)) ≡ true }
-    ensures no_memory { IsErrOf result OpeningFault.NoMemory → length (without_end line.now) % 2 ≢ 1 }
-    ensures only { IfErr result (λ fault. (fault ≡ OpeningFault.BadHex) ⊎ (fault ≡ OpeningFault.NoMemory)) }
-    ensures digits { IsErrOf result OpeningFault.NoMemory → is_err (decode_of (without_end line.now)) ≡ false }
+    ensures bad { IfErr result (λ why. why.fault ≡ OpeningFault.BadHex → is_err (decode_of (without_end line.now)) ≡ true) }
+    ensures no_memory { IfErr result (λ why. why.fault ≡ OpeningFault.NoMemory → length (without_end line.now) % 2 ≢ 1) }
+    ensures only { IfErr result (λ why. (why.fault ≡ OpeningFault.BadHex) ⊎ (why.fault ≡ OpeningFault.NoMemory)) }
+    ensures digits { IfErr result (λ why. why.fault ≡ OpeningFault.NoMemory → is_err (decode_of (without_end line.now)) ≡ false) }
 
     // No digits take no memory, with an LF behind them or without.
-    ensures some { IsErrOf result OpeningFault.NoMemory → 0 < length (without_end line.now) }
+    ensures some { IfErr result (λ why. why.fault ≡ OpeningFault.NoMemory → 0 < length (without_end line.now)) }
 {
     let digits = without_end(line);
     if digits.is_empty() {
@@ -123,11 +134,11 @@ fn decode_line(alloc: Global, line: &[u8]) -> Result<Vec<u8>, OpeningFault>
         Ok(bytes) => Ok(bytes),
         Err(FromHexError::OutOfMemory) => {
             if are_digits(digits) {
-                return Err(OpeningFault::NoMemory);
+                return Err(OpeningFault::NoMemory.into());
             }
-            Err(OpeningFault::BadHex)
+            Err(OpeningFault::BadHex.into())
         }
-        Err(_) => Err(OpeningFault::BadHex),
+        Err(_) => Err(OpeningFault::BadHex.into()),
     }
 }
 
@@ -137,13 +148,13 @@ fn opened(
     key: &Key,
     vector: &[u8; 16],
     sealed: &[u8],
-) -> Result<Vec<u8>, OpeningFault>
+) -> Result<Vec<u8>, Kept<OpeningFault>>
     ensures ok { IfOk result (λ plain. Seals key.now vector.now plain.items sealed.now) }
-    ensures not_blocks { IsErrOf result OpeningFault.NotBlocks → IsNotBlocks sealed.now }
-    ensures bad_padding { IsErrOf result OpeningFault.BadPadding → IsInBlocks sealed.now × ((plain : List ℕ) → ¬ Seals key.now vector.now plain sealed.now) }
-    ensures no_memory { IsErrOf result OpeningFault.NoMemory → (plain : List ℕ) × Seals key.now vector.now plain sealed.now }
-    ensures scarce { IsErrOf result OpeningFault.NoMemory → 0 < length sealed.now }
-    ensures only { IfErr result (λ fault. (fault ≡ OpeningFault.NotBlocks) ⊎ (fault ≡ OpeningFault.BadPadding) ⊎ (fault ≡ OpeningFault.NoMemory)) }
+    ensures not_blocks { IfErr result (λ why. why.fault ≡ OpeningFault.NotBlocks → IsNotBlocks sealed.now) }
+    ensures bad_padding { IfErr result (λ why. why.fault ≡ OpeningFault.BadPadding → IsInBlocks sealed.now × ((plain : List ℕ) → ¬ Seals key.now vector.now plain sealed.now)) }
+    ensures no_memory { IfErr result (λ why. why.fault ≡ OpeningFault.NoMemory → (plain : List ℕ) × Seals key.now vector.now plain sealed.now) }
+    ensures scarce { IfErr result (λ why. why.fault ≡ OpeningFault.NoMemory → 0 < length sealed.now) }
+    ensures only { IfErr result (λ why. (why.fault ≡ OpeningFault.NotBlocks) ⊎ (why.fault ≡ OpeningFault.BadPadding) ⊎ (why.fault ≡ OpeningFault.NoMemory)) }
 {
     let plain = aes_cbc::open(alloc, key, vector, sealed)?;
     Ok(plain)
@@ -155,17 +166,17 @@ fn opened_line<S: Source>(
     key: &Key,
     vector: &[u8; 16],
     input: &mut S,
-) -> Result<Vec<u8>, OpeningFault>
+) -> Result<Vec<u8>, Kept<OpeningFault>>
     requires room { HasRoom (S.input.reads input.old) (S.input.failures input.old) }
     ensures ok { IfOk result (λ plain. OpensInput key.now vector.now (S.input.left input.old) (S.input.left input.new) plain.items) }
     ensures ok_counts { OnOk result (ReadsFewer (S.input.reads input.old) (S.input.reads input.new) (S.input.failures input.old) (S.input.failures input.new)) }
-    ensures unwritten { IfErr result (λ fault. fault ≢ OpeningFault.Unwritten) }
-    ensures bad_hex { IsErrOf result OpeningFault.BadHex → ReadsOther (S.input.left input.old) (S.input.left input.new) }
-    ensures not_blocks { IsErrOf result OpeningFault.NotBlocks → ReadsNoBlocks (S.input.left input.old) (S.input.left input.new) }
-    ensures bad_padding { IsErrOf result OpeningFault.BadPadding → ReadsNoSealed key.now vector.now (S.input.left input.old) (S.input.left input.new) }
-    ensures counts { IfErr result (OpeningCounts (S.input.reads input.old) (S.input.reads input.new) (S.input.failures input.old)
-        (S.input.failures input.new)) }
-    ensures scarce { IsErrOf result OpeningFault.NoMemory → S.input.reads input.old < S.input.reads input.new }
+    ensures unwritten { IfErr result (λ why. why.fault ≢ OpeningFault.Unwritten) }
+    ensures bad_hex { IfErr result (λ why. why.fault ≡ OpeningFault.BadHex → ReadsOther (S.input.left input.old) (S.input.left input.new)) }
+    ensures not_blocks { IfErr result (λ why. why.fault ≡ OpeningFault.NotBlocks → ReadsNoBlocks (S.input.left input.old) (S.input.left input.new)) }
+    ensures bad_padding { IfErr result (λ why. why.fault ≡ OpeningFault.BadPadding → ReadsNoSealed key.now vector.now (S.input.left input.old) (S.input.left input.new)) }
+    ensures counts { IfErr result (λ why. OpeningCounts (S.input.reads input.old) (S.input.reads input.new) (S.input.failures input.old)
+        (S.input.failures input.new) why.fault) }
+    ensures scarce { IfErr result (λ why. why.fault ≡ OpeningFault.NoMemory → S.input.reads input.old < S.input.reads input.new) }
 {
     let line = read_all(alloc, input)?;
     let sealed = decode_line(alloc, &line)?;

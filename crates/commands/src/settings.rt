@@ -1,5 +1,5 @@
 //! A packager's settings, as words tell them.
-ghost use Rattle.std.specs.Prelude.{◌≡◌, ◌↔◌, ◌≢◌, ◌<◌, ◌≤◌, ◌⊎◌, ℕ, Some, None, length, false, true, OnOk, IfOk, IfErr, IsErr, IsErrOf};
+ghost use Rattle.std.specs.Prelude.{◌≡◌, ◌↔◌, ◌≢◌, ◌<◌, ◌≤◌, ◌⊎◌, ℕ, Some, None, length, false, true, OnOk, IfOk, IfErr, IsErr, IsErrAnd, IsErrOf};
 ghost use Rattle.std.specs.Option.{option_map};
 ghost use Rattle.commands.specs.Defaults.{numbers_of};
 ghost use Rattle.commands.specs.Hex.{chosen_salt};
@@ -12,6 +12,7 @@ ghost use Rattle.commands.specs.Settings.{AreInside, AreOutside, IsBehindWords, 
 use crate::cipher::block;
 use crate::files::FileReader;
 use crate::frame_size::{FrameSize, size};
+use crate::kept::Kept;
 use crate::key_list::{are_keys, key_count, key_room, read_keys};
 use crate::key_word::KeyFileFault;
 use crate::numbers::{NumberWords, Numbers, cut, name};
@@ -20,7 +21,7 @@ use crate::within::{OutsideLimits, within_limits};
 use ladder_items::{Gone, Kind, Rendition, Settings};
 use limits::MOST_KEYS;
 use segment_job::Keys;
-use std::alloc::{AllocError, AllocFailed, Global};
+use std::alloc::{AllocError, Global};
 use thiserror::Error;
 
 /// The words of a packager of one rendition, as they stand.
@@ -81,47 +82,47 @@ impl SettingsFault {
     }
 }
 
-impl From<AllocError> for SettingsFault {
-    ghost use Rattle.commands.specs.declared.settings.SettingsFault.TheVariants.{NoMemory};
+impl From<Kept<SettingsFault>> for SettingsFault {
+    ghost from_gives = { λ why fault. fault ≡ why.fault };
 
-    ghost from_gives = { λ _ fault. fault ≡ NoMemory };
-
-    fn from(_: AllocError) -> SettingsFault {
-        SettingsFault::NoMemory
+    fn from(why: Kept<SettingsFault>) -> SettingsFault {
+        why.into_fault()
     }
 }
 
-impl<T: Drop> From<AllocFailed<T>> for SettingsFault {
+impl From<AllocError> for Kept<SettingsFault> {
     ghost use Rattle.commands.specs.declared.settings.SettingsFault.TheVariants.{NoMemory};
 
-    ghost from_gives = { λ _ fault. fault ≡ NoMemory };
+    ghost from_gives = { λ _ why. why.fault ≡ NoMemory };
 
-    fn from(_: AllocFailed<T>) -> SettingsFault {
-        SettingsFault::NoMemory
+    fn from(_: AllocError) -> Kept<SettingsFault> {
+        SettingsFault::NoMemory.into()
     }
 }
 
-impl From<OutsideLimits> for SettingsFault {
+impl From<OutsideLimits> for Kept<SettingsFault> {
     ghost use Rattle.commands.specs.declared.settings.SettingsFault.TheVariants.{Settings};
 
-    ghost from_gives = { λ _ fault. fault ≡ Settings };
+    ghost from_gives = { λ _ why. why.fault ≡ Settings };
 
-    fn from(_: OutsideLimits) -> SettingsFault {
-        SettingsFault::Settings
+    fn from(found: OutsideLimits) -> Kept<SettingsFault> {
+        let OutsideLimits = found;
+        SettingsFault::Settings.into()
     }
 }
 
-impl From<KeyFileFault> for SettingsFault {
+impl From<Kept<KeyFileFault>> for Kept<SettingsFault> {
     ghost use Rattle.commands.specs.Told.{settings_fault_of};
 
-    ghost from_gives = { λ why fault. fault ≡ settings_fault_of why };
+    ghost from_gives = { λ found why. why.fault ≡ settings_fault_of found.fault };
 
-    fn from(why: KeyFileFault) -> SettingsFault {
-        match why {
+    fn from(found: Kept<KeyFileFault>) -> Kept<SettingsFault> {
+        let fault = match found.into_fault() {
             KeyFileFault::Unread => SettingsFault::Unread,
             KeyFileFault::BadKeyFile(number) => SettingsFault::BadKeyFile(number),
             KeyFileFault::NoMemory => SettingsFault::NoMemory,
-        }
+        };
+        fault.into()
     }
 }
 
@@ -283,16 +284,17 @@ fn read_within<F: FileReader>(
     files: &F,
     words: PackingWords<'_>,
     numbers: Numbers,
-) -> Result<Settings, SettingsFault>
+) -> Result<Settings, Kept<SettingsFault>>
     requires fit { AreFit (words_of words) numbers }
     ensures ok { IfOk result (IsReadLadderOf (F.gives files.now) (words_of words.entry) numbers) }
-    ensures settings { IsErrOf result SettingsFault.Settings → AreOutside (words_of words.entry) numbers }
-    ensures outside { AreOutside (words_of words.entry) numbers → IsErrOf result SettingsFault.Settings ⊎ IsErrOf result SettingsFault.NoMemory }
-    ensures unread { IsErrOf result SettingsFault.Unread → AreInside (words_of words.entry) numbers ×
-        IsUnreadKey (F.gives files.now) (F.refuses files.now) words.entry.keys.now }
-    ensures bad_file { (n : ℕ) → IsErrOf result (SettingsFault.BadKeyFile n) → AreInside (words_of words.entry) numbers ×
-        IsBadKeyFile (F.gives files.now) words.entry.keys.now n }
-    ensures only { IfErr result IsBehindWords }
+    ensures settings { IfErr result (λ why. why.fault ≡ SettingsFault.Settings → AreOutside (words_of words.entry) numbers) }
+    ensures outside { AreOutside (words_of words.entry) numbers →
+        IsErrAnd result (λ why. (why.fault ≡ SettingsFault.Settings) ⊎ (why.fault ≡ SettingsFault.NoMemory)) }
+    ensures unread { IfErr result (λ why. why.fault ≡ SettingsFault.Unread → AreInside (words_of words.entry) numbers ×
+        IsUnreadKey (F.gives files.now) (F.refuses files.now) words.entry.keys.now) }
+    ensures bad_file { (n : ℕ) → IfErr result (λ why. why.fault ≡ SettingsFault.BadKeyFile n → AreInside (words_of words.entry) numbers ×
+        IsBadKeyFile (F.gives files.now) words.entry.keys.now n) }
+    ensures only { IfErr result (λ why. IsBehindWords why.fault) }
 {
     let room = key_room(alloc, words.keys)?;
     let blank = settings_under(alloc, words, &room.keys, numbers)?;
@@ -340,5 +342,6 @@ pub fn read_settings<F: FileReader>(
     if !are_within(&numbers) {
         return Err(SettingsFault::Settings);
     }
-    read_within(alloc, files, words, numbers)
+    let settings = read_within(alloc, files, words, numbers)?;
+    Ok(settings)
 }

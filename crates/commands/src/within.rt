@@ -4,8 +4,7 @@ ghost use Rattle.ladder_items.specs.Ladder.{IsAllowed};
 
 use ladder_items::{Settings, is_allowed};
 
-/// Settings aren't within their limits.
-#[derive(Clone, Copy, Debug, PartialEq, Eq, Drop)]
+/// Settings aren't within their limits. It can't be let go, so that it's told as that.
 pub(crate) struct OutsideLimits;
 
 /// Looks at the settings. That takes no memory, so want of it can't be told in place of what is found.

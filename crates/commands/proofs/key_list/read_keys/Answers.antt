@@ -21,5 +21,5 @@ returns-clause-ok g c =
 pub returns-clause-err : goal.returns-clause-err
 returns-clause-err g c =
     let items : c.deref.result.now ≡ c.args.room.words.items = search rules in
-    subst (λ ws. IfErr c.filled.result (IsKeyFault (g.F.FileReader.gives c.args.files.now) (g.F.FileReader.refuses c.args.files.now) (g.F.FileReader.wants c.args.files.now) ws))
+    subst (λ ws. IfErr c.filled.result (λ why. IsKeyFault (g.F.FileReader.gives c.args.files.now) (g.F.FileReader.refuses c.args.files.now) (g.F.FileReader.wants c.args.files.now) ws why.fault))
     (ap (map told) items ∙ c.requires.words) c.filled.ensures.err

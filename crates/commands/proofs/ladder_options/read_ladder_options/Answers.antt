@@ -1,5 +1,6 @@
 use Rattle.std.proofs.Common.{◌≡◌, ◌∙◌, Err, ap, length, map, rules, subst, sym}
 use Rattle.std.proofs.lemmas.List.{length-map}
+use Rattle.std.proofs.lemmas.Result.{err_from_is_err_and}
 use Rattle.std.proofs.lemmas.Simd.{map-map}
 use Rattle.commands.specs.declared.ladder_fault.LadderFault.TheVariants.{BadEntry, BadKeyFile}
 use Rattle.commands.specs.declared.entry.EntryWords.{EntryWords}
@@ -72,17 +73,17 @@ returns-clause-ok g c = record {
 
 pub returns-in_err-settings-clause-outside : goal.returns-in_err-settings-clause-outside
 returns-in_err-settings-clause-outside g c = λ out.
-    let same : c.from_residual-in_err-settings.result ≡ Err c.in_err-settings.field-0.0 = search rules in
+    let p = err_from_is_err_and c.from_residual-in_err-settings.result c.from_residual-in_err-settings.ensures.1 in
     outside-answer (g.F.FileReader.gives c.args.files.now) (g.F.FileReader.refuses c.args.files.now) (asked_of c.args.words (numbers_of c.args.numbers) (pool_of c.args.pool))
-    c.from_residual-in_err-settings.result c.in_err-settings.field-0.0 same c.in_err-settings.ensures.only
-    (λ is. rw (c.numbers-numbers.ensures, c.pool-pool.ensures) at (c.in_err-settings.ensures.unread (ap Err is)))
-    (λ n is. rw (c.numbers-numbers.ensures, c.pool-pool.ensures) at (c.in_err-settings.ensures.bad_file n (ap Err is))) out
+    c.from_residual-in_err-settings.result c.in_err-settings.field-0.0.fault (p.1 ∙ ap Err p.2) c.in_err-settings.ensures.only
+    (λ is. rw (c.numbers-numbers.ensures, c.pool-pool.ensures) at (c.in_err-settings.ensures.unread is))
+    (λ n is. rw (c.numbers-numbers.ensures, c.pool-pool.ensures) at (c.in_err-settings.ensures.bad_file n is)) out
 
 pub returns-in_err-settings-clause-bad_file : goal.returns-in_err-settings-clause-bad_file
 returns-in_err-settings-clause-bad_file g c = λ n is.
-    let same : c.from_residual-in_err-settings.result ≡ Err c.in_err-settings.field-0.0 = search rules in
-    let fault : c.in_err-settings.field-0.0 ≡ BadKeyFile n = cc (same, is) in
-    rw (c.numbers-numbers.ensures, c.pool-pool.ensures) at (c.in_err-settings.ensures.bad_file n (ap Err fault))
+    let p = err_from_is_err_and c.from_residual-in_err-settings.result c.from_residual-in_err-settings.ensures.1 in
+    let fault : c.in_err-settings.field-0.0.fault ≡ BadKeyFile n = cc (p.1, p.2, is) in
+    rw (c.numbers-numbers.ensures, c.pool-pool.ensures) at (c.in_err-settings.ensures.bad_file n fault)
 
 pub returns-clause-outside : goal.returns-clause-outside
 returns-clause-outside g c = λ out.

@@ -1,5 +1,6 @@
 use Rattle.std.proofs.Common.{◌≡◌, ◌∙◌, All, ap, length, map, rules, subst, sym}
 use Rattle.std.proofs.lemmas.List.{length-map}
+use Rattle.std.proofs.lemmas.Result.{err_from_is_err_and}
 use Rattle.std.specs.List.{list_all}
 use Rattle.ladder_items.specs.Ladder.{Ladder}
 use Rattle.commands.specs.Entries.{entry_of, entry_value}
@@ -15,8 +16,8 @@ ladder_under-requires-clause-keys g c =
     let many : length c.deref.result.now ≡ length c.in_ok-key_words.key_words.items = search rules in
     many ∙ sym (length-map c.in_ok-key_words.key_words.items told) ∙ ap length c.in_ok-key_words.ensures.ok ∙ words-length 1 (map entry_value c.args.entries.now)
 
-pub told_keys-requires-clause-words : goal.told_keys-requires-clause-words
-told_keys-requires-clause-words g c =
+pub filled-requires-clause-words : goal.filled-requires-clause-words
+filled-requires-clause-words g c =
     let items : c.deref-2.result.now ≡ c.in_ok-key_words.key_words.items = search rules in
     ap (λ ws. list_all (λ (w : ToldWord). is_key_word w.text) (map told ws)) items ∙ ap (list_all (λ (w : ToldWord). is_key_word w.text)) c.in_ok-key_words.ensures.ok
     ∙ all-good 1 (map entry_value c.args.entries.now) (subst (All IsWhole) (sym c.requires.each) (whole-entries (asked_of c.args.words c.args.numbers c.args.pool) c.requires.turns))
@@ -34,12 +35,14 @@ renditions-requires-clause-keys g c =
     ∙ words-length 1 (map entry_value c.args.entries.now)
 
 pub returns-in_err-within_limits-clause-outside : goal.returns-in_err-within_limits-clause-outside
-returns-in_err-within_limits-clause-outside g c = λ told. record {
-  turns = c.requires.turns;
-  outside = λ keys made is within.
-      let asked = asked_of c.args.words c.args.numbers c.args.pool in
-      c.in_err-within_limits.ensures.outside (within-any asked keys c.deref.result.now made c.in_ok-settings.settings is c.in_ok-settings.ensures.ladder within).allowed;
-}
+returns-in_err-within_limits-clause-outside g c =
+    let p = err_from_is_err_and c.from_residual-in_err-within_limits.result c.from_residual-in_err-within_limits.ensures.1 in
+    rw p.1 (λ told. record {
+      turns = c.requires.turns;
+      outside = λ keys made is within.
+          let asked = asked_of c.args.words c.args.numbers c.args.pool in
+          c.in_err-within_limits.ensures.outside (within-any asked keys c.deref.result.now made c.in_ok-settings.settings is c.in_ok-settings.ensures.ladder within).allowed;
+    })
 
 pub returns-clause-ok : goal.returns-clause-ok
 returns-clause-ok g c =

@@ -1,5 +1,6 @@
 use Rattle.std.proofs.Common.{◌∙◌, ap, length, sym}
 use Rattle.std.proofs.lemmas.List.{length-map}
+use Rattle.std.proofs.lemmas.Result.{err_from_is_err_and}
 use Rattle.commands.specs.KeyFiles.{ToldWord, counted, told}
 use Rattle.commands.specs.KeyLists.{key_texts}
 use Rattle.commands.specs.Settings.{AreInside, words_of}
@@ -15,11 +16,13 @@ settings_under-requires-clause-keys g c =
     ∙ sym (length-map (counted 1 texts) (λ (w : ToldWord). w.text)) ∙ ap length (counted-texts 1 texts)
 
 pub returns-in_err-within_limits-clause-settings : goal.returns-in_err-within_limits-clause-settings
-returns-in_err-within_limits-clause-settings g c = λ told. record {
-  good = c.requires.fit.0;
-  outside = λ keys made is fits allowed.
-      c.in_err-within_limits.ensures.outside (allowed-any (words_of c.args.words) c.args.numbers keys c.deref.result.now made c.in_ok-blank.blank is c.in_ok-blank.ensures allowed);
-}
+returns-in_err-within_limits-clause-settings g c =
+    let p = err_from_is_err_and c.from_residual-in_err-within_limits.result c.from_residual-in_err-within_limits.ensures.1 in
+    rw p.1 (λ told. record {
+      good = c.requires.fit.0;
+      outside = λ keys made is fits allowed.
+          c.in_err-within_limits.ensures.outside (allowed-any (words_of c.args.words) c.args.numbers keys c.deref.result.now made c.in_ok-blank.blank is c.in_ok-blank.ensures allowed);
+    })
 
 pub settings_under-requires-2-clause-keys : goal.settings_under-requires-2-clause-keys
 settings_under-requires-2-clause-keys g c =
