@@ -1,7 +1,7 @@
 //! Why a rendition doesn't go on.
 
 ghost use Rattle.std.specs.Prelude.{◌≡◌};
-ghost use Rattle.resume.specs.declared.fault.ResumeFault.TheVariants.{NoMemory};
+ghost use Rattle.resume.specs.declared.fault.ResumeFault.TheVariants.{Foreign, NoMemory};
 
 use std::alloc::AllocError;
 use thiserror::Error;
@@ -38,5 +38,17 @@ impl From<AllocError> for ResumeFault {
 
     fn from(_error: AllocError) -> ResumeFault {
         ResumeFault::NoMemory
+    }
+}
+
+/// The playlists and the files aren't those of one rendition. It can't be let go, so that it's told as that.
+pub(crate) struct Apart;
+
+impl From<Apart> for ResumeFault {
+    ghost from_gives = { λ _ fault. fault ≡ Foreign };
+
+    fn from(found: Apart) -> ResumeFault {
+        let Apart = found;
+        ResumeFault::Foreign
     }
 }

@@ -1,6 +1,6 @@
 //! A rendition goes on from its playlists.
 
-ghost use Rattle.std.specs.Prelude.{◌≡◌, ◌≤◌, ◌⊎◌, false, length, IfOk, IfErr, IfSome, IsSomeAnd, MatchResult, OnErr, OnOk, IsErrOf, Decides};
+ghost use Rattle.std.specs.Prelude.{◌≡◌, ◌≢◌, ◌≤◌, ◌⊎◌, false, length, IfOk, IfErr, IsOkAnd, MatchResult, OnErr, OnOk, IsErrOf, Decides};
 ghost use Rattle.limits.specs.declared.TheConstants.{MOST_TARGET};
 ghost use Rattle.playlist_text.specs.Lines.{text_of};
 ghost use Rattle.media_playlist.specs.Lines.{iframe_lines};
@@ -12,7 +12,7 @@ ghost use Rattle.resume.specs.Restoring.{RestoredValue, window_over, MayGoOn, Is
 ghost use Rattle.resume.specs.Picking.{MayWantMemory};
 ghost use Rattle.resume.specs.Reading.{MayBeOf};
 
-use crate::fault::ResumeFault;
+use crate::fault::{Apart, ResumeFault};
 use crate::reading_back::read_back;
 use crate::restored::{Restored, Wanted};
 use ladder_items::{Kind, MOST_EARLIER, Playlists};
@@ -52,10 +52,8 @@ pub fn restore(
     ensures rows { IsErrOf result ResumeFault.NoMemory → MayWantMemory frames.now ⊎ MayBeOf listing.now frames.now sizes.now }
 {
     look(wanted, listing)?;
-    match restored_of(alloc, name, wanted, listing, frames, sizes)? {
-        Some(restored) => Ok(restored),
-        None => Err(ResumeFault::Foreign),
-    }
+    let found = restored_of(alloc, name, wanted, listing, frames, sizes)?;
+    Ok(found?)
 }
 
 /// Whether a run goes on from a playlist.
@@ -110,25 +108,25 @@ fn restored_of(
     listing: &Listing,
     frames: &str,
     sizes: &[u64],
-) -> Result<Option<Restored>, AllocError>
+) -> Result<Result<Restored, Apart>, AllocError>
     requires listing { IsListing listing.now }
     requires wanted { IsAsWanted wanted listing.now }
-    ensures restored { IfOk result (λ found. IfSome found (IsRestored name.now wanted listing.now frames.now sizes.now)) }
+    ensures restored { IfOk result (λ found. IfOk found (IsRestored name.now wanted listing.now frames.now sizes.now)) }
     ensures whole { (r : RestoredValue) → IsRestored name.now wanted listing.now frames.now sizes.now r →
-        IfOk result (λ found. IsSomeAnd found (λ it. it ≡ r)) }
+        IfOk result (λ found. IsOkAnd found (λ it. it ≡ r)) }
     ensures scarce { OnErr result (listing.now.name ≡ name.now) }
     ensures rows { OnErr result (MayWantMemory frames.now ⊎ MayBeOf listing.now frames.now sizes.now) }
 {
     if !is_named(listing, name) {
-        return Ok(None);
+        return Ok(Err(Apart));
     }
     let Some(restored) = read_back(alloc, listing, frames, sizes)? else {
-        return Ok(None);
+        return Ok(Err(Apart));
     };
-    if !shows(alloc, name, wanted, &restored, frames)? {
-        return Ok(None);
+    match shows(alloc, name, wanted, &restored, frames)? {
+        Ok(()) => Ok(Ok(restored)),
+        Err(apart) => Ok(Err(apart)),
     }
-    Ok(Some(restored))
 }
 
 /// Whether a playlist is that of a rendition of this name.
@@ -145,14 +143,26 @@ fn shows(
     wanted: Wanted,
     restored: &Restored,
     frames: &str,
-) -> Result<bool, AllocError>
+) -> Result<Result<(), Apart>, AllocError>
     requires target { (1 ≤ wanted.target) × (wanted.target ≤ MOST_TARGET) }
     requires may_go_on { MayGoOn wanted restored.now }
-    ensures { IfOk result (λ same. Decides same (frames.now ≡ text_of (iframe_lines (window_over name.now wanted restored.now) false))) }
+    ensures { let text = text_of (iframe_lines (window_over name.now wanted restored.now) false) in
+        IfOk result (λ found. OnOk found (frames.now ≡ text) × OnErr found (frames.now ≢ text)) }
 {
     let earlier = &restored.earlier;
     let window = earlier.len() as u64;
     let none = Playlists::new(alloc, name, wanted.target, window, wanted.kind, wanted.salt)?;
     let playlists = none.behind(alloc, restored.gone, earlier)?;
-    Ok(playlists.frames_text(false)?.as_str() == frames)
+    Ok(same(playlists.frames_text(false)?.as_str(), frames))
+}
+
+/// Whether two texts are the same, byte for byte.
+fn same(text: &str, other: &str) -> Result<(), Apart>
+    ensures same { OnOk result (other.now ≡ text.now) }
+    ensures apart { OnErr result (other.now ≢ text.now) }
+{
+    if text != other {
+        return Err(Apart);
+    }
+    Ok(())
 }

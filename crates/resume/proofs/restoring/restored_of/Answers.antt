@@ -15,8 +15,9 @@ returns-then-not-is_named-clause-whole c = λ r is.
     let named = ap (λ (m : Listing). m.name) (listed c.args.name.now c.args.wanted c.args.listing.now c.args.frames.now c.args.sizes.now r is) in
     absurd (false≢true (c.if-not-is_named.ensures.1 named))
 
-pub returns-clause-restored : goal.returns-clause-restored
-returns-clause-restored c =
+pub returns-in-Ok-clause-restored : goal.returns-in-Ok-clause-restored
+returns-in-Ok-clause-restored c =
     let read = rw c.in-Some.is at c.in_ok-restored.ensures in
+    let same = rw c.in-Ok.is at c.in_ok-shows.ensures in
     is-restored c.args.name.now c.args.wanted c.args.listing.now c.args.frames.now c.args.sizes.now c.in-Some.restored c.requires.listing c.requires.wanted
-    read.read (c.if-not-is_named.ensures.0 refl) (c.in_ok-shows.ensures.0 c.if-not-branch.false)
+    read.read (c.if-not-is_named.ensures.0 refl) same.0
