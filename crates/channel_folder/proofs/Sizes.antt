@@ -5,7 +5,10 @@ use Rattle.std.proofs.lemmas.List.Elements.{All-append}
 use Rattle.playlist_text.specs.MediaLines.{Entry}
 use Rattle.item_io.specs.FileNames.{segment_file_name}
 use Rattle.channel_folder.specs.Reopened.{AreSizes, HasSize}
-use Rattle.channel_folder.specs.Stopped.{IsLostOf}
+use Rattle.channel_folder.specs.declared.fault.ReopenStop.{ReopenStop}
+use Rattle.channel_folder.specs.declared.fault.ReopenStop.TheVariants as Stopping
+use Rattle.channel_folder.specs.declared.fault.WhyNot.{WhyNot}
+use Rattle.channel_folder.specs.Stopped.{IsLostOf, IsSizeStop, IsUnsized}
 
 one-below : (next x : ℕ) → x < next → All (λ n. n < next) (x ∷ [])
 one-below next x lower zero d within = lower
@@ -21,7 +24,7 @@ sizes-more Gives name (e ∷ entries) [] entry size are has = absurd are
 sizes-more Gives name (e ∷ entries) (s ∷ sizes) entry size are has = (are.0, sizes-more Gives name entries sizes entry size are.1 has)
 
 -- the first listed segment whose file isn't there
-pub lost-at : (Gives : List ℕ → List ℕ → Type 0) (Lacks : List ℕ → Type 0) (name : List ℕ) (entries : List Entry) (sizes : List ℕ) (i : ℕ) (entry : Entry) (n : ℕ) →
+lost-at : (Gives : List ℕ → List ℕ → Type 0) (Lacks : List ℕ → Type 0) (name : List ℕ) (entries : List Entry) (sizes : List ℕ) (i : ℕ) (entry : Entry) (n : ℕ) →
     i < length entries → entry ≡ get_or entries i entry → AreSizes Gives name (take i entries) sizes → n ≡ entry.number → Lacks (segment_file_name name n) →
     IsLostOf Gives Lacks name entries n
 lost-at Gives Lacks name entries sizes i entry n within is before number lacks = record {
@@ -34,3 +37,13 @@ lost-at Gives Lacks name entries sizes i entry n within is before number lacks =
   before = before;
   lacks = lacks;
 }
+
+-- why its size isn't told
+pub unsized-at : (Refuses Wants : Type 0) (Gives : List ℕ → List ℕ → Type 0) (Lacks : List ℕ → Type 0) (name : List ℕ) (entries : List Entry) (sizes : List ℕ) (i : ℕ) (entry : Entry) (n : ℕ)
+    (file : List ℕ) (stop : ReopenStop) → i < length entries → entry ≡ get_or entries i entry → AreSizes Gives name (take i entries) sizes → n ≡ entry.number → file ≡ segment_file_name name n →
+    IsUnsized Refuses Wants (Lacks file) n stop → IsSizeStop Refuses Gives Lacks name entries stop
+unsized-at Refuses Wants Gives Lacks name entries sizes i entry n file Stopping.Unread within is before number named told = told
+unsized-at Refuses Wants Gives Lacks name entries sizes i entry n file Stopping.NoMemory within is before number named told = tt
+unsized-at Refuses Wants Gives Lacks name entries sizes i entry n file (Stopping.Why why) within is before number named told =
+    subst (λ (w : WhyNot). IsSizeStop Refuses Gives Lacks name entries (Stopping.Why w)) (sym told.0)
+    (lost-at Gives Lacks name entries sizes i entry n within is before number (subst Lacks named told.1))

@@ -9,6 +9,8 @@ use Rattle.resume.specs.declared.restored.Wanted.{Wanted}
 use Rattle.resume.specs.declared.fault.ResumeFault.{ResumeFault}
 use Rattle.resume.specs.declared.fault.ResumeFault.TheVariants as Of
 use Rattle.resume.specs.Restoring.{RestoredValue, IsRestored}
+use Rattle.resume.specs.Picking.{MayWantMemory as MayWantForFrames}
+use Rattle.resume.specs.Reading.{MayBeOf}
 use Rattle.resume.specs.Wanting.{IsRefused, IsAsWanted}
 use Rattle.resume.specs.Evening.{IsUneven}
 use Rattle.channel_folder.specs.declared.asked.Asked.{Asked}
@@ -102,6 +104,11 @@ abbrev pub IsAheadOf : ℕ → List ℕ → WhyNot → Type 0
 IsAheadOf next numbers (Ahead n) = Contains numbers n × (next ≤ n) × IsFirstFrom next numbers n
 IsAheadOf next numbers why = ⊥
 
+abbrev pub IsAheadStop : ℕ → List ℕ → ReopenStop → Type 0
+IsAheadStop next numbers Stopping.Unread = ⊥
+IsAheadStop next numbers Stopping.NoMemory = ⊥
+IsAheadStop next numbers (Stopping.Why why) = IsAheadOf next numbers why
+
 -- a segment's file is there that isn't listed, and comes next or later: of several the first that was found
 pub record IsAhead (Gives : List ℕ → List ℕ → Type 0) (Lacks : List ℕ → Type 0) (numbers : List ℕ) (asked : Asked) (n : ℕ) : Type 0 where
   pub one : Option RestoredValue
@@ -154,6 +161,19 @@ IsSizeStop Refuses Gives Lacks name entries Stopping.Unread = Refuses
 IsSizeStop Refuses Gives Lacks name entries Stopping.NoMemory = ⊤
 IsSizeStop Refuses Gives Lacks name entries (Stopping.Why (Lost n)) = IsLostOf Gives Lacks name entries n
 IsSizeStop Refuses Gives Lacks name entries (Stopping.Why why) = ⊥
+
+-- .. where the size of the file of the segment of this number isn't told: the folder can't be read or wants memory, or there is none
+abbrev pub IsUnsized : Type 0 → Type 0 → Type 0 → ℕ → ReopenStop → Type 0
+IsUnsized Refuses Wants Lacking n Stopping.Unread = Refuses
+IsUnsized Refuses Wants Lacking n Stopping.NoMemory = Wants
+IsUnsized Refuses Wants Lacking n (Stopping.Why why) = (why ≡ Lost n) × Lacking
+
+-- .. where a run goes on from its media playlist, and its playlists and its files aren't those of one rendition. Memory is wanted
+-- for a line of the text of I-frames, or for rows where they may be had.
+abbrev pub IsRestoreStop : Asked → Listing → List ℕ → List ℕ → ReopenStop → Type 0
+IsRestoreStop a l frames sizes Stopping.Unread = ⊥
+IsRestoreStop a l frames sizes Stopping.NoMemory = (l.name ≡ a.name.now) × (MayWantForFrames frames ⊎ MayBeOf l frames sizes)
+IsRestoreStop a l frames sizes (Stopping.Why why) = (why ≡ Foreign) × ((r : RestoredValue) → ¬ IsRestored a.name.now a.wanted l frames sizes r)
 
 -- rendition r is the first that doesn't go on by itself, and this is why: those before it stand
 pub record IsFirstStopped (Gives : List ℕ → List ℕ → Type 0) (Lacks : List ℕ → Type 0) (scan : ScanValue) (asked : List Asked) (r : ℕ)

@@ -1,5 +1,5 @@
 //! The block that a kill cut off.
-ghost use Rattle.std.specs.Prelude.{◌≡◌, IfOk, IsErrOf, IsOk, None, Option, false, List, ℕ, codes, ◌++◌, ◌&&◌, not};
+ghost use Rattle.std.specs.Prelude.{◌≡◌, IfErr, IfOk, IsErrOf, IsOk, None, Option, true, false, List, ℕ, codes, ◌++◌, ◌&&◌, not};
 ghost use Rattle.std.specs.Option.{option_map};
 ghost use Rattle.std.specs.String.{string_bytes};
 ghost use Rattle.playlist_text.specs.Uris.{escaped};
@@ -10,6 +10,7 @@ ghost use Rattle.channel_folder.specs.CutOff;
 ghost use Rattle.channel_folder.specs.ReadTexts.{IsToldBy};
 
 use crate::file_names::{frames_file, media_file, segment_file, staged};
+use crate::kept::Kept;
 use crate::last_lines::{LastLines, NOTHING, last_lines};
 use crate::texts::{Texts, read_texts};
 use folder::{FolderReadFault, FolderReader, StagedFile};
@@ -67,16 +68,26 @@ fn is_in_place<F: FolderReader>(
     folder: &F,
     name: &str,
     next: Option<u64>,
-) -> Result<bool, FolderReadFault>
+) -> Result<bool, Kept<FolderReadFault>>
     ensures ok { IfOk result (IsInPlace (F.gives folder.now) (F.lacks folder.now) name.now next) }
-    ensures unread { IsErrOf result FolderReadFault.Unread → F.refuses folder.now }
+    ensures unread { IfErr result (λ kept. kept.fault ≡ FolderReadFault.Unread → F.refuses folder.now) }
     ensures none { next ≡ None → IsOk result }
 {
     let Some(n) = next else {
         return Ok(false);
     };
     let file = segment_file(alloc, name, n)?;
-    match folder.size(file.as_str())? {
+    is_there(folder, file.as_str())
+}
+
+/// Whether there is a file of this name. Only the folder wants memory here.
+fn is_there<F: FolderReader>(folder: &F, file: &str) -> Result<bool, Kept<FolderReadFault>>
+    ensures there { IfOk result (λ it. it ≡ true → (bytes : List ℕ) × F.gives folder.now file.now bytes) }
+    ensures lacking { IfOk result (λ it. it ≡ false → F.lacks folder.now file.now) }
+    ensures unread { IfErr result (λ kept. kept.fault ≡ FolderReadFault.Unread → F.refuses folder.now) }
+    ensures no_memory { IfErr result (λ kept. kept.fault ≡ FolderReadFault.NoMemory → F.wants folder.now) }
+{
+    match folder.size(file)? {
         Some(_) => Ok(true),
         None => Ok(false),
     }

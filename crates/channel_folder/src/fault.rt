@@ -1,6 +1,7 @@
 //! Why a channel doesn't go on.
 ghost use Rattle.std.specs.Prelude.{◌≡◌};
 
+use crate::kept::Kept;
 use folder::FolderReadFault;
 use std::alloc::{AllocError, AllocFailed};
 use thiserror::Error;
@@ -52,23 +53,21 @@ pub enum ReopenFault {
     Of(usize, WhyNot),
 }
 
-impl From<AllocError> for ReopenFault {
-    ghost use Rattle.channel_folder.specs.declared.fault.ReopenFault.TheVariants.{NoMemory};
+impl From<Kept<ReopenFault>> for ReopenFault {
+    ghost from_gives = { λ kept fault. fault ≡ kept.fault };
 
-    ghost from_gives = { λ _ fault. fault ≡ NoMemory };
-
-    fn from(_: AllocError) -> ReopenFault {
-        ReopenFault::NoMemory
+    fn from(kept: Kept<ReopenFault>) -> ReopenFault {
+        kept.into_fault()
     }
 }
 
-impl<T: Drop> From<AllocFailed<T>> for ReopenFault {
+impl<T: Drop> From<AllocFailed<T>> for Kept<ReopenFault> {
     ghost use Rattle.channel_folder.specs.declared.fault.ReopenFault.TheVariants.{NoMemory};
 
-    ghost from_gives = { λ _ fault. fault ≡ NoMemory };
+    ghost from_gives = { λ _ kept. kept.fault ≡ NoMemory };
 
-    fn from(_: AllocFailed<T>) -> ReopenFault {
-        ReopenFault::NoMemory
+    fn from(_: AllocFailed<T>) -> Kept<ReopenFault> {
+        ReopenFault::NoMemory.into()
     }
 }
 
@@ -80,45 +79,74 @@ pub(crate) enum ReopenStop {
     Why(WhyNot),
 }
 
-impl From<AllocError> for ReopenStop {
+impl From<AllocError> for Kept<ReopenStop> {
     ghost use Rattle.channel_folder.specs.declared.fault.ReopenStop.TheVariants.{NoMemory};
 
-    ghost from_gives = { λ _ fault. fault ≡ NoMemory };
+    ghost from_gives = { λ _ kept. kept.fault ≡ NoMemory };
 
-    fn from(_: AllocError) -> ReopenStop {
-        ReopenStop::NoMemory
+    fn from(_: AllocError) -> Kept<ReopenStop> {
+        ReopenStop::NoMemory.into()
     }
 }
 
-impl<T: Drop> From<AllocFailed<T>> for ReopenStop {
+impl<T: Drop> From<AllocFailed<T>> for Kept<ReopenStop> {
     ghost use Rattle.channel_folder.specs.declared.fault.ReopenStop.TheVariants.{NoMemory};
 
-    ghost from_gives = { λ _ fault. fault ≡ NoMemory };
+    ghost from_gives = { λ _ kept. kept.fault ≡ NoMemory };
 
-    fn from(_: AllocFailed<T>) -> ReopenStop {
-        ReopenStop::NoMemory
+    fn from(_: AllocFailed<T>) -> Kept<ReopenStop> {
+        ReopenStop::NoMemory.into()
     }
 }
 
-impl From<WhyNot> for ReopenStop {
+impl From<WhyNot> for Kept<ReopenStop> {
     ghost use Rattle.channel_folder.specs.declared.fault.ReopenStop.TheVariants.{Why};
 
-    ghost from_gives = { λ why stop. stop ≡ Why why };
+    ghost from_gives = { λ why kept. kept.fault ≡ Why why };
 
-    fn from(why: WhyNot) -> ReopenStop {
-        ReopenStop::Why(why)
+    fn from(why: WhyNot) -> Kept<ReopenStop> {
+        ReopenStop::Why(why).into()
     }
 }
 
-impl From<FolderReadFault> for ReopenStop {
+impl From<FolderReadFault> for Kept<ReopenStop> {
     ghost use Rattle.channel_folder.specs.StopOf.{stop_of_read};
 
-    ghost from_gives = { λ fault stop. stop ≡ stop_of_read fault };
+    ghost from_gives = { λ fault kept. kept.fault ≡ stop_of_read fault };
 
-    fn from(fault: FolderReadFault) -> ReopenStop {
-        match fault {
+    fn from(fault: FolderReadFault) -> Kept<ReopenStop> {
+        let stop = match fault {
             FolderReadFault::Unread => ReopenStop::Unread,
             FolderReadFault::NoMemory => ReopenStop::NoMemory,
-        }
+        };
+        stop.into()
+    }
+}
+
+impl From<Kept<FolderReadFault>> for Kept<ReopenStop> {
+    ghost use Rattle.channel_folder.specs.StopOf.{stop_of_read};
+
+    ghost from_gives = { λ found kept. kept.fault ≡ stop_of_read found.fault };
+
+    fn from(found: Kept<FolderReadFault>) -> Kept<ReopenStop> {
+        found.into_fault().into()
+    }
+}
+
+impl From<Kept<FolderReadFault>> for FolderReadFault {
+    ghost from_gives = { λ kept fault. fault ≡ kept.fault };
+
+    fn from(kept: Kept<FolderReadFault>) -> FolderReadFault {
+        kept.into_fault()
+    }
+}
+
+impl From<AllocError> for Kept<FolderReadFault> {
+    ghost use Rattle.folder.specs.declared.read_fault.FolderReadFault.TheVariants.{NoMemory};
+
+    ghost from_gives = { λ _ kept. kept.fault ≡ NoMemory };
+
+    fn from(_: AllocError) -> Kept<FolderReadFault> {
+        FolderReadFault::NoMemory.into()
     }
 }

@@ -6,6 +6,7 @@ ghost use Rattle.channel_folder.specs.Stopped.{IsStopped};
 
 use crate::asked::Asked;
 use crate::fault::{ReopenFault, ReopenStop};
+use crate::kept::Kept;
 use crate::scanned::Scan;
 use crate::standing::stands;
 use folder::FolderReader;
@@ -18,9 +19,9 @@ pub(crate) fn find_each<F: FolderReader>(
     folder: &F,
     scan: &Scan,
     asked: &[Asked<'_>],
-) -> Result<Vec<Option<Restored>>, ReopenFault>
+) -> Result<Vec<Option<Restored>>, Kept<ReopenFault>>
     ensures ok { IfOk result (λ found. AllStand (F.gives folder.now) (F.lacks folder.now) scan.now asked.now found.items) }
-    ensures err { IfErr result (IsStopped (F.refuses folder.now) (F.gives folder.now) (F.lacks folder.now) scan.now asked.now) }
+    ensures err { IfErr result (λ kept. IsStopped (F.refuses folder.now) (F.gives folder.now) (F.lacks folder.now) scan.now asked.now kept.fault) }
 
     // Where no rendition is asked for, none is looked for.
     ensures none { IsErr result → 0 < length asked.now }
@@ -30,7 +31,7 @@ pub(crate) fn find_each<F: FolderReader>(
         let rendition = rendition_at(asked, r);
         match stands(alloc, folder, scan.numbers_of(r), rendition) {
             Ok(one) => found.push(one)?,
-            Err(stop) => return Err(fault_at(r, stop)),
+            Err(stop) => return Err(fault_at(r, stop).into()),
         }
     }
     Ok(found)
@@ -45,10 +46,10 @@ fn rendition_at<'b, 'a>(asked: &'b [Asked<'a>], r: usize) -> &'b Asked<'a>
 }
 
 /// Why the channel doesn't go on, where a rendition doesn't.
-fn fault_at(r: usize, stop: ReopenStop) -> ReopenFault
-    ensures { result ≡ StopOf.fault_at r stop }
+fn fault_at(r: usize, stop: Kept<ReopenStop>) -> ReopenFault
+    ensures { result ≡ StopOf.fault_at r stop.fault }
 {
-    match stop {
+    match stop.into_fault() {
         ReopenStop::Unread => ReopenFault::Unread,
         ReopenStop::NoMemory => ReopenFault::NoMemory,
         ReopenStop::Why(why) => ReopenFault::Of(r, why),

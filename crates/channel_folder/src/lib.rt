@@ -11,6 +11,7 @@ mod cutting;
 mod fault;
 mod file_names;
 mod finding;
+mod kept;
 mod last_lines;
 mod laws;
 mod numbers;

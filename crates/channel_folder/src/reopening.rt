@@ -1,16 +1,19 @@
 //! A channel's folder is gone on in.
-ghost use Rattle.std.specs.Prelude.{◌<◌, IfOk, IfErr, IsErr, length};
+ghost use Rattle.std.specs.Prelude.{◌≡◌, ◌<◌, ℕ, IfOk, IfErr, IsErr, length};
+ghost use Rattle.resume.specs.Evening;
+ghost use Rattle.resume.specs.Evening.{AreEven, IsUneven};
 ghost use Rattle.channel_folder.specs.Reopened.{AreReopened};
 ghost use Rattle.channel_folder.specs.Stopped.{IsNotReopened};
 
 use crate::asked::Asked;
 use crate::fault::{ReopenFault, WhyNot};
 use crate::finding::find_each;
+use crate::kept::Kept;
 use crate::reopened::Reopened;
 use crate::scanned::Scan;
 use folder::FolderReader;
 use ladder_items::Kind;
-use resume::most_breaks;
+use resume::{Restored, most_breaks};
 use std::alloc::Global;
 
 /// What each rendition of a ladder of this kind goes on behind, by what stands in the folder once a block that was cut off is
@@ -34,8 +37,17 @@ pub fn reopen<F: FolderReader>(
     ensures none { IsErr result → 0 < length asked.now }
 {
     let found = find_each(alloc, folder, scan, asked)?;
+    Ok(evened(kind, found)?)
+}
+
+/// What each goes on behind, where all go together. No memory is taken.
+fn evened(kind: Kind, found: Vec<Option<Restored>>) -> Result<Reopened, Kept<ReopenFault>>
+    ensures found { IfOk result (λ it. it.found ≡ found.items) }
+    ensures even { IfOk result (λ it. AreEven kind it.found × (it.most ≡ Evening.most_breaks it.found)) }
+    ensures uneven { IfErr result (λ kept. (r : ℕ) × (kept.fault ≡ ReopenFault.Of r WhyNot.Uneven) × IsUneven kind found.items r) }
+{
     match most_breaks(kind, &found) {
         Ok(most) => Ok(Reopened { found, most }),
-        Err(fault) => Err(ReopenFault::Of(fault.0, WhyNot::Uneven)),
+        Err(fault) => Err(ReopenFault::Of(fault.0, WhyNot::Uneven).into()),
     }
 }

@@ -4,10 +4,11 @@ ghost use Rattle.std.specs.Option.{option_map};
 ghost use Rattle.channel_folder.specs.ReadTexts.{IsHalfOf};
 ghost use Rattle.channel_folder.specs.Reopened;
 ghost use Rattle.channel_folder.specs.Reopened.{Stands, IsOf};
-ghost use Rattle.channel_folder.specs.Stopped.{IsAheadOf, IsFirstFrom, IsStop, IsStopFrom};
+ghost use Rattle.channel_folder.specs.Stopped.{IsAheadStop, IsFirstFrom, IsStop, IsStopFrom};
 
 use crate::asked::Asked;
 use crate::fault::{ReopenStop, WhyNot};
+use crate::kept::Kept;
 use crate::reading_back::restored_from;
 use crate::texts::{Texts, read_texts};
 use folder::FolderReader;
@@ -20,9 +21,9 @@ pub(crate) fn stands<F: FolderReader>(
     folder: &F,
     numbers: &[u64],
     asked: &Asked<'_>,
-) -> Result<Option<Restored>, ReopenStop>
+) -> Result<Option<Restored>, Kept<ReopenStop>>
     ensures ok { IfOk result (Stands (F.gives folder.now) (F.lacks folder.now) numbers.now asked.now) }
-    ensures err { IfErr result (IsStop (F.refuses folder.now) (F.gives folder.now) (F.lacks folder.now) numbers.now asked.now) }
+    ensures err { IfErr result (λ kept. IsStop (F.refuses folder.now) (F.gives folder.now) (F.lacks folder.now) numbers.now asked.now kept.fault) }
 {
     let found = read_one(alloc, folder, asked)?;
     none_ahead(numbers, next_of(&found))?;
@@ -30,12 +31,12 @@ pub(crate) fn stands<F: FolderReader>(
 }
 
 /// Ahead where a number isn't below the next one.
-fn none_ahead(numbers: &[u64], next: u64) -> Result<(), WhyNot>
+fn none_ahead(numbers: &[u64], next: u64) -> Result<(), Kept<ReopenStop>>
     ensures ok { OnOk result (All (λ n. n < next) numbers.now) }
-    ensures err { IfErr result (IsAheadOf next numbers.now) }
+    ensures err { IfErr result (λ kept. IsAheadStop next numbers.now kept.fault) }
 {
     match first_from(numbers, next) {
-        Some(n) => Err(WhyNot::Ahead(n)),
+        Some(n) => Err(WhyNot::Ahead(n).into()),
         None => Ok(()),
     }
 }
@@ -68,9 +69,9 @@ fn read_one<F: FolderReader>(
     alloc: Global,
     folder: &F,
     asked: &Asked<'_>,
-) -> Result<Option<Restored>, ReopenStop>
+) -> Result<Option<Restored>, Kept<ReopenStop>>
     ensures ok { IfOk result (IsOf (F.gives folder.now) (F.lacks folder.now) asked.now.name.now asked.now.wanted) }
-    ensures err { IfErr result (IsStopFrom (F.refuses folder.now) (F.gives folder.now) (F.lacks folder.now) asked.now) }
+    ensures err { IfErr result (λ kept. IsStopFrom (F.refuses folder.now) (F.gives folder.now) (F.lacks folder.now) asked.now kept.fault) }
 {
     let texts = read_texts(alloc, folder, asked.name)?;
     let Some(found) = both(texts)? else {
@@ -88,13 +89,13 @@ struct PlaylistTexts {
 }
 
 /// Those that were read, where both were; none where neither was; Foreign where only one was.
-fn both(texts: Texts) -> Result<Option<PlaylistTexts>, WhyNot>
+fn both(texts: Texts) -> Result<Option<PlaylistTexts>, Kept<ReopenStop>>
     ensures ok { IfOk result (λ found. texts ≡ record { media = option_map (λ b. b.media.items) found; frames = option_map (λ b. b.frames.items) found }) }
-    ensures err { IfErr result (λ why. (why ≡ WhyNot.Foreign) × IsHalfOf texts) }
+    ensures err { IfErr result (λ kept. (kept.fault ≡ ReopenStop.Why WhyNot.Foreign) × IsHalfOf texts) }
 {
     match (texts.media, texts.frames) {
         (None, None) => Ok(None),
         (Some(media), Some(frames)) => Ok(Some(PlaylistTexts { media, frames })),
-        _ => Err(WhyNot::Foreign),
+        _ => Err(WhyNot::Foreign.into()),
     }
 }

@@ -1,9 +1,10 @@
 //! The two playlists of a rendition are read.
-ghost use Rattle.std.specs.Prelude.{◌≡◌, IfOk, IsErrOf};
+ghost use Rattle.std.specs.Prelude.{◌≡◌, IfErr, IfOk};
 ghost use Rattle.folder.specs.declared.read_fault.FolderReadFault as TheFault;
-ghost use Rattle.channel_folder.specs.ReadTexts.{AreTexts};
+ghost use Rattle.channel_folder.specs.ReadTexts.{AreTexts, IsFound};
 
 use crate::file_names::{frames_file, media_file};
+use crate::kept::Kept;
 use folder::{FolderReadFault, FolderReader};
 use std::alloc::Global;
 use std::marker::Model;
@@ -28,14 +29,29 @@ pub(crate) fn read_texts<F: FolderReader>(
     alloc: Global,
     folder: &F,
     name: &str,
-) -> Result<Texts, FolderReadFault>
+) -> Result<Texts, Kept<FolderReadFault>>
     ensures ok { IfOk result (AreTexts (F.gives folder.now) (F.lacks folder.now) name.now) }
-    ensures unread { IsErrOf result FolderReadFault.Unread → F.refuses folder.now }
+    ensures unread { IfErr result (λ kept. kept.fault ≡ FolderReadFault.Unread → F.refuses folder.now) }
 {
     let media = media_file(alloc, name)?;
     let frames = frames_file(alloc, name)?;
+    read_both(alloc, folder, media.as_str(), frames.as_str())
+}
+
+/// The same, of the files of these names. Only a file wants memory here.
+fn read_both<F: FolderReader>(
+    alloc: Global,
+    folder: &F,
+    media: &str,
+    frames: &str,
+) -> Result<Texts, Kept<FolderReadFault>>
+    ensures media { IfOk result (λ texts. IsFound (F.gives folder.now) (F.lacks folder.now) media.now texts.media) }
+    ensures frames { IfOk result (λ texts. IsFound (F.gives folder.now) (F.lacks folder.now) frames.now texts.frames) }
+    ensures unread { IfErr result (λ kept. kept.fault ≡ FolderReadFault.Unread → F.refuses folder.now) }
+    ensures no_memory { IfErr result (λ kept. kept.fault ≡ FolderReadFault.NoMemory → F.wants folder.now) }
+{
     Ok(Texts {
-        media: folder.read(alloc, media.as_str())?,
-        frames: folder.read(alloc, frames.as_str())?,
+        media: folder.read(alloc, media)?,
+        frames: folder.read(alloc, frames)?,
     })
 }

@@ -40,7 +40,7 @@ returns-in-Err-clause-err g c =
     let Lacks = g.F.FolderReader.lacks c.args.folder.now in
     let r = c.loop-r.r in
     let a = c.rendition_at-rendition.result.now in
-    let stops : IsStop Refuses Gives Lacks (numbers_at c.args.scan.now r) a c.in-Err.stop =
-    subst (λ (ns : List ℕ). IsStop Refuses Gives Lacks ns a c.in-Err.stop) c.numbers_of.ensures c.in-Err.ensures.err in
-    rw c.fault_at.ensures
-    (stopped-at Refuses Gives Lacks c.args.scan.now c.args.asked.now c.loop-r.found.items r a c.in-Err.stop c.loop-r.invariant.0 c.loop-r.invariant.1 c.rendition_at-rendition.ensures stops)
+    let stops : IsStop Refuses Gives Lacks (numbers_at c.args.scan.now r) a c.in-Err.stop.fault =
+    subst (λ (ns : List ℕ). IsStop Refuses Gives Lacks ns a c.in-Err.stop.fault) c.numbers_of.ensures c.in-Err.ensures.err in
+    rw (c.into.ensures, c.fault_at.ensures)
+    (stopped-at Refuses Gives Lacks c.args.scan.now c.args.asked.now c.loop-r.found.items r a c.in-Err.stop.fault c.loop-r.invariant.0 c.loop-r.invariant.1 c.rendition_at-rendition.ensures stops)

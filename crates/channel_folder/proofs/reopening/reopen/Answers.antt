@@ -9,7 +9,8 @@ returns-in_err-found-clause-err g c =
     rw (p.1, p.2)
     (not-by-one (g.F.FolderReader.refuses c.args.folder.now) (g.F.FolderReader.gives c.args.folder.now) (g.F.FolderReader.lacks c.args.folder.now) c.args.scan.now c.args.kind c.args.asked.now _ c.in_err-found.ensures.err)
 
-pub returns-in-Err-clause-err : goal.returns-in-Err-clause-err
-returns-in-Err-clause-err g c =
-    let uneven = rw c.deref.ensures.value at c.in-Err.ensures.err in
-    inr (refl, record { found = c.in_ok-found.found.items; all = c.in_ok-found.ensures.ok; uneven = uneven })
+pub returns-in_err-evened-clause-err : goal.returns-in_err-evened-clause-err
+returns-in_err-evened-clause-err g c =
+    let p = err_from_is_err_and c.from_residual-in_err-evened.result c.from_residual-in_err-evened.ensures.1 in
+    let uneven = c.in_err-evened.ensures.uneven in
+    rw (p.1, p.2, uneven.1) (inr (refl, record { found = c.in_ok-found.found.items; all = c.in_ok-found.ensures.ok; uneven = uneven.2 }))
