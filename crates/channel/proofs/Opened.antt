@@ -1,5 +1,5 @@
 -- A segment that is listed alone opens, or doesn't.
-use Rattle.std.proofs.Common.{arith, ◌≡◌, ◌≢◌, ◌<◌, refl, sym, subst, ℕ, zero, suc, List, [], ◌∷◌, length, Option}
+use Rattle.std.proofs.Common.{arith, ◌≡◌, ◌≢◌, refl, sym, subst, ℕ, List, [], ◌∷◌, length, Option}
 use Rattle.std.specs.Prelude.{slice_index_or}
 use Rattle.hls_check.specs.declared.fault.UnpackFault.{UnpackFault}
 use Rattle.hls_check.specs.declared.fault.UnpackFault.TheVariants.{Missing, Closed, NoHead, NoMemory}
@@ -10,7 +10,9 @@ use Rattle.media_playlist.specs.Rows.{SegmentRow}
 use Rattle.media_playlist.specs.Lines.{entry_of}
 use Rattle.playlist_text.specs.MediaLines.{Entry}
 use Rattle.ladder_items.specs.Ladder.{RenditionValue}
-use Rattle.channel.specs.Looking.{alone}
+use Rattle.channel.specs.Faults.{of_unpacking}
+use Rattle.channel.specs.Looking.{alone, IsPackedFault, IsShutFault}
+use Rattle.channel.specs.declared.fault.ResumingFault.{ResumingFault}
 
 -- all of it unpacks
 pub opened-head : (p : Packed) (c : Checked) → length p.entries ≡ 1 → AreUnpacked p c → HasHead p 0
@@ -34,9 +36,18 @@ opened-alone rendition row bytes salt entries segments keys c is_salt are_entrie
     let same : packed salt entries segments keys ≡ alone rendition row bytes = rw (is_salt, are_entries, are_segments, are_keys) refl in
     opened-head (alone rendition row bytes) c refl (subst (λ (p : Packed). AreUnpacked p c) same are)
 
-pub closed-alone : (rendition : RenditionValue) (row : SegmentRow) (bytes : List ℕ) (salt : Option (List ℕ)) (entries : List Entry) (segments keys : List (List ℕ)) (fault : UnpackFault) →
-    salt ≡ rendition.salt → entries ≡ entry_of row ∷ [] → segments ≡ bytes ∷ [] → keys ≡ rendition.keys.keys → IsTold (packed salt entries segments keys) fault → fault ≢ NoMemory →
-    ¬ HasHead (alone rendition row bytes) 0
-closed-alone rendition row bytes salt entries segments keys fault is_salt are_entries are_segments are_keys told other =
+-- what is told of one that is listed alone
+shut-head : (p : Packed) (r key : ℕ) (why : UnpackFault) → length p.entries ≡ 1 → IsTold p why → IsShutFault p r key (of_unpacking r key why)
+shut-head p r key (Missing i) one told = (refl, refl, closed-head p (Missing i) one told (λ is. cc is))
+shut-head p r key (Closed i) one told = (refl, refl, closed-head p (Closed i) one told (λ is. cc is))
+shut-head p r key (NoHead i) one told = (refl, refl, closed-head p (NoHead i) one told (λ is. cc is))
+shut-head p r key NoMemory one told = tt
+
+pub shut-alone : (rendition : RenditionValue) (row : SegmentRow) (bytes : List ℕ) (salt : Option (List ℕ)) (entries : List Entry) (segments keys : List (List ℕ)) (r key : ℕ) (fault : ResumingFault) →
+    salt ≡ rendition.salt → entries ≡ entry_of row ∷ [] → segments ≡ bytes ∷ [] → keys ≡ rendition.keys.keys → key ≡ row.key → IsPackedFault (packed salt entries segments keys) r key fault →
+    IsShutFault (alone rendition row bytes) r row.key fault
+shut-alone rendition row bytes salt entries segments keys r key fault is_salt are_entries are_segments are_keys is_key told =
     let same : packed salt entries segments keys ≡ alone rendition row bytes = rw (is_salt, are_entries, are_segments, are_keys) refl in
-    closed-head (alone rendition row bytes) fault refl (subst (λ (p : Packed). IsTold p fault) same told) other
+    let p = alone rendition row bytes in
+    subst (λ (k : ℕ). IsShutFault p r k fault) is_key
+    (subst (λ (f : ResumingFault). IsShutFault p r key f) (sym told.1) (shut-head p r key told.0 refl (subst (λ (q : Packed). IsTold q told.0) same told.2)))

@@ -1,5 +1,5 @@
 -- Blocks are rolled forward, rendition after rendition.
-use Rattle.std.proofs.Common.{arith, ◌≡◌, ◌∙◌, refl, sym, ap, subst, ℕ, zero, suc, ◌+◌, ◌<◌, List, [], ◌∷◌, ◌++◌, append-nil, length, map, take, drop, get_or}
+use Rattle.std.proofs.Common.{arith, ◌≡◌, ◌∙◌, refl, sym, ap, subst, ℕ, zero, suc, ◌+◌, ◌<◌, List, [], ◌∷◌, ◌++◌, append-nil, length, take, drop, get_or}
 use Rattle.std.proofs.lemmas.List.{take_more}
 use Rattle.ladder_items.specs.Ladder.{RenditionValue}
 use Rattle.channel.specs.Reading.{names_of}

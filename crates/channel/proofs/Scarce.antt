@@ -1,5 +1,5 @@
 -- What memory is wanted for.
-use Rattle.std.proofs.Common.{◌≡◌, ◌⊎◌, ℕ, ◌<◌, List, length, map, refl, ap, subst, arith, inl, inr}
+use Rattle.std.proofs.Common.{◌≡◌, ◌⊎◌, ℕ, ◌<◌, List, length, refl, ap, subst, arith, inl, inr}
 use Rattle.std.proofs.lemmas.List.{length-map}
 use Rattle.folder.specs.declared.read_fault.FolderReadFault.{FolderReadFault}
 use Rattle.folder.specs.declared.read_fault.FolderReadFault.TheVariants.{Unread as FolderUnread, NoMemory as FolderNoMemory}

@@ -5,7 +5,7 @@ use Rattle.folder.specs.declared.read_fault.FolderReadFault.TheVariants as Read
 use Rattle.ladder_items.specs.Ladder.{RenditionValue}
 use Rattle.media_playlist.specs.Rows.{SegmentRow}
 use Rattle.channel.specs.Faults.{of_reading}
-use Rattle.channel.specs.Looking.{IsReadFault, IsRowFault}
+use Rattle.channel.specs.Looking.{alone, IsReadFault, IsRowFault, IsShutFault}
 use Rattle.channel.specs.Reading.{IsScanFault}
 use Rattle.channel.specs.Rolling.{IsRollFault}
 use Rattle.channel.specs.Views.{FolderView}
@@ -27,6 +27,15 @@ row-not-read Refuses Wants Gives Lacks r rendition row file number Outlet named 
 row-not-read Refuses Wants Gives Lacks r rendition row file number NoMemory named numbered is = tt
 row-not-read Refuses Wants Gives Lacks r rendition row file number (Not q why) named numbered is = (is.0, is.1 ∙ ap Lost numbered, subst Lacks named is.2)
 row-not-read Refuses Wants Gives Lacks r rendition row file number (OtherKeys q key) named numbered is = absurd is
+
+-- it was, and doesn't open
+pub shut-row : (Refuses : Type 0) (Gives : List ℕ → List ℕ → Type 0) (Lacks : List ℕ → Type 0) (r : ℕ) (rendition : RenditionValue) (row : SegmentRow) (bytes : List ℕ) (fault : ResumingFault)
+    → Gives (segment_file_name rendition.name row.number) bytes → IsShutFault (alone rendition row bytes) r row.key fault → IsRowFault Refuses Gives Lacks r rendition row fault
+shut-row Refuses Gives Lacks r rendition row bytes Unread given is = absurd is
+shut-row Refuses Gives Lacks r rendition row bytes Outlet given is = absurd is
+shut-row Refuses Gives Lacks r rendition row bytes NoMemory given is = tt
+shut-row Refuses Gives Lacks r rendition row bytes (Not q why) given is = absurd is
+shut-row Refuses Gives Lacks r rendition row bytes (OtherKeys q key) given is = (is.0, is.1, record { bytes = bytes; gives = given; closed = is.2 })
 
 pub names-not-read : (Refuses : Type 0) (why : FolderReadFault) → (why ≡ Read.Unread → Refuses) → IsScanFault Refuses (of_reading why)
 names-not-read Refuses Read.Unread refuses = refuses refl

@@ -1,19 +1,19 @@
 -- What a whole run of it did.
-use Rattle.std.proofs.Common.{arith, ◌≡◌, ◌⊎◌, inl, inr, ◌<◌, ◌∙◌, refl, sym, ap, subst, ℕ, zero, suc, List, [], ◌∷◌, All, length, map, Option, Some, None, get_or}
+use Rattle.std.proofs.Common.{arith, ◌≡◌, inl, inr, ◌<◌, ◌∙◌, refl, sym, ap, subst, ℕ, zero, suc, List, [], ◌∷◌, All, length, Option, Some, None}
 use Rattle.std.specs.Prelude.{slice_get}
 use Rattle.std.proofs.lemmas.List.{length-map}
 use Rattle.std.proofs.lemmas.List.Elements.{All-nil}
-use Rattle.std.proofs.lemmas.Option.{slice_get-get_or, slice_get_within}
+use Rattle.std.proofs.lemmas.Option.{slice_get_within}
 use Rattle.limits.specs.declared.TheConstants.{MOST_KEYS}
-use Rattle.ladder_items.specs.Ladder.{Ladder, RenditionValue}
+use Rattle.ladder_items.specs.Ladder.{Ladder}
 use Rattle.media_playlist.specs.Rows.{SegmentRow}
 use Rattle.resume.specs.Restoring.{RestoredValue}
 use Rattle.resume.specs.declared.restored.Wanted.{Wanted}
 use Rattle.channel_folder.specs.declared.asked.Asked.{Asked}
 use Rattle.channel_folder.specs.declared.fault.ReopenFault.{ReopenFault}
 use Rattle.channel_folder.specs.declared.fault.ReopenFault.TheVariants as Reopen
-use Rattle.channel_folder.specs.Scans.{IsScan, ScanValue, numbers_at}
-use Rattle.channel_folder.specs.Reopened.{AreReopened, IsOf, ReopenedValue, Stands}
+use Rattle.channel_folder.specs.Scans.{IsScan, ScanValue}
+use Rattle.channel_folder.specs.Reopened.{IsOf, ReopenedValue}
 use Rattle.channel_folder.specs.Stopped.{IsNotReopened}
 use Rattle.channel.specs.declared.fault.ResumingFault.{ResumingFault}
 use Rattle.channel.specs.declared.fault.ResumingFault.TheVariants.{Unread, Outlet, NoMemory, Not, OtherKeys}

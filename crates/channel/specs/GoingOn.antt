@@ -1,5 +1,5 @@
 -- A ladder whose renditions go on behind what an earlier run left.
-use Rattle.std.specs.Prelude.{◌≡◌, ◌≢◌, ℕ, ◌<◌, Option, Some, None, List, [], ◌∷◌, map, slice_get}
+use Rattle.std.specs.Prelude.{◌≡◌, ℕ, ◌<◌, Option, Some, List, [], ◌∷◌, map, slice_get}
 use Rattle.ladder_items.specs.Ladder.{RenditionValue, Ladder}
 use Rattle.resume.specs.Restoring.{RestoredValue}
 use Rattle.channel_folder.specs.declared.fault.WhyNot.TheVariants.{Limit}

@@ -4,7 +4,10 @@ use Rattle.item_io.specs.FileNames.{segment_file_name}
 use Rattle.media_playlist.specs.Rows.{SegmentRow}
 use Rattle.media_playlist.specs.Lines.{entry_of}
 use Rattle.ladder_items.specs.Ladder.{RenditionValue}
-use Rattle.hls_check.specs.Unpacking.{Packed, packed, HasHead}
+use Rattle.hls_check.specs.Unpacking.{Packed, packed, HasBytes, HasHead, IsTold}
+use Rattle.hls_check.specs.declared.fault.UnpackFault.{UnpackFault}
+use Rattle.hls_check.specs.declared.fault.UnpackFault.TheVariants.{NoMemory as NoMemoryToUnpack}
+use Rattle.channel.specs.Faults.{of_unpacking}
 use Rattle.resume.specs.Restoring.{RestoredValue}
 use Rattle.channel_folder.specs.declared.fault.WhyNot.TheVariants.{Lost}
 use Rattle.limits.specs.declared.TheConstants.{MOST_KEYS}
@@ -34,6 +37,18 @@ IsReadFault Refuses Wants Lacks r number Outlet = ⊥
 IsReadFault Refuses Wants Lacks r number NoMemory = Wants
 IsReadFault Refuses Wants Lacks r number (Not q why) = (q ≡ r) × (why ≡ Lost number) × Lacks
 IsReadFault Refuses Wants Lacks r number (OtherKeys q key) = ⊥
+
+-- why what rendition r lists under this key doesn't unpack: memory is wanted only for a segment with bytes
+abbrev pub IsPackedFault : Packed → ℕ → ℕ → ResumingFault → Type 0
+IsPackedFault p r key fault = (why : UnpackFault) × (fault ≡ of_unpacking r key why) × IsTold p why × (why ≡ NoMemoryToUnpack → HasBytes p)
+
+-- why a segment alone, which rendition r lists under this key, isn't opened
+abbrev pub IsShutFault : Packed → ℕ → ℕ → ResumingFault → Type 0
+IsShutFault p r key Unread = ⊥
+IsShutFault p r key Outlet = ⊥
+IsShutFault p r key NoMemory = ⊤
+IsShutFault p r key (Not q why) = ⊥
+IsShutFault p r key (OtherKeys q k) = (q ≡ r) × (k ≡ key) × ¬ HasHead p 0
 
 -- why a segment of rendition r isn't opened: its file isn't there, or doesn't open
 abbrev pub IsRowFault : Type 0 → (List ℕ → List ℕ → Type 0) → (List ℕ → Type 0) → ℕ → RenditionValue → SegmentRow → ResumingFault → Type 0

@@ -1,5 +1,5 @@
 -- What an earlier run left of a ladder is read back.
-use Rattle.std.specs.Prelude.{◌≡◌, ◌⊎◌, ⊤, ℕ, Option, Some, None, List, map}
+use Rattle.std.specs.Prelude.{◌≡◌, ◌⊎◌, ⊤, ℕ, List, map}
 use Rattle.ladder_items.specs.Ladder.{RenditionValue, Ladder}
 use Rattle.resume.specs.declared.restored.Wanted.{Wanted}
 use Rattle.channel_folder.specs.declared.asked.Asked.{Asked}

@@ -2,6 +2,7 @@
 
 ghost use Rattle.std.specs.Prelude.{◌≡◌};
 
+use crate::kept::Kept;
 use channel_folder::{ReopenFault, WhyNot};
 use folder::FolderReadFault;
 use std::alloc::{AllocError, AllocFailed};
@@ -59,16 +60,49 @@ impl From<FolderReadFault> for ResumingFault {
     }
 }
 
-impl From<ReopenFault> for ResumingFault {
+impl From<Kept<ResumingFault>> for ResumingFault {
+    ghost from_gives = { λ kept fault. fault ≡ kept.fault };
+
+    fn from(kept: Kept<ResumingFault>) -> ResumingFault {
+        kept.into_fault()
+    }
+}
+
+impl From<AllocError> for Kept<ResumingFault> {
+    ghost use Rattle.channel.specs.declared.fault.ResumingFault.TheVariants.{NoMemory};
+
+    ghost from_gives = { λ _ kept. kept.fault ≡ NoMemory };
+
+    fn from(_: AllocError) -> Kept<ResumingFault> {
+        ResumingFault::NoMemory.into()
+    }
+}
+
+impl From<FolderReadFault> for Kept<ResumingFault> {
+    ghost use Rattle.channel.specs.Faults.{of_reading};
+
+    ghost from_gives = { λ why kept. kept.fault ≡ of_reading why };
+
+    fn from(why: FolderReadFault) -> Kept<ResumingFault> {
+        let fault = match why {
+            FolderReadFault::Unread => ResumingFault::Unread,
+            FolderReadFault::NoMemory => ResumingFault::NoMemory,
+        };
+        fault.into()
+    }
+}
+
+impl From<ReopenFault> for Kept<ResumingFault> {
     ghost use Rattle.channel.specs.Faults.{of_reopening};
 
-    ghost from_gives = { λ why fault. fault ≡ of_reopening why };
+    ghost from_gives = { λ why kept. kept.fault ≡ of_reopening why };
 
-    fn from(why: ReopenFault) -> ResumingFault {
-        match why {
+    fn from(why: ReopenFault) -> Kept<ResumingFault> {
+        let fault = match why {
             ReopenFault::Unread => ResumingFault::Unread,
             ReopenFault::NoMemory => ResumingFault::NoMemory,
             ReopenFault::Of(r, why) => ResumingFault::Not(r, why),
-        }
+        };
+        fault.into()
     }
 }

@@ -6,6 +6,7 @@ ghost use Rattle.channel.specs.GoingOn;
 ghost use Rattle.channel.specs.GoingOn.{behind_of, all_behind, AllGo, IsPastFault};
 
 use crate::fault::ResumingFault;
+use crate::kept::Kept;
 use channel_folder::{Reopened, WhyNot};
 use ladder_items::{Rendition, Settings};
 use resume::{Restored, begin, go_on_beside};
@@ -18,11 +19,11 @@ pub(crate) fn ladder_behind(
     alloc: Global,
     settings: Settings,
     reopened: Reopened,
-) -> Result<Settings, ResumingFault>
+) -> Result<Settings, Kept<ResumingFault>>
     requires { length reopened.found ≡ length settings.renditions }
     ensures ok { IfOk result (λ behind. behind ≡ GoingOn.ladder_behind settings reopened) }
     ensures within { OnOk result (AllGo reopened.found reopened.most) }
-    ensures err { IfErr result (IsPastFault reopened.found reopened.most) }
+    ensures err { IfErr result (λ kept. IsPastFault reopened.found reopened.most kept.fault) }
 {
     let Reopened { found, most } = reopened;
     let mut behind = settings;
@@ -36,16 +37,16 @@ fn each_behind(
     renditions: &mut [Rendition],
     found: Vec<Option<Restored>>,
     most: Option<u128>,
-) -> Result<(), ResumingFault>
+) -> Result<(), Kept<ResumingFault>>
     requires { length found.items ≡ length renditions.old }
     ensures ok { OnOk result (renditions.new ≡ all_behind renditions.old (map (gone_on most) found.items)) }
     ensures within { OnOk result (AllGo found.items most) }
-    ensures err { IfErr result (IsPastFault found.items most) }
+    ensures err { IfErr result (λ kept. IsPastFault found.items most kept.fault) }
 {
     let mut r = 0;
     for one in found {
         let Some(begun) = one_of(alloc, one, most) else {
-            return Err(ResumingFault::Not(r, WhyNot::Limit));
+            return Err(ResumingFault::Not(r, WhyNot::Limit).into());
         };
         go_on(&mut renditions[r], begun);
         r += 1;

@@ -1,17 +1,20 @@
 //! Whether the keys of a ladder are those that its listed segments were sealed under.
 
 ghost use Rattle.std.specs.Prelude.{◌≡◌, ◌≢◌, ◌⊎◌, ◌↔◌, ◌<◌, ℕ, Some, true, false, IsTrue, ◌∷◌, [], All, length, map, slice_get};
-ghost use Rattle.std.specs.Prelude.{Decides, IfErr, IfOk, IsErr, OnErr, OnOk};
+ghost use Rattle.std.specs.Prelude.{IfErr, IfOk, IsErr, OnOk};
 ghost use Rattle.std.specs.String.{string_bytes};
 ghost use Rattle.item_io.specs.FileNames.{segment_file_name};
 ghost use Rattle.limits.specs.declared.TheConstants.{MOST_KEYS};
 ghost use Rattle.media_playlist.specs.Lines.{entry_of};
 ghost use Rattle.channel.specs.Looking;
-ghost use Rattle.hls_check.specs.Unpacking.{HasHead};
-ghost use Rattle.hls_check.specs.declared.fault.UnpackFault.TheVariants.{NoMemory};
-ghost use Rattle.channel.specs.Looking.{alone, AllKeysOpen, IsKeyFault, IsLookFault, IsReadFault, IsRowFault, KeysOpen, OpensAsListed, TakeTurns};
+ghost use Rattle.hls_check.specs.Checks.{AreUnpacked};
+ghost use Rattle.hls_check.specs.Unpacking.{HasHead, packed};
+ghost use Rattle.hls_check.specs.declared.checking.Checked.{Checked};
+ghost use Rattle.channel.specs.Faults.{of_unpacking};
+ghost use Rattle.channel.specs.Looking.{alone, AllKeysOpen, IsKeyFault, IsLookFault, IsPackedFault, IsReadFault, IsRowFault, IsShutFault, KeysOpen, OpensAsListed, TakeTurns};
 
 use crate::fault::ResumingFault;
+use crate::kept::Kept;
 use channel_folder::WhyNot;
 use folder::FolderReader;
 use hls_check::{UnpackFault, check_listing};
@@ -28,11 +31,11 @@ pub(crate) fn look_at_keys<F: FolderReader>(
     folder: &F,
     renditions: &[Rendition],
     found: &[Option<Restored>],
-) -> Result<(), ResumingFault>
+) -> Result<(), Kept<ResumingFault>>
     requires each { length found.now ≡ length renditions.now }
     requires turns { TakeTurns found.now }
     ensures ok { OnOk result (AllKeysOpen (F.gives folder.now) renditions.now found.now) }
-    ensures err { IfErr result (IsLookFault (F.refuses folder.now) (F.gives folder.now) (F.lacks folder.now) renditions.now found.now) }
+    ensures err { IfErr result (λ kept. IsLookFault (F.refuses folder.now) (F.gives folder.now) (F.lacks folder.now) renditions.now found.now kept.fault) }
     ensures none { IsErr result → 0 < length renditions.now }
 {
     for r in 0..renditions.len() {
@@ -75,10 +78,10 @@ fn look_at<F: FolderReader>(
     r: usize,
     rendition: &Rendition,
     rows: &[Row],
-) -> Result<(), ResumingFault>
+) -> Result<(), Kept<ResumingFault>>
     requires { All (λ row. row.key < MOST_KEYS) rows.now }
     ensures ok { OnOk result (KeysOpen (F.gives folder.now) rendition.now rows.now) }
-    ensures err { IfErr result (IsKeyFault (F.refuses folder.now) (F.gives folder.now) (F.lacks folder.now) r rendition.now rows.now) }
+    ensures err { IfErr result (λ kept. IsKeyFault (F.refuses folder.now) (F.gives folder.now) (F.lacks folder.now) r rendition.now rows.now kept.fault) }
     ensures none { IsErr result → 0 < length rows.now }
 {
     let mut seen = [false; MOST_KEYS as usize];
@@ -119,14 +122,13 @@ fn open_row<F: FolderReader>(
     r: usize,
     rendition: &Rendition,
     row: &Row,
-) -> Result<(), ResumingFault>
+) -> Result<(), Kept<ResumingFault>>
     ensures ok { OnOk result (OpensAsListed (F.gives folder.now) rendition.now row.now) }
-    ensures err { IfErr result (IsRowFault (F.refuses folder.now) (F.gives folder.now) (F.lacks folder.now) r rendition.now row.now) }
+    ensures err { IfErr result (λ kept. IsRowFault (F.refuses folder.now) (F.gives folder.now) (F.lacks folder.now) r rendition.now row.now kept.fault) }
 {
     let file = segment_file(alloc, &rendition.name, row.number)?;
     let bytes = read_row(alloc, folder, r, &file, row.number)?;
-    let is_open = opens(alloc, rendition, row, bytes)?;
-    opened(is_open, r, row.key)
+    opens(alloc, r, rendition, row, bytes)
 }
 
 /// The bytes of a segment's file, which is listed.
@@ -136,53 +138,73 @@ fn read_row<F: FolderReader>(
     r: usize,
     file: &str,
     number: u64,
-) -> Result<Vec<u8>, ResumingFault>
+) -> Result<Vec<u8>, Kept<ResumingFault>>
     ensures ok { IfOk result (λ bytes. F.gives folder.now file.now bytes.items) }
-    ensures err { IfErr result (IsReadFault (F.refuses folder.now) (F.wants folder.now) (F.lacks folder.now file.now) r number) }
+    ensures err { IfErr result (λ kept. IsReadFault (F.refuses folder.now) (F.wants folder.now) (F.lacks folder.now file.now) r number kept.fault) }
 {
     match folder.read(alloc, file)? {
         Some(bytes) => Ok(bytes),
-        None => Err(ResumingFault::Not(r, WhyNot::Lost(number))),
+        None => Err(ResumingFault::Not(r, WhyNot::Lost(number)).into()),
     }
 }
 
-/// OtherKeys where a segment that is listed under this key isn't open.
-fn opened(is_open: bool, r: usize, key: u64) -> Result<(), ResumingFault>
-    ensures ok { OnOk result (is_open ≡ true) }
-    ensures err { IfErr result (λ fault. (is_open ≡ false) × (fault ≡ ResumingFault.OtherKeys r key)) }
-{
-    if !is_open {
-        return Err(ResumingFault::OtherKeys(r, key));
-    }
-    Ok(())
-}
-
-/// Whether these bytes open as a segment of a rendition, as its playlist lists it.
+/// Opens these bytes as a segment of a rendition, as its playlist lists it.
 fn opens(
     alloc: Global,
+    r: usize,
     rendition: &Rendition,
     row: &Row,
     bytes: Vec<u8>,
-) -> Result<bool, AllocError>
-    ensures { IfOk result (λ it. Decides it (HasHead (alone rendition.now row.now bytes.items) 0)) }
+) -> Result<(), Kept<ResumingFault>>
+    ensures ok { OnOk result (HasHead (alone rendition.now row.now bytes.items) 0) }
+    ensures err { IfErr result (λ kept. IsShutFault (alone rendition.now row.now bytes.items) r row.now.key kept.fault) }
 {
     let segments = segments_of(alloc, bytes)?;
     let listing = listing_of(alloc, rendition, row)?;
-    match check_listing(alloc, &listing, &segments, rendition.keys.all()) {
-        Ok(_) => Ok(true),
-        Err(fault) => not_opened(fault),
+    unpacks(
+        alloc,
+        &listing,
+        &segments,
+        rendition.keys.all(),
+        OfKey { r, key: row.key },
+    )
+}
+
+/// A rendition, and the index of one of its keys.
+#[derive(Clone, Copy)]
+struct OfKey {
+    r: usize,
+    key: u64,
+}
+
+/// Unpacks what is listed. NoMemory is told only where that may want it.
+fn unpacks(
+    alloc: Global,
+    listing: &Listing,
+    segments: &[Vec<u8>],
+    keys: &[[u8; 16]],
+    of: OfKey,
+) -> Result<(), Kept<ResumingFault>>
+    ensures ok { let p = packed listing.now.salt listing.now.entries (map (λ s. s.items) segments.now) keys.now in
+        OnOk result ((found : Checked) × AreUnpacked p found) }
+    ensures err { let p = packed listing.now.salt listing.now.entries (map (λ s. s.items) segments.now) keys.now in
+        IfErr result (λ kept. IsPackedFault p of.r of.key kept.fault) }
+{
+    match check_listing(alloc, listing, segments, keys) {
+        Ok(_) => Ok(()),
+        Err(fault) => Err(not_opened(of, fault)),
     }
 }
 
-/// Bytes with any fault but a want of memory don't open.
-fn not_opened(fault: UnpackFault) -> Result<bool, AllocError>
-    ensures closed { IfOk result (λ it. (it ≡ false) × (fault ≢ NoMemory)) }
-    ensures scarce { OnErr result (fault ≡ NoMemory) }
+/// Bytes with any fault but a want of memory don't open under their key.
+fn not_opened(of: OfKey, fault: UnpackFault) -> Kept<ResumingFault>
+    ensures { result.fault ≡ of_unpacking of.r of.key fault }
 {
-    match fault {
-        UnpackFault::NoMemory => Err(AllocError),
-        _ => Ok(false),
-    }
+    let fault = match fault {
+        UnpackFault::NoMemory => ResumingFault::NoMemory,
+        _ => ResumingFault::OtherKeys(of.r, of.key),
+    };
+    fault.into()
 }
 
 /// One segment alone.

@@ -4,6 +4,7 @@
 
 mod fault;
 mod going_on;
+mod kept;
 mod key_looks;
 mod resuming;
 mod rolling;

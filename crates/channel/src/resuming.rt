@@ -10,6 +10,7 @@ ghost use Rattle.channel.specs.Views.{folder_view};
 
 use crate::fault::ResumingFault;
 use crate::going_on::ladder_behind;
+use crate::kept::Kept;
 use crate::key_looks::{found_at, look_at_keys};
 use crate::rolling::roll_each;
 use channel_folder::{Asked, Reopened, Scan, let_unfinished_go, reopen, scan_files};
@@ -95,11 +96,11 @@ fn read_back<F: Folder + FolderReader>(
     folder: &F,
     settings: &Settings,
     scan: &Scan,
-) -> Result<Reopened, ResumingFault>
+) -> Result<Reopened, Kept<ResumingFault>>
     ensures ok { let view = folder_view F.lists F.gives F.lacks F.refuses F.made in
         IfOk result (IsReadBack view folder.now settings.now scan.now) }
     ensures err { let view = folder_view F.lists F.gives F.lacks F.refuses F.made in
-        IfErr result (IsReadFault view folder.now settings.now scan.now) }
+        IfErr result (λ kept. IsReadFault view folder.now settings.now scan.now kept.fault) }
     ensures none { IsErr result → 0 < length settings.now.renditions }
 {
     let asked = asked_of(alloc, settings)?;

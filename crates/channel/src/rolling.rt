@@ -1,11 +1,12 @@
 //! The blocks that a kill cut off are placed.
 
-ghost use Rattle.std.specs.Prelude.{◌≡◌, ◌<◌, IfErr, IsErr, IsErrOf, OnOk, length};
+ghost use Rattle.std.specs.Prelude.{◌≡◌, ◌<◌, IfErr, IsErr, OnOk, length};
 ghost use Rattle.channel.specs.Reading;
 ghost use Rattle.channel.specs.Rolling.{IsRollFault, RollingStops, RollsEach, RollsOne};
 ghost use Rattle.channel.specs.Views.{folder_view};
 
 use crate::fault::ResumingFault;
+use crate::kept::Kept;
 use channel_folder::cut_off;
 use folder::{Folder, FolderReader, roll_forward};
 use ladder_items::Settings;
@@ -16,12 +17,12 @@ pub(crate) fn roll_each<F: Folder + FolderReader>(
     alloc: Global,
     folder: &mut F,
     settings: &Settings,
-) -> Result<(), ResumingFault>
+) -> Result<(), Kept<ResumingFault>>
     ensures ok { let view = folder_view F.lists F.gives F.lacks F.refuses F.made in
         OnOk result (RollsEach view (Reading.names_of settings.now.renditions) folder.old folder.new) }
     ensures err { let view = folder_view F.lists F.gives F.lacks F.refuses F.made in
-        IfErr result (RollingStops view (Reading.names_of settings.now.renditions) folder.old folder.new) }
-    ensures failed { IsErrOf result ResumingFault.Outlet → (found : F) × F.fails found folder.new }
+        IfErr result (λ kept. RollingStops view (Reading.names_of settings.now.renditions) folder.old folder.new kept.fault) }
+    ensures failed { IfErr result (λ kept. kept.fault ≡ ResumingFault.Outlet → (found : F) × F.fails found folder.new) }
     ensures pruned { F.pruned folder.new ≡ F.pruned folder.old }
     ensures none { IsErr result → 0 < length settings.now.renditions }
 {
@@ -36,19 +37,19 @@ fn roll_one<F: Folder + FolderReader>(
     alloc: Global,
     folder: &mut F,
     name: &str,
-) -> Result<(), ResumingFault>
+) -> Result<(), Kept<ResumingFault>>
     ensures ok { let view = folder_view F.lists F.gives F.lacks F.refuses F.made in
         OnOk result (RollsOne view name.now folder.old folder.new) }
     ensures err { let view = folder_view F.lists F.gives F.lacks F.refuses F.made in
-        IfErr result (IsRollFault view name.now folder.old folder.new) }
-    ensures failed { IsErrOf result ResumingFault.Outlet → (found : F) × F.fails found folder.new }
+        IfErr result (λ kept. IsRollFault view name.now folder.old folder.new kept.fault) }
+    ensures failed { IfErr result (λ kept. kept.fault ≡ ResumingFault.Outlet → (found : F) × F.fails found folder.new) }
     ensures pruned { F.pruned folder.new ≡ F.pruned folder.old }
 {
     let Some(block) = cut_off(alloc, folder, name)? else {
         return Ok(());
     };
     let Ok(_placed) = roll_forward(folder, &block) else {
-        return Err(ResumingFault::Outlet);
+        return Err(ResumingFault::Outlet.into());
     };
     Ok(())
 }

@@ -27,7 +27,8 @@ returns-in_default-clause-err c =
     let ys = c.loop-one.yielded in
     let rest = into_iter_items c.next.new.self in
     let all : c.args.found.items ≡ ys ++ x ∷ rest = search rules in
-    let past : IsPastLimit (ys ++ x ∷ rest) c.args.most (length ys) = past-here ys rest c.args.most x c.loop-one.invariant.go_within c.in_default.ensures in (
+    let past : IsPastLimit (ys ++ x ∷ rest) c.args.most (length ys) = past-here ys rest c.args.most x c.loop-one.invariant.go_within c.in_default.ensures in
+    rw c.into.ensures (
       refl,
       subst (λ (l : List (Option RestoredValue)). IsPastLimit l c.args.most c.loop-one.r) (sym all)
           (subst (λ (k : ℕ). IsPastLimit (ys ++ x ∷ rest) c.args.most k) (sym c.loop-one.invariant.count) past),

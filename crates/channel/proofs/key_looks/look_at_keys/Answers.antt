@@ -1,4 +1,4 @@
-use Rattle.std.proofs.Common.{arith, rules, ◌≡◌, sym, subst, List, ℕ}
+use Rattle.std.proofs.Common.{arith, subst, List}
 use Rattle.std.proofs.lemmas.Option.{slice_get_within}
 use Rattle.std.proofs.lemmas.Result.{err_from_is_err_and}
 use Rattle.media_playlist.specs.Rows.{SegmentRow}
@@ -30,7 +30,7 @@ returns-in_err-look_at-clause-err g c =
       rendition_is = c.rendition_at.ensures;
       one_is = c.found_at-one.ensures;
       before = c.loop-r.invariant;
-      is = subst (λ (l : List SegmentRow). IsKeyFault Refuses Gives Lacks c.loop-r.r c.rendition_at.result.now l c.in_err-look_at.field-0.0) c.rows_of.ensures c.in_err-look_at.ensures.err;
+      is = subst (λ (l : List SegmentRow). IsKeyFault Refuses Gives Lacks c.loop-r.r c.rendition_at.result.now l c.in_err-look_at.field-0.0.fault) c.rows_of.ensures c.in_err-look_at.ensures.err;
     })
 
 pub returns-clause-ok : goal.returns-clause-ok

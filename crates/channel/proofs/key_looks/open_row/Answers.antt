@@ -1,11 +1,9 @@
-use Rattle.std.proofs.Common.{◌≡◌, ◌∙◌, refl, sym, ap, subst, ℕ, List}
-use Rattle.std.proofs.lemmas.Bool.{false≢true}
+use Rattle.std.proofs.Common.{◌≡◌, ◌∙◌, ap, subst, ℕ, List}
 use Rattle.std.proofs.lemmas.Result.{IfErr-weaker, err_from_is_err_and, on_ok_weaker}
 use Rattle.item_io.specs.FileNames.{segment_file_name}
 use Rattle.ladder_items.specs.Ladder.{RenditionValue}
 use Rattle.media_playlist.specs.Rows.{SegmentRow}
-use Rattle.channel.specs.Looking.{IsRowFault}
-use Rattle.channel.proofs.Unread.{row-not-read}
+use Rattle.channel.proofs.Unread.{row-not-read, shut-row}
 use Rattle.channel.proofs.key_looks.open_row.Goals as goal
 
 pub returns-in_err-bytes-clause-err : goal.returns-in_err-bytes-clause-err
@@ -18,7 +16,7 @@ returns-in_err-bytes-clause-err g c =
     ∙ ap (λ (r : SegmentRow). segment_file_name c.args.rendition.now.name r.number) c.row.view_is in
     rw (told.1, told.2)
     (row-not-read (g.F.FolderReader.refuses folder) (g.F.FolderReader.wants folder) (g.F.FolderReader.gives folder) (g.F.FolderReader.lacks folder) c.args.r c.args.rendition.now c.args.row.now
-    c.deref-2.result.now c.row.inside.number c.in_err-bytes.field-0.0 file (ap (λ (r : SegmentRow). r.number) c.row.view_is) c.in_err-bytes.ensures.err)
+    c.deref-2.result.now c.row.inside.number c.in_err-bytes.field-0.0.fault file (ap (λ (r : SegmentRow). r.number) c.row.view_is) c.in_err-bytes.ensures.err)
 
 pub returns-clause-err : goal.returns-clause-err
 returns-clause-err g c =
@@ -28,16 +26,10 @@ returns-clause-err g c =
     c.deref-2.ensures ∙ c.in_ok-file.ensures
     ∙ ap (λ (n : List ℕ). segment_file_name n c.row.inside.number) (c.deref.ensures ∙ ap (λ (r : RenditionValue). r.name) c.rendition.view_is)
     ∙ ap (λ (r : SegmentRow). segment_file_name c.args.rendition.now.name r.number) c.row.view_is in
-    IfErr-weaker c.opened.result _ _ (λ fault is.
-    subst (IsRowFault (g.F.FolderReader.refuses folder) Gives (g.F.FolderReader.lacks folder) c.args.r c.args.rendition.now c.args.row.now) (sym is.1) (
-      refl,
-      ap (λ (r : SegmentRow). r.key) c.row.view_is,
-      record {
-        bytes = c.in_ok-bytes.bytes.items;
-        gives = subst (λ (n : List ℕ). Gives n c.in_ok-bytes.bytes.items) file c.in_ok-bytes.ensures.ok;
-        closed = λ has. false≢true (sym is.0 ∙ c.in_ok-is_open.ensures.1 has);
-      },
-    )) c.opened.ensures.err
+    IfErr-weaker c.opens.result _ _
+    (λ kept is. shut-row (g.F.FolderReader.refuses folder) Gives (g.F.FolderReader.lacks folder) c.args.r c.args.rendition.now c.args.row.now c.in_ok-bytes.bytes.items kept.fault
+    (subst (λ (n : List ℕ). Gives n c.in_ok-bytes.bytes.items) file c.in_ok-bytes.ensures.ok) is)
+    c.opens.ensures.err
 
 pub returns-clause-ok : goal.returns-clause-ok
 returns-clause-ok g c =
@@ -46,8 +38,8 @@ returns-clause-ok g c =
     c.deref-2.ensures ∙ c.in_ok-file.ensures
     ∙ ap (λ (n : List ℕ). segment_file_name n c.row.inside.number) (c.deref.ensures ∙ ap (λ (r : RenditionValue). r.name) c.rendition.view_is)
     ∙ ap (λ (r : SegmentRow). segment_file_name c.args.rendition.now.name r.number) c.row.view_is in
-    on_ok_weaker c.opened.result (λ is. record {
+    on_ok_weaker c.opens.result (λ is. record {
       bytes = c.in_ok-bytes.bytes.items;
       gives = subst (λ (n : List ℕ). Gives n c.in_ok-bytes.bytes.items) file c.in_ok-bytes.ensures.ok;
-      opens = c.in_ok-is_open.ensures.0 is;
-    }) c.opened.ensures.ok
+      opens = is;
+    }) c.opens.ensures.ok

@@ -1,4 +1,4 @@
-use Rattle.std.proofs.Common.{arith, refl, ◌≡◌, ◌∙◌, sym, ap, subst, ℕ, List, Option, length}
+use Rattle.std.proofs.Common.{arith, refl, ◌≡◌, ◌∙◌, sym, ap, subst, List, Option, length}
 use Rattle.std.proofs.lemmas.Result.{err_from_is_err_and}
 use Rattle.ladder_items.specs.declared.settings.Kind.{Kind}
 use Rattle.ladder_items.specs.Ladder.{Ladder, RenditionValue}
@@ -77,7 +77,7 @@ returns-in_err-look_at_keys-clause-err g c =
     let all : IsReopenedFor view c.args.folder.now ladder c.args.scan.now reopened = record { asked = c.in_ok-asked.asked.items; asks = c.in_ok-asked.ensures.ok; are = are } in
     let renditions : c.deref-2.result.now ≡ ladder.renditions = c.deref-2.ensures.value ∙ ap (λ (l : Ladder). l.renditions) c.settings.view_is in
     let found : c.deref-3.result.now ≡ reopened.found = c.deref-3.ensures.value ∙ ap (λ (r : ReopenedValue). r.found) c.reopened.view_is in
-    let fault = c.in_err-look_at_keys.field-0.0 in
+    let fault = c.in_err-look_at_keys.field-0.0.fault in
     let look : IsLookFault Refuses Gives Lacks ladder.renditions reopened.found fault =
     subst (λ (l : List RenditionValue). IsLookFault Refuses Gives Lacks l reopened.found fault) renditions
     (subst (λ (l : List (Option RestoredValue)). IsLookFault Refuses Gives Lacks c.deref-2.result.now l fault) found c.in_err-look_at_keys.ensures.err) in

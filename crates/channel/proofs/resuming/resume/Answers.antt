@@ -89,13 +89,13 @@ pub returns-in_err-reopened-clause-failed : goal.returns-in_err-reopened-clause-
 returns-in_err-reopened-clause-failed g c = λ is.
     let view = folder_view g.F.FolderReader.lists g.F.FolderReader.gives g.F.FolderReader.lacks g.F.FolderReader.refuses g.F.Folder.made in
     let told = err_from_is_err_and c.from_residual-in_err-reopened.result c.from_residual-in_err-reopened.ensures.1 in
-    let outlet : c.in_err-reopened.field-0.0 ≡ Outlet = cc (is, told.1, told.2) in
+    let outlet : c.in_err-reopened.field-0.0.fault ≡ Outlet = cc (is, told.1, told.2) in
     absurd (subst (λ (fault : ResumingFault). IsReadFault view c.roll_each.new.folder c.args.settings c.in_ok-scan.scan fault) outlet c.in_err-reopened.ensures.err)
 
 pub returns-in_err-settings-clause-failed : goal.returns-in_err-settings-clause-failed
 returns-in_err-settings-clause-failed g c = λ is.
     let told = err_from_is_err_and c.from_residual-in_err-settings.result c.from_residual-in_err-settings.ensures.1 in
-    let outlet : c.in_err-settings.field-0.0 ≡ Outlet = cc (is, told.1, told.2) in
+    let outlet : c.in_err-settings.field-0.0.fault ≡ Outlet = cc (is, told.1, told.2) in
     absurd (subst (λ (fault : ResumingFault). IsPastFault c.in_ok-reopened.reopened.found c.in_ok-reopened.reopened.most fault) outlet c.in_err-settings.ensures.err)
 
 pub returns-in_err-scan-clause-scarce : goal.returns-in_err-scan-clause-scarce
@@ -121,5 +121,5 @@ returns-in_err-older-clause-scarce g c = λ _.
 pub returns-in_err-settings-clause-scarce : goal.returns-in_err-settings-clause-scarce
 returns-in_err-settings-clause-scarce g c = λ is.
     let told = err_from_is_err_and c.from_residual-in_err-settings.result c.from_residual-in_err-settings.ensures.1 in
-    let memory : c.in_err-settings.field-0.0 ≡ NoMemory = cc (is, told.1, told.2) in
+    let memory : c.in_err-settings.field-0.0.fault ≡ NoMemory = cc (is, told.1, told.2) in
     absurd (subst (λ (fault : ResumingFault). IsPastFault c.in_ok-reopened.reopened.found c.in_ok-reopened.reopened.most fault) memory c.in_err-settings.ensures.err)

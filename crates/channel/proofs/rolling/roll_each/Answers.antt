@@ -1,4 +1,4 @@
-use Rattle.std.proofs.Common.{arith, ◌≡◌, ◌<◌, ◌≤◌, subst, sym, ap, ◌∙◌, ◌+◌, ◌∷◌, [], ◌++◌, ℕ, List, length, take, get_or}
+use Rattle.std.proofs.Common.{◌≡◌, ◌<◌, ◌≤◌, subst, sym, ap, ◌∙◌, ℕ, List, length, take, get_or}
 use Rattle.std.proofs.lemmas.List.{take_all}
 use Rattle.std.proofs.lemmas.Result.{err_from_is_err_and}
 use Rattle.ladder_items.specs.Ladder.{Ladder, RenditionValue}
@@ -36,11 +36,11 @@ returns-in_err-roll_one-clause-err g c =
     let lt : i < length rs = subst (λ (l : List RenditionValue). i < length l) same c.loop-rendition-test.true in
     let at : one ≡ get_or rs i one = subst (λ (l : List RenditionValue). one ≡ get_or l i one) same c.rendition-item.is in
     let name : c.as_str.result.now ≡ one.name = c.as_str.ensures.value ∙ ap (λ (r : RenditionValue). r.name) c.rendition.view_is in
-    let stops : IsRollFault view one.name c.loop-rendition.folder c.roll_one.new.folder c.in_err-roll_one.field-0.0 =
-    subst (λ (n : List ℕ). IsRollFault view n c.loop-rendition.folder c.roll_one.new.folder c.in_err-roll_one.field-0.0) name c.in_err-roll_one.ensures.err in
+    let stops : IsRollFault view one.name c.loop-rendition.folder c.roll_one.new.folder c.in_err-roll_one.field-0.0.fault =
+    subst (λ (n : List ℕ). IsRollFault view n c.loop-rendition.folder c.roll_one.new.folder c.in_err-roll_one.field-0.0.fault) name c.in_err-roll_one.ensures.err in
     let told = err_from_is_err_and c.from_residual.result c.from_residual.ensures.1 in
     rw (told.1, told.2)
-    (stops-at view rs i one c.args.folder.now c.loop-rendition.folder c.roll_one.new.folder c.in_err-roll_one.field-0.0 lt at c.loop-rendition.invariant.rolls stops)
+    (stops-at view rs i one c.args.folder.now c.loop-rendition.folder c.roll_one.new.folder c.in_err-roll_one.field-0.0.fault lt at c.loop-rendition.invariant.rolls stops)
 
 pub returns-clause-ok : goal.returns-clause-ok
 returns-clause-ok g c =
@@ -52,6 +52,6 @@ returns-clause-ok g c =
     subst (λ (l : List RenditionValue). RollsEach view (names_of l) c.args.folder.now c.loop-rendition.folder) (take_all i rs past) c.loop-rendition.invariant.rolls
 
 pub returns-in_err-roll_one-clause-failed : goal.returns-in_err-roll_one-clause-failed
-returns-in_err-roll_one-clause-failed g c = λ is.
+returns-in_err-roll_one-clause-failed g c =
     let told = err_from_is_err_and c.from_residual.result c.from_residual.ensures.1 in
-    c.in_err-roll_one.ensures.failed (cc (is, told.1, told.2))
+    rw told.1 (λ is. c.in_err-roll_one.ensures.failed (cc (is, told.2)))

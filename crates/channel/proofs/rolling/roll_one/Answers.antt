@@ -1,4 +1,4 @@
-use Rattle.std.proofs.Common.{refl, ap, Err, List, ℕ, Some, None}
+use Rattle.std.proofs.Common.{refl, ap, Err, Some, None}
 use Rattle.std.proofs.lemmas.Result.{err_from_is_err_and}
 use Rattle.folder.specs.Rolling.{IsRolled, IsRolledInPart}
 use Rattle.folder.specs.StagedFiles.{staged_names}
@@ -25,7 +25,7 @@ returns-in_default-roll_forward-clause-err g c =
     rw c.in-Some.is at c.in_ok-block.ensures.ok in
     let stopped : IsRolledInPart (g.F.Folder.made c.args.folder.now) (g.F.Folder.made c.roll_forward.new.folder) (staged_names c.in-Some.block.items) =
     rw c.deref.ensures.value at c.in_default-roll_forward.ensures.stopped in
-    record { due = staged_names c.in-Some.block.items; is = cut; rolls = stopped }
+    rw c.into.ensures (record { due = staged_names c.in-Some.block.items; is = cut; rolls = stopped })
 
 pub returns-clause-ok : goal.returns-clause-ok
 returns-clause-ok g c =
@@ -36,6 +36,6 @@ returns-clause-ok g c =
     record { due = Some (staged_names c.in-Some.block.items); is = cut; rolls = rolled }
 
 pub returns-in_err-block-clause-failed : goal.returns-in_err-block-clause-failed
-returns-in_err-block-clause-failed g c = λ is.
+returns-in_err-block-clause-failed g c =
     let told = err_from_is_err_and c.from_residual.result c.from_residual.ensures.1 in
-    absurd (not-outlet c.in_err-block.field-0.0 (cc (is, told.1, told.2)))
+    rw told.1 (λ is. absurd (not-outlet c.in_err-block.field-0.0 (cc (is, told.2))))
