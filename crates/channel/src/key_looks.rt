@@ -11,7 +11,8 @@ ghost use Rattle.hls_check.specs.Checks.{AreUnpacked};
 ghost use Rattle.hls_check.specs.Unpacking.{HasHead, packed};
 ghost use Rattle.hls_check.specs.declared.checking.Checked.{Checked};
 ghost use Rattle.channel.specs.Faults.{of_unpacking};
-ghost use Rattle.channel.specs.Looking.{alone, AllKeysOpen, IsKeyFault, IsLookFault, IsPackedFault, IsReadFault, IsRowFault, IsShutFault, KeysOpen, OpensAsListed, TakeTurns};
+ghost use Rattle.channel.specs.Looking.{alone, AllKeysOpen, KeysOpen, OpensAsListed, TakeTurns};
+ghost use Rattle.channel.specs.Looking.{IsKeyFault, IsLookFault, IsPackedFault, IsReadFault, IsRowFault, IsShutFault};
 
 use crate::fault::ResumingFault;
 use crate::kept::Kept;

@@ -151,7 +151,8 @@ fn opened(
 ) -> Result<Vec<u8>, Kept<OpeningFault>>
     ensures ok { IfOk result (λ plain. Seals key.now vector.now plain.items sealed.now) }
     ensures not_blocks { IfErr result (λ why. why.fault ≡ OpeningFault.NotBlocks → IsNotBlocks sealed.now) }
-    ensures bad_padding { IfErr result (λ why. why.fault ≡ OpeningFault.BadPadding → IsInBlocks sealed.now × ((plain : List ℕ) → ¬ Seals key.now vector.now plain sealed.now)) }
+    ensures bad_padding { IfErr result (λ why. why.fault ≡ OpeningFault.BadPadding →
+        IsInBlocks sealed.now × ((plain : List ℕ) → ¬ Seals key.now vector.now plain sealed.now)) }
     ensures no_memory { IfErr result (λ why. why.fault ≡ OpeningFault.NoMemory → (plain : List ℕ) × Seals key.now vector.now plain sealed.now) }
     ensures scarce { IfErr result (λ why. why.fault ≡ OpeningFault.NoMemory → 0 < length sealed.now) }
     ensures only { IfErr result (λ why. (why.fault ≡ OpeningFault.NotBlocks) ⊎ (why.fault ≡ OpeningFault.BadPadding) ⊎ (why.fault ≡ OpeningFault.NoMemory)) }
@@ -173,7 +174,8 @@ fn opened_line<S: Source>(
     ensures unwritten { IfErr result (λ why. why.fault ≢ OpeningFault.Unwritten) }
     ensures bad_hex { IfErr result (λ why. why.fault ≡ OpeningFault.BadHex → ReadsOther (S.input.left input.old) (S.input.left input.new)) }
     ensures not_blocks { IfErr result (λ why. why.fault ≡ OpeningFault.NotBlocks → ReadsNoBlocks (S.input.left input.old) (S.input.left input.new)) }
-    ensures bad_padding { IfErr result (λ why. why.fault ≡ OpeningFault.BadPadding → ReadsNoSealed key.now vector.now (S.input.left input.old) (S.input.left input.new)) }
+    ensures bad_padding { IfErr result (λ why. why.fault ≡ OpeningFault.BadPadding →
+        ReadsNoSealed key.now vector.now (S.input.left input.old) (S.input.left input.new)) }
     ensures counts { IfErr result (λ why. OpeningCounts (S.input.reads input.old) (S.input.reads input.new) (S.input.failures input.old)
         (S.input.failures input.new) why.fault) }
     ensures scarce { IfErr result (λ why. why.fault ≡ OpeningFault.NoMemory → S.input.reads input.old < S.input.reads input.new) }
