@@ -1,11 +1,10 @@
 -- Who waits at a desk.
-use Rattle.std.specs.Prelude.{◌≡◌, ◌<◌, false, [], length}
+use Rattle.std.specs.Prelude.{◌≡◌, ◌<◌, ℕ, Bool, false, [], length}
 use Rattle.cutter.specs.Plans.{SegmentPlan}
 use Rattle.cutter.specs.Lent.{lent}
 use Rattle.flow_core.specs.declared.fault.FeedFault.{FeedFault}
 use Rattle.flow_core.specs.declared.fault.FeedFault.TheVariants.{Full, Closed, Twice, NoMemory}
 use Rattle.flow_core.specs.Queues.{QueueValue, outstanding}
-use Rattle.work_desk.specs.declared.steps.Seen.{Seen}
 
 -- workers wait while no plan waits for them and more may be fed
 abbrev pub WorkersWait : QueueValue → Type 0
@@ -16,8 +15,14 @@ abbrev pub TakerWaits : QueueValue → Type 0
 TakerWaits q = (q.done ≡ []) × (0 < outstanding q)
 
 -- what is seen of a queue
-abbrev pub seen_in : QueueValue → Seen
-seen_in q = record { closed = q.closed; waiting = length q.waiting; outstanding = outstanding q }
+pub record Sight : Type 0 where
+  pub closed : Bool
+  pub waiting : ℕ
+  pub done : ℕ
+  pub outstanding : ℕ
+
+abbrev pub seen_in : QueueValue → Sight
+seen_in q = record { closed = q.closed; waiting = length q.waiting; done = length q.done; outstanding = outstanding q }
 
 -- the plan comes back
 abbrev pub GivesBack : SegmentPlan → FeedFault → Type 0

@@ -6,6 +6,7 @@ ghost use Rattle.flow_core.specs.Queues.{IsOwnOutcome, first_queue};
 ghost use Rattle.work_desk.specs.Waiting.{GivesBack};
 
 use crate::pass::Pass;
+use crate::sealing::Worked;
 use crate::steps::{
     Ended, Seen, claim, claim_more, close, deliver, stop, take, take_awaited, taker_waits,
     workers_wait,
@@ -176,6 +177,14 @@ impl<'s, L: Ledger, M: Ledger> Desk<'s, L, M> {
         self.done.notify_one();
     }
 
+    /// What a worker made of a plan that it claimed becomes of that plan.
+    pub(crate) fn hand_in<R: Wait>(&self, rt: &R, worked: Worked<'s>)
+        requires { IsOwnOutcome worked.claim.plan worked.outcome }
+    {
+        worked.deliver_to(&mut self.queue.lock(rt));
+        self.done.notify_one();
+    }
+
     /// Takes what has been done the longest; none where nothing is done. It waits for the lock alone.
     pub fn take_done<R: Wait>(&self, rt: &R, pass: &mut Pass<M>) -> Option<Delivery<'s>>
         ensures counted { IfSome result (λ _. pass.new.count ≡ pass.old.count + 1) }
@@ -186,7 +195,8 @@ impl<'s, L: Ledger, M: Ledger> Desk<'s, L, M> {
     }
 
     /// The same, with what was seen where there is none.
-    fn look_done<R: Wait>(&self, rt: &R, pass: &mut Pass<M>) -> Result<Delivery<'s>, Seen>
+    pub fn look_done<R: Wait>(&self, rt: &R, pass: &mut Pass<M>) -> Result<Delivery<'s>, Seen>
+        ensures none { IfErr result (λ seen. seen.done ≡ 0) }
         ensures counted { OnOk result (pass.new.count ≡ pass.old.count + 1) }
         ensures uncounted { OnErr result (pass.new.count ≡ pass.old.count) }
         ensures number { pass.new.number ≡ pass.old.number }
@@ -204,11 +214,11 @@ impl<'s, L: Ledger, M: Ledger> Desk<'s, L, M> {
     }
 
     /// The same, with what was seen where there is none.
-    fn await_done<R: Wait>(&self, rt: &R, pass: &mut Pass<M>) -> Result<Delivery<'s>, Seen>
+    pub fn await_done<R: Wait>(&self, rt: &R, pass: &mut Pass<M>) -> Result<Delivery<'s>, Seen>
         ensures counted { OnOk result (pass.new.count ≡ pass.old.count + 1) }
         ensures uncounted { OnErr result (pass.new.count ≡ pass.old.count) }
         ensures number { pass.new.number ≡ pass.old.number }
-        ensures over { IfErr result (λ seen. seen.outstanding ≡ 0) }
+        ensures none { IfErr result (λ seen. (seen.done ≡ 0) × (seen.outstanding ≡ 0)) }
     {
         let locked = self.queue.lock(rt);
         let mut queue = self.done.wait_while(rt, locked, |queue| taker_waits(queue));

@@ -18,4 +18,5 @@ pub use desk::{Desk, Opened};
 pub use flow_core::{Claim, Delivery, Fed, FeedFault, Outcome};
 pub use gate::{FreeGate, Gate};
 pub use pass::{Pass, Tally};
+pub use steps::Seen;
 pub use worker::work;

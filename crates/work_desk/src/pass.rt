@@ -1,7 +1,8 @@
 //! The right to claim, or to take.
 
-ghost use Rattle.std.specs.Prelude.{◌≡◌};
+ghost use Rattle.std.specs.Prelude.{◌≡◌, true};
 
+use crate::steps::Seen;
 use std::sync::ledger::{Ledger, Share};
 
 /// The right to claim, or to take, with how often it was used: that is its share of the desk's book.
@@ -41,8 +42,9 @@ impl<L: Ledger> Pass<L> {
         }
     }
 
-    /// What the pass was used for.
-    pub fn tally(self) -> Tally<L>
+    /// What the pass was used for, by a worker that saw that no more plans are fed and none waits.
+    pub(crate) fn tally(self, _seen: Seen) -> Tally<L>
+        requires { (_seen.closed ≡ true) × (_seen.waiting ≡ 0) }
         ensures { (result.worker ≡ self.number) × (result.claims ≡ self.count) }
     {
         let Pass {

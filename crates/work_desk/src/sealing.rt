@@ -3,13 +3,17 @@
 ghost use Rattle.std.specs.Prelude.{◌≡◌, IfOk, IfErr};
 ghost use Rattle.segment_job.specs.Segments.{sealed_from};
 ghost use Rattle.flow_core.specs.declared.outcome.Outcome.TheVariants.{Sealed as IsSealed};
+ghost use Rattle.flow_core.specs.Lists.{In};
 ghost use Rattle.flow_core.specs.Queues.{IsOwnOutcome};
+ghost use Rattle.flow_core.specs.Steps.{Delivers};
 ghost use Rattle.work_desk.specs.Works.{IsBegun, IsTurnedAway, outcome_of};
 
 use crate::gate::Gate;
-use flow_core::{Claim, Outcome};
+use crate::steps::deliver;
+use flow_core::{Claim, Outcome, Queue};
 use segment_job::{Keys, Sealed, Unsealed, seal_four, seal_two};
 use std::alloc::Global;
+use std::sync::ledger::Ledger;
 
 /// A claimed plan whose segment is to be sealed.
 pub(crate) struct Begun<'s> {
@@ -30,10 +34,10 @@ impl<'s> Begun<'s> {
     }
 }
 
-/// A claimed plan, and what became of it.
+/// A claimed plan, and what became of it. Nobody can take the two apart: all that can be done with it is to deliver it.
 pub(crate) struct Worked<'s> {
-    pub claim: Claim<'s>,
-    pub outcome: Outcome<'s>,
+    claim: Claim<'s>,
+    outcome: Outcome<'s>,
 }
 
 impl<'s> Worked<'s> {
@@ -46,6 +50,16 @@ impl<'s> Worked<'s> {
             claim,
             outcome: Outcome::Sealed(segment),
         }
+    }
+
+    /// Delivers it. Nothing changes where nobody has that claim at this queue.
+    pub(crate) fn deliver_to<L: Ledger, M: Ledger>(self, queue: &mut Queue<'s, L, M>)
+        requires { IsOwnOutcome self.claim.plan self.outcome }
+        ensures yes { In self.entry.claim queue.old.claimed → Delivers queue.old self.entry.claim self.entry.outcome queue.new }
+        ensures no { (In self.entry.claim queue.old.claimed → ⊥) → queue.new ≡ queue.old }
+    {
+        let Worked { claim, outcome } = self;
+        deliver(queue, claim, outcome);
     }
 }
 

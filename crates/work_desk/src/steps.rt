@@ -8,15 +8,25 @@ ghost use Rattle.work_desk.specs.Waiting.{WorkersWait, TakerWaits, seen_in};
 
 use crate::pass::Pass;
 use flow_core::{Claim, Delivery, Outcome, Queue};
+use std::marker::Model;
 use std::sync::ledger::Ledger;
 
 /// What a step saw of the queue where it found nothing. Only a step makes one: it is the receipt that somebody looked under
 /// the lock.
-#[derive(Clone, Copy)]
+#[derive(Drop)]
 pub struct Seen {
     closed: bool,
     waiting: usize,
+    done: usize,
     outstanding: usize,
+}
+
+impl Model for Seen {
+    ghost use Rattle.work_desk.specs.Waiting.{Sight};
+
+    ghost Value = { Sight };
+
+    ghost view = { λ s. record { closed = s.closed; waiting = s.waiting; done = s.done; outstanding = s.outstanding } };
 }
 
 /// What is seen of a queue.
@@ -26,6 +36,7 @@ fn look<L: Ledger, M: Ledger>(queue: &Queue<'_, L, M>) -> Seen
     Seen {
         closed: queue.is_closed(),
         waiting: queue.waiting(),
+        done: queue.done(),
         outstanding: queue.outstanding(),
     }
 }

@@ -1,14 +1,13 @@
 //! A worker's run.
 
 ghost use Rattle.std.specs.Prelude.{◌≡◌, ◌+◌, IfErr, IfNone, IfOk, IfSome, None, OnErr, Some, true};
-ghost use Rattle.flow_core.specs.Queues.{IsOwnOutcome};
 ghost use Rattle.work_desk.specs.Batches.{AreLetThrough, IsLetThrough};
 ghost use Rattle.work_desk.specs.Works.{IsBegun};
 
 use crate::desk::Desk;
 use crate::gate::Gate;
 use crate::pass::{Pass, Tally};
-use crate::sealing::{Begun, Means, Worked, finish_four, finish_one, finish_two};
+use crate::sealing::{Begun, Means, finish_four, finish_one, finish_two};
 use crate::steps::Seen;
 use flow_core::Claim;
 use segment_job::Keys;
@@ -35,8 +34,8 @@ pub fn work<'s, L: Ledger, M: Ledger, G: Gate, R: Wait>(
     ensures { result.worker ≡ pass.number }
 {
     let mut pass = pass;
-    serve(rt, alloc, desk, &mut pass, keys, gate);
-    pass.tally()
+    let seen = serve(rt, alloc, desk, &mut pass, keys, gate);
+    pass.tally(seen)
 }
 
 /// Claims, seals and delivers until no more plans are fed and none waits, and tells that it saw so.
@@ -152,7 +151,7 @@ fn begin<'s, L: Ledger, M: Ledger, G: Gate, R: Wait>(
     match means.begin(claim) {
         Ok(begun) => Some(begun),
         Err(away) => {
-            hand_in(rt, desk, away.into_worked());
+            desk.hand_in(rt, away.into_worked());
             None
         }
     }
@@ -177,10 +176,10 @@ fn finish_all<'s, L: Ledger, M: Ledger, G: Gate, R: Wait>(
     match (first, second, third, fourth) {
         (Some(first), Some(second), Some(third), Some(fourth)) => {
             let (one, two, three, four) = finish_four(first, second, third, fourth);
-            hand_in(rt, desk, one);
-            hand_in(rt, desk, two);
-            hand_in(rt, desk, three);
-            hand_in(rt, desk, four);
+            desk.hand_in(rt, one);
+            desk.hand_in(rt, two);
+            desk.hand_in(rt, three);
+            desk.hand_in(rt, four);
         }
         (first, second, third, fourth) => {
             finish_pair(rt, desk, first, second);
@@ -199,18 +198,10 @@ fn finish_pair<'s, L: Ledger, M: Ledger, R: Wait>(
     match (first, second) {
         (Some(first), Some(second)) => {
             let (one, two) = finish_two(first, second);
-            hand_in(rt, desk, one);
-            hand_in(rt, desk, two);
+            desk.hand_in(rt, one);
+            desk.hand_in(rt, two);
         }
-        (Some(alone), None) | (None, Some(alone)) => hand_in(rt, desk, finish_one(alone)),
+        (Some(alone), None) | (None, Some(alone)) => desk.hand_in(rt, finish_one(alone)),
         (None, None) => {}
     }
-}
-
-/// Delivers what became of a claimed plan.
-fn hand_in<'s, L: Ledger, M: Ledger, R: Wait>(rt: &R, desk: &Desk<'s, L, M>, worked: Worked<'s>)
-    requires { IsOwnOutcome worked.claim.plan worked.outcome }
-{
-    let Worked { claim, outcome } = worked;
-    desk.deliver(rt, claim, outcome);
 }
