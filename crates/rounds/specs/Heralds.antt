@@ -39,6 +39,10 @@ pub record TellsAll (was_told : PackFault → Type 0) (n : ℕ) (told : List Boo
   pub stands : (k : ℕ) → HasFault n lanes k → slice_index_or told_now k true ≡ true
   pub others : (k : ℕ) → (HasFault n lanes k → ⊥) → slice_index_or told_now k true ≡ slice_index_or told k true
 
+-- each of the first n renditions that stopped by a fault counts as told
+abbrev pub AllTold : ℕ → List Bool → List Lane → Type 0
+AllTold n told lanes = (k : ℕ) → HasFault n lanes k → slice_index_or told k true ≡ true
+
 -- rendition k stopped by a fault that was told
 pub record IsHeard (was_told : PackFault → Type 0) (k : ℕ) (stop : Option Stop) : Type 0 where
   pub fault : PackFault

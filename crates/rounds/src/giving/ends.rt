@@ -5,8 +5,11 @@ ghost use Rattle.ingest.specs.Lanes.{is_good};
 ghost use Rattle.ingest.specs.declared.lane.Lane.{Lane};
 ghost use Rattle.rounds.specs.Courses.{HasEndDue, HasGoodEnds, IsEndDue, IsSomeBetween, ReadsNone, StaysBetween, StopsAt, StopsBetween};
 ghost use Rattle.rounds.specs.Gated.{IsUnheld};
+ghost use Rattle.rounds.specs.Heralds.{AllTold};
+ghost use Rattle.rounds.specs.declared.run.telling.TheConstants.{RENDITIONS};
 
 use crate::giving::broadcast::Broadcast;
+use crate::run::telling::Telling;
 use item_io::{Outlet, Source};
 use ladder_items::{PackFault, Settings};
 use std::alloc::Global;
@@ -40,8 +43,15 @@ impl<'r, S: Source, O: Outlet, R: Wait> Broadcast<'r, S, O, R> {
         Ok(())
     }
 
-    /// Gives the end of each rendition whose input ended well, that has nothing left to give, and whose end hasn't been given.
-    pub fn give_ends(&mut self, alloc: Global, settings: &Settings) -> Result<(), PackFault>
+    /// Gives the end of each rendition whose input ended well, that has nothing left to give, and whose end hasn't been given. Each
+    /// fault that stands was told before.
+    pub fn give_ends<H>(
+        &mut self,
+        alloc: Global,
+        settings: &Settings,
+        _telling: &Telling<'_, H>,
+    ) -> Result<(), PackFault>
+        requires told { AllTold RENDITIONS _telling.now.told self.old.course.lanes.items }
         requires on { IsSomeBetween S.input O.output settings.now self.old }
         ensures ok { OnOk result (StaysBetween S.input O.output settings.now self.old self.new) }
         ensures err { IfErr result (StopsBetween S.input O.output settings.now self.old self.new) }

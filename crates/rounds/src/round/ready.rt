@@ -11,6 +11,7 @@ use ladder_items::{PackFault, Settings};
 use std::alloc::Global;
 use std::sync::Wait;
 use std::sync::ledger::Ledger;
+use work_desk::Seen;
 
 impl<'d, 's, 'r, S: Source, O: Outlet, L: Ledger, M: Ledger, R: Wait> Round<
     'd,
@@ -22,8 +23,14 @@ impl<'d, 's, 'r, S: Source, O: Outlet, L: Ledger, M: Ledger, R: Wait> Round<
     M,
     R,
 > {
-    /// Gives the sealed segments of every rendition, up to its first gap.
-    pub fn give_all_ready(&mut self, alloc: Global, settings: &Settings) -> Result<(), PackFault>
+    /// Gives the sealed segments of every rendition, up to its first gap, once the desk was seen with nothing done.
+    pub fn give_all_ready(
+        &mut self,
+        alloc: Global,
+        settings: &Settings,
+        _seen: Seen,
+    ) -> Result<(), PackFault>
+        requires none_done { _seen.done ≡ 0 }
         requires somewhere { IsSomewhere S.input O.output settings.now self.old }
         ensures ok { OnOk result (Moves S.input O.output settings.now self.old self.new) }
         ensures err { IfErr result (Breaks S.input O.output settings.now self.old self.new) }

@@ -51,9 +51,7 @@ pub fn in_scope<
     ensures err { IfErr result.1 (IsBroken S.input O.output setup.now.settings.now spools.now between.entry.broadcast result.0.broadcast) }
     ensures held { IfErr result.1 (IsGatesWord (G.stops setup.now.gate.now)) }
 {
-    let rt = setup.rt;
-    let alloc = setup.alloc;
-    let gate = setup.gate;
+    let (rt, alloc, gate) = (setup.rt, setup.alloc, setup.gate);
     thread::scope(
         thread::scope_env(),
         rt,

@@ -15,7 +15,7 @@ use cutter::PlanRef;
 use flow_core::{Collector, Delivery, Fed, FeedFault, Outcome};
 use ladder_items::{PackFault, Settings};
 use segment_job::{Sealed, seal_plan};
-use work_desk::Gate;
+use work_desk::{Gate, Seen};
 
 /// Collects a sealed segment, and returns whether it was right.
 #[tactic(auto, using(crate::proofs::Collecting::keeps_same))]
@@ -134,13 +134,15 @@ impl<'g, G: Gate> Sealer<'g, G> {
         }
     }
 
-    /// Seals everything that is missing on this thread.
+    /// Seals everything that is missing on this thread, once the desk was seen with nothing outstanding.
     #[tactic(auto, using(crate::proofs::Collecting::keeps_same))]
     pub fn seal_missing(
         &self,
         settings: &Settings,
         collector: &mut Collector<'_>,
+        _seen: Seen,
     ) -> Result<(), PackFault>
+        requires over { _seen.outstanding ≡ 0 }
         requires keys { HasKeys settings.now collector.old }
         ensures keeps { Keeps collector.old collector.new }
         ensures more { gathered collector.old.sequences ≤ gathered collector.new.sequences }

@@ -15,7 +15,7 @@ use item_io::{Outlet, Source};
 use ladder_items::{PackFault, Settings};
 use std::sync::Wait;
 use std::sync::ledger::Ledger;
-use work_desk::{Desk, Gate, Pass};
+use work_desk::{Desk, Gate, Pass, Seen};
 
 impl<'d, 's, 'r, S: Source, O: Outlet, L: Ledger, M: Ledger, R: Wait> Round<
     'd,
@@ -131,35 +131,38 @@ impl<'d, 's, 'r, S: Source, O: Outlet, L: Ledger, M: Ledger, R: Wait> Round<
         ensures fewer { OnOk result (awaited self.new.collector.sequences ≤ awaited self.old.collector.sequences) }
         ensures told { IfErr result (λ fault. IsUnheld fault → awaited self.new.collector.sequences < awaited self.old.collector.sequences) }
     {
-        take_all(
+        let seen = take_all(
             self.broadcast.held.rt,
             sealer.gate,
             self.desk,
             &mut self.taker,
             &mut self.collector,
         )?;
-        self.give_all_ready(sealer.alloc, settings)?;
+        self.give_all_ready(sealer.alloc, settings, seen)?;
         Ok(())
     }
 }
 
-/// Takes what has been done longest from the desk. With `wait`, waits for it as long as anything is outstanding.
+/// Takes what has been done longest from the desk. With `wait`, waits for it as long as anything is outstanding. Where there is
+/// nothing, returns what was seen at the desk.
 fn hand_out<'s, L: Ledger, M: Ledger, R: Wait>(
     rt: &R,
     desk: &Desk<'s, L, M>,
     wait: bool,
     pass: &mut Pass<M>,
-) -> Option<Delivery<'s>>
-    ensures counted { IfSome result (λ _. pass.new.count ≡ pass.old.count + 1) }
-    ensures uncounted { IfNone result (pass.new.count ≡ pass.old.count) }
+) -> Result<Delivery<'s>, Seen>
+    ensures counted { OnOk result (pass.new.count ≡ pass.old.count + 1) }
+    ensures uncounted { OnErr result (pass.new.count ≡ pass.old.count) }
+    ensures none { IfErr result (λ seen. seen.done ≡ 0) }
+    ensures over { IfErr result (λ seen. wait ≡ true → seen.outstanding ≡ 0) }
 {
     if wait {
-        return desk.wait_done(rt, pass);
+        return desk.await_done(rt, pass);
     }
-    desk.take_done(rt, pass)
+    desk.look_done(rt, pass)
 }
 
-/// Takes in what the desk hands out; false if that is nothing.
+/// Takes in what the desk hands out. Where that is nothing, returns what was seen there.
 fn take_one<'s, G: Gate, L: Ledger, M: Ledger, R: Wait>(
     rt: &R,
     gate: &G,
@@ -167,11 +170,13 @@ fn take_one<'s, G: Gate, L: Ledger, M: Ledger, R: Wait>(
     wait: bool,
     taker: &mut Taker<M>,
     collector: &mut Collector<'s>,
-) -> Result<bool, PackFault>
+) -> Result<Result<(), Seen>, PackFault>
     ensures keeps { Keeps collector.old collector.new }
     ensures fair { taker.new.right + gathered collector.old.sequences ≡ taker.old.right + gathered collector.new.sequences }
-    ensures counted { IfOk result (λ any. any ≡ true → taker.new.pass.count ≡ taker.old.pass.count + 1) }
-    ensures uncounted { IfOk result (λ any. any ≡ false → (taker.new.pass.count ≡ taker.old.pass.count) × (collector.new ≡ collector.old)) }
+    ensures counted { IfOk result (λ took. OnOk took (taker.new.pass.count ≡ taker.old.pass.count + 1)) }
+    ensures uncounted { IfOk result (λ took. OnErr took ((taker.new.pass.count ≡ taker.old.pass.count) × (collector.new ≡ collector.old))) }
+    ensures none { IfOk result (λ took. IfErr took (λ seen. seen.done ≡ 0)) }
+    ensures over { IfOk result (λ took. IfErr took (λ seen. wait ≡ true → seen.outstanding ≡ 0)) }
     ensures more { taker.old.pass.count ≤ taker.new.pass.count }
     ensures rest { length (missing_in collector.new.sequences) ≤ length (missing_in collector.old.sequences) }
     ensures fault { IfErr result (IsHeldBack (G.stops gate.now)) }
@@ -181,34 +186,36 @@ fn take_one<'s, G: Gate, L: Ledger, M: Ledger, R: Wait>(
         right,
         thrown,
     } = taker;
-    let Some(done) = hand_out(rt, desk, wait, pass) else {
-        return Ok(false);
+    let done = match hand_out(rt, desk, wait, pass) {
+        Ok(done) => done,
+        Err(seen) => return Ok(Err(seen)),
     };
     prove!(pass.count > 0);
     take_in(gate, collector, done, right, thrown)?;
-    Ok(true)
+    Ok(Ok(()))
 }
 
-/// Takes in everything that is done.
+/// Takes in everything that is done, until the desk is seen with nothing of the kind.
 fn take_all<'s, G: Gate, L: Ledger, M: Ledger, R: Wait>(
     rt: &R,
     gate: &G,
     desk: &Desk<'s, L, M>,
     taker: &mut Taker<M>,
     collector: &mut Collector<'s>,
-) -> Result<(), PackFault>
+) -> Result<Seen, PackFault>
     ensures keeps { Keeps collector.old collector.new }
     ensures fair { taker.new.right + gathered collector.old.sequences ≡ taker.old.right + gathered collector.new.sequences }
     ensures more { taker.old.pass.count ≤ taker.new.pass.count }
     ensures rest { length (missing_in collector.new.sequences) ≤ length (missing_in collector.old.sequences) }
+    ensures none { IfOk result (λ seen. seen.done ≡ 0) }
     ensures fault { IfErr result (IsHeldBack (G.stops gate.now)) }
 {
     for _ in rt.forever() {
-        if !take_one(rt, gate, desk, false, taker, collector)? {
-            break;
+        if let Err(seen) = take_one(rt, gate, desk, false, taker, collector)? {
+            return Ok(seen);
         }
     }
-    Ok(())
+    unreachable!()
 }
 
 /// Waits until something is done, and takes it in. If nothing is outstanding, seals what is missing on this thread.
@@ -230,9 +237,8 @@ fn wait_or_seal<'s, G: Gate, L: Ledger, M: Ledger, R: Wait>(
     ensures fault { IfErr result (λ fault. IsHeldBack (G.stops sealer.now.gate.now) fault
         ⊎ IsLeft (G.lets sealer.now.gate.now) (G.stops sealer.now.gate.now) collector.new fault) }
 {
-    if take_one(rt, sealer.gate, desk, true, taker, collector)? {
-        return Ok(());
+    match take_one(rt, sealer.gate, desk, true, taker, collector)? {
+        Ok(()) => Ok(()),
+        Err(seen) => sealer.seal_missing(settings, collector, seen),
     }
-    sealer.seal_missing(settings, collector)?;
-    Ok(())
 }

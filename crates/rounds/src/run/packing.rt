@@ -91,14 +91,7 @@ pub fn pack_parallel_reads<
     ensures held { IfErr result.answer (IsGatesWord (G.stops gate.now)) }
     ensures left { OnOk result.answer (AreLeft S.input result.sources.items) }
 {
-    let setup = Setup {
-        rt,
-        alloc,
-        settings,
-        workers,
-        gate,
-        batch: workers.min(settings.queue as usize),
-    };
+    let setup = Setup::new(rt, alloc, settings, workers, gate);
     let endpoints = Endpoints {
         sources,
         outlet,

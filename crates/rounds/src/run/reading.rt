@@ -65,8 +65,7 @@ impl<S: Source, O: Outlet> Course<S, O> {
 
     /// Gives rendition `r`, which goes on, its turn.
     fn take_turn(&mut self, r: usize, buffer: &mut [u8]) -> Result<(), AllocError>
-        requires some { 0 < length buffer.old }
-        requires short { length buffer.old ≤ PIECE }
+        requires whole { length buffer.old ≡ PIECE }
         requires within { r < length self.old.lanes.items }
         requires on { IsRun S.input O.output self.old }
         requires going { (lane : Lane) → slice_get self.old.lanes.items r ≡ Some lane → lane.stop ≡ None }
@@ -91,8 +90,7 @@ impl<S: Source, O: Outlet> Course<S, O> {
 
     /// Gives rendition `r` its turn if it goes on and is ready. Returns whether it did.
     fn read_one(&mut self, r: usize, buffer: &mut [u8]) -> Result<bool, AllocError>
-        requires some { 0 < length buffer.old }
-        requires short { length buffer.old ≤ PIECE }
+        requires whole { length buffer.old ≡ PIECE }
         requires within { r < length self.old.lanes.items }
         requires on { IsRun S.input O.output self.old }
         ensures ok { OnOk result (ReadsOn S.input O.output self.old self.new) }
@@ -123,8 +121,7 @@ impl<S: Source, O: Outlet> Course<S, O> {
 
     /// Gives each rendition that goes on and is ready one turn: each whose source can't tell is. Returns whether any had one.
     pub fn read_ready(&mut self, buffer: &mut [u8]) -> Result<bool, AllocError>
-        requires some { 0 < length buffer.old }
-        requires short { length buffer.old ≤ PIECE }
+        requires whole { length buffer.old ≡ PIECE }
         requires on { IsRun S.input O.output self.old }
         ensures ok { OnOk result (ReadsOn S.input O.output self.old self.new) }
         ensures err { OnErr result (ReadsShort S.input O.output self.old self.new) }

@@ -53,7 +53,7 @@ fn give_due_ends<'r, S: Source, O: Outlet, R: Wait, H: Herald>(
         books,
     } = between;
     broadcast.course.tell_faults(telling);
-    let answer = broadcast.give_ends(alloc, settings);
+    let answer = broadcast.give_ends(alloc, settings, telling);
     (BetweenRounds { broadcast, books }, answer)
 }
 

@@ -1,6 +1,6 @@
 //! What a run is given: the setup that stays the same, and the endpoints that come back.
 
-ghost use Rattle.std.specs.Prelude.{◌≡◌};
+ghost use Rattle.std.specs.Prelude.{◌≡◌, min};
 ghost use Rattle.rounds.specs.Paces.{pace_in};
 
 use crate::run::pace::Pace;
@@ -27,7 +27,30 @@ pub struct Setup<'a, G, R> {
     pub batch: usize,
 }
 
-impl<G, R> Setup<'_, G, R> {
+impl<'a, G, R> Setup<'a, G, R> {
+    /// A setup with a batch of one segment for each worker, or of as many as the queue holds where that is fewer.
+    pub fn new(
+        rt: &'a R,
+        alloc: Global,
+        settings: &'a Settings,
+        workers: usize,
+        gate: &'a G,
+    ) -> Setup<'a, G, R>
+        ensures settings { result.settings.now ≡ settings.now }
+        ensures gate { result.gate.now ≡ gate.now }
+        ensures workers { result.workers ≡ workers }
+        ensures batch { result.batch ≡ min workers settings.now.queue }
+    {
+        Setup {
+            rt,
+            alloc,
+            settings,
+            workers,
+            gate,
+            batch: workers.min(settings.queue as usize),
+        }
+    }
+
     /// The pace of a run with this setup.
     pub fn pace(&self) -> Pace
         ensures { result ≡ pace_in self.now }

@@ -1,24 +1,30 @@
-use Rattle.std.proofs.Common.{inl, inr, ap, arith}
+use Rattle.std.proofs.Common.{◌≡◌, ◌+◌, inl, inr, ap, arith}
+use Rattle.std.proofs.lemmas.Result.{IfErr-at_err, IfOk-at_ok}
 use Rattle.flow_core.specs.Gatherings.{Gathering}
+use Rattle.ingest.proofs.Taking.{OnOk-map}
 use Rattle.rounds.specs.Rounds.{gathered}
 use Rattle.rounds.proofs.round.taking.wait_or_seal.Goals as goal
 
-pub returns-then-branch-clause-further : goal.returns-then-branch-clause-further
-returns-then-branch-clause-further g c = let one = c.in_ok-take_one.ensures.counted c.if-branch.true in inl (omega (arith, one))
+pub returns-in-Ok-clause-further : goal.returns-in-Ok-clause-further
+returns-in-Ok-clause-further g c =
+    let one = IfOk-at_ok (λ _. c.take_one.new.taker.pass.count ≡ c.args.taker.now.pass.count + 1) c.in-Ok.is c.in_ok-take_one.ensures.counted in
+    inl (omega (arith, one))
 
-pub returns-clause-further : goal.returns-clause-further
-returns-clause-further g c = inr c.in_ok-seal_missing.ensures.all
+pub returns-in-Err-clause-further : goal.returns-in-Err-clause-further
+returns-in-Err-clause-further g c = OnOk-map c.seal_missing.result inr c.seal_missing.ensures.all
 
-pub returns-then-branch-clause-untaken : goal.returns-then-branch-clause-untaken
-returns-then-branch-clause-untaken g c same = let one = c.in_ok-take_one.ensures.counted c.if-branch.true in absurd (omega (arith, one, same))
+pub returns-in-Ok-clause-untaken : goal.returns-in-Ok-clause-untaken
+returns-in-Ok-clause-untaken g c same =
+    let one = IfOk-at_ok (λ _. c.take_one.new.taker.pass.count ≡ c.args.taker.now.pass.count + 1) c.in-Ok.is c.in_ok-take_one.ensures.counted in
+    absurd (omega (arith, one, same))
 
-pub returns-clause-exact : goal.returns-clause-exact
-returns-clause-exact g c more = let none = c.in_ok-take_one.ensures.uncounted c.if-branch.false in absurd (omega (arith, none.0, more))
+pub returns-in-Err-clause-untaken : goal.returns-in-Err-clause-untaken
+returns-in-Err-clause-untaken g c same =
+    let none = IfErr-at_err (λ _. (c.take_one.new.taker.pass.count ≡ c.args.taker.now.pass.count) × (c.take_one.new.collector ≡ c.args.collector.now)) c.in-Err.is c.in_ok-take_one.ensures.uncounted in
+    let right : c.take_one.new.taker.right ≡ c.args.taker.now.right = omega (arith, c.in_ok-take_one.ensures.fair, ap (λ (x : Gathering). gathered x.sequences) none.1) in
+    OnOk-map c.seal_missing.result (λ _. right) c.seal_missing.ensures.all
 
-pub returns-clause-untaken : goal.returns-clause-untaken
-returns-clause-untaken g c same =
-    let none = c.in_ok-take_one.ensures.uncounted c.if-branch.false in
-    omega (arith, c.in_ok-take_one.ensures.fair, ap (λ (x : Gathering). gathered x.sequences) none.1)
-
-pub returns-in_err-seal_missing-clause-exact : goal.returns-in_err-seal_missing-clause-exact
-returns-in_err-seal_missing-clause-exact g c more = let none = c.in_ok-take_one.ensures.uncounted c.if-branch.false in absurd (omega (arith, none.0, more))
+pub returns-in-Err-clause-exact : goal.returns-in-Err-clause-exact
+returns-in-Err-clause-exact g c more =
+    let none = IfErr-at_err (λ _. (c.take_one.new.taker.pass.count ≡ c.args.taker.now.pass.count) × (c.take_one.new.collector ≡ c.args.collector.now)) c.in-Err.is c.in_ok-take_one.ensures.uncounted in
+    absurd (omega (arith, none.0, more))
