@@ -228,7 +228,8 @@ struct Board {
     watch: RunWatch,
 }
 
-/// Opens the board of a ladder that is about to begin: it has a place for each rendition, and shows no segment.
+/// Opens the board of a ladder that is about to begin: it has a place for each rendition, and shows no segment. Who watches it sees
+/// all of the ladder's inputs.
 fn open_board<R: Files + Clock + Eprint + Threads + Wait + Copy + Send + Drop + 'static>(
     rt: R,
     alloc: Global,
@@ -239,6 +240,8 @@ fn open_board<R: Files + Clock + Eprint + Threads + Wait + Copy + Send + Drop + 
 where
     R::File: Send + 'static,
     R::Dir: Send + 'static,
+    requires view { IsSome inputs ↔ 0 < length job.now.options.paths.items }
+    requires shown { IfSome inputs (λ view. inputs_of view ≡ length job.now.options.paths.items) }
     ensures none { IfOk result (λ board. counts_shown board.publisher.list ≡ replicate (length job.now.options.settings.renditions) 0) }
     ensures asked { IfOk result (λ board. board.watch ≡ Unasked → job.now.metrics ≡ None) }
     ensures unasked { job.now.metrics ≡ None → IfOk result (λ board. board.watch ≡ Unasked) }

@@ -3,11 +3,12 @@ ghost use Rattle.std.specs.Prelude.{◌≡◌, ◌≤◌, ◌++◌, ◌∷◌, A
 ghost use Rattle.ladder_items.specs.Ladder.{IsAllowed, Ladder};
 ghost use Rattle.ladder_items.specs.declared.fault.PackFault.{PackFault};
 
+use limits::MOST_RENDITIONS;
 use pipeline::PackFault;
 use std::sync::{Mutex, Wait};
 
 /// As many renditions as a ladder has at the most.
-pub const RENDITIONS: usize = 32;
+pub const RENDITIONS: usize = MOST_RENDITIONS as usize;
 
 /// Each rendition of a ladder has a place of its own.
 pub fn each_has_a_place()

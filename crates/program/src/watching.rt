@@ -398,6 +398,31 @@ fn look_and_write<R: Files + Clock + Eprint + Wait>(
     viewer
 }
 
+/// What watches a run of these renditions that begins now: its viewer, and the writer of what that shows. None where there is no memory
+/// or no viewer for it.
+fn watchers<R: Clock>(
+    rt: &R,
+    alloc: Global,
+    renditions: &[Rendition],
+    path: &str,
+    watched: Watched,
+) -> Option<(Viewer, Writer)>
+    ensures names { IfSome result (λ both. map string_bytes both.1.names.items ≡ map (λ r. r.name) renditions.now) }
+    ensures seen { IfSome result (λ both. both.1.seen.items ≡ replicate (length renditions.now) unseen) }
+    ensures path { IfSome result (λ both. string_bytes both.1.path ≡ path.now) }
+    ensures views { IfSome result (λ both. (both.1.inputs ≡ watched.inputs) × (both.1.told ≡ watched.told)) }
+    ensures untold { IfSome result (λ both. both.1.has_told ≡ false) }
+{
+    let Watched {
+        mut viewers,
+        inputs,
+        told,
+    } = watched;
+    let viewer = viewers.pop()?;
+    let writer = Writer::new(rt, alloc, renditions, path, inputs, told).ok()?;
+    Some((viewer, writer))
+}
+
 /// What the thread does: it looks at each tick, until it's stopped.
 fn look_at_ticks<R: Files + Clock + Eprint + Wait>(
     rt: &R,
@@ -463,14 +488,7 @@ impl Watching {
         )
         .ok()?;
         let theirs = Arc::try_clone(&stop).ok()?;
-        let Watched {
-            viewers,
-            inputs,
-            told,
-        } = watched;
-        let mut viewers = viewers;
-        let viewer = viewers.pop()?;
-        let writer = Writer::new(&rt, alloc, renditions, path, inputs, told).ok()?;
+        let (viewer, writer) = watchers(&rt, alloc, renditions, path, watched)?;
         let thread = thread::spawn(
             &rt,
             move || look_at_ticks(&rt, alloc, viewer, writer, &theirs),
