@@ -11,6 +11,7 @@ ghost use Rattle.command_line.specs.Options.{GetsCommand, check_options, cipher_
 
 use crate::bare_commands::{bare_check, bare_one, bare_open, bare_pack, bare_seal};
 use crate::fault::Fault;
+use crate::matching::matched;
 use crate::options::{
     check_words, cipher_words, number_words, packing_words, with_check_options,
     with_cipher_options, with_stream,
@@ -78,7 +79,7 @@ pub fn line<'a, S: AsStr, F: FileReader>(
         (IsNoCall (map S.text words.entry.now)) (subcommand_of tshls (map S.text words.entry.now))) }
 {
     let mut command = program(alloc, version)?;
-    let matches = command.try_get_matches_from_mut(words)?;
+    let matches = matched(&mut command, words)?;
     job_of(alloc, files, &mut command, &matches)
 }
 

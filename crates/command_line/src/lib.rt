@@ -8,6 +8,7 @@ mod fault_text;
 mod help;
 mod help_texts;
 mod job;
+mod matching;
 mod options;
 mod pack_options;
 mod reasons;

@@ -20,7 +20,7 @@ returns-clause-job g c =
     let app = c.in_ok-command.ensures.app in
     let words = map g.S.AsStr.text c.args.words.now in
     let matched : subcommand_rows_of c.in_ok-matches.matches ≡ subcommand_of tshls words =
-    (c.in_ok-matches.ensures.ok.2 (ap is_simple app ∙ tshls_is_simple)).1 ∙ ap (λ a. subcommand_of a words) app in
+    (c.in_ok-matches.ensures.ok (ap is_simple app ∙ tshls_is_simple)).1 ∙ ap (λ a. subcommand_of a words) app in
     subst (λ it. IfOk c.job_of.result (IsJobOf (g.F.FileReader.gives c.args.files.now) it)) matched c.job_of.ensures.job
 
 pub returns-clause-fault : goal.returns-clause-fault
@@ -28,6 +28,6 @@ returns-clause-fault g c =
     let app = c.in_ok-command.ensures.app in
     let words = map g.S.AsStr.text c.args.words.now in
     let matched : subcommand_rows_of c.in_ok-matches.matches ≡ subcommand_of tshls words =
-    (c.in_ok-matches.ensures.ok.2 (ap is_simple app ∙ tshls_is_simple)).1 ∙ ap (λ a. subcommand_of a words) app in
+    (c.in_ok-matches.ensures.ok (ap is_simple app ∙ tshls_is_simple)).1 ∙ ap (λ a. subcommand_of a words) app in
     let files = files_view (g.F.FileReader.gives c.args.files.now) (g.F.FileReader.refuses c.args.files.now) (g.F.FileReader.wants c.args.files.now) in
     IfErr-weaker c.job_of.result _ _ (λ fault is. same-job files _ _ fault matched (λ none _ command. none (subst IsCommand (sym matched) command)) is) c.job_of.ensures.fault

@@ -1,0 +1,40 @@
+//! Words, matched with the commands of the program.
+ghost use Rattle.std.specs.Prelude.{◌≡◌, IfErr, IfOk, map, true};
+ghost use Rattle.clap.specs.Values.{kind_of};
+ghost use Rattle.clap.specs.Words.{HasMatchesOf, app_of, takes};
+ghost use Rattle.clap.specs.declared.error.kind.ErrorKind.TheVariants.{OutOfMemory};
+
+use crate::fault::Fault;
+use clap::{ArgMatches, Command};
+use std::convert::AsStr;
+
+/// Why words don't match. It can't be let go: all that can be done with it is to tell it as a fault.
+pub(crate) struct Unmatched {
+    error: clap::Error,
+}
+
+impl From<Unmatched> for Fault {
+    ghost use Rattle.command_line.specs.Faults.{IsRefusal};
+
+    ghost from_gives = { λ unmatched fault. IsRefusal unmatched.error fault };
+
+    fn from(unmatched: Unmatched) -> Fault {
+        let Unmatched { error } = unmatched;
+        Fault::from(error)
+    }
+}
+
+/// What words ask for of a command.
+pub(crate) fn matched<'a, S: AsStr>(
+    command: &mut Command<'a>,
+    words: &'a [S],
+) -> Result<ArgMatches<'a>, Unmatched>
+    ensures ok { IfOk result (HasMatchesOf (app_of command.old) (map S.text words.entry.now)) }
+    ensures passes { IfErr result (λ unmatched. takes (app_of command.old) (map S.text words.entry.now) ≡ true
+        → kind_of unmatched.error ≡ OutOfMemory) }
+{
+    match command.try_get_matches_from_mut(words) {
+        Ok(matches) => Ok(matches),
+        Err(error) => Err(Unmatched { error }),
+    }
+}
