@@ -26,7 +26,7 @@ use Rattle.command_line.specs.declared.fault.Fault.{Fault}
 use Rattle.command_line.specs.declared.fault.Fault.TheVariants.{Usage, NotUtf8, Cipher, Settings, KeyList, Ladder, NoMemory, Busy, Sealing, Opening, Resuming, Unopened, Packing, LadderPacking, Checking}
 use Rattle.command_line.specs.Faults.{IsRefused}
 use Rattle.command_line.specs.Jobs.{IsMatched}
-use Rattle.command_line.specs.Words.{IsNumberOf, text_of}
+use Rattle.command_line.specs.Words.{IsNumberOf, text_of, texts_of}
 use Rattle.command_line.specs.Refusals.{FilesView, IsCipherFault, IsKeyListFault, IsLadderFault, IsNoCipher, AreNoKeys, IsNoJob, IsNoLadder, AreNoSettings, IsSettingsFault, RefusesCipher}
 
 -- each fault of a key and a vector, by what it says
@@ -168,3 +168,8 @@ same-job files {p} {q} matched other fault same more is = subst (λ (m : Option 
     weaker (Packing fault) is = is
     weaker (LadderPacking fault) is = is
     weaker (Checking fault) is = is
+
+-- want of memory for a ladder is told only where there are entries
+pub ladder-memory : (files : FilesView) (found : Found) (fault : Fault) → IsNoLadder files found fault → fault ≡ NoMemory → 0 < length (texts_of found (codes "entries"))
+ladder-memory files found fault (inl (told, some)) is = some
+ladder-memory files found fault (inr (why, told, says)) is = absurd (cc (told, is))

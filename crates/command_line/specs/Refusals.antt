@@ -25,7 +25,7 @@ use Rattle.commands.specs.Settings.{AreFit, AreInside, AreOutside, FitsCut, HasS
 use Rattle.commands.specs.Sizes.{HasSize}
 use Rattle.command_line.specs.declared.fault.Fault.{Fault}
 use Rattle.command_line.specs.declared.fault.Fault.TheVariants.{Usage, NotUtf8, Cipher, Settings, KeyList, Ladder, NoMemory, Busy, Sealing, Opening, Resuming, Unopened, Packing, LadderPacking, Checking}
-use Rattle.command_line.specs.Jobs.{IsMatched}
+use Rattle.command_line.specs.Jobs.{IsCommand, IsMatched}
 use Rattle.command_line.specs.Words.{AreNumberWords, ArePoolWords, IsFlagOf, IsNumberOf, given_text, text_of, texts_of}
 
 -- what reading the file at a path may do: give bytes, fail, want memory that isn't there
@@ -154,3 +154,9 @@ IsNoJob files usage matched (Unopened fault) = ⊥
 IsNoJob files usage matched (Packing fault) = ⊥
 IsNoJob files usage matched (LadderPacking fault) = ⊥
 IsNoJob files usage matched (Checking fault) = ⊥
+
+-- Of what was matched memory may be wanted: where it is no command, for the words that say so, and for the entries of `pack`, of which there
+-- are some.
+abbrev pub MayWantMemory : Option (Text × List Row) → Type 0
+MayWantMemory matched =
+    (IsCommand matched → ⊥) ⊎ ((found : Found) × IsMatched matched (codes "pack") found × (0 < length (texts_of found (codes "entries"))))

@@ -1,12 +1,12 @@
 //! The command line: which command it asks for, with its options as values.
-ghost use Rattle.std.specs.Prelude.{◌≡◌, ⊤, Some, codes, false, map, IfErr, IfOk};
+ghost use Rattle.std.specs.Prelude.{◌≡◌, ⊤, Some, codes, false, map, IfErr, IfOk, IsErrOf};
 ghost use Rattle.clap.specs.Values.{kind_of};
 ghost use Rattle.clap.specs.Words.{app_of, found_of, subcommand_of, subcommand_rows_of};
 ghost use Rattle.clap.specs.declared.builder.command.Command.TheViews.{out-Command};
 ghost use Rattle.clap.specs.declared.error.Error.{Error};
 ghost use Rattle.command_line.specs.Faults.{IsRefusal, IsRefused};
 ghost use Rattle.command_line.specs.Jobs.{AreCheckOptions, AreCipherOptions, AreSettings, IsCommand, IsJobOf, IsLadderJob, IsNoCall};
-ghost use Rattle.command_line.specs.Refusals.{AreNoKeys, AreNoSettings, IsNoCipher, IsNoJob, IsNoLadder, files_view};
+ghost use Rattle.command_line.specs.Refusals.{AreNoKeys, AreNoSettings, IsNoCipher, IsNoJob, IsNoLadder, MayWantMemory, files_view};
 ghost use Rattle.command_line.specs.Options.{GetsCommand, check_options, cipher_options, command_of, ladder_options, stream_options, tshls};
 
 use crate::bare_commands::{bare_check, bare_one, bare_open, bare_pack, bare_seal};
@@ -93,6 +93,7 @@ fn job_of<'a, F: FileReader>(
     ensures job { IfOk result (IsJobOf (F.gives files.now) (subcommand_rows_of matches.now)) }
     ensures fault { IfErr result (IsNoJob (files_view (F.gives files.now) (F.refuses files.now) (F.wants files.now))
         (IsCommand (subcommand_rows_of matches.now) → ⊥) (subcommand_rows_of matches.now)) }
+    ensures scarce { IsErrOf result Fault.NoMemory → MayWantMemory (subcommand_rows_of matches.now) }
 {
     let Some((name, options)) = matches.subcommand() else {
         return Err(no_command(command));

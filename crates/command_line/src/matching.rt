@@ -1,7 +1,7 @@
 //! Words, matched with the commands of the program.
-ghost use Rattle.std.specs.Prelude.{◌≡◌, IfErr, IfOk, map, true};
+ghost use Rattle.std.specs.Prelude.{◌≡◌, [], IfErr, IfOk, MatchResult, map, true};
 ghost use Rattle.clap.specs.Values.{kind_of};
-ghost use Rattle.clap.specs.Words.{HasMatchesOf, app_of, takes};
+ghost use Rattle.clap.specs.Words.{HasKind, HasMatchesOf, app_of, fault_of, is_simple_and_free, takes};
 ghost use Rattle.clap.specs.declared.error.kind.ErrorKind.TheVariants.{OutOfMemory};
 
 use crate::fault::Fault;
@@ -32,6 +32,9 @@ pub(crate) fn matched<'a, S: AsStr>(
     ensures ok { IfOk result (HasMatchesOf (app_of command.old) (map S.text words.entry.now)) }
     ensures passes { IfErr result (λ unmatched. takes (app_of command.old) (map S.text words.entry.now) ≡ true
         → kind_of unmatched.error ≡ OutOfMemory) }
+    ensures kinds { is_simple_and_free (app_of command.old) ≡ true → MatchResult result
+        (λ _. fault_of (app_of command.old) (map S.text words.entry.now) ≡ [])
+        (λ unmatched. HasKind (fault_of (app_of command.old) (map S.text words.entry.now)) unmatched.error) }
 {
     match command.try_get_matches_from_mut(words) {
         Ok(matches) => Ok(matches),
