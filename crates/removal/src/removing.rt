@@ -5,7 +5,7 @@ ghost use Rattle.ladder_items.specs.World.{HaveRoom};
 ghost use Rattle.live_board.specs.Counts.{counts_shown};
 ghost use Rattle.rounds.specs.Shown.{Fits, IsPackedShown};
 ghost use Rattle.item_io.specs.FolderMoves.{new_outlet};
-ghost use Rattle.keeping.specs.Keepings.{AreTold, Stay};
+ghost use Rattle.keeping.specs.Keepings.{AreTold, Stay, removed_of};
 ghost use Rattle.keeping.specs.InPlace.{NoneIsListed};
 ghost use Rattle.packing.specs.LadderPacking.{IsHeard, IsNeverHeld, LadderSays, TurnsAway, WritesSummary};
 ghost use Rattle.removal.specs.Removing.{AreAllCleared, LeavesKept, kept_run, new_keeping};
@@ -64,6 +64,9 @@ pub fn pack_and_remove<
     ensures never_held { IfErr result.answer IsNeverHeld }
 
     ensures told { IfErr result.answer (IsHeard (H.was_told setup.now.herald.now)) }
+
+    // A herald of this kind, of which there is one alone, was told how many segments went by then, also where none did.
+    ensures counted { (herald : H) × H.was_removed herald (removed_of result.outlet.renditions) }
 
     // Each rendition that comes back is the one that was handed in: none is lost, made anew, or takes the place of another one.
     ensures same { Stay renditions.items result.outlet.renditions }

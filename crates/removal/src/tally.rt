@@ -55,9 +55,10 @@ impl<'t, F: Folder, T: RemovalHerald> Tallied<'t, F, T> {
         }
     }
 
-    /// The outlet.
+    /// The outlet. How many were removed was told.
     pub fn into_outlet(self) -> KeepingOutlet<F>
-        ensures { result ≡ self.entry }
+        ensures is { result ≡ self.entry }
+        ensures told { (tally : T) × T.was_removed tally (removed_of result.renditions) }
     {
         let Tallied {
             outlet,

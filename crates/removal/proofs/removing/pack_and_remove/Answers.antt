@@ -14,7 +14,7 @@ returns-clause-killed g c =
     let old = c.args.publisher.list in
     let new = c.pack-sources.result.publisher.list in
     let sources = c.pack-sources.result.sources.items in
-    rw c.into_outlet.ensures (leaves-kept g.S.Source.input g.F.Folder.made c.args.setup.now.settings.now (2 ^ 40) c.args.sources.items sources c.args.into c.args.renditions.items y
+    rw c.into_outlet.ensures.is (leaves-kept g.S.Source.input g.F.Folder.made c.args.setup.now.settings.now (2 ^ 40) c.args.sources.items sources c.args.into c.args.renditions.items y
     c.requires.fresh c.requires.untold c.args.setup.now.pool.workers old new _ _ c.pack-sources.result.answer
     (ok-plain g.S.Source.input g.F.Folder.made c.args.setup.now.settings.now (2 ^ 40) c.args.sources.items sources x y c.args.setup.now.pool.workers old new c.pack-sources.result.answer (rw start at c.pack-sources.ensures.ok))
     c.pack-sources.ensures.fits
@@ -29,7 +29,7 @@ returns-clause-unlisted g c =
     let old = c.args.publisher.list in
     let new = c.pack-sources.result.publisher.list in
     let sources = c.pack-sources.result.sources.items in
-    rw c.into_outlet.ensures (none-listed g.S.Source.input g.F.Folder.made c.args.setup.now.settings.now (2 ^ 40) c.args.sources.items sources c.args.into c.args.renditions.items y
+    rw c.into_outlet.ensures.is (none-listed g.S.Source.input g.F.Folder.made c.args.setup.now.settings.now (2 ^ 40) c.args.sources.items sources c.args.into c.args.renditions.items y
     c.requires.fresh c.requires.untold c.args.setup.now.pool.workers old new c.pack-sources.result.answer
     (ok-plain g.S.Source.input g.F.Folder.made c.args.setup.now.settings.now (2 ^ 40) c.args.sources.items sources x y c.args.setup.now.pool.workers old new c.pack-sources.result.answer (rw start at c.pack-sources.ensures.ok))
     c.pack-sources.ensures.fits)
@@ -37,21 +37,21 @@ returns-clause-unlisted g c =
 pub returns-clause-ok : goal.returns-clause-ok
 returns-clause-ok g c =
     let start : c.over-outlet.result ≡ new_keeping c.args.into c.args.renditions.items = search rules in
-    rw c.into_outlet.ensures (ok-plain g.S.Source.input g.F.Folder.made c.args.setup.now.settings.now (2 ^ 40) c.args.sources.items c.pack-sources.result.sources.items
+    rw c.into_outlet.ensures.is (ok-plain g.S.Source.input g.F.Folder.made c.args.setup.now.settings.now (2 ^ 40) c.args.sources.items c.pack-sources.result.sources.items
     (new_keeping c.args.into c.args.renditions.items) c.pack-sources.result.outlet c.args.setup.now.pool.workers c.args.publisher.list c.pack-sources.result.publisher.list c.pack-sources.result.answer
     (rw start at c.pack-sources.ensures.ok))
 
 pub returns-clause-fault : goal.returns-clause-fault
 returns-clause-fault g c =
     let start : c.over-outlet.result ≡ new_keeping c.args.into c.args.renditions.items = search rules in
-    rw c.into_outlet.ensures (fault-plain g.S.Source.input g.F.Folder.made c.args.setup.now.settings.now (2 ^ 40) c.args.sources.items c.pack-sources.result.sources.items
+    rw c.into_outlet.ensures.is (fault-plain g.S.Source.input g.F.Folder.made c.args.setup.now.settings.now (2 ^ 40) c.args.sources.items c.pack-sources.result.sources.items
     (new_keeping c.args.into c.args.renditions.items) c.pack-sources.result.outlet c.args.setup.now.pool.workers c.args.publisher.list c.pack-sources.result.publisher.list _ _ c.pack-sources.result.answer
     (rw start at c.pack-sources.ensures.fault))
 
 pub returns-clause-breach : goal.returns-clause-breach
 returns-clause-breach g c =
     let start : c.over-outlet.result ≡ new_keeping c.args.into c.args.renditions.items = search rules in
-    rw c.into_outlet.ensures (breach-plain g.S.Source.input g.F.Folder.made c.args.setup.now.settings.now (2 ^ 40) c.args.sources.items c.pack-sources.result.sources.items
+    rw c.into_outlet.ensures.is (breach-plain g.S.Source.input g.F.Folder.made c.args.setup.now.settings.now (2 ^ 40) c.args.sources.items c.pack-sources.result.sources.items
     (new_keeping c.args.into c.args.renditions.items) c.pack-sources.result.outlet c.args.setup.now.pool.workers c.args.publisher.list c.pack-sources.result.publisher.list c.pack-sources.result.answer
     (rw start at c.pack-sources.ensures.breach))
 
@@ -61,7 +61,7 @@ returns-clause-told g c = c.pack-sources.ensures.told
 pub returns-clause-same : goal.returns-clause-same
 returns-clause-same g c =
     let start : c.over-outlet.result ≡ new_keeping c.args.into c.args.renditions.items = search rules in
-    rw c.into_outlet.ensures (stay-then g.S.Source.input g.F.Folder.made c.args.setup.now.settings.now (2 ^ 40) c.args.sources.items c.pack-sources.result.sources.items
+    rw c.into_outlet.ensures.is (stay-then g.S.Source.input g.F.Folder.made c.args.setup.now.settings.now (2 ^ 40) c.args.sources.items c.pack-sources.result.sources.items
     (new_keeping c.args.into c.args.renditions.items) c.pack-sources.result.outlet (held-of c.args.into.syncs [])
     (held-first c.args.into.syncs (g.F.Folder.made c.args.into.folder) [] c.args.renditions.items c.requires.fresh refl c.requires.untold)
     c.args.setup.now.pool.workers c.args.publisher.list c.pack-sources.result.publisher.list _ _ c.pack-sources.result.answer
@@ -70,7 +70,7 @@ returns-clause-same g c =
 pub returns-clause-cleared : goal.returns-clause-cleared
 returns-clause-cleared g c =
     let start : c.over-outlet.result ≡ new_keeping c.args.into c.args.renditions.items = search rules in
-    rw c.into_outlet.ensures (all-cleared g.S.Source.input g.F.Folder.made c.args.setup.now.settings.now (2 ^ 40) c.args.sources.items c.pack-sources.result.sources.items
+    rw c.into_outlet.ensures.is (all-cleared g.S.Source.input g.F.Folder.made c.args.setup.now.settings.now (2 ^ 40) c.args.sources.items c.pack-sources.result.sources.items
     (new_keeping c.args.into c.args.renditions.items) c.pack-sources.result.outlet (held-of c.args.into.syncs [])
     (held-first c.args.into.syncs (g.F.Folder.made c.args.into.folder) [] c.args.renditions.items c.requires.fresh refl c.requires.untold) refl
     c.args.setup.now.pool.workers c.args.publisher.list c.pack-sources.result.publisher.list c.pack-sources.result.answer
