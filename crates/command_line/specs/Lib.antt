@@ -10,3 +10,4 @@ pub mod EntryTexts
 pub mod SettingsWords
 pub mod FaultWords
 pub mod Shown
+pub mod Offered

@@ -129,6 +129,10 @@ pub record GetsCommand (old : Command) (command : Shape) (new : Command) : Type 
   pub app : app_of new ≡ with_subcommand (app_of old) command
   pub globals : (out-Command new).has_globals ≡ (out-Command old).has_globals
 
+-- the program before it has a version and a command: it shows its help where it is given no word
+abbrev pub unversioned : App
+unversioned = record { top = record (new_app (codes "tshls")).top { subcommand_required = true; arg_required_else_help = true }; subs = [] }
+
 -- the program before it has a command: it has a version, and shows its help where it is given no word
 abbrev pub bare : App
 bare = record { top = record (new_app (codes "tshls")).top { has_version = true; subcommand_required = true; arg_required_else_help = true }; subs = [] }

@@ -1,12 +1,25 @@
-//! The commands, each with what help shows of it, before they have options.
+//! The program and its commands, each with what help shows of it, before they have options.
 ghost use Rattle.std.specs.Prelude.{◌≡◌, Some, codes, false, option_map};
 ghost use Rattle.clap.specs.Words.{app_of, new_app};
 ghost use Rattle.clap.specs.declared.builder.command.Command.TheViews.{out-Command};
+ghost use Rattle.command_line.specs.Options.{unversioned};
 ghost use Rattle.command_line.specs.declared.help.TheConstants.{CHECK, ONE, OPEN, PACK, SEAL};
 
 use crate::help;
 use clap::Command;
 use std::alloc::Global;
+
+/// The program: what it does.
+pub(crate) fn bare_program<'a>(alloc: Global) -> Command<'a>
+    ensures app { app_of result ≡ unversioned }
+    ensures local { (out-Command result).has_globals ≡ false }
+    ensures about { option_map (λ t. t.now) (out-Command result).about ≡ Some (codes "MPEG-2 transport streams to encrypted HLS") }
+{
+    Command::new(alloc, "tshls")
+        .about("MPEG-2 transport streams to encrypted HLS")
+        .subcommand_required(true)
+        .arg_required_else_help(true)
+}
 
 /// The command `seal`: what it does, and its faults.
 pub(crate) fn bare_seal<'a>(alloc: Global) -> Command<'a>

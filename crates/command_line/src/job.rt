@@ -7,18 +7,18 @@ ghost use Rattle.clap.specs.declared.error.Error.{Error};
 ghost use Rattle.command_line.specs.Faults.{IsRefusal, IsRefused};
 ghost use Rattle.command_line.specs.Jobs.{AreCheckOptions, AreCipherOptions, AreSettings, IsCommand, IsJobOf, IsLadderJob, IsNoCall};
 ghost use Rattle.command_line.specs.Refusals.{AreNoKeys, AreNoSettings, IsNoCipher, IsNoJob, IsNoLadder, MayWantMemory, files_view};
-ghost use Rattle.command_line.specs.Options.{GetsCommand, check_options, cipher_options, command_of, ladder_options, stream_options, tshls};
+ghost use Rattle.command_line.specs.Options.{tshls};
 
-use crate::bare_commands::{bare_check, bare_one, bare_open, bare_pack, bare_seal};
+use crate::bare_commands::bare_program;
 use crate::fault::Fault;
 use crate::matching::matched;
-use crate::options::{
-    check_words, cipher_words, number_words, packing_words, with_check_options,
-    with_cipher_options, with_stream,
+use crate::offered::{
+    offered_check, offered_one, offered_open, offered_pack, offered_seal, with_command,
 };
+use crate::options::{check_words, cipher_words, number_words, packing_words};
 use crate::pack_options::{
     entry_words, folder_word, ladder_words, metrics_word, pool_words, remove_word, resume_word,
-    sync_word, with_ladder,
+    sync_word,
 };
 use clap::error::ErrorKind;
 use clap::{ArgMatches, Command};
@@ -202,55 +202,22 @@ fn ladder_job<'a, F: FileReader>(
     })
 }
 
-/// The program with its command `seal`.
-fn with_seal<'a>(alloc: Global, program: Command<'a>) -> Result<Command<'a>, AllocError>
-    ensures { IfOk result (λ made. GetsCommand program.entry (command_of (codes "seal") cipher_options) made) }
-{
-    program.subcommand(with_cipher_options(alloc, bare_seal(alloc))?)
-}
-
-/// The program with its command `open`.
-fn with_open<'a>(alloc: Global, program: Command<'a>) -> Result<Command<'a>, AllocError>
-    ensures { IfOk result (λ made. GetsCommand program.entry (command_of (codes "open") cipher_options) made) }
-{
-    program.subcommand(with_cipher_options(alloc, bare_open(alloc))?)
-}
-
-/// The program with its command `one`.
-fn with_one<'a>(alloc: Global, program: Command<'a>) -> Result<Command<'a>, AllocError>
-    ensures { IfOk result (λ made. GetsCommand program.entry (command_of (codes "one") stream_options) made) }
-{
-    program.subcommand(with_stream(alloc, bare_one(alloc))?)
-}
-
-/// The program with its command `pack`.
-fn with_pack<'a>(alloc: Global, program: Command<'a>) -> Result<Command<'a>, AllocError>
-    ensures { IfOk result (λ made. GetsCommand program.entry (command_of (codes "pack") ladder_options) made) }
-{
-    program.subcommand(with_ladder(alloc, bare_pack(alloc))?)
-}
-
-/// The program with its command `check`.
-fn with_check<'a>(alloc: Global, program: Command<'a>) -> Result<Command<'a>, AllocError>
-    ensures { IfOk result (λ made. GetsCommand program.entry (command_of (codes "check") check_options) made) }
-{
-    program.subcommand(with_check_options(alloc, bare_check(alloc))?)
-}
-
 /// The program, with its commands in the order in which help shows them.
 pub(crate) fn program<'a>(alloc: Global, version: &'a str) -> Result<Command<'a>, AllocError>
     ensures app { IfOk result (λ made. app_of made ≡ tshls) }
     ensures globals { IfOk result (λ made. (out-Command made).has_globals ≡ false) }
     ensures version { IfOk result (λ made. (out-Command made).version ≡ Some version.entry) }
 {
-    let program = Command::new(alloc, "tshls")
-        .about("MPEG-2 transport streams to encrypted HLS")
-        .subcommand_required(true)
-        .arg_required_else_help(true);
-    let program = with_seal(alloc, program)?;
-    let program = with_open(alloc, program)?;
-    let program = with_one(alloc, program)?;
-    let program = with_pack(alloc, program)?;
-    let program = with_check(alloc, program)?;
+    let program = bare_program(alloc);
+    let command = offered_seal(alloc)?;
+    let program = with_command(program, command)?;
+    let command = offered_open(alloc)?;
+    let program = with_command(program, command)?;
+    let command = offered_one(alloc)?;
+    let program = with_command(program, command)?;
+    let command = offered_pack(alloc)?;
+    let program = with_command(program, command)?;
+    let command = offered_check(alloc)?;
+    let program = with_command(program, command)?;
     Ok(program.version(version))
 }

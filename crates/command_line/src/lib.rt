@@ -9,6 +9,7 @@ mod help;
 mod help_texts;
 mod job;
 mod matching;
+mod offered;
 mod options;
 mod pack_options;
 mod reasons;

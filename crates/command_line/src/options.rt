@@ -1,25 +1,38 @@
 //! The options of each command: how help shows them, and the words that were given.
-ghost use Rattle.std.specs.Prelude.{◌≡◌, ◌<◌, ◌∷◌, [], codes, false, length, map, option_map, IfOk, OnErr, Some};
+ghost use Rattle.std.specs.Prelude.{◌≡◌, ◌<◌, ◌∷◌, ◌++◌, [], codes, false, length, map, option_map, IfOk, OnErr, Some};
 ghost use Rattle.clap.specs.Words.{first_value, found_of, items_of, rule_of};
-ghost use Rattle.command_line.specs.Options.{GetsOptions, check_options, cipher_options, flag, form_options, number_option, numbered};
-ghost use Rattle.command_line.specs.Options.{needed, rendition_options, stream_options, text_option, word};
+ghost use Rattle.command_line.specs.Offered.{Offers, check_offered, cipher_offered, form_offered, number_offered, rendition_offered, stream_offered};
+ghost use Rattle.command_line.specs.Options.{flag, needed, number_option, numbered, text_option, word};
 ghost use Rattle.command_line.specs.Words.{AreNumberWords, IsFlagOf, IsGivenNumber, IsNumberOf, given_text, is_given, text_of};
 
 use crate::shown;
 use clap::parser::ValueSource;
-use clap::{Arg, ArgAction, ArgMatches, Command};
+use clap::{Arg, ArgAction, ArgMatches};
 use commands::{CheckWords, CipherWords, NumberWords, PackingWords};
 use std::alloc::{AllocError, Global};
 
-/// The command with the options of a key and a vector.
+/// Options, and one more.
+pub(crate) fn with_option<'a>(
+    options: Vec<Arg<'a>>,
+    option: Arg<'a>,
+) -> Result<Vec<Arg<'a>>, AllocError>
+    ensures { IfOk result (λ made. made.items ≡ options.entry.items ++ (option.entry ∷ [])) }
+{
+    let mut options = options;
+    options.push(option)?;
+    Ok(options)
+}
+
+/// Options, and those of a key and a vector.
 pub fn with_cipher_options<'a>(
     alloc: Global,
-    command: Command<'a>,
-) -> Result<Command<'a>, AllocError>
-    ensures { IfOk result (λ made. GetsOptions command.entry cipher_options made) }
+    options: Vec<Arg<'a>>,
+) -> Result<Vec<Arg<'a>>, AllocError>
+    ensures { IfOk result (λ made. Offers options.entry.items cipher_offered made.items) }
 {
-    let command = command.arg(shown::key(alloc))?.arg(shown::seq(alloc))?;
-    command.arg(shown::iv(alloc))
+    let options = with_option(options, shown::key(alloc))?;
+    let options = with_option(options, shown::seq(alloc))?;
+    with_option(options, shown::iv(alloc))
 }
 
 /// The words of a key and a vector.
@@ -35,32 +48,31 @@ pub fn cipher_words<'a>(options: &ArgMatches<'a>) -> CipherWords<'a>
     }
 }
 
-/// The command with the options of a stream of one rendition.
-pub fn with_stream<'a>(alloc: Global, command: Command<'a>) -> Result<Command<'a>, AllocError>
-    ensures { IfOk result (λ made. GetsOptions command.entry stream_options made) }
+/// Options, and those of a stream of one rendition.
+pub fn with_stream<'a>(alloc: Global, options: Vec<Arg<'a>>) -> Result<Vec<Arg<'a>>, AllocError>
+    ensures { IfOk result (λ made. Offers options.entry.items stream_offered made.items) }
 {
-    let command = with_rendition(alloc, command)?;
-    let command = with_forms(alloc, command)?;
-    with_numbers(alloc, command, &NUMBERS)
+    let options = with_rendition(alloc, options)?;
+    let options = with_forms(alloc, options)?;
+    with_numbers(alloc, options, &NUMBERS)
 }
 
-/// The command with the options of one rendition.
-fn with_rendition<'a>(alloc: Global, command: Command<'a>) -> Result<Command<'a>, AllocError>
-    ensures { IfOk result (λ made. GetsOptions command.entry rendition_options made) }
+/// Options, and those of one rendition.
+fn with_rendition<'a>(alloc: Global, options: Vec<Arg<'a>>) -> Result<Vec<Arg<'a>>, AllocError>
+    ensures { IfOk result (λ made. Offers options.entry.items rendition_offered made.items) }
 {
-    command
-        .arg(shown::codecs(alloc))?
-        .arg(shown::size(alloc))?
-        .arg(shown::keys(alloc))?
-        .arg(shown::name(alloc))
+    let options = with_option(options, shown::codecs(alloc))?;
+    let options = with_option(options, shown::size(alloc))?;
+    let options = with_option(options, shown::keys(alloc))?;
+    with_option(options, shown::name(alloc))
 }
 
-/// The command with the options of vectors, and of which segments are listed.
-pub fn with_forms<'a>(alloc: Global, command: Command<'a>) -> Result<Command<'a>, AllocError>
-    ensures { IfOk result (λ made. GetsOptions command.entry form_options made) }
+/// Options, and those of vectors, and of which segments are listed.
+pub fn with_forms<'a>(alloc: Global, options: Vec<Arg<'a>>) -> Result<Vec<Arg<'a>>, AllocError>
+    ensures { IfOk result (λ made. Offers options.entry.items form_offered made.items) }
 {
-    let command = command.arg(shown::salt(alloc))?;
-    command.arg(shown::event(alloc))
+    let options = with_option(options, shown::salt(alloc))?;
+    with_option(options, shown::event(alloc))
 }
 
 /// The words of a rendition.
@@ -161,20 +173,20 @@ fn number_from<'a>(alloc: Global, option: NumberOption) -> Arg<'a>
     }
 }
 
-/// The command with options whose values are numbers.
+/// Options, and those of a table, whose values are numbers.
 pub(crate) fn with_numbers<'a>(
     alloc: Global,
-    command: Command<'a>,
+    options: Vec<Arg<'a>>,
     numbers: &[NumberOption],
-) -> Result<Command<'a>, AllocError>
-    ensures ok { IfOk result (λ made. GetsOptions command.entry (map numbered numbers.now) made) }
+) -> Result<Vec<Arg<'a>>, AllocError>
+    ensures ok { IfOk result (λ made. Offers options.entry.items (map number_offered numbers.now) made.items) }
     ensures scarce { OnErr result (0 < length numbers.now) }
 {
-    let mut command = command;
+    let mut options = options;
     for &option in numbers {
-        command = command.arg(number_from(alloc, option))?;
+        options = with_option(options, number_from(alloc, option))?;
     }
-    Ok(command)
+    Ok(options)
 }
 
 /// The numbers that were given.
@@ -193,15 +205,15 @@ pub fn number_words(options: &ArgMatches<'_>) -> NumberWords
     }
 }
 
-/// The command with the options of `check`.
+/// Options, and those of `check`.
 pub fn with_check_options<'a>(
     alloc: Global,
-    command: Command<'a>,
-) -> Result<Command<'a>, AllocError>
-    ensures { IfOk result (λ made. GetsOptions command.entry check_options made) }
+    options: Vec<Arg<'a>>,
+) -> Result<Vec<Arg<'a>>, AllocError>
+    ensures { IfOk result (λ made. Offers options.entry.items check_offered made.items) }
 {
-    let command = command.arg(shown::sealed_under(alloc))?;
-    command.arg(shown::playlist(alloc))
+    let options = with_option(options, shown::sealed_under(alloc))?;
+    with_option(options, shown::playlist(alloc))
 }
 
 /// The words of `check`.
@@ -219,6 +231,7 @@ pub fn check_words<'a>(options: &ArgMatches<'a>) -> CheckWords<'a>
 pub(crate) fn flag<'a>(alloc: Global, name: &'a str, help: &'a str) -> Arg<'a>
     ensures rule { rule_of result ≡ flag name.entry.now }
     ensures alone { result.global ≡ false }
+    ensures bare { items_of result.val_names ≡ [] }
     ensures help { result.help ≡ Some help.entry }
 {
     Arg::new(alloc, name)

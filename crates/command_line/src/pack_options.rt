@@ -1,28 +1,29 @@
 //! The options of `pack`: how help shows them, and the words that were given.
-ghost use Rattle.std.specs.Prelude.{◌≡◌, ◌∷◌, [], Some, codes, false, map, option_map, IfOk, OnErr, length, ◌<◌};
-ghost use Rattle.clap.specs.Words.{first_value, found_of, rule_of};
-ghost use Rattle.command_line.specs.Options.{GetsOptions, entries, flagged, ladder_options, text_option};
+ghost use Rattle.std.specs.Prelude.{◌≡◌, [], Some, codes, false, map, option_map, IfOk, OnErr, length, ◌<◌};
+ghost use Rattle.clap.specs.Words.{first_value, found_of, items_of, rule_of};
+ghost use Rattle.command_line.specs.Offered.{Offers, flag_offered, ladder_offered};
+ghost use Rattle.command_line.specs.Options.{flagged};
 ghost use Rattle.command_line.specs.Words.{ArePoolWords, IsFlagOf, text_of, texts_of};
 
 use crate::options::{
-    NUMBERS, NumberOption, flag, given_number, needed_text, with_forms, with_numbers,
+    NUMBERS, NumberOption, flag, given_number, needed_text, with_forms, with_numbers, with_option,
 };
 use crate::shown;
-use clap::{Arg, ArgMatches, Command};
+use clap::{Arg, ArgMatches};
 use commands::{LadderWords, PoolWords};
 use std::alloc::{AllocError, Global};
 
-/// The command with the options of a ladder, of the threads that seal it and of reading it ahead, with its entries, and with the numbers of a packager.
-pub fn with_ladder<'a>(alloc: Global, command: Command<'a>) -> Result<Command<'a>, AllocError>
-    ensures { IfOk result (λ made. GetsOptions command.entry ladder_options made) }
+/// Options, and those of a ladder, of the threads that seal it and of reading it ahead, its entries, and the numbers of a packager.
+pub fn with_ladder<'a>(alloc: Global, options: Vec<Arg<'a>>) -> Result<Vec<Arg<'a>>, AllocError>
+    ensures { IfOk result (λ made. Offers options.entry.items ladder_offered made.items) }
 {
-    let command = command.arg(shown::out(alloc))?;
-    let command = with_flags(alloc, command, &FOLDER)?;
-    let command = with_metrics(alloc, command)?;
-    let command = with_numbers(alloc, command, &POOL)?;
-    let command = with_entries(alloc, command)?;
-    let command = with_forms(alloc, command)?;
-    with_numbers(alloc, command, &NUMBERS)
+    let options = with_option(options, shown::out(alloc))?;
+    let options = with_flags(alloc, options, &FOLDER)?;
+    let options = with_option(options, shown::metrics(alloc))?;
+    let options = with_numbers(alloc, options, &POOL)?;
+    let options = with_option(options, shown::entries(alloc))?;
+    let options = with_forms(alloc, options)?;
+    with_numbers(alloc, options, &NUMBERS)
 }
 
 /// An option without a value: its name, and what help says of it.
@@ -48,33 +49,27 @@ const FOLDER: [FlagOption; 3] = [
 fn flag_from<'a>(alloc: Global, option: FlagOption) -> Arg<'a>
     ensures rule { rule_of result ≡ flagged option.entry }
     ensures alone { result.global ≡ false }
+    ensures bare { items_of result.val_names ≡ [] }
     ensures help { result.help ≡ Some option.entry.1 }
 {
     let (name, help) = option;
     flag(alloc, name, help)
 }
 
-/// The command with options without values.
+/// Options, and those of a table, without values.
 fn with_flags<'a>(
     alloc: Global,
-    command: Command<'a>,
+    options: Vec<Arg<'a>>,
     flags: &[FlagOption],
-) -> Result<Command<'a>, AllocError>
-    ensures ok { IfOk result (λ made. GetsOptions command.entry (map flagged flags.now) made) }
+) -> Result<Vec<Arg<'a>>, AllocError>
+    ensures ok { IfOk result (λ made. Offers options.entry.items (map flag_offered flags.now) made.items) }
     ensures scarce { OnErr result (0 < length flags.now) }
 {
-    let mut command = command;
+    let mut options = options;
     for &option in flags {
-        command = command.arg(flag_from(alloc, option))?;
+        options = with_option(options, flag_from(alloc, option))?;
     }
-    Ok(command)
-}
-
-/// The command with the option that names a file of metrics.
-fn with_metrics<'a>(alloc: Global, command: Command<'a>) -> Result<Command<'a>, AllocError>
-    ensures { IfOk result (λ made. GetsOptions command.entry (text_option (codes "metrics") ∷ []) made) }
-{
-    command.arg(shown::metrics(alloc))
+    Ok(options)
 }
 
 /// The numbers of the threads that seal, and of reading ahead.
@@ -110,13 +105,6 @@ const POOL: [NumberOption; 5] = [
         None,
     ),
 ];
-
-/// The command with the entries of a ladder.
-fn with_entries<'a>(alloc: Global, command: Command<'a>) -> Result<Command<'a>, AllocError>
-    ensures { IfOk result (λ made. GetsOptions command.entry (entries ∷ []) made) }
-{
-    command.arg(shown::entries(alloc))
-}
 
 /// The texts of a ladder's renditions.
 pub fn entry_words<'a>(alloc: Global, options: &ArgMatches<'a>) -> Result<Vec<&'a str>, AllocError>

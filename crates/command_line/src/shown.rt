@@ -1,6 +1,6 @@
 //! The options of the commands, each with what help shows of it.
-ghost use Rattle.std.specs.Prelude.{◌≡◌, Some, codes, false, option_map};
-ghost use Rattle.clap.specs.Words.{rule_of};
+ghost use Rattle.std.specs.Prelude.{◌≡◌, [], Some, codes, false, option_map};
+ghost use Rattle.clap.specs.Words.{items_of, rule_of};
 ghost use Rattle.command_line.specs.Options.{entries, flag, needed, number_option, text_option, with_default, word};
 ghost use Rattle.command_line.specs.Shown.{IsShown};
 
@@ -101,6 +101,7 @@ pub(crate) fn salt<'a>(alloc: Global) -> Arg<'a>
 pub(crate) fn event<'a>(alloc: Global) -> Arg<'a>
     ensures rule { rule_of result ≡ flag (codes "event") }
     ensures alone { result.global ≡ false }
+    ensures bare { items_of result.val_names ≡ [] }
     ensures help { option_map (λ t. t.now) result.help ≡ Some (codes "List all segments, as those of an event") }
 {
     let help = "List all segments, as those of an event";

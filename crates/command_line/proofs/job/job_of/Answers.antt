@@ -108,6 +108,9 @@ returns-in_err-job-in-pack-clause-scarce g c is =
     let found = found_of c.in-Some.options.now in
     let files = files_view (g.F.FileReader.gives c.args.files.now) (g.F.FileReader.refuses c.args.files.now) (g.F.FileReader.wants c.args.files.now) in
     let told = err_from_is_err_and c.from_residual-in_err-job-in-pack.result c.from_residual-in_err-job-in-pack.ensures.1 in
-    inr (found, is_matched c.args.matches.now c.in-Some.name.now (codes "pack") rows named c.in-Some.ensures.name c.in-Some.ensures.rows,
-    ladder-memory files found told.0 (subst (λ (f : Fault). IsNoLadder files found f) (sym told.2) c.in_err-job-in-pack.ensures.fault)
-    (err-same told.0 NoMemory c.from_residual-in_err-job-in-pack.result told.1 is))
+    inr (
+      found,
+      is_matched c.args.matches.now c.in-Some.name.now (codes "pack") rows named c.in-Some.ensures.name c.in-Some.ensures.rows,
+      ladder-memory files found told.0 (subst (λ (f : Fault). IsNoLadder files found f) (sym told.2) c.in_err-job-in-pack.ensures.fault)
+          (err-same told.0 NoMemory c.from_residual-in_err-job-in-pack.result told.1 is),
+    )

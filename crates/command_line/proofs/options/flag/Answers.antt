@@ -1,7 +1,8 @@
 use Rattle.std.proofs.Common.{◌∙◌, Some, ap}
+use Rattle.command_line.proofs.Adding.{none-of-zero}
 use Rattle.clap.specs.declared.builder.action.ArgAction.TheVariants.{SetTrue}
 use Rattle.clap.specs.declared.builder.arg.Arg.{Arg}
-use Rattle.clap.specs.Words.{Rule, rule_of}
+use Rattle.clap.specs.Words.{Rule, items_of, rule_of}
 use Rattle.command_line.proofs.options.flag.Goals as goal
 
 pub returns-clause-rule : goal.returns-clause-rule
@@ -15,3 +16,8 @@ returns-clause-alone c =
 
 pub returns-clause-help : goal.returns-clause-help
 returns-clause-help c = ap (λ (a : Arg). a.help) c.help.ensures
+
+pub returns-clause-bare : goal.returns-clause-bare
+returns-clause-bare c =
+    ap (λ (a : Arg). items_of a.val_names) c.help.ensures ∙ ap (λ (a : Arg). items_of a.val_names) c.action.ensures ∙ ap (λ (a : Arg). items_of a.val_names) c.long.ensures
+    ∙ none-of-zero (items_of c.new.result.val_names) (ap (λ (r : Rule). r.value_names) c.new.ensures.rule)

@@ -8,3 +8,6 @@ returns-clause-alone c = c.flag.ensures.alone
 
 pub returns-clause-help : goal.returns-clause-help
 returns-clause-help c = c.flag.ensures.help
+
+pub returns-clause-bare : goal.returns-clause-bare
+returns-clause-bare c = c.flag.ensures.bare

@@ -1,20 +1,19 @@
-use Rattle.std.proofs.Common.{◌∷◌, [], ◌++◌, codes, List}
+use Rattle.std.proofs.Common.{◌++◌, map, List}
 use Rattle.std.proofs.lemmas.Result.{IfOk-weaker}
-use Rattle.clap.specs.Words.{Rule}
-use Rattle.command_line.specs.Options.{entries, folder_options, form_options, needed, packing_options, pool_options, text_option}
-use Rattle.command_line.proofs.Adding.{gets-both, gets-more, gets-none}
+use Rattle.command_line.specs.Offered.{Offered, entries_offered, folder_offered, form_offered, metrics_offered, out_offered, text_offered}
+use Rattle.command_line.specs.Shown.{packing_texts, pool_texts}
+use Rattle.command_line.proofs.Adding.{offers-both, offers-none, offers-valued}
 use Rattle.command_line.proofs.pack_options.with_ladder.Goals as goal
 
 pub returns : goal.returns
 returns c =
-    let command = c.args.command in
-    let folder : List Rule = needed (text_option (codes "out")) ∷ [] in
-    let flags : List Rule = needed (text_option (codes "out")) ∷ folder_options in
-    let first = gets-more command _ _ _ _ _ (gets-none command) c.in_ok-command.ensures c.out.ensures.alone c.out.ensures.rule in
-    let second = gets-both command _ _ folder folder_options first c.in_ok-command-2.ensures.ok in
-    let watched : List Rule = flags ++ text_option (codes "metrics") ∷ [] in
-    let third = gets-both command _ _ flags (text_option (codes "metrics") ∷ []) second c.in_ok-command-3.ensures in
-    let pool = gets-both command _ _ watched pool_options third c.in_ok-command-4.ensures.ok in
-    let entered = gets-both command _ _ (watched ++ pool_options) (entries ∷ []) pool c.in_ok-command-5.ensures in
-    let formed = gets-both command _ _ (watched ++ pool_options ++ entries ∷ []) form_options entered c.in_ok-command-6.ensures in
-    IfOk-weaker c.with_numbers-2.result _ _ (λ made gets. gets-both command _ made (watched ++ pool_options ++ entries ∷ form_options) packing_options formed gets) c.with_numbers-2.ensures.ok
+    let options = c.args.options.items in
+    let first = offers-valued options _ _ _ _ _ _ _ (offers-none options) c.in_ok-options.ensures c.out.ensures.rule c.out.ensures.alone c.out.ensures.shown in
+    let flagged = offers-both options _ _ out_offered folder_offered first c.in_ok-options-2.ensures.ok in
+    let watched = offers-valued options _ _ _ _ _ _ _ flagged c.in_ok-options-3.ensures c.metrics.ensures.rule c.metrics.ensures.alone c.metrics.ensures.shown in
+    let pooled = offers-both options _ _ (out_offered ++ folder_offered ++ metrics_offered) (map text_offered pool_texts) watched c.in_ok-options-4.ensures.ok in
+    let entered = offers-valued options _ _ _ _ _ _ _ pooled c.in_ok-options-5.ensures c.entries.ensures.rule c.entries.ensures.alone c.entries.ensures.shown in
+    let formed = offers-both options _ _ (out_offered ++ folder_offered ++ metrics_offered ++ map text_offered pool_texts ++ entries_offered) form_offered entered c.in_ok-options-6.ensures in
+    IfOk-weaker c.with_numbers-2.result _ _ (λ made gets.
+    offers-both options _ made.items (out_offered ++ folder_offered ++ metrics_offered ++ map text_offered pool_texts ++ entries_offered ++ form_offered) (map text_offered packing_texts) formed gets)
+    c.with_numbers-2.ensures.ok

@@ -1,0 +1,13 @@
+use Rattle.std.proofs.Common.{◌∙◌, ◌++◌, [], map, ap, refl}
+use Rattle.command_line.specs.Offered.{offered, stream_offered}
+use Rattle.command_line.proofs.offered.offered_one.Goals as goal
+
+pub returns : goal.returns
+returns c = record {
+  app = c.bare_one-bare.ensures.app;
+  local = c.bare_one-bare.ensures.local;
+  about_is = c.bare_one-bare.ensures.about;
+  faults_are = c.bare_one-bare.ensures.faults;
+  options_are = c.in_ok-options.ensures.all ∙ ap (λ options. map offered options ++ stream_offered) c.new.ensures.items;
+  alone = refl;
+}
