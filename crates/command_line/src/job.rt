@@ -79,7 +79,7 @@ pub fn line<'a, S: AsStr, F: FileReader>(
         (IsNoCall (map S.text words.entry.now)) (subcommand_of tshls (map S.text words.entry.now))) }
 {
     let mut command = program(alloc, version)?;
-    let matches = matched(&mut command, words)?;
+    let matches = matched(&mut command, version, words)?;
     job_of(alloc, files, &mut command, &matches)
 }
 

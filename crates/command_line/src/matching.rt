@@ -1,7 +1,8 @@
 //! Words, matched with the commands of the program.
-ghost use Rattle.std.specs.Prelude.{◌≡◌, [], IfErr, IfOk, MatchResult, map, true};
+ghost use Rattle.std.specs.Prelude.{◌≡◌, [], IfErr, IfOk, MatchResult, Some, map, true};
 ghost use Rattle.clap.specs.Values.{kind_of};
 ghost use Rattle.clap.specs.Words.{HasKind, HasMatchesOf, app_of, fault_of, is_simple_and_free, takes};
+ghost use Rattle.clap.specs.declared.builder.command.Command.TheViews.{out-Command};
 ghost use Rattle.clap.specs.declared.error.kind.ErrorKind.TheVariants.{OutOfMemory};
 
 use crate::fault::Fault;
@@ -24,11 +25,13 @@ impl From<Unmatched> for Fault {
     }
 }
 
-/// What words ask for of a command.
+/// What words ask for of a command, which tells this version where they ask for it.
 pub(crate) fn matched<'a, S: AsStr>(
     command: &mut Command<'a>,
+    _version: &'a str,
     words: &'a [S],
 ) -> Result<ArgMatches<'a>, Unmatched>
+    requires version { (out-Command command.old).version ≡ Some _version }
     ensures ok { IfOk result (HasMatchesOf (app_of command.old) (map S.text words.entry.now)) }
     ensures passes { IfErr result (λ unmatched. takes (app_of command.old) (map S.text words.entry.now) ≡ true
         → kind_of unmatched.error ≡ OutOfMemory) }
