@@ -1,6 +1,6 @@
 -- The command that clap matched.
 use Rattle.std.proofs.Common.{◌≡◌, true, List, Option, Some, None, option_map, codes, inl, inr, refl, subst}
-use Rattle.clap.specs.Words.{Row, Text, is_simple, subcommand_name_of, subcommand_rows, subcommand_rows_of}
+use Rattle.clap.specs.Words.{Row, Text, is_simple, is_simple_and_free, subcommand_name_of, subcommand_rows, subcommand_rows_of}
 use Rattle.clap.specs.declared.parser.matches.ArgMatches.{ArgMatches}
 use Rattle.clap.specs.declared.parser.matches.ArgMatches.TheViews.{out-ArgMatches, out-SubCommand}
 use Rattle.clap.specs.declared.parser.matches.SubCommand.{SubCommand}
@@ -36,3 +36,8 @@ not_command matched name rows is no_seal no_open no_one no_pack no_check command
 pub tshls_is_simple : is_simple tshls ≡ true
 unfolding clap_on_literals
 tshls_is_simple = refl
+
+-- .. and which refusals it has for words
+pub tshls_is_free : is_simple_and_free tshls ≡ true
+unfolding clap_on_literals
+tshls_is_free = refl

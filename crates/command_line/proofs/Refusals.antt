@@ -1,8 +1,11 @@
 -- Why the words of a command line tell no job.
-use Rattle.std.specs.Prelude.{Result, Ok, Err}
+use Rattle.std.specs.Prelude.{◌≢◌, Result, Ok, Err}
 use Rattle.std.proofs.Common.{◌≡◌, ◌∙◌, ◌⊎◌, inl, inr, refl, sym, ap, ap₂, subst, ℕ, ◌<◌, ◌≤◌, true, false, List, Option, None, length, codes, option_map}
 use Rattle.clap.specs.declared.parser.matches.Found.{Found}
-use Rattle.clap.specs.Words.{Row, Text, first_value}
+use Rattle.clap.specs.Values.{kind_of}
+use Rattle.clap.specs.Words.{HasKind, IsAmong, Kinds, Row, Text, first_value}
+use Rattle.clap.specs.declared.error.Error.{Error}
+use Rattle.clap.specs.declared.error.kind.ErrorKind.TheVariants.{OutOfMemory}
 use Rattle.limits.specs.declared.TheConstants.{MOST_KEYS}
 use Rattle.commands.specs.declared.cipher.CipherWords.{CipherWords}
 use Rattle.commands.specs.declared.cipher.CipherFault.{CipherFault}
@@ -24,7 +27,7 @@ use Rattle.commands.specs.Settings.{AreFit, AreInside, AreOutside, FitsCut, HasS
 use Rattle.commands.specs.Sizes.{HasSize}
 use Rattle.command_line.specs.declared.fault.Fault.{Fault}
 use Rattle.command_line.specs.declared.fault.Fault.TheVariants.{Usage, NotUtf8, Cipher, Settings, KeyList, Ladder, NoMemory, Busy, Sealing, Opening, Resuming, Unopened, Packing, LadderPacking, Checking}
-use Rattle.command_line.specs.Faults.{IsRefused}
+use Rattle.command_line.specs.Faults.{IsRefusal, IsRefused}
 use Rattle.command_line.specs.Jobs.{IsMatched}
 use Rattle.command_line.specs.Words.{IsNumberOf, text_of, texts_of}
 use Rattle.command_line.specs.Refusals.{FilesView, IsCipherFault, IsKeyListFault, IsLadderFault, IsNoCipher, AreNoKeys, IsNoJob, IsNoLadder, AreNoSettings, IsSettingsFault, RefusesCipher}
@@ -173,3 +176,22 @@ same-job files {p} {q} matched other fault same more is = subst (λ (m : Option 
 pub ladder-memory : (files : FilesView) (found : Found) (fault : Fault) → IsNoLadder files found fault → fault ≡ NoMemory → 0 < length (texts_of found (codes "entries"))
 ladder-memory files found fault (inl (told, some)) is = some
 ladder-memory files found fault (inr (why, told, says)) is = absurd (cc (told, is))
+
+-- a ladder is never told as words that aren't a line
+pub ladder-no-usage : (files : FilesView) (found : Found) (fault : Fault) (error : Error) → IsNoLadder files found fault → fault ≡ Usage error → ⊥
+ladder-no-usage files found fault error (inl (told, some)) is = absurd (cc (told, is))
+ladder-no-usage files found fault error (inr (why, told, says)) is = absurd (cc (told, is))
+
+-- what clap refuses is told as that refusal
+pub usage-among : (kinds : Kinds) (why error : Error) (fault : Fault) → fault ≡ Usage error → IsRefusal why fault → HasKind kinds why → IsAmong (kind_of error) kinds
+usage-among kinds why error fault is refusal has = go has
+  where
+    no : kind_of why ≡ OutOfMemory → ⊥
+    no = subst (IsRefused (kind_of why ≢ OutOfMemory)) is refusal.early
+
+    same : why ≡ error
+    same = cc (is, refusal.usage no)
+
+    go : HasKind kinds why → IsAmong (kind_of error) kinds
+    go (inl memory) = absurd (no memory)
+    go (inr among) = subst (λ (e : Error). IsAmong (kind_of e) kinds) same among

@@ -1,7 +1,10 @@
 -- Why the words of a command line tell no job, of what was found for the options of its command.
 use Rattle.std.specs.Prelude.{◌≡◌, ◌⊎◌, ℕ, ◌<◌, ◌≤◌, true, false, List, Option, None, length, codes}
 use Rattle.clap.specs.declared.parser.matches.Found.{Found}
-use Rattle.clap.specs.Words.{Row, Text, first_value}
+use Rattle.clap.specs.Values.{kind_of}
+use Rattle.clap.specs.Words.{IsAmong, Row, Text, fault_of, first_value, subcommand_of}
+use Rattle.clap.specs.declared.error.Error.{Error}
+use Rattle.clap.specs.declared.error.kind.ErrorKind.TheVariants.{MissingSubcommand}
 use Rattle.limits.specs.declared.TheConstants.{MOST_KEYS}
 use Rattle.commands.specs.declared.cipher.CipherFault.{CipherFault}
 use Rattle.commands.specs.declared.cipher.CipherFault.TheVariants as cipher
@@ -26,6 +29,7 @@ use Rattle.commands.specs.Sizes.{HasSize}
 use Rattle.command_line.specs.declared.fault.Fault.{Fault}
 use Rattle.command_line.specs.declared.fault.Fault.TheVariants.{Usage, NotUtf8, Cipher, Settings, KeyList, Ladder, NoMemory, Busy, Sealing, Opening, Resuming, Unopened, Packing, LadderPacking, Checking}
 use Rattle.command_line.specs.Jobs.{IsCommand, IsMatched}
+use Rattle.command_line.specs.Options.{tshls}
 use Rattle.command_line.specs.Words.{AreNumberWords, ArePoolWords, IsFlagOf, IsNumberOf, given_text, text_of, texts_of}
 
 -- what reading the file at a path may do: give bytes, fail, want memory that isn't there
@@ -160,3 +164,8 @@ IsNoJob files usage matched (Checking fault) = ⊥
 abbrev pub MayWantMemory : Option (Text × List Row) → Type 0
 MayWantMemory matched =
     (IsCommand matched → ⊥) ⊎ ((found : Found) × IsMatched matched (codes "pack") found × (0 < length (texts_of found (codes "entries"))))
+
+-- What is told of words that aren't a call: of a kind that clap has for them, or that a command is wanted, where none was matched.
+abbrev pub IsUsage : List Text → Error → Type 0
+IsUsage words error =
+    IsAmong (kind_of error) (fault_of tshls words) ⊎ ((IsCommand (subcommand_of tshls words) → ⊥) × (kind_of error ≡ MissingSubcommand))

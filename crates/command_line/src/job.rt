@@ -6,7 +6,7 @@ ghost use Rattle.clap.specs.declared.builder.command.Command.TheViews.{out-Comma
 ghost use Rattle.clap.specs.declared.error.Error.{Error};
 ghost use Rattle.command_line.specs.Faults.{IsRefusal, IsRefused};
 ghost use Rattle.command_line.specs.Jobs.{AreCheckOptions, AreCipherOptions, AreSettings, IsCommand, IsJobOf, IsLadderJob, IsNoCall};
-ghost use Rattle.command_line.specs.Refusals.{AreNoKeys, AreNoSettings, IsNoCipher, IsNoJob, IsNoLadder, MayWantMemory, files_view};
+ghost use Rattle.command_line.specs.Refusals.{AreNoKeys, AreNoSettings, IsNoCipher, IsNoJob, IsNoLadder, IsUsage, MayWantMemory, files_view};
 ghost use Rattle.command_line.specs.Options.{tshls};
 
 use crate::bare_commands::bare_program;
@@ -77,6 +77,7 @@ pub fn line<'a, S: AsStr, F: FileReader>(
     ensures job { IfOk result (IsJobOf (F.gives files.now) (subcommand_of tshls (map S.text words.entry.now))) }
     ensures fault { IfErr result (IsNoJob (files_view (F.gives files.now) (F.refuses files.now) (F.wants files.now))
         (IsNoCall (map S.text words.entry.now)) (subcommand_of tshls (map S.text words.entry.now))) }
+    ensures usage { (error : Error) → IsErrOf result (Fault.Usage error) → IsUsage (map S.text words.entry.now) error }
 {
     let mut command = program(alloc, version)?;
     let matches = matched(&mut command, version, words)?;
@@ -94,6 +95,8 @@ fn job_of<'a, F: FileReader>(
     ensures fault { IfErr result (IsNoJob (files_view (F.gives files.now) (F.refuses files.now) (F.wants files.now))
         (IsCommand (subcommand_rows_of matches.now) → ⊥) (subcommand_rows_of matches.now)) }
     ensures scarce { IsErrOf result Fault.NoMemory → MayWantMemory (subcommand_rows_of matches.now) }
+    ensures usage { (error : Error) → IsErrOf result (Fault.Usage error) →
+        (IsCommand (subcommand_rows_of matches.now) → ⊥) × (kind_of error ≡ ErrorKind.MissingSubcommand) }
 {
     let Some((name, options)) = matches.subcommand() else {
         return Err(no_command(command));

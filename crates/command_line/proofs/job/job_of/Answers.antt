@@ -3,9 +3,9 @@ use Rattle.std.proofs.lemmas.Result.{err_from_is_err_and}
 use Rattle.clap.specs.Words.{found_of, rows_of, subcommand_rows_of}
 use Rattle.command_line.proofs.Matched.{is_matched, not_command}
 use Rattle.command_line.specs.declared.fault.Fault.{Fault}
-use Rattle.command_line.specs.declared.fault.Fault.TheVariants.{NoMemory}
+use Rattle.command_line.specs.declared.fault.Fault.TheVariants.{NoMemory, Usage}
 use Rattle.command_line.specs.Refusals.{AreNoKeys, AreNoSettings, IsNoCipher, IsNoLadder, files_view}
-use Rattle.command_line.proofs.Refusals.{err-same, ladder-memory, no-cipher, no-keys, no-ladder, no-line, no-settings}
+use Rattle.command_line.proofs.Refusals.{err-same, ladder-memory, ladder-no-usage, no-cipher, no-keys, no-ladder, no-line, no-settings}
 use Rattle.command_line.proofs.job.job_of.Goals as goal
 
 pub returns-in_ok-options-in-seal-clause-job : goal.returns-in_ok-options-in-seal-clause-job
@@ -114,3 +114,11 @@ returns-in_err-job-in-pack-clause-scarce g c is =
       ladder-memory files found told.0 (subst (λ (f : Fault). IsNoLadder files found f) (sym told.2) c.in_err-job-in-pack.ensures.fault)
           (err-same told.0 NoMemory c.from_residual-in_err-job-in-pack.result told.1 is),
     )
+
+pub returns-in_err-job-in-pack-clause-usage : goal.returns-in_err-job-in-pack-clause-usage
+returns-in_err-job-in-pack-clause-usage g c error is =
+    let found = found_of c.in-Some.options.now in
+    let files = files_view (g.F.FileReader.gives c.args.files.now) (g.F.FileReader.refuses c.args.files.now) (g.F.FileReader.wants c.args.files.now) in
+    let told = err_from_is_err_and c.from_residual-in_err-job-in-pack.result c.from_residual-in_err-job-in-pack.ensures.1 in
+    absurd (ladder-no-usage files found told.0 error (subst (λ (f : Fault). IsNoLadder files found f) (sym told.2) c.in_err-job-in-pack.ensures.fault)
+    (err-same told.0 (Usage error) c.from_residual-in_err-job-in-pack.result told.1 is))
