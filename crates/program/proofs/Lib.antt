@@ -3,4 +3,4 @@ mod Lines
 mod Naming
 mod Opened
 mod Slashes
-mod Looking
+mod Watched

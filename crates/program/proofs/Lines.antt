@@ -7,12 +7,12 @@ use Rattle.command_line.specs.declared.fault.Fault.TheVariants.{NoMemory}
 use Rattle.command_line.specs.declared.job.LadderJob.{LadderJob}
 use Rattle.command_line.specs.declared.job.StreamJob.{StreamJob}
 use Rattle.program.specs.Channels.{GoesNotOn}
-use Rattle.program.specs.Lines.{EndsBy, IsNoRun, StreamEnds}
+use Rattle.program.specs.Lines.{DoesOrStops, EndsBy, IsNoRun}
 use Rattle.program.specs.Streaming.{DoesStream, FileView, IsOfStream, Passed}
 
 pub stream-ends : {V : Type 0} (files : FileView) (job : StreamJob) (p : Passed) (status : ℕ) (answer : Result V Fault) →
     OnOk answer (DoesStream files.gives job p.left p.held p.held_then) → IfErr answer (IsOfStream files job p) →
-    OnOk answer (status ≡ 0) → IfErr answer (λ fault. status ≡ status_of fault) → StreamEnds files job p status
+    OnOk answer (status ≡ 0) → IfErr answer (λ fault. status ≡ status_of fault) → DoesOrStops files job p status
 stream-ends files job p status (Ok v) does fails well told = inl (well, does)
 stream-ends files job p status (Err fault) does fails well told = inr (fault, told, fails)
 

@@ -11,6 +11,8 @@ use Rattle.command_line.specs.declared.job.Job.{Job}
 use Rattle.command_line.specs.declared.job.Job.TheVariants.{Stream, Ladder as Packing}
 use Rattle.command_line.specs.declared.job.LadderJob.{LadderJob}
 use Rattle.command_line.specs.declared.job.StreamJob.{StreamJob}
+use Rattle.command_line.specs.declared.job.StreamJob.TheVariants.{Check}
+use Rattle.commands.specs.declared.check_options.CheckOptions.{CheckOptions}
 use Rattle.program.specs.Channels.{GoesNotOn, GoesOn, IsJobBehind}
 use Rattle.program.specs.LadderEnds.{FailsLadder, IsUnbegun}
 use Rattle.program.specs.LadderRuns.{IsPrunedRun, IsWholeRun}
@@ -21,11 +23,19 @@ use Rattle.program.specs.declared.ladder.LadderRun.{LadderRun}
 abbrev pub EndsBy : {V : Type 0} → Result V Fault → ℕ → Type 0
 EndsBy answer status = MatchResult answer (λ _. status ≡ 0) (λ fault. status ≡ status_of fault)
 
+-- nothing was read
+abbrev pub IsUnread : Passed → Type 0
+IsUnread p = (p.left_then ≡ p.left) × (p.reads ≡ 0) × (p.failures ≡ 0)
+
 -- a command that reads in the calling thread did what it is for, or this stopped it
-abbrev pub StreamEnds : FileView → StreamJob → Passed → ℕ → Type 0
-StreamEnds files job p status =
+abbrev pub DoesOrStops : FileView → StreamJob → Passed → ℕ → Type 0
+DoesOrStops files job p status =
     ((status ≡ 0) × DoesStream files.gives job p.left p.held p.held_then)
     ⊎ ((fault : Fault) × (status ≡ status_of fault) × IsOfStream files job p fault)
+
+-- the same, and a check leaves its input alone
+abbrev pub StreamEnds : FileView → StreamJob → Passed → ℕ → Type 0
+StreamEnds files job p status = DoesOrStops files job p status × ((options : CheckOptions) → job ≡ Check options → IsUnread p)
 
 -- A run of the ladder that was asked for, behind what an earlier one left in its folder if it goes on: each rendition was read from its
 -- own input, and its files went to that folder. It ends well only where its summary was written.
@@ -51,8 +61,8 @@ PackEnds R holds asked held held_then status =
     ((run : LadderRun Seen (FileFolder R)) × IsRunFor holds asked held held_then run × EndsBy run.answer status)
     ⊎ ((fault : Fault) × (status ≡ status_of fault) × IsNoRun R asked fault × (held_then ≡ held))
 
--- A line asks for a command, which ends so; or it is refused, and nothing is read or written.
+-- A line asks for a command, which ends so, and a ladder reads its own inputs alone; or it is refused, and nothing is read or written.
 abbrev pub LineEnds : (R : Type 0) → (List ℕ → Option (List ℕ)) → FileView → Result Job Fault → Passed → ℕ → Type 0
 LineEnds R holds files (Ok (Stream job)) p status = StreamEnds files job p status
-LineEnds R holds files (Ok (Packing job)) p status = PackEnds R holds job p.held p.held_then status
-LineEnds R holds files (Err fault) p status = (status ≡ status_of fault) × (p.left_then ≡ p.left) × (p.held_then ≡ p.held)
+LineEnds R holds files (Ok (Packing job)) p status = PackEnds R holds job p.held p.held_then status × IsUnread p
+LineEnds R holds files (Err fault) p status = (status ≡ status_of fault) × IsUnread p × (p.held_then ≡ p.held)

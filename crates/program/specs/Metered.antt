@@ -1,9 +1,11 @@
 -- The metrics of a run at one time of it.
-use Rattle.std.specs.Prelude.{◌≡◌, ◌⊎◌, ℕ, ◌-◌, List, [], Option, None, Some, fold, length, map, option_copied, replicate, sum}
+use Rattle.std.specs.Prelude.{◌≡◌, ◌⊎◌, ℕ, ◌-◌, List, [], false, true, IfSome, Option, None, Some, fold, length, map, option_copied, replicate, sum}
+use Rattle.std.specs.Arc.{arc_value}
 use Rattle.std.specs.List.{range_with_len}
+use Rattle.std.specs.String.{string_bytes}
 use Rattle.ladder_items.specs.declared.fault.PackFault.{PackFault}
 use Rattle.metrics.specs.Metrics.{metrics_text}
-use Rattle.metrics.specs.Seens.{again_at}
+use Rattle.metrics.specs.Seens.{again_at, unseen}
 use Rattle.metrics.specs.Told.{told_at}
 use Rattle.metrics.specs.declared.glance.Glance.{Glance}
 use Rattle.metrics.specs.declared.known.InputSample.{InputSample}
@@ -13,8 +15,12 @@ use Rattle.metrics.specs.declared.seen.Sighting.{Sighting}
 use Rattle.read_ahead.specs.Sources.{inputs_of}
 use Rattle.read_ahead.specs.declared.view.InputsView.{InputsView}
 use Rattle.program.specs.Faulted.{named_in}
-use Rattle.program.specs.declared.told.Bulletin.{Bulletin}
-use Rattle.program.specs.declared.told.TheConstants.{RENDITIONS}
+use Rattle.program.specs.declared.bulletin.Bulletin.{Bulletin}
+use Rattle.program.specs.declared.bulletin.TheConstants.{RENDITIONS}
+use Rattle.program.specs.declared.file_answers.Put.{Put}
+use Rattle.program.specs.declared.told.Tellings.{Tellings}
+use Rattle.program.specs.declared.watching.LastLook.{LastLook}
+use Rattle.program.specs.declared.watching.Writer.{Writer}
 
 -- what was seen of each rendition, once they are seen again with these counts
 abbrev pub seen_then : List Sighting → List ℕ → ℕ → List Sighting
@@ -45,3 +51,44 @@ pub record IsMetered (names : List (List ℕ)) (start : ℕ) (glance : Glance) (
   pub inputs_are : known.inputs.now ≡ inputs
   pub faults_are : map option_copied known.faults.now ≡ named_in (fold named_in (replicate RENDITIONS None) told.faults) last
   pub text_is : text ≡ metrics_text (run_sample start told glance) (map (told_at names glance known now) (range_with_len 0 (length names)))
+
+-- A text is the metrics, at some time of it, of the run that a writer writes of, by what it knew of it before, and after it looked.
+pub record IsTextOf (old new : Writer) (glance : Glance) (last : Option PackFault) (text : List ℕ) : Type 0 where
+  pub now : ℕ
+  pub told : Bulletin
+  pub inputs : List InputSample
+  pub samples : AreSamplesOf old.inputs inputs
+  pub again : new.seen.items ≡ seen_then old.seen.items glance.counts.items now
+  pub metered : IsMetered (map string_bytes old.names.items) old.start glance told new.seen.items inputs last now text
+
+-- the writer's file was replaced by such a text
+pub record IsFileOf (old new : Writer) (glance : Glance) (last : Option PackFault) (put : Put) : Type 0 where
+  pub path_is : put.path.value ≡ old.path
+  pub text : IsTextOf old new glance last put.bytes.items
+
+-- it is the writer of the same run
+abbrev pub StaysWriter : Writer → Writer → Type 0
+StaysWriter old new = new ≡ record old { seen = new.seen; has_told = new.has_told }
+
+-- what a writer's file holds last is a text of its run by this last fault, of what a board showed at some time
+pub record IsLastFile (begun : Writer) (last : Option PackFault) (put : Put) : Type 0 where
+  pub old : Writer
+  pub new : Writer
+  pub glance : Glance
+  pub stays : StaysWriter begun old
+  pub file : IsFileOf old new glance last put
+
+-- what is left of a writer that looked for the last time: it holds such a file, or told that it can't
+pub record IsLastLook (begun : Writer) (last : Option PackFault) (look : LastLook) : Type 0 where
+  pub stays : StaysWriter begun look.writer
+  pub put : IfSome look.put (IsLastFile begun last)
+  pub untold : look.put ≡ None → look.writer.has_told ≡ true
+
+-- a writer of a run that begins: of renditions of these names, to this path, by this view of its inputs and what it tells of itself
+pub record IsWriterFor (names : List (List ℕ)) (path : List ℕ) (view : Option InputsView) (tellings : Tellings) (writer : Writer) : Type 0 where
+  pub names_are : map string_bytes writer.names.items ≡ names
+  pub seen_is : writer.seen.items ≡ replicate (length names) unseen
+  pub path_is : string_bytes writer.path ≡ path
+  pub inputs_are : writer.inputs ≡ view
+  pub told_is : arc_value writer.told ≡ tellings
+  pub untold : writer.has_told ≡ false

@@ -1,6 +1,7 @@
 ghost use Rattle.std.specs.Prelude.{OnErr, ◌≡◌, ◌⊎◌, ◌*◌, ◌<◌, ◌↔◌, [], All, Any, IfErr};
-ghost use Rattle.program.specs.declared.watching.RunWatch.TheVariants.{Unasked};
-ghost use Rattle.std.specs.Prelude.{IfOk, IfSome, IsErrOf, IsOk, IsSome, None, OnOk, false, length, map, option_map, replicate, true};
+ghost use Rattle.program.specs.declared.watching.RunWatch.TheVariants.{Runs, Unasked};
+ghost use Rattle.std.specs.Prelude.{IfOk, IfSome, IsErrOf, IsOk, IsSome, None, OnOk, Some, false, length, map, option_map, replicate, true};
+ghost use Rattle.std.specs.Result.{result_err};
 ghost use Rattle.std.specs.List.{range_with_len};
 ghost use Rattle.std.specs.Duration.{as_nanos};
 ghost use Rattle.std.specs.String.{string_bytes};
@@ -18,10 +19,13 @@ ghost use Rattle.program.specs.Asked.{IsAsAsked};
 ghost use Rattle.program.specs.Channels.{GoesNotOn, GoesOn, IsJobBehind, MayHoldFile};
 ghost use Rattle.program.specs.LadderEnds.{FailsLadder, HearsOf, IsUnbegun};
 ghost use Rattle.program.specs.LadderRuns.{IsPrunedRun, IsWholeRun};
+ghost use Rattle.program.specs.Faulted.{last_fault};
+ghost use Rattle.program.specs.Metered.{IsLastLook, IsWriterFor};
+ghost use Rattle.program.specs.declared.watching.Watching.{Watching};
 
-use crate::holding::FolderLock;
-use crate::told::Tellings;
-use crate::watching::{RunWatch, Watched};
+use crate::lock::FolderLock;
+use crate::told::KeepsTellings;
+use crate::watching::{LastLook, RunWatch, Watched};
 use channel::{Resumed, resume};
 use command_line::{Fault, LadderJob};
 use commands::{LadderOptions, LadderPackingFault, Pool};
@@ -36,13 +40,14 @@ use removal::{RemovalHerald, keepings, pack_and_remove};
 use std::alloc::{AllocError, AllocGlobal, Global};
 use std::fs::Files;
 use std::io::{Eprint, Write};
-use std::sync::{Arc, Wait};
+use std::sync::Wait;
 use std::thread::Threads;
 use std::time::{Clock, Duration};
 
-/// A ladder as it is packed: in its folder it may go on behind an earlier run.
+/// A ladder as it is packed: in its folder, which is held, it may go on behind an earlier run.
 #[derive(Drop)]
 pub struct Channel<'a> {
+    held: FolderLock<'a>,
     pub job: LadderJob<'a>,
     /// For each rendition the numbers of segments of earlier runs that no playlist lists any more.
     pub older: Vec<Vec<u64>>,
@@ -52,9 +57,11 @@ pub struct Channel<'a> {
 pub fn begin_channel<'a, R: Files + AllocGlobal + Clone + Copy + Drop>(
     rt: R,
     alloc: Global,
-    _held: &FolderLock,
+    held: FolderLock<'a>,
     job: LadderJob<'a>,
 ) -> Result<Channel<'a>, Fault>
+    requires { held.path.now ≡ job.folder.now }
+    ensures held { IfOk result (λ channel. channel.held.path.now ≡ channel.job.folder.now) }
     ensures behind { IfOk result (λ channel. IsJobBehind job.entry channel.job) }
     ensures first { job.entry.resumes ≡ false → IfOk result (λ channel. (channel.job ≡ job.entry) × (channel.older.items ≡ [])) }
     ensures none { job.entry.resumes ≡ false → IsOk result }
@@ -66,18 +73,21 @@ pub fn begin_channel<'a, R: Files + AllocGlobal + Clone + Copy + Drop>(
 {
     if !job.resumes {
         let older = Vec::new(alloc);
-        return Ok(Channel { job, older });
+        return Ok(Channel { held, job, older });
     }
     let mut folder = folder_of(rt, alloc, &job)?;
-    go_on(alloc, &mut folder, job)
+    go_on(alloc, &mut folder, held, job)
 }
 
 /// The ladder behind what an earlier run left in a folder.
 fn go_on<'a, F: Folder + FolderReader>(
     alloc: Global,
     folder: &mut F,
+    held: FolderLock<'a>,
     job: LadderJob<'a>,
 ) -> Result<Channel<'a>, Fault>
+    requires { held.path.now ≡ job.folder.now }
+    ensures held { IfOk result (λ channel. channel.held.path.now ≡ channel.job.folder.now) }
     ensures behind { IfOk result (λ channel. IsJobBehind job.entry channel.job) }
     ensures ok { let view = folder_view F.lists F.gives F.lacks F.refuses F.made in
         IfOk result (λ channel. IsResumed view job.entry.options.settings folder.old folder.new
@@ -120,7 +130,7 @@ fn go_on<'a, F: Folder + FolderReader>(
         syncs,
         metrics,
     };
-    Ok(Channel { job, older })
+    Ok(Channel { held, job, older })
 }
 
 /// Where the files of a ladder go.
@@ -140,24 +150,26 @@ pub struct LadderRun<S, F> {
 }
 
 /// Packs a ladder of files into a folder. All paths but those of FIFOs that have no writer are open before anything is
-/// written. The herald is told of a rendition's fault as soon as it stands; what the run tells of itself is kept where its
-/// metrics find it. An Err is why it wasn't begun.
+/// written. The herald is told of a rendition's fault as soon as it stands; what it keeps of what the run tells of itself, the run's
+/// metrics find there. An Err is why it wasn't begun.
 pub fn pack_ladder<
     R: InputFiles + Files + Clock + Eprint + Threads + Wait + Copy + Send + Sync + Drop + 'static,
     W: Write,
-    H: Herald + RemovalHerald,
+    H: Herald + RemovalHerald + KeepsTellings,
 >(
     rt: R,
     alloc: Global,
     channel: &Channel<'_>,
     output: &mut W,
     herald: &H,
-    told: Arc<Tellings>,
 ) -> Result<LadderRun<Ahead<R, InputAt<R>>, FileFolder<R>>, Fault>
 where
     R::Reader: Send + 'static,
     R::File: Send + 'static,
     R::Dir: Send + 'static,
+
+    // Its folder is held.
+    requires held { channel.now.held.path.now ≡ channel.now.job.folder.now }
 
     // It ends well only where all was packed and the summary was written.
     ensures written { IfOk result (λ run. OnOk run.answer ((report : _) ×
@@ -181,12 +193,16 @@ where
         (map (λ path. R.holds rt path.now) channel.now.job.options.paths.items) channel.now.job (map (λ n. n.items) channel.now.older.items)
         (W.contents output.old) (W.contents output.new)) }
 {
-    let Channel { job, older } = channel;
+    let Channel {
+        held: _,
+        job,
+        older,
+    } = channel;
     let settings = &job.options.settings;
     let Inputs { sources, view } = open_inputs(rt, alloc, &job.options)?;
     let into = destination(rt, alloc, job)?;
     let kept = keepings(alloc, settings, older)?;
-    let Board { publisher, watch } = open_board(rt, alloc, job, view, told)?;
+    let Board { publisher, watch } = open_board(rt, alloc, job, view, herald)?;
     let setup = LadderSetup {
         rt: &rt,
         alloc,
@@ -205,7 +221,7 @@ where
         return Ok(LadderRun {
             sources,
             outlet: LadderOutlet::Pruned(outlet),
-            answer: ended,
+            answer: ended.answer,
         });
     }
     let PackedLadder {
@@ -218,7 +234,7 @@ where
     Ok(LadderRun {
         sources,
         outlet: LadderOutlet::Whole(outlet),
-        answer: ended,
+        answer: ended.answer,
     })
 }
 
@@ -229,13 +245,16 @@ struct Board {
 }
 
 /// Opens the board of a ladder that is about to begin: it has a place for each rendition, and shows no segment. Who watches it sees
-/// all of the ladder's inputs.
-fn open_board<R: Files + Clock + Eprint + Threads + Wait + Copy + Send + Drop + 'static>(
+/// all of the ladder's inputs, and what the herald keeps.
+fn open_board<
+    R: Files + Clock + Eprint + Threads + Wait + Copy + Send + Drop + 'static,
+    H: KeepsTellings,
+>(
     rt: R,
     alloc: Global,
     job: &LadderJob<'_>,
     inputs: Option<InputsView>,
-    told: Arc<Tellings>,
+    herald: &H,
 ) -> Result<Board, BoardFault>
 where
     R::File: Send + 'static,
@@ -245,7 +264,15 @@ where
     ensures none { IfOk result (λ board. counts_shown board.publisher.list ≡ replicate (length job.now.options.settings.renditions) 0) }
     ensures asked { IfOk result (λ board. board.watch ≡ Unasked → job.now.metrics ≡ None) }
     ensures unasked { job.now.metrics ≡ None → IfOk result (λ board. board.watch ≡ Unasked) }
+
+    // What watches it writes to the path that was asked for, of these renditions, of these inputs and of what the herald keeps.
+    ensures watched { IfOk result (λ board. (to : _) (watching : Watching) → job.now.metrics ≡ Some to → board.watch ≡ Runs watching →
+        IsWriterFor (map (λ r. r.name) job.now.options.settings.renditions) to.now inputs (H.kept herald.now)
+        watching.thread.promise.writer.value) }
 {
+    let Ok(told) = herald.tellings() else {
+        return Err(BoardFault::NoMemory);
+    };
     let renditions = &job.options.settings.renditions;
     let (publisher, viewers) = opening_board(&rt, alloc, renditions.len(), 1)?;
     let watched = Watched {
@@ -257,6 +284,13 @@ where
     Ok(Board { publisher, watch })
 }
 
+/// How a run ended, and the last look at it, if it was watched.
+#[derive(Drop)]
+struct RunEnd {
+    answer: Result<(), Fault>,
+    look: Option<LastLook>,
+}
+
 /// Ends what watches a run, and its board, and tells how the run ended.
 fn end_run<R: Files + Clock + Eprint + Threads + Wait>(
     rt: &R,
@@ -264,15 +298,30 @@ fn end_run<R: Files + Clock + Eprint + Threads + Wait>(
     watch: RunWatch,
     publisher: Publisher,
     answer: Result<Report, LadderPackingFault>,
-) -> Result<(), Fault>
-    ensures well { OnOk answer (IsOk result) }
-    ensures fault { IfErr answer (λ why. IsErrOf result (LadderPacking why)) }
+) -> RunEnd
+    ensures well { OnOk answer (IsOk result.answer) }
+    ensures fault { IfErr answer (λ why. IsErrOf result.answer (LadderPacking why)) }
+
+    // The last metrics tell of the fault that it ended by.
+    ensures shown { (watching : Watching) → watch ≡ Runs watching → IsSome result.look × IfSome result.look
+        (IsLastLook watching.thread.promise.writer.value (last_fault (result_err answer))) }
 {
-    watch.end(rt, alloc, &publisher, answer.as_ref().err());
+    let look = watch.end(rt, alloc, &publisher, fault_of(&answer));
     publisher.end(rt);
-    match answer {
+    let answer = match answer {
         Ok(_) => Ok(()),
         Err(why) => Err(Fault::LadderPacking(why)),
+    };
+    RunEnd { answer, look }
+}
+
+/// The fault that a run ended by, if it did.
+fn fault_of(answer: &Result<Report, LadderPackingFault>) -> Option<&LadderPackingFault>
+    ensures { option_map (λ f. f.now) result ≡ result_err answer.now }
+{
+    match answer {
+        Ok(_) => None,
+        Err(why) => Some(why),
     }
 }
 

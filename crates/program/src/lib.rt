@@ -10,10 +10,14 @@ ghost use Rattle.command_line.specs.Faults.{status_of};
 ghost use Rattle.command_line.specs.declared.fault.Fault.TheVariants.{NoMemory, NotUtf8};
 ghost use Rattle.program.specs.Lines.{PackEnds};
 
+mod bulletin;
+mod file_answers;
 mod holding;
 mod ladder;
+mod lock;
 mod metrics_file;
 mod obeying;
+mod pairs;
 mod streaming;
 mod telling;
 mod told;
@@ -23,17 +27,16 @@ use crate::holding::hold;
 use crate::ladder::{LadderRun, begin_channel, pack_ladder};
 use crate::obeying::{Line, obey};
 use crate::telling::{Teller, tell};
-use crate::told::Tellings;
 pub use crate::told::each_has_a_place;
 use command_line::{Fault, LadderJob, line, version};
 use read_ahead::InputFiles;
-use std::alloc::{AllocError, AllocGlobal, Global};
+use std::alloc::{AllocGlobal, Global};
 use std::env::{self, Args};
 use std::fs::Files;
 use std::io;
 use std::io::{Eprint, Write};
 use std::process::ExitCode;
-use std::sync::{Arc, Wait};
+use std::sync::Wait;
 use std::thread::Threads;
 use std::time::Clock;
 
@@ -92,15 +95,14 @@ where
         Ok(held) => held,
         Err(fault) => return ended(host, words, Err(fault)),
     };
-    let channel = match begin_channel(rt, host.alloc(), &held, job) {
+    let channel = match begin_channel(rt, host.alloc(), held, job) {
         Ok(channel) => channel,
         Err(fault) => return ended(host, words, Err(fault)),
     };
-    let Ok((told, theirs)) = tellings(host.alloc()) else {
+    let Ok(teller) = Teller::new(rt, *host, words, &channel.job.options.settings) else {
         return ended(host, words, Err(Fault::NoMemory));
     };
-    let teller = Teller::new(rt, *host, words, &channel.job.options.settings, theirs);
-    match pack_ladder(rt, host.alloc(), &channel, output, &teller, told) {
+    match pack_ladder(rt, host.alloc(), &channel, output, &teller) {
         Ok(
             LadderRun {
                 sources: _,
@@ -131,13 +133,6 @@ fn end_of<R: Wait>(
             ended(host, words, Err(teller.seen(fault)))
         }
     }
-}
-
-/// Where a run keeps what it tells of itself, once for the run and once for who watches it.
-fn tellings(alloc: Global) -> Result<(Arc<Tellings>, Arc<Tellings>), AllocError> {
-    let told = Arc::new(alloc, Tellings::new())?;
-    let theirs = Arc::try_clone(&told)?;
-    Ok((told, theirs))
 }
 
 /// Tells how the program ends.

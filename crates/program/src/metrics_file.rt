@@ -1,12 +1,12 @@
 //! The file of a run's metrics, which is replaced as a whole.
-ghost use Rattle.std.specs.Prelude.{◌≡◌, IfOk, OnErr, false, true};
-ghost use Rattle.std.specs.Fs.{IsFile, file_type};
+ghost use Rattle.std.specs.Prelude.{◌≡◌, IfOk};
 ghost use Rattle.std.specs.String.{string_bytes};
 ghost use Rattle.program.specs.PartPaths.{IsPartPath};
 
+use crate::file_answers::{Free, Put, Written, fill, free_at, put_of, write_of};
 use std::alloc::{AllocError, Global};
-use std::fs::{self, File, Files, Metadata};
-use std::io::{self, Write};
+use std::fs::{self, File, Files};
+use std::io;
 
 /// The path of the file until it is whole: a hidden one in the same folder.
 fn part_path(alloc: Global, path: &str) -> Result<String, AllocError>
@@ -18,42 +18,37 @@ fn part_path(alloc: Global, path: &str) -> Result<String, AllocError>
     }
 }
 
-/// Whether there is something else than a file at the path, which isn't to be replaced by one.
-fn is_taken<R: Files>(files: &R, path: &str) -> bool {
-    is_other(fs::symlink_metadata(files, path))
-}
-
-/// Whether something was found that isn't a file.
-fn is_other(found: io::Result<Metadata>) -> bool
-    ensures file { IfOk found (λ there. IsFile (file_type there) → result ≡ false) }
-    ensures other { IfOk found (λ there. ¬ IsFile (file_type there) → result ≡ true) }
-    ensures none { OnErr found (result ≡ false) }
+/// Writes a file, where one may stand.
+fn write<'a, R: Files>(
+    files: &R,
+    path: &'a str,
+    free: Free<'a>,
+    bytes: Vec<u8>,
+) -> io::Result<Written<'a>>
+    requires { free.path.now ≡ path.now }
+    ensures { IfOk result (λ written. (written.path.now ≡ path.now) × (written.bytes ≡ bytes)) }
 {
-    match found {
-        Ok(there) => !there.is_file(),
-        Err(_) => false,
-    }
-}
-
-/// Writes a file.
-fn write<R: Files>(files: &R, path: &str, bytes: &[u8]) -> io::Result<()> {
     let mut file = File::create(files, path)?;
-    file.write_all(bytes)?;
-    file.flush()
+    let filled = fill(&mut file, bytes)?;
+    Ok(write_of(free, filled))
 }
 
-/// Puts a file with these bytes in place of the one at the path, if any.
-pub fn replace<R: Files>(files: &R, alloc: Global, path: &str, bytes: &[u8]) -> io::Result<()> {
+/// Puts a file with these bytes in place of the one at the path, if any. Something else that is there stays.
+pub fn replace<R: Files>(files: &R, alloc: Global, path: &String, bytes: Vec<u8>) -> io::Result<Put>
+    ensures { IfOk result (λ put. (put.path.value ≡ path.now) × (put.bytes ≡ bytes)) }
+{
     let part = part_path(alloc, path)?;
-    if is_taken(files, path) || is_taken(files, &part) {
-        return Err(io::Error::from(io::ErrorKind::AlreadyExists));
-    }
-    let written = match write(files, &part, bytes) {
-        Ok(()) => fs::rename(files, part.as_str(), path),
+    let free = free_at(files, path)?;
+    let free_part = free_at(files, &part)?;
+    let put = match write(files, &part, free_part, bytes) {
+        Ok(written) => {
+            let renamed = fs::rename(files, part.as_str(), path.as_str());
+            put_of(path, free, written, renamed)
+        }
         Err(error) => Err(error),
     };
-    if written.is_err() {
+    if put.is_err() {
         let _ = fs::remove_file(files, part.as_str());
     }
-    written
+    put
 }

@@ -1,16 +1,17 @@
 //! Faults on standard error: each as soon as it stands, and none twice.
-ghost use Rattle.std.specs.Prelude.{◌≡◌, ◌≢◌, Contains, Decides, Some, false};
+ghost use Rattle.std.specs.Prelude.{◌≡◌, ◌≢◌, Contains, Decides, IfOk, Some, false};
 ghost use Rattle.commands.specs.declared.packing_fault.LadderPackingFault.TheVariants.{Packing};
 ghost use Rattle.command_line.specs.declared.fault.Fault.TheVariants.{LadderPacking};
 ghost use Rattle.command_line.specs.Faults.{status_of};
 ghost use Rattle.channel.specs.Seen.{as_seen};
 
-use crate::told::Tellings;
+use crate::told::{KeepsTellings, Tellings};
 use channel::seen_fault;
 use command_line::{Fault, explain};
 use commands::LadderPackingFault;
 use pipeline::{Herald, PackFault, Settings};
 use removal::RemovalHerald;
+use std::alloc::AllocError;
 use std::io::IsTerminal;
 use std::sync::{Arc, Wait};
 
@@ -34,26 +35,28 @@ pub struct Teller<'w, R> {
     told: Arc<Tellings>,
 }
 
-impl<'w, R: Wait> Teller<'w, R> {
-    /// What was told is kept there. The words are those of the command line, the settings those of the run.
+impl<'w, R: Drop> Teller<'w, R> {
+    /// Nothing was told yet. The words are those of the command line, the settings those of the run.
     pub fn new(
         rt: R,
         host: HostRuntime,
         words: &'w [String],
         settings: &'w Settings,
-        told: Arc<Tellings>,
-    ) -> Teller<'w, R>
-        ensures { (result.words ≡ words.entry) × (result.settings ≡ settings.entry) × (result.told ≡ told) }
+    ) -> Result<Teller<'w, R>, AllocError>
+        ensures { IfOk result (λ teller. (teller.words ≡ words.entry) × (teller.settings ≡ settings.entry)) }
     {
-        Teller {
+        let told = Arc::new(host.alloc(), Tellings::new())?;
+        Ok(Teller {
             rt,
             host,
             words,
             settings,
             told,
-        }
+        })
     }
+}
 
+impl<R: Wait> Teller<'_, R> {
     /// Whether this fault was told.
     pub fn has_told(&self, fault: &Fault) -> bool
         ensures other { ((why : _) → fault.now ≢ LadderPacking (Packing why)) → result ≡ false }
@@ -87,20 +90,30 @@ fn is_among(faults: &[Option<PackFault>], fault: PackFault) -> bool
     faults.contains(&Some(fault))
 }
 
+impl<R> KeepsTellings for Teller<'_, R> {
+    ghost use Rattle.std.specs.Arc.{arc_value};
+
+    ghost kept = { λ teller. arc_value teller.told };
+
+    fn tellings(&self) -> Result<Arc<Tellings>, AllocError> {
+        Arc::try_clone(&self.told)
+    }
+}
+
 impl<R: Wait> Herald for Teller<'_, R> {
     fn tell(&self, fault: PackFault) {
-        self.told.note_fault(&self.rt, fault);
+        let _ = self.told.note_fault(&self.rt, fault);
         let fault = Fault::LadderPacking(LadderPackingFault::Packing(fault));
         tell(&self.host, self.words, &self.seen(fault));
     }
 
     fn completed(&self, segments: u128) {
-        self.told.note_completed(&self.rt, segments);
+        let _ = self.told.note_completed(&self.rt, segments);
     }
 }
 
 impl<R: Wait> RemovalHerald for Teller<'_, R> {
     fn removed(&self, segments: u128) {
-        self.told.note_removed(&self.rt, segments);
+        let _ = self.told.note_removed(&self.rt, segments);
     }
 }

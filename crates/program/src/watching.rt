@@ -1,5 +1,5 @@
 //! Watches a run: a thread with a viewer of its board writes its metrics to a file. The run waits for nothing of it.
-ghost use Rattle.std.specs.Prelude.{◌≡◌, ◌<◌, ◌⊎◌, ◌/◌, ◌++◌, ℕ, IfOk, IfSome, IsErr, IsSome, List, None, OnErr, false, true};
+ghost use Rattle.std.specs.Prelude.{◌≡◌, ◌<◌, ◌⊎◌, ◌/◌, ◌++◌, IfOk, IfSome, IsErr, IsSome, List, None, OnErr, Some, false, true};
 ghost use Rattle.std.specs.Prelude.{fold, length, map, option_copied, option_map, replicate};
 ghost use Rattle.std.specs.Duration.{as_nanos};
 ghost use Rattle.std.specs.String.{string_bytes};
@@ -8,12 +8,17 @@ ghost use Rattle.metrics.specs.Glances.{IsOfTheLast};
 ghost use Rattle.metrics.specs.Seens.{unseen};
 ghost use Rattle.metrics.specs.declared.glance.Glance.{Glance};
 ghost use Rattle.program.specs.Asked.{input_sample};
+ghost use Rattle.program.specs.declared.watching.Watching.{Watching};
+ghost use Rattle.std.specs.Arc.{arc_value};
 ghost use Rattle.program.specs.Faulted.{last_fault, name_of, named_in, rendition_of};
-ghost use Rattle.program.specs.declared.watching.RunWatch.TheVariants.{Unasked};
-ghost use Rattle.program.specs.Metered.{AreSamplesOf, IsMetered, IsSeenAgain, IsSeenOn, seen_then};
+ghost use Rattle.program.specs.declared.watching.RunWatch.TheVariants.{Runs, Unasked};
+ghost use Rattle.program.specs.Metered.{AreSamplesOf, IsFileOf, IsLastFile, IsLastLook, IsMetered, IsSeenAgain, IsSeenOn, IsTextOf, IsWriterFor, StaysWriter};
 
+use crate::bulletin::{Bulletin, RENDITIONS};
+use crate::file_answers::Put;
 use crate::metrics_file::replace;
-use crate::told::{Bulletin, RENDITIONS, Tellings};
+use crate::pairs::pair_of;
+use crate::told::Tellings;
 use commands::LadderPackingFault;
 use live_board::{Publisher, Viewer};
 use metrics::{
@@ -25,8 +30,9 @@ use read_ahead::{InputState, InputsView};
 use std::alloc::{AllocError, Global};
 use std::fs::Files;
 use std::io::Eprint;
+use std::snapshot::Snapshot;
 use std::sync::{Arc, Condvar, Mutex, Wait};
-use std::thread::{self, JoinHandle, Threads};
+use std::thread::{self, Promise, PromisedHandle, Threads};
 use std::time::{Clock, Duration, Instant, SystemTime, UNIX_EPOCH};
 
 /// How often the metrics are written, in seconds.
@@ -119,16 +125,16 @@ impl Writer {
         })
     }
 
-    /// Writes what was seen of a run, and the fault that it ended by.
+    /// Writes what was seen of a run, and the fault that it ended by. None where it couldn't, which was told.
     fn write<R: Files + Clock + Eprint + Wait>(
         &mut self,
         rt: &R,
         alloc: Global,
         glance: &Glance,
         fault: Option<PackFault>,
-    )
+    ) -> Option<Put>
         // It stays the writer of this run.
-        ensures kept { self.new ≡ record self.old { seen = self.new.seen; has_told = self.new.has_told } }
+        ensures kept { StaysWriter self.old self.new }
 
         // What was told once stays told.
         ensures told { self.old.has_told ≡ true → self.new.has_told ≡ true }
@@ -136,30 +142,33 @@ impl Writer {
         // What was seen stands, or is seen again with what a board shows.
         ensures seen { IsSeenOn self.old.seen.items glance.now.counts.items self.new.seen.items }
 
-        // It is seen again, or it was told that the metrics can't be written.
-        ensures known { IsSeenAgain self.old.seen.items glance.now.counts.items self.new.seen.items ⊎ (self.new.has_told ≡ true) }
+        // Its file holds what was seen now and that fault, or it was told that the metrics can't be written.
+        ensures put { IfSome result (IsFileOf self.old self.new glance.now fault) }
+        ensures untold { result ≡ None → self.new.has_told ≡ true }
     {
-        if !self.is_written(rt, alloc, glance, fault) {
+        let put = self.put(rt, alloc, glance, fault);
+        if put.is_none() {
             self.tell_once(rt);
         }
+        put
     }
 
-    /// Replaces the file by one of what was seen now. Whether it could.
-    fn is_written<R: Files + Clock + Wait>(
+    /// Replaces the file by one of what was seen now. None where it couldn't.
+    fn put<R: Files + Clock + Wait>(
         &mut self,
         rt: &R,
         alloc: Global,
         glance: &Glance,
         fault: Option<PackFault>,
-    ) -> bool
+    ) -> Option<Put>
         ensures kept { self.new ≡ record self.old { seen = self.new.seen } }
         ensures seen { IsSeenOn self.old.seen.items glance.now.counts.items self.new.seen.items }
-        ensures again { result ≡ true → IsSeenAgain self.old.seen.items glance.now.counts.items self.new.seen.items }
+        ensures put { IfSome result (IsFileOf self.old self.new glance.now fault) }
     {
         let Ok(text) = self.text(rt, alloc, glance, fault) else {
-            return false;
+            return None;
         };
-        replace(rt, alloc, &self.path, &text).is_ok()
+        replace(rt, alloc, &self.path, text).ok()
     }
 
     /// The metrics of what was seen now.
@@ -170,9 +179,7 @@ impl Writer {
         glance: &Glance,
         fault: Option<PackFault>,
     ) -> Result<Vec<u8>, AllocError>
-        ensures ok { IfOk result (λ text. (now : ℕ) × (told : Bulletin) × (inputs : List InputSample) × AreSamplesOf self.old.inputs inputs ×
-            (self.new.seen.items ≡ seen_then self.old.seen.items glance.now.counts.items now) ×
-            IsMetered (map string_bytes self.old.names.items) self.old.start glance.now told self.new.seen.items inputs fault now text.items) }
+        ensures ok { IfOk result (λ text. IsTextOf self.old self.new glance.now fault text.items) }
         ensures kept { self.new ≡ record self.old { seen = self.new.seen } }
         ensures seen { IsSeenOn self.old.seen.items glance.now.counts.items self.new.seen.items }
     {
@@ -366,36 +373,42 @@ fn name_fault(faults: &mut [Option<&'static str>], fault: Option<PackFault>)
     }
 }
 
-/// Looks at the board, and then writes what it saw. It holds no view while it writes.
+/// Looks at the board, and then writes what it saw. It holds no view while it writes. None where it couldn't, which was told.
 fn look_and_write<R: Files + Clock + Eprint + Wait>(
     rt: &R,
     alloc: Global,
     viewer: Viewer,
     writer: &mut Writer,
     fault: Option<PackFault>,
-) -> Viewer
+) -> (Viewer, Option<Put>)
     // It stays the writer of this run, and what was told once stays told.
-    ensures kept { writer.new ≡ record writer.old { seen = writer.new.seen; has_told = writer.new.has_told } }
+    ensures kept { StaysWriter writer.old writer.new }
     ensures told { writer.old.has_told ≡ true → writer.new.has_told ≡ true }
 
     // What was seen stands, or is seen again with what the board showed last.
-    ensures seen { (writer.new.seen.items ≡ writer.old.seen.items) ⊎ ((glance : Glance) × IsOfTheLast result.list glance ×
+    ensures seen { (writer.new.seen.items ≡ writer.old.seen.items) ⊎ ((glance : Glance) × IsOfTheLast result.0.list glance ×
         IsSeenOn writer.old.seen.items glance.counts.items writer.new.seen.items) }
 
-    // It is seen again with that, or it was told that the metrics can't be written.
-    ensures known { ((glance : Glance) × IsOfTheLast result.list glance ×
-        IsSeenAgain writer.old.seen.items glance.counts.items writer.new.seen.items) ⊎ (writer.new.has_told ≡ true) }
+    // Its file holds that and the fault, or it was told that the metrics can't be written.
+    ensures put { IfSome result.1 (λ put. (glance : Glance) × IsOfTheLast result.0.list glance ×
+        IsFileOf writer.old writer.new glance fault put) }
+    ensures untold { result.1 ≡ None → writer.new.has_told ≡ true }
 
     // The viewer is the same one, and has taken what the board showed.
-    ensures board { result.board ≡ viewer.board }
-    ensures grows { (more : List SnapshotFacts) × (result.list ≡ viewer.list ++ more) }
+    ensures board { result.0.board ≡ viewer.board }
+    ensures grows { (more : List SnapshotFacts) × (result.0.list ≡ viewer.list ++ more) }
 {
     let (viewer, seen) = look(alloc, viewer);
     match seen {
-        Ok(glance) => writer.write(rt, alloc, &glance, fault),
-        Err(_) => writer.tell_once(rt),
+        Ok(glance) => {
+            let put = writer.write(rt, alloc, &glance, fault);
+            (viewer, put)
+        }
+        Err(_) => {
+            writer.tell_once(rt);
+            (viewer, None)
+        }
     }
-    viewer
 }
 
 /// What watches a run of these renditions that begins now: its viewer, and the writer of what that shows. None where there is no memory
@@ -430,11 +443,14 @@ fn look_at_ticks<R: Files + Clock + Eprint + Wait>(
     viewer: Viewer,
     writer: Writer,
     stop: &StopSignal,
-) -> (Viewer, Writer) {
+) -> (Viewer, Writer)
+    ensures { StaysWriter writer result.1 }
+{
     let mut viewer = viewer;
     let mut writer = writer;
     for _ in rt.forever() {
-        viewer = look_and_write(rt, alloc, viewer, &mut writer, None);
+        let (next, _) = look_and_write(rt, alloc, viewer, &mut writer, None);
+        viewer = next;
         if stop.wait(rt) {
             break;
         }
@@ -460,10 +476,29 @@ pub enum RunWatch {
     Runs(Watching),
 }
 
+/// The writer that a thread was begun with: it gives that of the same run back.
+#[derive(Drop)]
+struct OfWriter {
+    writer: Snapshot<Writer>,
+}
+
+impl Promise<(Viewer, Writer)> for OfWriter {
+    ghost use Rattle.program.specs.Metered.{StaysWriter};
+
+    ghost kept_by = { λ begun both. StaysWriter begun.writer.value both.1 };
+}
+
 /// The thread that watches a run.
 pub struct Watching {
     stop: Arc<StopSignal>,
-    thread: JoinHandle<(Viewer, Writer)>,
+    thread: PromisedHandle<(Viewer, Writer), OfWriter>,
+}
+
+/// The last look at a run that ended: its writer, and the file that it put last; none where it couldn't, which was told.
+#[derive(Drop)]
+pub struct LastLook {
+    writer: Writer,
+    put: Option<Put>,
 }
 
 impl Watching {
@@ -478,8 +513,10 @@ impl Watching {
     where
         R::File: Send + 'static,
         R::Dir: Send + 'static,
+        ensures { IfSome result (λ watching. IsWriterFor (map (λ r. r.name) renditions.now) path.now watched.inputs (arc_value watched.told)
+            watching.thread.promise.writer.value) }
     {
-        let stop = Arc::new(
+        let (stop, theirs) = pair_of(
             alloc,
             StopSignal {
                 is_over: Mutex::new(false),
@@ -487,10 +524,13 @@ impl Watching {
             },
         )
         .ok()?;
-        let theirs = Arc::try_clone(&stop).ok()?;
         let (viewer, writer) = watchers(&rt, alloc, renditions, path, watched)?;
-        let thread = thread::spawn(
+        let begun = OfWriter {
+            writer: Snapshot::of(&writer),
+        };
+        let thread = thread::spawn_with(
             &rt,
+            begun,
             move || look_at_ticks(&rt, alloc, viewer, writer, &theirs),
         )
         .ok()?;
@@ -503,11 +543,16 @@ impl Watching {
         rt: &R,
         alloc: Global,
         fault: Option<&LadderPackingFault>,
-    ) {
+    ) -> LastLook
+        ensures kept { StaysWriter self.thread.promise.writer.value result.writer }
+        ensures put { IfSome result.put (IsLastFile self.thread.promise.writer.value (last_fault (option_map (λ f. f.now) fault.entry))) }
+        ensures untold { result.put ≡ None → result.writer.has_told ≡ true }
+    {
         let Watching { stop, thread } = self;
         stop.tell(rt);
         let (viewer, mut writer) = thread.join(rt);
-        let _viewer = look_and_write(rt, alloc, viewer, &mut writer, last_of(fault));
+        let (_viewer, put) = look_and_write(rt, alloc, viewer, &mut writer, last_of(fault));
+        LastLook { writer, put }
     }
 }
 
@@ -525,6 +570,8 @@ impl RunWatch {
         R::Dir: Send + 'static,
         ensures asked { result ≡ Unasked → path.entry ≡ None }
         ensures none { path.entry ≡ None → result ≡ Unasked }
+        ensures begun { (to : _) (watching : Watching) → path.entry ≡ Some to → result ≡ Runs watching →
+            IsWriterFor (map (λ r. r.name) renditions.now) to.now watched.inputs (arc_value watched.told) watching.thread.promise.writer.value }
     {
         let Some(path) = path else {
             return RunWatch::Unasked;
@@ -545,10 +592,13 @@ impl RunWatch {
         alloc: Global,
         _board: &Publisher,
         fault: Option<&LadderPackingFault>,
-    ) {
+    ) -> Option<LastLook>
+        ensures runs { (watching : Watching) → self ≡ Runs watching → IsSome result × IfSome result
+            (IsLastLook watching.thread.promise.writer.value (last_fault (option_map (λ f. f.now) fault.entry))) }
+    {
         match self {
-            RunWatch::Unasked | RunWatch::Unwritten => {}
-            RunWatch::Runs(watching) => watching.end(rt, alloc, fault),
+            RunWatch::Unasked | RunWatch::Unwritten => None,
+            RunWatch::Runs(watching) => Some(watching.end(rt, alloc, fault)),
         }
     }
 }

@@ -7,9 +7,9 @@ returns-then-job g c =
     let p = c.pack_and_remove-sources.ensures in
     let e = c.end_run-ended in
     record {
-      written = told-well _ c.pack_and_remove-sources.result.answer e.result e.ensures.fault p.written;
-      fault = told-fault _ _ _ _ _ _ _ c.pack_and_remove-sources.result.answer e.result e.ensures.well e.ensures.fault p.never_held p.fault;
-      told = told-why _ c.pack_and_remove-sources.result.answer e.result e.ensures.well e.ensures.fault p.told;
+      written = told-well _ c.pack_and_remove-sources.result.answer e.result.answer e.ensures.fault p.written;
+      fault = told-fault _ _ _ _ _ _ _ c.pack_and_remove-sources.result.answer e.result.answer e.ensures.well e.ensures.fault p.never_held p.fault;
+      told = told-why _ c.pack_and_remove-sources.result.answer e.result.answer e.ensures.well e.ensures.fault p.told;
       unbegun = tt;
       whole = λ stays. absurd (cc stays);
       pruned = λ goes. record {
@@ -24,14 +24,14 @@ returns-then-job g c =
         is = refl;
         same = p.same;
         leaves = p.killed;
-        unlisted = told-on _ c.pack_and_remove-sources.result.answer e.result e.ensures.fault p.unlisted;
-        cleared = told-on _ c.pack_and_remove-sources.result.answer e.result e.ensures.fault p.cleared;
+        unlisted = told-on _ c.pack_and_remove-sources.result.answer e.result.answer e.ensures.fault p.unlisted;
+        cleared = told-on _ c.pack_and_remove-sources.result.answer e.result.answer e.ensures.fault p.cleared;
         ends = record {
           old = c.in_ok-publisher.field-0.publisher.list;
           new = _;
           first = c.in_ok-publisher.ensures.none;
-          ok = told-well _ c.pack_and_remove-sources.result.answer e.result e.ensures.fault p.ok;
-          fault = told-why _ c.pack_and_remove-sources.result.answer e.result e.ensures.well e.ensures.fault p.fault;
+          ok = told-well _ c.pack_and_remove-sources.result.answer e.result.answer e.ensures.fault p.ok;
+          fault = told-why _ c.pack_and_remove-sources.result.answer e.result.answer e.ensures.well e.ensures.fault p.fault;
         };
       };
     }
@@ -47,9 +47,9 @@ returns g c =
     let p = c.pack_into_folder-sources.ensures in
     let e = c.end_run-ended-2 in
     record {
-      written = told-well _ c.pack_into_folder-sources.result.answer e.result e.ensures.fault p.written;
-      fault = told-fault _ _ _ _ _ _ _ c.pack_into_folder-sources.result.answer e.result e.ensures.well e.ensures.fault p.never_held p.fault;
-      told = told-why _ c.pack_into_folder-sources.result.answer e.result e.ensures.well e.ensures.fault p.told;
+      written = told-well _ c.pack_into_folder-sources.result.answer e.result.answer e.ensures.fault p.written;
+      fault = told-fault _ _ _ _ _ _ _ c.pack_into_folder-sources.result.answer e.result.answer e.ensures.well e.ensures.fault p.never_held p.fault;
+      told = told-why _ c.pack_into_folder-sources.result.answer e.result.answer e.ensures.well e.ensures.fault p.told;
       unbegun = tt;
       whole = λ stays. record {
         inputs = c.in_ok-sources.field-0.sources.items;
@@ -63,8 +63,8 @@ returns g c =
           old = c.in_ok-publisher.field-0.publisher.list;
           new = _;
           first = c.in_ok-publisher.ensures.none;
-          ok = told-well _ c.pack_into_folder-sources.result.answer e.result e.ensures.fault p.ok;
-          fault = told-why _ c.pack_into_folder-sources.result.answer e.result e.ensures.well e.ensures.fault p.fault;
+          ok = told-well _ c.pack_into_folder-sources.result.answer e.result.answer e.ensures.fault p.ok;
+          fault = told-why _ c.pack_into_folder-sources.result.answer e.result.answer e.ensures.well e.ensures.fault p.fault;
         };
       };
       pruned = λ goes. absurd (cc goes);

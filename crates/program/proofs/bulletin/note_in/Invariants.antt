@@ -1,6 +1,6 @@
 use Rattle.std.proofs.Common.{◌≡◌, take}
 use Rattle.std.specs.Prelude.{All, IsSome}
-use Rattle.program.proofs.told.note_in.Given as goal
+use Rattle.program.proofs.bulletin.note_in.Given as goal
 
 abbrev pub invariant-loop-place : goal.invariant-loop-place
 invariant-loop-place l = record {

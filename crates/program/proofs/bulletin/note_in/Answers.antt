@@ -3,7 +3,7 @@ use Rattle.std.proofs.lemmas.List.Elements.{All-contains, All-more}
 use Rattle.std.specs.Prelude.{All, IsSome, slice_index_or}
 use Rattle.ladder_items.specs.declared.fault.PackFault.{PackFault}
 use Rattle.program.proofs.Naming.{noted_at}
-use Rattle.program.proofs.told.note_in.Goals as goal
+use Rattle.program.proofs.bulletin.note_in.Goals as goal
 
 pub returns-then-is_none-clause-noted : goal.returns-then-is_none-clause-noted
 returns-then-is_none-clause-noted c = λ _.

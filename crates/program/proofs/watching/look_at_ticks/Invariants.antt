@@ -1,0 +1,5 @@
+use Rattle.program.specs.Metered.{StaysWriter}
+use Rattle.program.proofs.watching.look_at_ticks.Given as goal
+
+abbrev pub invariant-loop : goal.invariant-loop
+invariant-loop g l = StaysWriter l.initial.writer l.writer
