@@ -93,11 +93,11 @@ wants-at l e es sound is =
       begins = record { listing = l; sound = sound; more = segment_uri l.name e.number ∷ behind-first l e es; begins = lines };
       wants = inr (record { front = before-first l e; micros = e.micros; is = refl }, segment-ends l.name e.number);
       kept = inl (record {
-            listing = l;
-            sound = sound;
-            more = behind-first l e es;
-            begins = lines ∙ sym (append_assoc (before-first l e ++ duration_line e.micros ∷ []) (segment_uri l.name e.number ∷ []) (behind-first l e es));
-          });
+        listing = l;
+        sound = sound;
+        more = behind-first l e es;
+        begins = lines ∙ sym (append_assoc (before-first l e ++ duration_line e.micros ∷ []) (segment_uri l.name e.number ∷ []) (behind-first l e es));
+      });
     }
 
 wants-among : (l : Listing) (entries : List Entry) → IsListing l → l.entries ≡ entries → WantsMemory (listing_text l)
