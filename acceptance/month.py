@@ -1,5 +1,5 @@
 #!/usr/bin/env python3
-"""month.py PROGRAM FOLDER [DAYS]: a channel's month, as fast as it goes: 30 days of a ladder of two, or as many as are given.
+"""month.py PROGRAM FOLDER [DAYS]: a channel's month, as fast as it goes: 30 days of a ladder of two, or as many as are given, two at least.
 
 Segments of 6 s under four keys in turn come through FIFOs; they are removed in time, and metrics are written. Halfway the packager is
 killed, and the next one goes on. For each day of stream it prints the memory, the open files and the processor time of the packager,
@@ -171,9 +171,12 @@ def main():
     if len(sys.argv) < 3:
         sys.exit(__doc__)
     program, folder = pathlib.Path(sys.argv[1]).resolve(), pathlib.Path(sys.argv[2])
+    days = int(sys.argv[3]) if len(sys.argv) > 3 else 30
+    if days < 2:
+        sys.exit("two days at least: the packager is killed between them")
     channel = Channel(program, folder)
     try:
-        wrong = live(channel, int(sys.argv[3]) if len(sys.argv) > 3 else 30)
+        wrong = live(channel, days)
     finally:
         channel.process.kill()
     if wrong:
