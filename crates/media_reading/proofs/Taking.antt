@@ -1,6 +1,6 @@
 -- What lines tell that are taken one after another.
 use Rattle.std.proofs.Common.{rules, inl, inr, Bool, false, drop, ◌≤◌, ◌≡◌, ◌≢◌, ◌⊎◌, ℕ, ◌+◌, ◌<◌, true, List, [], ◌∷◌, ◌++◌, length, Option, Some, None, refl, sym, ap, ◌∙◌, subst, arith, append_assoc, append-nil}
-use Rattle.std.specs.Prelude.{All, codes, is_some, unwrap_or, option_map, nat_lt, if◌then◌else◌}
+use Rattle.std.specs.Prelude.{All, codes, is_some, not, unwrap_or, option_map, nat_lt, if◌then◌else◌}
 use Rattle.std.specs.Option.{option_and_then}
 use Rattle.std.specs.Str.{IsUtf8}
 use Rattle.std.proofs.lemmas.Option.{same_Some, none-some}
@@ -11,7 +11,7 @@ use Rattle.std.proofs.lemmas.List.{take_all, length-append, take-append-drop}
 use Rattle.std.proofs.lemmas.Bool.{false≢true, ltb-true, and_parts}
 use Rattle.media_reading.specs.declared.reading.Stage.{Stage}
 use Rattle.media_reading.specs.declared.reading.Stage.TheVariants.{Fresh, Tagged, Versioned, Targeted, Sequenced, Headed, Between, Broken, Keyed, Timed, Ended}
-use Rattle.media_reading.specs.State.{HasEscapes, IsKept, Tells, begins_key, ends_segment, has_number, may_want, Progress, fresh, step, steps, listing_at, listing_of}
+use Rattle.media_reading.specs.State.{HasEscapes, IsKept, Tells, awaits_first_key, begins_key, ends_segment, has_number, key_may_want, may_want, Progress, fresh, step, steps, listing_at, listing_of}
 use Rattle.std.proofs.lemmas.List.Elements.{All-cons, All-append, All-nil}
 use Rattle.std.proofs.Math.Seq.{take-append_seam, take-append-add}
 use Rattle.playlist_text.specs.Lines.{text_of}
@@ -261,23 +261,6 @@ wants-memory text rest line behind lines p whole each taken is split may =
       before = subst AreFirst (sym begun) (taken-first lines p taken);
     }
 
--- the line is one that is compared or kept
-line-wanted : (stage : Stage) (p : Progress) (line : List ℕ) → may_want stage p line ≡ true → (begins_key line ≡ true) ⊎ (EndsTimed (lines_at stage p) × (ends_segment line ≡ true))
-line-wanted Fresh p line may = absurd (false≢true may)
-line-wanted Tagged p line may = absurd (false≢true may)
-line-wanted Versioned p line may = absurd (false≢true may)
-line-wanted Targeted p line may = absurd (false≢true may)
-line-wanted Sequenced p line may = absurd (false≢true may)
-line-wanted Headed p line may = inl (and_parts (has_number p) (begins_key line) may).1
-line-wanted Between p line may = inl (and_parts (has_number p) (begins_key line) may).1
-line-wanted Broken p line may = inl (and_parts (has_number p) (begins_key line) may).1
-line-wanted Keyed p line may = absurd (false≢true may)
-line-wanted Timed p line may = inr (
-  record { front = listed_lines p ++ discontinuity_lines p.discontinuity ++ keys_of p; micros = p.micros; is = refl },
-  (and_parts (has_number p) (ends_segment line) may).1,
-)
-line-wanted Ended p line may = absurd (false≢true may)
-
 -- where no key was told, seven lines stand before at most
 type-short : (event : Bool) → length (type_lines event) ≤ 1
 unfolding type_lines
@@ -307,6 +290,34 @@ first-short Keyed p line at none may = absurd (false≢true may)
 first-short Timed p line at none may = absurd (false≢true (ap is_some (sym none) ∙ at.0))
 first-short Ended p line at none may = absurd (false≢true may)
 
+unnamed : (name : Option (List ℕ)) → not (is_some name) ≡ true → name ≡ None
+unnamed None none = refl
+unnamed (Some n) none = absurd (false≢true none)
+
+-- the line is one that is compared or kept
+first-key : (stage : Stage) (p : Progress) (line : List ℕ) → IsAt stage p → may_want stage p line ≡ true → key_may_want p line ≡ true
+    → (begins_key line ≡ true) × (length (lines_at stage p) ≤ 7)
+first-key stage p line at may key =
+    let parts = and_parts (awaits_first_key p) (begins_key line) key in
+    (parts.1, first-short stage p line at (unnamed p.name (and_parts (has_number p) (not (is_some p.name)) parts.0).1) may)
+
+line-wanted : (stage : Stage) (p : Progress) (line : List ℕ) → IsAt stage p → may_want stage p line ≡ true
+    → ((begins_key line ≡ true) × (length (lines_at stage p) ≤ 7)) ⊎ (EndsTimed (lines_at stage p) × (ends_segment line ≡ true))
+line-wanted Fresh p line at may = absurd (false≢true may)
+line-wanted Tagged p line at may = absurd (false≢true may)
+line-wanted Versioned p line at may = absurd (false≢true may)
+line-wanted Targeted p line at may = absurd (false≢true may)
+line-wanted Sequenced p line at may = absurd (false≢true may)
+line-wanted Headed p line at may = inl (first-key Headed p line at may may)
+line-wanted Between p line at may = inl (first-key Between p line at may may)
+line-wanted Broken p line at may = inl (first-key Broken p line at may may)
+line-wanted Keyed p line at may = absurd (false≢true may)
+line-wanted Timed p line at may = inr (
+  record { front = listed_lines p ++ discontinuity_lines p.discontinuity ++ keys_of p; micros = p.micros; is = refl },
+  (and_parts (has_number p) (ends_segment line) may).1,
+)
+line-wanted Ended p line at may = absurd (false≢true may)
+
 -- what the line tells is kept
 kept-by : (lines : List (List ℕ)) (p : Progress) (line : List ℕ) (o : Option Progress) → steps fresh lines ≡ Some p → step p line ≡ o → o ≢ None → AreFirst (lines ++ line ∷ [])
 kept-by lines p line None taken next some = absurd (some refl)
@@ -332,6 +343,6 @@ wants-line text rest line behind lines p whole each taken is split may kept =
       last = more.last;
       splits = whole-split text rest line behind lines whole each is split;
       begins = subst AreFirst told.1 (sound-first p told.0);
-      wants = subst (λ (l : List (List ℕ)). (begins_key line ≡ true) ⊎ (EndsTimed l × (ends_segment line ≡ true))) told.1 (line-wanted p.stage p line may);
+      wants = subst (λ (l : List (List ℕ)). ((begins_key line ≡ true) × (length l ≤ 7)) ⊎ (EndsTimed l × (ends_segment line ≡ true))) told.1 (line-wanted p.stage p line told.0.stands may);
       kept = line-kept lines p line taken may kept;
     }

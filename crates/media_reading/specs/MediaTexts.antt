@@ -91,8 +91,8 @@ pub record EndsTimed (lines : List (List ℕ)) : Type 0 where
   pub micros : ℕ
   pub is : lines ≡ front ++ duration_line micros ∷ []
 
--- .. And the line is one of those that are kept: it begins as the line of a key does, or stands behind that of a duration and ends as
--- the line of a segment does; and either the lines up to it begin those of some playlist too, so that what it tells was to be kept, or it
+-- .. And the line is one of those that are kept: it begins as the line of a key does, and no key can stand before it, or it stands behind
+-- that of a duration and ends as the line of a segment does; and either the lines up to it begin those of some playlist too, so that what it tells was to be kept, or it
 -- may be the first line of a key, with a name in it that has escapes. No other text wants memory, whatever is wrong in it.
 pub record WantsMemory (text : List ℕ) : Type 0 where
   pub before : List (List ℕ)
@@ -101,7 +101,7 @@ pub record WantsMemory (text : List ℕ) : Type 0 where
   pub last : List ℕ
   pub splits : Splits text (before ++ line ∷ behind) last
   pub begins : AreFirst before
-  pub wants : (begins_key line ≡ true) ⊎ (EndsTimed before × (ends_segment line ≡ true))
+  pub wants : ((begins_key line ≡ true) × (length before ≤ 7)) ⊎ (EndsTimed before × (ends_segment line ≡ true))
   pub kept : AreFirst (before ++ line ∷ []) ⊎ (HasEscapes line × (length before ≤ 7))
 
 -- why a text isn't read

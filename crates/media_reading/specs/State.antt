@@ -281,10 +281,13 @@ ends_segment line = ends_with nat_eq line (codes ".ts")
 abbrev pub IsKept : Option Progress → Progress → List ℕ → Type 0
 IsKept next p line = (next ≢ None) ⊎ ((p.name ≡ None) × HasEscapes line)
 
--- A line for which memory may be wanted, to keep what it tells: one that begins as that of a key does, where an entry may begin, and one
--- that ends as that of a segment does, where one may stand; none of the others.
+-- A line for which memory may be wanted, to keep what it tells: one that begins as that of a key does, where an entry may begin and no
+-- key was told yet, and one that ends as that of a segment does, where one may stand; none of the others.
+abbrev pub awaits_first_key : Progress → Bool
+awaits_first_key p = has_number p && not (is_some p.name)
+
 abbrev pub key_may_want : Progress → List ℕ → Bool
-key_may_want p line = has_number p && begins_key line
+key_may_want p line = awaits_first_key p && begins_key line
 
 abbrev pub may_want : Stage → Progress → List ℕ → Bool
 may_want Headed p line = key_may_want p line

@@ -5,7 +5,7 @@ ghost use Rattle.std.specs.Cow.{cow_str_bytes};
 ghost use Rattle.std.specs.List.{before_first};
 ghost use Rattle.media_reading.specs.State.{step, step_at, fresh, expect, begun, headed, salt_in, keyed, keyed_or_timed, timed};
 ghost use Rattle.media_reading.specs.State.{listed, listing_at, name_in, number_left, entered};
-ghost use Rattle.media_reading.specs.State.{progress_of, HasEscapes, IsKept, Moves, Tells, has_number, key_may_want, may_want};
+ghost use Rattle.media_reading.specs.State.{progress_of, HasEscapes, IsKept, Moves, Tells, awaits_first_key, has_number, key_may_want, may_want};
 ghost use Rattle.media_reading.specs.declared.reading.Stage.TheVariants.{Versioned, Targeted, Sequenced, Headed, Timed};
 
 use crate::listing::{Entry, LAST_LISTED, Listing};
@@ -96,6 +96,7 @@ impl Reading {
         ensures taken { IfOk result (λ taken. Tells taken (step (progress_of self.old) line.now) (progress_of self.new)) }
         ensures scarce { OnErr result (may_want self.old.stage (progress_of self.old) line.now ≡ true) }
         ensures kept { OnErr result (IsKept (step (progress_of self.old) line.now) (progress_of self.old) line.now) }
+        ensures full { self.old.stage ≡ Timed → OnErr result (vec_capacity self.old.entries ≤ vec_len self.old.entries) }
     {
         match self.stage {
             Stage::Fresh => Ok(self.take_text(line, b"#EXTM3U", Stage::Tagged)),
@@ -248,7 +249,7 @@ impl Reading {
 
     #[tactic(auto, unfolding(crate::specs::State::keyed))]
     fn take_begun_key(&mut self, line: &[u8]) -> Result<bool, AllocError>
-        ensures scarce { OnErr result (has_number (progress_of self.old) ≡ true) }
+        ensures scarce { OnErr result (awaits_first_key (progress_of self.old) ≡ true) }
         ensures kept { OnErr result (IsKept (keyed (progress_of self.old) line.now) (progress_of self.old) line.now) }
         ensures taken { IfOk result (λ taken. Moves taken (keyed (progress_of self.old) line.now) (progress_of self.old) (progress_of self.new)) }
     {
