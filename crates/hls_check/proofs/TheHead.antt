@@ -8,7 +8,8 @@ use Rattle.psi_tables.specs.InForce.{InForce}
 use Rattle.psi_tables.specs.Head.{header, stuffed, packets, section_packets, packet_count, head, pat_section, IsSendable}
 use Rattle.psi_tables.proofs.Heads.{head-first, section-first, length-head, sized}
 use Rattle.hls_check.specs.Unpacking.{BeginsWithHead}
-use Rattle.hls_check.specs.Heads.{IsSized, IsTheHead, told_tables}
+use Rattle.hls_check.specs.Heads.{IsSized, IsTheHead, MayHoldHead, told_tables}
+use Rattle.hls_check.proofs.Payloads.{number-told, length-section}
 
 -- counters count modulo 16
 packets-counter : (n : ℕ) (starts : Bool) (pid c d : ℕ) (bytes : List ℕ) → c % 16 ≡ d % 16 → packets n starts pid c bytes ≡ packets n starts pid d bytes
@@ -56,6 +57,17 @@ pub begins-sized : (text rest : List ℕ) (begins : BeginsWithHead text rest) �
 begins-sized text rest begins =
     let is = sized begins.tables.section begins.sendable.section in
     record { fields = is.fields; whole = is.whole }
+
+-- and all of its packets are there
+pub begins-holds : (text rest : List ℕ) → BeginsWithHead text rest → MayHoldHead text
+begins-holds text rest begins =
+    let t = begins.tables in
+    let same = begins-pmt text rest begins in
+    let its = begins-sized text rest begins in
+    let told = ap (λ x. number_at x 6) same ∙ number-told t.pmt_pid begins.pmt_counter t.section rest its.fields in (
+      begins-long text rest begins,
+      omega (arith, told, its.whole, length-section t.pmt_pid begins.pmt_counter t.section rest, ap length same),
+    )
 
 -- tables are their fields
 same-tables : (t u : InForce) → t.stream_id ≡ u.stream_id → t.program ≡ u.program → t.pmt_pid ≡ u.pmt_pid → t.section ≡ u.section → t ≡ u

@@ -1,10 +1,10 @@
 -- What the steps of unpacking find.
-use Rattle.std.specs.Prelude.{◌≡◌, ℕ, ◌*◌, ◌<◌, ◌≤◌, ◌⊎◌, List, [], length, slice_index_or, Option, Some, None}
+use Rattle.std.specs.Prelude.{◌≡◌, ℕ, ◌<◌, ◌⊎◌, List, [], length, slice_index_or, Option, Some, None}
 use Rattle.std.specs.List.{concat}
 use Rattle.aes_cbc.specs.Opening.{Seals}
-use Rattle.ts_packet.specs.declared.lengths.TheConstants.{PACKET}
 use Rattle.hls_check.specs.declared.fault.UnpackFault.{UnpackFault}
 use Rattle.hls_check.specs.declared.fault.UnpackFault.TheVariants.{Missing, Closed, NoHead, NoMemory}
+use Rattle.hls_check.specs.Heads.{MayHoldHead}
 use Rattle.hls_check.specs.Unpacking.{Packed, key_at, vector_at, bytes_at, IsOpen, IsReached, IsFirstWithout, BeginsWithHead}
 
 -- the one text that is sealed to these bytes, under a key and a vector
@@ -39,14 +39,14 @@ pub record IsFirstHeadless (texts : List (List ℕ)) (i : ℕ) : Type 0 where
   pub without : (rest : List ℕ) → ¬ BeginsWithHead (slice_index_or texts i []) rest
   pub before : (j : ℕ) → j < i → (rest : List ℕ) × BeginsWithHead (slice_index_or texts j []) rest
 
--- a text is long enough for a head, and each before it begins with one
+-- a text may begin with a head, by its length and that of the section which it tells, and each before it begins with one
 pub record IsReachedText (texts : List (List ℕ)) : Type 0 where
   pub place : ℕ
   pub text : place < length texts
-  pub long : 2 * PACKET ≤ length (slice_index_or texts place [])
+  pub holds : MayHoldHead (slice_index_or texts place [])
   pub before : (j : ℕ) → j < place → (rest : List ℕ) × BeginsWithHead (slice_index_or texts j []) rest
 
--- why there aren't all: memory is wanted for a text alone that is long enough for a head, behind such as begin with one
+-- why there aren't all: memory is wanted for a text alone that may begin with a head, behind such as begin with one
 abbrev pub IsNoRest : List (List ℕ) → UnpackFault → Type 0
 IsNoRest texts (Missing i) = ⊥
 IsNoRest texts (Closed i) = ⊥

@@ -1,7 +1,7 @@
 //! The head of a segment, taken off (RFC 8216, 3.2).
 
-ghost use Rattle.std.specs.Prelude.{◌≡◌, ◌*◌, ◌<◌, ◌≤◌, ◌^◌, ℕ, List, ◌++◌, length, slice_index, IfOk, OnErr, IsSome, IsSomeAnd, MatchOption, Decides, None};
-ghost use Rattle.psi_tables.specs.ProgramMap.{pmt_fault};
+ghost use Rattle.std.specs.Prelude.{◌≡◌, ◌≢◌, ◌*◌, ◌<◌, ◌≤◌, ◌^◌, ℕ, List, [], ◌++◌, length, slice_index, IfOk, OnErr, IsSome, IsSomeAnd, MatchOption, Decides, None};
+ghost use Rattle.psi_tables.specs.ProgramMap.{pmt_fault, program_map};
 ghost use Rattle.psi_tables.specs.Head.{head, section_packets, IsSendable};
 ghost use Rattle.hls_check.specs.Unpacking.{BeginsWithHead};
 ghost use Rattle.hls_check.specs.Heads;
@@ -67,10 +67,11 @@ fn made_head(
     Ok(bytes)
 }
 
-/// Whether a section is that of a good PMT. Only such a section wants memory.
+/// Whether a section is that of a good PMT. Only such a section wants memory, and only one with an entry.
 fn is_pmt(alloc: Global, section: &[u8]) -> Result<bool, AllocError>
     ensures good { IfOk result (λ good. Decides good (pmt_fault section.now ≡ None)) }
     ensures memory { OnErr result (pmt_fault section.now ≡ None) }
+    ensures scarce { OnErr result ((program_map section.now).entries ≢ []) }
 {
     match Pmt::read(alloc, section) {
         Ok(_) => Ok(true),

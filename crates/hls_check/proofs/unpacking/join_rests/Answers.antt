@@ -1,11 +1,12 @@
-use Rattle.std.proofs.Common.{◌∙◌, ◌++◌, length, map, get_or, [], ◌∷◌, sym, ap, arith, append-nil, subst, length-append}
+use Rattle.std.proofs.Common.{◌∙◌, ◌++◌, map, get_or, [], ◌∷◌, sym, ap, arith, append-nil, subst, length-append}
 use Rattle.std.specs.List.{concat}
 use Rattle.std.proofs.lemmas.List.{length-map}
 use Rattle.std.proofs.lemmas.List.Folds.{concat-append}
 use Rattle.std.proofs.lemmas.Option.{MatchOption-at_some}
+use Rattle.hls_check.specs.Heads.{MayHoldHead}
 use Rattle.hls_check.specs.Unpacking.{BeginsWithHead}
 use Rattle.hls_check.proofs.Growing.{each-more, items_at}
-use Rattle.hls_check.proofs.TheHead.{begins-long}
+use Rattle.hls_check.proofs.TheHead.{begins-holds}
 use Rattle.hls_check.proofs.Wanting.{memory-told}
 use Rattle.media_reading.proofs.Found.{MatchOption-none}
 use Rattle.hls_check.proofs.unpacking.join_rests.Goals as goal
@@ -42,17 +43,17 @@ returns-in_err-rest-clause-err c =
     memory-told c.from_residual.result _ c.from_residual.ensures.1 (record {
       place = c.loop-i.i;
       text = omega (arith, c.loop-i-test.true, length-map c.args.texts.now (λ t. t.items));
-      long = omega (arith, ap length text, c.in_err-rest.ensures.memory.0);
+      holds = subst MayHoldHead text c.in_err-rest.ensures.memory;
       before = λ j lt. (get_or c.loop-i.invariant.rests j [], c.loop-i.invariant.begins j lt);
     })
 
 pub returns-in_err-extend_from_slice-clause-err : goal.returns-in_err-extend_from_slice-clause-err
 returns-in_err-extend_from_slice-clause-err c =
     let text = c.deref.ensures.value ∙ items_at c.args.texts.now c.index-texts-i.result c.loop-i.i c.loop-i-test.true c.index-texts-i.is in
-    let long = begins-long _ c.in-Some.rest.now (MatchOption-at_some _ _ _ c.in-Some.is c.in_ok-rest.ensures.found) in
+    let holds = begins-holds _ c.in-Some.rest.now (MatchOption-at_some _ _ _ c.in-Some.is c.in_ok-rest.ensures.found) in
     memory-told c.from_residual-in_err-extend_from_slice.result _ c.from_residual-in_err-extend_from_slice.ensures.1 (record {
       place = c.loop-i.i;
       text = omega (arith, c.loop-i-test.true, length-map c.args.texts.now (λ t. t.items));
-      long = omega (arith, ap length text, long);
+      holds = subst MayHoldHead text holds;
       before = λ j lt. (get_or c.loop-i.invariant.rests j [], c.loop-i.invariant.begins j lt);
     })
