@@ -14,8 +14,8 @@ use Rattle.ingest.specs.declared.lane.Stop.{Stop}
 use Rattle.ingest.specs.declared.lane.Stop.TheVariants.{Good, Cut, Read}
 use Rattle.ingest.specs.Streams.{Taken, AreNext, closed_of}
 use Rattle.item_io.specs.Views.{OutletView, SourceView}
-use Rattle.ingest.specs.Inputs.{IsRead, SourceSays}
-use Rattle.ingest.specs.Lanes.{made_of, is_good, IsFirst, IsTurned}
+use Rattle.ingest.specs.Inputs.{BringsWant, IsRead, SourceSays}
+use Rattle.ingest.specs.Lanes.{made_of, is_good, IsFirst, IsOpen, IsTurned}
 use Rattle.ladder_items.specs.Ladder.{Ladder, IsAllowed}
 use Rattle.ladder_items.specs.Shown.{Shown}
 use Rattle.ladder_items.specs.Items.{Part, no_part, part_at, shown_all}
@@ -29,9 +29,9 @@ use Rattle.ladder_items.proofs.Rows.{after_all-append}
 use Rattle.ladder_items.proofs.Stages.{same-fails, turns-now, turns-then, turns-other, turns-all, turns-none, turns-more, turns-most}
 use Rattle.ladder_items.proofs.Worlds.{InOrder, parts-of, parts-length, stage-at, world-read, world-gave, world-unread, world-ungiven, world-skip, world-round, world-first, at-default}
 use Rattle.serial_run.specs.Dues.{due}
-use Rattle.serial_run.specs.OneThread.{IsCutAtOnce}
+use Rattle.serial_run.specs.OneThread.{IsCutAtOnce, taken_behind}
 use Rattle.serial_run.proofs.Dues.{next-behind, due-are-of, due-part}
-use Rattle.serial_run.proofs.AtOnce.{cut-at-once}
+use Rattle.serial_run.proofs.AtOnce.{cut-at-once, was-due}
 
 pub set-twice : {A : Type 0} (xs : List A) (r : ℕ) (x y : A) → set (set xs r x) r y ≡ set xs r y
 set-twice [] r x y = refl
@@ -147,16 +147,36 @@ module _ (X Y : Type 0) (input : SourceView X) (out : OutletView Y) (most_reads 
   unfailed-turn b c lane moved turn filled unread owing =
       unfailed-by lane.intake.rendition lane.intake.settings _ moved.stop b c moved.intake.filled turn.says (λ failed. ap (λ (t : Taken). t.filled) (unread failed) ∙ filled) owing
 
+  -- a rendition that goes on took what was read
+  open-at : (rounds r : ℕ) (before now : List X) (lanes : List Lane) (shown : List Shown) (x y : Y) (b : X) (lane : Lane)
+      → slice_get now r ≡ Some b → slice_get lanes r ≡ Some lane → lane.stop ≡ None
+      → (d : NothingDue (run_of input out most_reads before now x y) ladder (turns_of rounds r) lanes shown) → IsOpen r ladder.cut (stream_at d.world.streams r) lane.intake
+  open-at rounds r before now lanes shown x y b lane f g goes_on d =
+      let s = stage-at X Y input out most_reads ladder (turns_of rounds r) before now lanes shown _ x y d.world r b lane f g in
+      s.2.is_at.goes_on goes_on
+
+  taken-at : (rounds r : ℕ) (before now : List X) (lanes : List Lane) (shown : List Shown) (x y : Y) (b : X) (lane : Lane)
+      → slice_get now r ≡ Some b → slice_get lanes r ≡ Some lane → lane.stop ≡ None
+      → (d : NothingDue (run_of input out most_reads before now x y) ladder (turns_of rounds r) lanes shown) → lane.intake ≡ taken_behind ladder r (stream_at d.world.streams r)
+  taken-at rounds r before now lanes shown x y b lane f g goes_on d =
+      let s = stage-at X Y input out most_reads ladder (turns_of rounds r) before now lanes shown _ x y d.world r b lane f g in
+      let ready = s.2.is_at.goes_on goes_on in
+      let stream = stream_at d.world.streams r in
+      let filled = d.filled r lane g in
+      let turned : lane.intake.turned ≡ closed_of r ladder.cut stream =
+      sym (append-nil _) ∙ (ap (λ (l : List SegmentPlan). lane.intake.turned ++ l) (sym filled) ∙ (s.2.is_at.made ∙ ap (λ (o : Option Stop). made_of o r ladder.cut stream) goes_on)) in
+      λ i. record { rendition = ready.rendition i; settings = ready.settings i; stream = ready.stream i; ended = ready.going i; turned = turned i; filled = filled i }
+
   -- what was due was given in part
   pub due-cut : (rounds r : ℕ) (before now : List X) (lanes : List Lane) (shown : List Shown) (x y z : Y) (b c : X) (lane moved : Lane)
-      → slice_get now r ≡ Some b → slice_get lanes r ≡ Some lane → lane.stop ≡ None → IsTurned input b c lane moved
+      → slice_get now r ≡ Some b → slice_get lanes r ≡ Some lane → lane.stop ≡ None → (turn : IsTurned input b c lane moved)
       → (moved.stop ≡ Some Read → moved.intake ≡ record lane.intake { ended = true }) → (moved.intake.filled ≡ [] → is_good moved.stop ≡ false → ⊥)
-      → (d : NothingDue (run_of input out most_reads before now x y) ladder (turns_of rounds r) lanes shown) (piece : List ℕ) → length piece ≤ 18800
-      → HasRead rounds r before now lanes shown x y c moved d piece
+      → (d : NothingDue (run_of input out most_reads before now x y) ladder (turns_of rounds r) lanes shown)
+      → HasRead rounds r before now lanes shown x y c moved d turn.piece
       → ((parts : List Part) → AreNextPlans ladder r parts shown moved.intake.filled → PutSome out y z (blocks ladder parts (due r moved)))
       → rounds < most_reads → IsAllowed ladder
       → IsCutAtOnce (run_of input out most_reads before (set now r c) x z) ladder
-  due-cut rounds r before now lanes shown x y z b c lane moved f g goes_on turn unread owing d piece short h given below allowed =
+  due-cut rounds r before now lanes shown x y z b c lane moved f g goes_on turn unread owing d h given below allowed =
       let w = h.world in
       let parts = parts-of ladder w.events in
       let part = due-part ladder r parts shown moved h.next.goes_on in
@@ -164,8 +184,13 @@ module _ (X Y : Type 0) (input : SourceView X) (out : OutletView Y) (most_reads 
       let cut = (world-ungiven X Y input out most_reads ladder (turns_of rounds (r + 1)) r before (set now r c) (set lanes r moved) shown _ x y z moved (due r moved)
       (set-there lanes r moved h.within) (λ k. omega (arith, turns-most rounds (r + 1) k, below)) allowed w (due-are-of ladder r parts shown moved h.next.goes_on) (given parts h.next)
       (record { plans = ([], sym (append-nil _ ∙ whole)); ended = λ e. (sym (ap (λ (p : Part). p.ended) part) ∙ e, whole) })).0 in
-      cut-at-once X Y input out most_reads ladder rounds r r before now (set now r c) lanes shown x y z piece d (omega (arith, h.within, d.world.same_lanes)) short
-      (unfailed-yet rounds r before now lanes shown x y b c lane f g goes_on (unfailed-turn b c lane moved turn (d.filled r lane g) unread owing) d)
+      cut-at-once X Y input out most_reads ladder rounds r r before now (set now r c) lanes shown x y z turn.piece d (omega (arith, h.within, d.world.same_lanes)) turn.read.short
+      (unfailed-yet rounds r before now lanes shown x y b c lane f g goes_on (unfailed-turn b c lane moved turn (d.filled r lane g) unread owing) d) (
+        c,
+        set-there now r c (slice_get_within now r b f),
+        inr (was-due X input ladder r (stream_at d.world.streams r) b c lane moved turn
+            (open-at rounds r before now lanes shown x y b lane f g goes_on d) (d.filled r lane g) owing),
+      )
       (record {
         cut = cut.cut;
         streams_are = cut.streams_are ∙ h.streams_are;
@@ -174,14 +199,15 @@ module _ (X Y : Type 0) (input : SourceView X) (out : OutletView Y) (most_reads 
 
   -- want of memory stopped the run when it had read
   pub read-cut : (rounds r : ℕ) (before now : List X) (lanes : List Lane) (shown : List Shown) (x y : Y) (b c : X) (lane : Lane) (piece : List ℕ)
-      → slice_get now r ≡ Some b → slice_get lanes r ≡ Some lane → lane.stop ≡ None → IsRead input b c piece → input.failures c ≡ input.failures b
-      → ((s more : List ℕ) → IsBeginning (closed_of r ladder.cut s) (closed_of r ladder.cut (s ++ more)))
+      → slice_get now r ≡ Some b → slice_get lanes r ≡ Some lane → lane.stop ≡ None → IsRead input b c piece → BringsWant input c lane.intake piece
+      → input.failures c ≡ input.failures b → ((s more : List ℕ) → IsBeginning (closed_of r ladder.cut s) (closed_of r ladder.cut (s ++ more)))
       → rounds < most_reads → IsAllowed ladder
       → NothingDue (run_of input out most_reads before now x y) ladder (turns_of rounds r) lanes shown
       → IsCutAtOnce (run_of input out most_reads before (set now r c) x y) ladder
-  read-cut rounds r before now lanes shown x y b c lane piece f g goes_on read unfailed grow below allowed d =
+  read-cut rounds r before now lanes shown x y b c lane piece f g goes_on read wants unfailed grow below allowed d =
       cut-at-once X Y input out most_reads ladder rounds r r before now (set now r c) lanes shown x y y piece d (omega (arith, slice_get_within lanes r lane g, d.world.same_lanes)) read.short
       (unfailed-yet rounds r before now lanes shown x y b c lane f g goes_on unfailed d)
+      (c, set-there now r c (slice_get_within now r b f), inl (subst (λ (t : Taken). BringsWant input c t piece) (taken-at rounds r before now lanes shown x y b lane f g goes_on d) wants))
       (world-unread X Y input out most_reads ladder (turns_of rounds r) r before now lanes shown _ x y b c lane piece f g goes_on read unfailed grow
       (omega (arith, turns-now rounds r, below)) (λ k. omega (arith, turns-most rounds r k, below)) allowed d.world).0
 

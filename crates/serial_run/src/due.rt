@@ -1,5 +1,6 @@
 ghost use Rattle.std.specs.Prelude.{◌≡◌, ◌<◌, ◌^◌, [], ◌++◌, ℕ, List, true, false, length, IsOk, IfErr, OnOk, OnErr};
 ghost use Rattle.ingest.specs.Lanes.{is_good};
+ghost use Rattle.ingest.specs.Streams.{HasNoneOpen};
 ghost use Rattle.ladder_items.specs.Ladder.{IsAllowed};
 ghost use Rattle.ladder_items.specs.Items.{Part, shown_all};
 ghost use Rattle.ladder_items.specs.Weave.{after_all, blocks};
@@ -102,6 +103,7 @@ fn turn_out(alloc: Global, intake: &mut Intake, spare: &mut Spool) -> Result<(),
     ensures full { OnOk result (spare.new ≡ intake.old.filled) }
     ensures turned { OnOk result (intake.new ≡ record intake.old { turned = intake.old.turned ++ intake.old.filled; filled = [] }) }
     ensures ended { intake.old.ended ≡ true → IsOk result }
+    ensures none { intake.old.ended ≡ false → HasNoneOpen intake.old → IsOk result }
 {
     let empty = mem::replace(spare, Spool::new(alloc));
     match intake.swap(empty) {

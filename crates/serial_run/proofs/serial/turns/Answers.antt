@@ -1,12 +1,14 @@
-use Rattle.std.proofs.Common.{◌∙◌, ◌<◌, length, slice_get, refl, ap, sym, arith}
+use Rattle.std.proofs.Common.{◌∙◌, ◌<◌, inl, inr, length, slice_get, refl, ap, sym, arith}
 use Rattle.std.proofs.lemmas.Bool.{false≢true}
 use Rattle.std.proofs.lemmas.Option.{slice_get_read}
 use Rattle.std.proofs.lemmas.Result.{err_from_is_err_and}
+use Rattle.ingest.specs.Lanes.{is_good}
 use Rattle.ingest.proofs.Ordered.{closed_of-grow, made_of-at}
-use Rattle.ladder_items.proofs.Elsewhere.{none-there, set-elsewhere, some-there}
+use Rattle.ladder_items.proofs.Elsewhere.{none-there, set-elsewhere, set-there, some-there}
 use Rattle.ladder_items.proofs.Stages.{turns-now}
 use Rattle.ladder_items.proofs.Worlds.{put-back, parts-of, reads-fit, stage-at}
 use Rattle.serial_run.proofs.Stepping.{has-read, due-step, due-cut, read-cut, due-skip, due-round}
+use Rattle.serial_run.proofs.AtOnce.{due-none}
 use Rattle.serial_run.proofs.serial.turns.Goals as goal
 
 pub returns-then-have_stopped-clause-ok : goal.returns-then-have_stopped-clause-ok
@@ -57,7 +59,7 @@ returns-in_err-turn-clause-err g c =
     rw told.1 (read-cut _ _ _ _ _ _ c.loop.counter c.loop-r.r _ _ _ _ _ _ c.index_mut.result.now c.turn.new.source c.index_mut-lane.result.now _
     (slice_get_read c.loop-r.sources.items _ c.loop-r.r c.index_mut.result.now (sym w.same_now) below c.index_mut.ensures.value)
     (slice_get_read c.loop-r.renditions.lanes.items _ c.loop-r.r c.index_mut-lane.result.now (sym w.same_lanes) below c.index_mut-lane.ensures.value)
-    (none-there _ (sym c.if-is_some.ensures)) c.in_err-turn.ensures.err.read c.in_err-turn.ensures.no_read_failed
+    (none-there _ (sym c.if-is_some.ensures)) c.in_err-turn.ensures.err.read c.in_err-turn.ensures.err.wants c.in_err-turn.ensures.no_read_failed
     (closed_of-grow c.loop-r.r c.args.settings.now.cut) c.loop-test.true c.requires.allowed c.loop-r.invariant.due)
 
 pub give_due-requires-clause-next : goal.give_due-requires-clause-next
@@ -83,7 +85,7 @@ returns-in_err-give_due-clause-err g c =
     (slice_get_read c.loop-r.sources.items _ c.loop-r.r c.index_mut.result.now (sym w.same_now) below c.index_mut.ensures.value)
     (slice_get_read c.loop-r.renditions.lanes.items _ c.loop-r.r c.index_mut-lane.result.now (sym w.same_lanes) below c.index_mut-lane.ensures.value)
     (none-there _ (sym c.if-is_some.ensures)) c.in_ok-turn.ensures.ok c.in_ok-turn.ensures.unread (λ filled good. false≢true (c.in_err-give_due.ensures.none filled good))
-    c.loop-r.invariant.due _ c.in_ok-turn.ensures.ok.read.short h
+    c.loop-r.invariant.due h
     c.in_err-give_due.ensures.err c.loop-test.true c.requires.allowed)
 
 pub loop-r-preserved-then-is_some : goal.loop-r-preserved-then-is_some
@@ -121,6 +123,8 @@ loop-preserved g c =
 pub returns-in_err-turn-clause-order : goal.returns-in_err-turn-clause-order
 returns-in_err-turn-clause-order g c =
     let told = err_from_is_err_and c.from_residual.result c.from_residual.ensures.1 in
+    let w = c.loop-r.invariant.due.world in
+    let below : c.loop-r.r < length c.args.settings.now.renditions = omega (arith, c.loop-r-test.true, c.len-r-end.ensures, c.loop.invariant.due.world.same_lanes) in
     rw told.1 (record {
       rounds = c.loop.counter;
       in_turn = c.loop-r.r;
@@ -131,11 +135,20 @@ returns-in_err-turn-clause-order g c =
       shown = c.loop-r.renditions.playlists.items;
       due = c.loop-r.invariant.due;
       others = λ k other. set-elsewhere c.loop-r.sources.items c.loop-r.r k c.turn.new.source other;
+      old = c.index_mut.result.now;
+      old_there = slice_get_read c.loop-r.sources.items _ c.loop-r.r c.index_mut.result.now (sym w.same_now) below c.index_mut.ensures.value;
+      new = c.turn.new.source;
+      new_there = set-there c.loop-r.sources.items c.loop-r.r c.turn.new.source (omega (arith, below, w.same_now));
+      lane = c.index_mut-lane.result.now;
+      lane_there = slice_get_read c.loop-r.renditions.lanes.items _ c.loop-r.r c.index_mut-lane.result.now (sym w.same_lanes) below c.index_mut-lane.ensures.value;
+      why = inl c.in_err-turn.ensures.err;
     })
 
 pub returns-in_err-give_due-clause-order : goal.returns-in_err-give_due-clause-order
 returns-in_err-give_due-clause-order g c =
     let told = err_from_is_err_and c.from_residual-in_err-give_due.result c.from_residual-in_err-give_due.ensures.1 in
+    let w = c.loop-r.invariant.due.world in
+    let below : c.loop-r.r < length c.args.settings.now.renditions = omega (arith, c.loop-r-test.true, c.len-r-end.ensures, c.loop.invariant.due.world.same_lanes) in
     rw told.1 (record {
       rounds = c.loop.counter;
       in_turn = c.loop-r.r;
@@ -146,4 +159,17 @@ returns-in_err-give_due-clause-order g c =
       shown = c.loop-r.renditions.playlists.items;
       due = c.loop-r.invariant.due;
       others = λ k other. set-elsewhere c.loop-r.sources.items c.loop-r.r k c.turn.new.source other;
+      old = c.index_mut.result.now;
+      old_there = slice_get_read c.loop-r.sources.items _ c.loop-r.r c.index_mut.result.now (sym w.same_now) below c.index_mut.ensures.value;
+      new = c.turn.new.source;
+      new_there = set-there c.loop-r.sources.items c.loop-r.r c.turn.new.source (omega (arith, below, w.same_now));
+      lane = c.index_mut-lane.result.now;
+      lane_there = slice_get_read c.loop-r.renditions.lanes.items _ c.loop-r.r c.index_mut-lane.result.now (sym w.same_lanes) below c.index_mut-lane.ensures.value;
+      why = inr (
+        c.turn.new.self,
+        c.in_ok-turn.ensures.ok,
+        λ none.
+            let parts = due-none c.loop-r.r c.turn.new.self.intake.filled (is_good c.turn.new.self.stop) none in
+            false≢true (c.in_err-give_due.ensures.none parts.0 parts.1),
+      );
     })
