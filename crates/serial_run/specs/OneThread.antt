@@ -35,7 +35,7 @@ pub record IsUnbegun {X Y : Type 0} (run : Run X Y) : Type 0 where
   pub unread : run.now ≡ run.before
   pub unput : run.outlet_now ≡ run.outlet
 
--- What rendition r gave behind these bytes, and the piece behind them, was due: it closed a segment more, or came to its good end.
+-- Something of rendition r was due once this piece came behind these bytes: it closed a segment more, or came to its good end.
 pub record WasDue {X : Type 0} (input : SourceView X) (now : X) (ladder : Ladder) (r : ℕ) (stream piece : List ℕ) : Type 0 where
   pub stop : Option Stop
   pub stops : StopsBy stop r ladder.cut (stream ++ piece)
