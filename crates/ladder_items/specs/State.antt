@@ -1,5 +1,5 @@
 -- What settings and playlists keep.
-use Rattle.std.specs.Prelude.{◌≡◌, ◌*◌, ◌≤◌, ◌^◌, false, length, take, drop, IfSome}
+use Rattle.std.specs.Prelude.{◌≡◌, ◌*◌, ◌<◌, ◌≤◌, ◌^◌, false, length, take, drop, IfSome}
 use Rattle.std.specs.Arc.{arc_value}
 use Rattle.std.specs.String.{string_bytes}
 use Rattle.playlist_text.specs.Lines.{text_of}
@@ -32,7 +32,7 @@ shown p = record {
 }
 
 -- the earlier rows are among those of the window; until the playlists end, the meters are those of all its rows, and the sums
--- are those of the run's own; the kept texts are those of playlists that go on
+-- are those of the run's own; the kept texts are those of playlists that go on, and none is kept before the first row
 pub record IsTied (p : Inside) : Type 0 where
   pub within : p.earlier ≤ length p.window.rows
   pub segments : p.ended ≡ false → p.segments ≡ record { target = p.window.target; spans = segment_rates p.window.rows }
@@ -44,3 +44,5 @@ pub record IsTied (p : Inside) : Type 0 where
   pub fits : p.ended ≡ false → p.bytes ≤ 2 ^ 32 * length p.window.rows
   pub media : IfSome p.media (λ text. string_bytes (arc_value text) ≡ text_of (media_lines p.window false))
   pub iframes : IfSome p.iframes (λ text. string_bytes (arc_value text) ≡ text_of (iframe_lines p.window false))
+  pub media_rows : IfSome p.media (λ text. 0 < length p.window.rows)
+  pub iframe_rows : IfSome p.iframes (λ text. 0 < length p.window.rows)

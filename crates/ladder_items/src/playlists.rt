@@ -158,6 +158,7 @@ impl Playlists {
     /// Writes both texts once, to be shared by all who want them until the next row comes. Where there is no memory they aren't
     /// kept, and are written when they are wanted.
     fn keep_texts(&mut self)
+        requires { 0 < length (known self.old) }
         ensures { self.new ≡ self.old }
     {
         self.media = kept_media(&self.window);
@@ -194,9 +195,10 @@ impl Playlists {
         self.bytes
     }
 
-    /// The text of the media playlist, ended or not.
+    /// The text of the media playlist, ended or not. With no segment it is empty and wants no memory.
     pub fn media_text(&self, ended: bool) -> Result<String, AllocError>
-        ensures { IfOk result (λ text. string_bytes text ≡ Shown.media_text self.now ended) }
+        ensures text { IfOk result (λ text. string_bytes text ≡ Shown.media_text self.now ended) }
+        ensures scarce { OnErr result (0 < length (known self.now)) }
     {
         match &self.media {
             Some(text) if !ended => text.as_ref().clone(),
@@ -204,9 +206,10 @@ impl Playlists {
         }
     }
 
-    /// The text of the I-frame playlist, ended or not.
+    /// The text of the I-frame playlist, ended or not. With no segment it is empty and wants no memory.
     pub fn frames_text(&self, ended: bool) -> Result<String, AllocError>
-        ensures { IfOk result (λ text. string_bytes text ≡ Shown.frames_text self.now ended) }
+        ensures text { IfOk result (λ text. string_bytes text ≡ Shown.frames_text self.now ended) }
+        ensures scarce { OnErr result (0 < length (known self.now)) }
     {
         match &self.iframes {
             Some(text) if !ended => text.as_ref().clone(),
