@@ -1,6 +1,6 @@
 -- A stream that ends here.
-use Rattle.std.proofs.Common.{◌≡◌, ◌∙◌, ◌⊎◌, inl, inr, ℕ, Bool, true, false, List, [], ◌∷◌, ◌++◌, length, Option, Some, None, is_none, if◌then◌else◌, refl, ap, sym, subst, arith, All}
-use Rattle.std.proofs.lemmas.List.{append-nil, append_assoc, length-append}
+use Rattle.std.proofs.Common.{◌≡◌, ◌∙◌, ◌⊎◌, inl, inr, ℕ, Bool, true, false, List, [], ◌∷◌, ◌++◌, Option, Some, None, is_none, if◌then◌else◌, refl, ap, sym, subst, All}
+use Rattle.std.proofs.lemmas.List.{append-nil, append_assoc}
 use Rattle.psi_tables.specs.InForce.{InForce, tables_behind}
 use Rattle.psi_tables.specs.State.{Watched}
 use Rattle.cutter.specs.declared.settings.CutSettings.{CutSettings}
@@ -11,7 +11,7 @@ use Rattle.cutter.specs.Spooled.{Spooling, joined, Closes}
 use Rattle.cutter.specs.Plans.{SegmentPlan}
 use Rattle.cutter.specs.Stream.{in_force}
 use Rattle.cutter.specs.Segments.{Segment, is_long, plan_of}
-use Rattle.cutter.specs.Cuts.{cuts, closed, fault, plans, made, first_fault, end_fault, last_plan, Ends}
+use Rattle.cutter.specs.Cuts.{cuts, closed, fault, plans, made, end_fault, last_plan, Ends}
 use Rattle.cutter.specs.SegmentState.{Gathered, Out, gathered, Refuses, gives, faults, finished, held_in, Places}
 use Rattle.cutter.specs.Reels.{Filled}
 use Rattle.cutter.specs.Ordered.{IsPacketLong}

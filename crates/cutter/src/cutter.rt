@@ -1,4 +1,4 @@
-ghost use Rattle.std.specs.Prelude.{◌≡◌, ◌≢◌, ◌<◌, ◌^◌, ◌⊎◌, [], ◌∷◌, ◌++◌, ℕ, List, Ok, Err, true, false, None, length, IfSome, IfOk, IfErr, OnOk, OnErr};
+ghost use Rattle.std.specs.Prelude.{◌≡◌, ◌≢◌, ◌<◌, ◌^◌, ◌⊎◌, [], ◌∷◌, ◌++◌, ℕ, List, Ok, Err, true, false, None, length, IfSome, IfOk, IfErr, IsOk, OnOk, OnErr};
 ghost use Rattle.cutter.specs.declared.fault.CutFault.TheVariants.{NoMemory, Ended};
 ghost use Rattle.cutter.specs.Cuts.{cuts, closed, fault, plans, made, Ends, HasSegment, MayWantBody};
 ghost use Rattle.cutter.specs.Ordered.{IsPlan};
@@ -141,6 +141,10 @@ fn take_plan(
     ensures same { OnOk result (inner.new ≡ record inner.old { turned = inner.new.turned; filled = [] }) }
     ensures err { OnErr result (inner.new ≡ inner.old) }
     ensures none { closed ≡ false → result ≡ Ok None }
+
+    // Where no segment goes on there is nothing to copy.
+    ensures open { inner.old.ended ≡ false → (cuts inner.old.rendition inner.old.settings inner.old.list).going ≡ None → IsOk result }
+    ensures ended { inner.old.ended ≡ true → IsOk result }
 {
     if !closed {
         return Ok(None);

@@ -14,6 +14,7 @@ mod place;
 mod plan;
 mod point;
 mod reel;
+mod room;
 mod settings;
 mod spool;
 mod spool_cutter;

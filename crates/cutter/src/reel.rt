@@ -11,9 +11,10 @@ use crate::framing::{Pending, end_frame, pending_from};
 use crate::lent::PlanRef;
 use crate::plan::{Frame, Plan};
 use crate::point::Mark;
+use crate::room::{NoRoom, append, push};
 use pes_time::Stamp;
 use psi_tables::Tables;
-use std::alloc::{AllocError, Global};
+use std::alloc::Global;
 use std::marker::Model;
 
 /// All of a plan but its body and its I-frames.
@@ -134,13 +135,13 @@ impl Reel {
     }
 
     /// Takes one packet more into the body that goes on, of a segment that begins at this stamp.
-    pub(crate) fn add(&mut self, head: Stamp, mark: &Mark<'_>) -> Result<(), AllocError>
+    pub(crate) fn add(&mut self, head: Stamp, mark: &Mark<'_>) -> Result<(), NoRoom>
         ensures ok { OnOk result (self.new ≡ record self.old { body = self.old.body ++ bytes_of mark.now; framing = framed head self.old.framing mark.now }) }
         ensures err { OnErr result (self.new.plans ≡ self.old.plans) }
         ensures none { AddsNothing mark.now → IsOk result }
     {
         let offset = (self.bytes.len() - self.body_at) as u64;
-        self.bytes.extend_from_slice(mark.bytes())?;
+        append(&mut self.bytes, mark.bytes())?;
         if mark.look.starts_video {
             let pending = self.pending;
             end_frame(&mut self.frames, pending, offset)?;
@@ -155,7 +156,7 @@ impl Reel {
         label: Label,
         next: &[u8],
         pending: Option<Pending>,
-    ) -> Result<(), AllocError>
+    ) -> Result<(), NoRoom>
         requires { IsWithin pending 0 }
         ensures ok { OnOk result (self.new ≡ record {
           plans = self.old.plans ++ labelled label self.old.body (frames_by self.old.framing) ∷ [];
@@ -166,16 +167,17 @@ impl Reel {
     {
         let body_end = self.bytes.len();
         let offset = (body_end - self.body_at) as u64;
-        self.bytes.extend_from_slice(next)?;
+        append(&mut self.bytes, next)?;
         end_frame(&mut self.frames, self.pending, offset)?;
         let frames_end = self.frames.len();
-        self.plans_at.push(PlanAt {
+        let plan_at = PlanAt {
             label,
             body_at: self.body_at,
             body_end,
             frames_at: self.frames_at,
             frames_end,
-        })?;
+        };
+        push(&mut self.plans_at, plan_at)?;
         self.body_at = body_end;
         self.frames_at = frames_end;
         self.pending = pending;
@@ -209,18 +211,15 @@ impl Reel {
     }
 
     /// Holds a copy of the body that goes on in another, and no plans.
-    pub(crate) fn copy_open(&mut self, other: &Reel) -> Result<(), AllocError>
+    pub(crate) fn copy_open(&mut self, other: &Reel) -> Result<(), NoRoom>
         ensures ok { OnOk result (self.new ≡ record other.now { plans = [] }) }
         ensures none { other.now.body ≡ [] → other.now.framing.ended ≡ [] → IsOk result }
     {
         self.clear();
-        self.bytes
-            .extend_from_slice(bytes_part(&other.bytes, other.body_at, other.bytes.len()))?;
-        self.frames.extend_from_slice(frames_part(
-            &other.frames,
-            other.frames_at,
-            other.frames.len(),
-        ))?;
+        let body = bytes_part(&other.bytes, other.body_at, other.bytes.len());
+        append(&mut self.bytes, body)?;
+        let frames = frames_part(&other.frames, other.frames_at, other.frames.len());
+        append(&mut self.frames, frames)?;
         self.pending = other.pending;
         Ok(())
     }
