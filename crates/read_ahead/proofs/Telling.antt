@@ -49,7 +49,7 @@ module _ {I : Type 0} where
   refused_by refuses (Bytes block) input same may = absurd same
   refused_by refuses End input same may = absurd same
   refused_by refuses Failed input same may = absurd same
-  refused_by refuses Refused input same may = absurd same
+  refused_by refuses (Refused r) input same may = absurd same
 
   pub may_refuse : (refuses : I → Type 0) (told : List (Message I)) (input : I) → IsFirst input told → refuses input → MayRefuse refuses told
   may_refuse refuses [] input first may = absurd first

@@ -12,7 +12,7 @@ module _ {I : Type 0} where
   bytes_of (Bytes block) = block.items
   bytes_of End = []
   bytes_of Failed = []
-  bytes_of Refused = []
+  bytes_of (Refused r) = []
 
   -- nothing is told behind it
   abbrev pub is_last : Message I → Bool
@@ -21,7 +21,7 @@ module _ {I : Type 0} where
   is_last (Bytes block) = false
   is_last End = true
   is_last Failed = true
-  is_last Refused = true
+  is_last (Refused r) = true
 
   -- what the input holds that is asked for; holds: what each does
   abbrev pub held_by : (I → Option (List ℕ)) → Message I → Option (List ℕ)
@@ -30,7 +30,7 @@ module _ {I : Type 0} where
   held_by holds (Bytes block) = None
   held_by holds End = None
   held_by holds Failed = None
-  held_by holds Refused = None
+  held_by holds (Refused r) = None
 
   -- the blocks, joined
   abbrev pub joined : List (Message I) → List ℕ
@@ -58,7 +58,7 @@ module _ {I : Type 0} where
   RefusedBy refuses (Bytes block) = ⊥
   RefusedBy refuses End = ⊥
   RefusedBy refuses Failed = ⊥
-  RefusedBy refuses Refused = ⊥
+  RefusedBy refuses (Refused r) = ⊥
 
   abbrev pub MayRefuse : (I → Type 0) → List (Message I) → Type 0
   MayRefuse refuses [] = ⊥
@@ -71,7 +71,7 @@ module _ {I : Type 0} where
   AsksFor input (Bytes block) = ⊥
   AsksFor input End = ⊥
   AsksFor input Failed = ⊥
-  AsksFor input Refused = ⊥
+  AsksFor input (Refused r) = ⊥
 
   abbrev pub IsFirst : I → List (Message I) → Type 0
   IsFirst input [] = ⊥
@@ -84,7 +84,7 @@ module _ {I : Type 0} where
   IsFor number (Bytes block) = ⊥
   IsFor number End = ⊥
   IsFor number Failed = ⊥
-  IsFor number Refused = ⊥
+  IsFor number (Refused r) = ⊥
 
   -- the first one is
   abbrev pub IsNumbered : ℕ → List (Message I) → Type 0
@@ -128,7 +128,7 @@ module _ {I : Type 0} where
   MayFollow holds refuses before (Bytes block) = MayTell holds before block.items
   MayFollow holds refuses before End = MayEnd holds before
   MayFollow holds refuses before Failed = IsOpen before
-  MayFollow holds refuses before Refused = (length before ≡ 1) × MayRefuse refuses before
+  MayFollow holds refuses before (Refused r) = (length before ≡ 1) × MayRefuse refuses before
 
   -- all that a reader gave since it was opened was told
   pub record Tells (holds : I → Option (List ℕ)) (told : List (Message I)) (rest : Option (List ℕ)) : Type 0 where

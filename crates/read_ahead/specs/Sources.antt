@@ -106,7 +106,7 @@ opened_by (Told.Opened o) = Going
 opened_by (Told.Bytes block) = Failed
 opened_by Told.End = Failed
 opened_by Told.Failed = Failed
-opened_by Told.Refused = Failed
+opened_by (Told.Refused r) = Failed
 
 -- how an open one stands
 abbrev pub going_by : {I : Type 0} → Message I → Phase
@@ -115,7 +115,7 @@ going_by (Told.Opened o) = Failed
 going_by (Told.Bytes block) = Going
 going_by Told.End = Ended
 going_by Told.Failed = Failed
-going_by Told.Refused = Failed
+going_by (Told.Refused r) = Failed
 
 -- The next message was taken, and the input stands as that says.
 abbrev pub TakesNext : {I : Type 0} → (Message I → Phase) → List (Message I) → List (Message I) → Phase → Type 0

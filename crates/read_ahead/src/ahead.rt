@@ -1,9 +1,12 @@
-ghost use Rattle.std.specs.Prelude.{◌≡◌, Decides, IfOk, false, length, true};
+ghost use Rattle.std.specs.Prelude.{◌≡◌, ◌<◌, Decides, IfOk, false, length, true};
 ghost use Rattle.std.specs.Arc.{arc_value};
 ghost use Rattle.read_ahead.specs.Sources.{IsSound, MayBegin, ahead_input, inputs_of, seen_first};
 
-use crate::incoming::{Incoming, Readiness};
+use crate::counts::News;
+use crate::incoming::Incoming;
 use crate::input::Contents;
+use crate::readiness::{Readiness, Unready};
+use crate::unclosed::Unclosed;
 use crate::view::InputsView;
 use crate::wait_end::WaitEnd;
 use crate::waiting::wait_ready;
@@ -23,6 +26,7 @@ pub struct Ahead<R: Wait, I: Contents> {
     is_left: bool,
     /// Whether it was left ever.
     was_left: bool,
+    unclosed: Unclosed,
 }
 
 impl<R: Wait, I: Contents> Model for Ahead<R, I> {
@@ -43,7 +47,8 @@ impl<R: Wait, I: Contents> Model for Ahead<R, I> {
       inputs = length (arc_value s.incoming.backlogs).taken.items;
     } };
 
-    ghost invariant = { λ s. IsSound I.holds s.incoming × StopsIfLeft s.is_left s.incoming.phase × (s.is_left ≡ true → s.was_left ≡ true) };
+    ghost invariant = { λ s. IsSound I.holds s.incoming × StopsIfLeft s.is_left s.incoming.phase × (s.is_left ≡ true → s.was_left ≡ true)
+        × (s.unclosed.number ≡ s.incoming.number) };
 }
 
 impl<R: Wait + Clock, I: Contents> Ahead<R, I> {
@@ -53,6 +58,7 @@ impl<R: Wait + Clock, I: Contents> Ahead<R, I> {
         requires begun { MayBegin incoming }
         ensures { result ≡ seen_first I.holds incoming }
     {
+        let unclosed = Unclosed::of(&incoming);
         Ahead {
             rt,
             incoming,
@@ -60,12 +66,14 @@ impl<R: Wait + Clock, I: Contents> Ahead<R, I> {
             failures: 0,
             is_left: false,
             was_left: false,
+            unclosed,
         }
     }
 
     /// Whether a byte lies ready, or the end, or a failure, of a source that wasn't left.
     pub(crate) fn would_answer(&mut self) -> Readiness
         ensures same { self.new ≡ self.old }
+        ensures of { result.number ≡ self.old.number }
         ensures left { self.old.is_left ≡ true → result.is_ready ≡ false }
     {
         self.incoming.readiness(&self.rt, self.was_left)
@@ -81,15 +89,16 @@ impl<R: Wait + Clock, I: Contents> Ahead<R, I> {
     }
 
     /// How often something came of any input: to be remembered before a look.
-    pub fn news(&self) -> u64 {
+    pub(crate) fn news(&self) -> News {
         self.incoming.backlogs.news(&self.rt)
     }
 
-    /// Waits until something came of any input since then.
-    pub(crate) fn wait_past(&self, seen: u64) -> WaitEnd
-        ensures { Decides result.is_over (result.news ≡ seen) }
+    /// Waits, where no source is ready, until something came of any input since then.
+    pub(crate) fn wait_past(&self, seen: News, unready: Unready) -> WaitEnd
+        requires { 0 < unready.count }
+        ensures { Decides result.is_over (result.news ≡ seen.count) }
     {
-        self.incoming.backlogs.wait_past(&self.rt, seen)
+        self.incoming.backlogs.wait_past(&self.rt, seen, unready)
     }
 }
 
@@ -101,11 +110,11 @@ impl<R: Wait + Clock + Copy, I: Contents> Source for Ahead<R, I> {
     fn read(&mut self, buffer: &mut [u8]) -> Result<usize, ReadFault> {
         self.is_left = false;
         match self.incoming.read(&self.rt, buffer) {
-            Ok(count) => {
-                if count > 0 {
+            Ok(given) => {
+                if given.count() > 0 {
                     self.reads += 1;
                 }
-                Ok(count)
+                Ok(given.count())
             }
             Err(fault) => {
                 self.failures += 1;
@@ -152,7 +161,8 @@ impl<R: Wait + Drop, I: Contents> Drop for Ahead<R, I> {
             failures: _,
             is_left: _,
             was_left: _,
+            unclosed,
         } = self;
-        let _ = incoming.backlogs.leave(&rt, incoming.number);
+        unclosed.close(incoming.backlogs.leave(&rt, incoming.number));
     }
 }

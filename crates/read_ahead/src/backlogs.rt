@@ -1,15 +1,16 @@
 //! The backlogs of all inputs under one lock, and who waits for them. No claim on bytes rests on it.
-ghost use Rattle.std.specs.Prelude.{◌≡◌, ◌≢◌, ◌<◌, None, Decides, IfOk, OnErr, false, length};
+ghost use Rattle.std.specs.Prelude.{◌≡◌, ◌≢◌, ◌<◌, None, Decides, IfOk, OnErr, false, length, true};
 ghost use Rattle.std.specs.Arc.{arc_value};
 ghost use Rattle.read_ahead.specs.Counts.{Begin};
 ghost use Rattle.read_ahead.specs.Shares.{room_for};
 ghost use Rattle.read_ahead.specs.declared.clock_reading.ClockReading.{ClockReading};
 
 use crate::clock_reading::ClockReading;
-use crate::counts::{Counts, Leaving, Room, Silence};
+use crate::counts::{Awaited, Begun, Counts, Given, Leaving, News, Room, Share, Silence, Waited};
 use crate::limits::Limits;
 use crate::patience::Patience;
 use crate::pushing::Pushed;
+use crate::readiness::Unready;
 use crate::view::InputState;
 use crate::wait_end::WaitEnd;
 use std::alloc::{AllocError, Global};
@@ -76,7 +77,11 @@ impl Backlogs {
     }
 
     /// Waits until there is room for a block, and counts it, or until no more is given.
-    pub fn put<R: Wait>(&self, rt: &R, number: usize, count: usize) -> Room {
+    pub fn put<R: Wait>(&self, rt: &R, number: usize, count: usize) -> Room
+        ensures of { result.number ≡ number }
+        ensures counted { result.is_given ≡ true → result.count ≡ count }
+        ensures bound { result.is_given ≡ true → result.room ≡ self.now.room }
+    {
         let Some(taken) = self.taken.get(number) else {
             return Room::of_none(&self.taken, number);
         };
@@ -92,20 +97,21 @@ impl Backlogs {
 
     /// Something came of an input, which was pushed: wakes whoever waits for it.
     pub fn tell<R: Wait>(&self, rt: &R, pushed: Pushed) {
-        let mut counts = self.counts.lock(rt);
-        counts.tell(pushed);
+        pushed.is_told(self.counts.lock(rt).tell());
         self.came.notify_all();
     }
 
     /// How often something came: to be remembered before a look.
-    pub fn news<R: Wait>(&self, rt: &R) -> u64 {
-        self.counts.lock(rt).news
+    pub fn news<R: Wait>(&self, rt: &R) -> News {
+        self.counts.lock(rt).news()
     }
 
-    /// Waits until something came since then, or an input may have fallen silent, which none does without a stall.
-    pub fn wait_past<R: Wait + Clock>(&self, rt: &R, seen: u64) -> WaitEnd
-        ensures over { Decides result.is_over (result.news ≡ seen) }
-        ensures patient { self.now.stall ≡ None → result.news ≢ seen }
+    /// Waits, where nothing lay ready, until something came since then, or an input may have fallen silent, which none does without a
+    /// stall.
+    pub fn wait_past<R: Wait + Clock>(&self, rt: &R, seen: News, _unready: Unready) -> WaitEnd
+        requires { 0 < _unready.count }
+        ensures over { Decides result.is_over (result.news ≡ seen.count) }
+        ensures patient { self.now.stall ≡ None → result.news ≢ seen.count }
     {
         let counts = self.counts.lock(rt);
         match self.patience(rt, &counts).most() {
@@ -115,16 +121,16 @@ impl Backlogs {
     }
 
     /// Waits until something came since then, but not longer than this.
-    pub fn wait_for<R: Wait + Clock>(&self, rt: &R, seen: u64, most: Duration) -> WaitEnd
-        ensures { Decides result.is_over (result.news ≡ seen) }
+    pub fn wait_for<R: Wait + Clock>(&self, rt: &R, seen: News, most: Duration) -> WaitEnd
+        ensures { Decides result.is_over (result.news ≡ seen.count) }
     {
         self.wait_at_most(rt, self.counts.lock(rt), seen, most)
     }
 
     /// Waits, under the lock, until something came since then.
-    fn wait_news<R: Wait>(&self, rt: &R, counts: MutexGuard<'_, Counts>, seen: u64) -> WaitEnd
+    fn wait_news<R: Wait>(&self, rt: &R, counts: MutexGuard<'_, Counts>, seen: News) -> WaitEnd
         ensures over { result.is_over ≡ false }
-        ensures news { result.news ≢ seen }
+        ensures news { result.news ≢ seen.count }
     {
         let counts = self
             .came
@@ -140,10 +146,10 @@ impl Backlogs {
         &self,
         rt: &R,
         counts: MutexGuard<'_, Counts>,
-        seen: u64,
+        seen: News,
         most: Duration,
     ) -> WaitEnd
-        ensures { Decides result.is_over (result.news ≡ seen) }
+        ensures { Decides result.is_over (result.news ≡ seen.count) }
     {
         let (counts, end) = self
             .came
@@ -162,22 +168,28 @@ impl Backlogs {
     }
 
     /// The thread of an input begins to wait for its next bytes, or still waits for its first ones.
-    pub fn begin_wait<R: Wait + Clock>(&self, rt: &R, number: usize) {
+    pub fn begin_wait<R: Wait + Clock>(&self, rt: &R, number: usize) -> Awaited
+        ensures { result.number ≡ number }
+    {
         let now = ClockReading::now(rt);
-        self.counts.lock(rt).begin_wait(number, now);
+        self.counts.lock(rt).begin_wait(number, now)
     }
 
     /// Something came of the input that its thread waited for.
-    pub fn end_wait<R: Wait>(&self, rt: &R, number: usize) {
-        self.counts.lock(rt).end_wait(number);
+    pub fn end_wait<R: Wait>(&self, rt: &R, awaited: Awaited) -> Waited
+        ensures { result.number ≡ awaited.number }
+    {
+        self.counts.lock(rt).end_wait(awaited)
     }
 
     /// Whether an input gave nothing for too long.
     pub fn silence<R: Wait + Clock>(&self, rt: &R, number: usize) -> Silence
+        ensures of { result.number ≡ number }
+        ensures limit { result.stall ≡ self.now.stall }
         ensures never { self.now.stall ≡ None → result.is_over ≡ false }
     {
         let Some(stall) = self.stall else {
-            return Silence::without(self.stall);
+            return Silence::without(self.stall, number);
         };
         let now = ClockReading::now(rt);
         self.counts.lock(rt).silence(number, stall, now)
@@ -199,27 +211,36 @@ impl Backlogs {
     }
 
     /// A block of an input was begun.
-    pub fn begin<R: Wait>(&self, rt: &R, number: usize) {
-        self.counts.lock(rt).begin(number);
+    pub fn begin<R: Wait>(&self, rt: &R, number: usize) -> Begun
+        ensures { result.number ≡ number }
+    {
+        self.counts.lock(rt).begin(number)
     }
 
     /// How many bytes a read of an input gives at the most.
-    pub fn share<R: Wait>(&self, rt: &R, number: usize) -> usize
-        ensures { 0 < result }
+    pub fn share<R: Wait>(&self, rt: &R, number: usize) -> Share
+        ensures of { result.number ≡ number }
+        ensures some { 0 < result.bytes }
     {
         self.counts.lock(rt).share(number)
     }
 
     /// A read of an input was answered with so many bytes.
-    pub fn give<R: Wait>(&self, rt: &R, number: usize, count: usize) {
-        let mut counts = self.counts.lock(rt);
-        if counts.give(number, count, self.room) {
+    pub fn give<R: Wait>(&self, rt: &R, number: usize, count: usize) -> Given
+        ensures of { result.number ≡ number }
+        ensures counted { result.count ≡ count }
+    {
+        let (given, is_low) = self.counts.lock(rt).give(number, count, self.room);
+        if is_low {
             self.wake(number);
         }
+        given
     }
 
     /// No more of an input is given.
-    pub fn leave<R: Wait>(&self, rt: &R, number: usize) -> Leaving {
+    pub fn leave<R: Wait>(&self, rt: &R, number: usize) -> Leaving
+        ensures { result.number ≡ number }
+    {
         let leaving = self.counts.lock(rt).leave(number);
         self.wake(number);
         leaving

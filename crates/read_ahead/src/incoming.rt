@@ -9,9 +9,10 @@ ghost use Rattle.read_ahead.specs.Sources.{IsDry, IsSound, LiesReady, StandsBy, 
 ghost use Rattle.read_ahead.specs.declared.incoming.Phase.TheVariants.{Opening, Going, Ended, Failed};
 
 use crate::backlogs::Backlogs;
-use crate::counts::{Leaving, Silence};
+use crate::counts::{Given, Leaving, Share, Silence};
 use crate::input::Contents;
 use crate::message::{InOrder, Message};
+use crate::readiness::{Readiness, Unready};
 use item_io::ReadFault;
 use rtrb::Consumer;
 use std::alloc::Global;
@@ -44,45 +45,6 @@ pub struct Incoming<I: Contents> {
     /// Whether its opening may wait for a writer.
     pub may_wait: bool,
     pub phase: Phase,
-}
-
-/// Whether a read of a source would answer at once, when it was looked at. Only such a look makes one.
-#[derive(Drop)]
-pub struct Readiness {
-    is_ready: bool,
-}
-
-impl Readiness {
-    /// Whether it would.
-    pub fn is_ready(&self) -> bool
-        ensures { result ≡ self.now.is_ready }
-    {
-        self.is_ready
-    }
-}
-
-/// How many looks found a source that isn't ready.
-#[derive(Drop)]
-pub struct Unready {
-    count: usize,
-}
-
-impl Unready {
-    /// Of no look.
-    pub fn none() -> Unready
-        ensures { result.count ≡ 0 }
-    {
-        Unready { count: 0 }
-    }
-
-    /// One more.
-    pub fn add(&mut self, _readiness: Readiness)
-        requires unready { _readiness.is_ready ≡ false }
-        requires few { self.old.count + 1 < 2 ^ 64 }
-        ensures { self.new.count ≡ self.old.count + 1 }
-    {
-        self.count += 1;
-    }
 }
 
 impl<I: Contents> Incoming<I> {
@@ -124,21 +86,19 @@ impl<I: Contents> Incoming<I> {
         ensures backlogs { self.new.backlogs ≡ self.old.backlogs }
         ensures same { rest_of I.holds self.new ≡ rest_of I.holds self.old }
         ensures phase { self.old.phase ≢ Opening → self.new.phase ≡ self.old.phase }
+        ensures of { result.number ≡ self.old.number }
         ensures left { was_left ≡ true → result.is_ready ≡ false }
         ensures waits { was_left ≡ false → result.is_ready ≡ false → Waits self.new }
         ensures patient { (arc_value self.old.backlogs).stall ≡ None → result.is_ready ≡ true → LiesReady self.new }
     {
         let _ = self.is_open(rt, true);
         if was_left {
-            return Readiness { is_ready: false };
+            return Readiness::of_left(self.number, was_left);
         }
         if self.is_ready() {
-            return Readiness { is_ready: true };
+            return Readiness::of_ready(self);
         }
-        let silence = self.backlogs.silence(rt, self.number);
-        Readiness {
-            is_ready: silence.is_over(),
-        }
+        Readiness::of_silence(self.backlogs.silence(rt, self.number))
     }
 
     /// Whether it can be begun with the input: false where that can't be opened, none while that isn't known. An input that may
@@ -171,7 +131,8 @@ impl<I: Contents> Incoming<I> {
 
     /// No more is given behind the front block, as was said under the lock.
     pub fn stop(&mut self, _leaving: Leaving)
-        requires { IsSound I.holds self.old }
+        requires sound { IsSound I.holds self.old }
+        requires left { _leaving.number ≡ self.old.number }
         ensures sound { IsSound I.holds self.new }
         ensures number { self.new.number ≡ self.old.number }
         ensures backlogs { self.new.backlogs ≡ self.old.backlogs }
@@ -189,6 +150,7 @@ impl<I: Contents> Incoming<I> {
     /// The input was silent for too long, so no more is given behind the front block, and that is a failure.
     fn fall_silent(&mut self, _silence: Silence)
         requires sound { IsSound I.holds self.old }
+        requires of { _silence.number ≡ self.old.number }
         requires silent { _silence.is_over ≡ true }
         ensures sound { IsSound I.holds self.new }
         ensures number { self.new.number ≡ self.old.number }
@@ -221,7 +183,7 @@ impl<I: Contents> Incoming<I> {
         };
         match message {
             Message::Opened(_) => self.phase = Phase::Going,
-            Message::Refused => self.phase = Phase::Failed,
+            Message::Refused(_) => self.phase = Phase::Failed,
             Message::Asked(_, _) => self.phase = Phase::Failed,
             Message::Bytes(_) => self.phase = Phase::Failed,
             Message::End => self.phase = Phase::Failed,
@@ -254,11 +216,11 @@ impl<I: Contents> Incoming<I> {
             Message::Bytes(block) => {
                 self.front = block;
                 self.at = 0;
-                self.backlogs.begin(rt, self.number);
+                self.backlogs.begin(rt, self.number).is_of(self.number);
             }
             Message::End => self.phase = Phase::Ended,
             Message::Failed => self.phase = Phase::Failed,
-            Message::Refused => self.phase = Phase::Failed,
+            Message::Refused(_) => self.phase = Phase::Failed,
             Message::Opened(_) => self.phase = Phase::Failed,
             Message::Asked(_, _) => self.phase = Phase::Failed,
         }
@@ -331,14 +293,15 @@ impl<I: Contents> Incoming<I> {
     }
 
     /// Waits until a byte can be given, or none comes any more, and gives as much of the buffer as is a fair share.
-    pub fn read<R: Wait + Clock>(&mut self, rt: &R, buffer: &mut [u8]) -> Result<usize, ReadFault>
+    pub fn read<R: Wait + Clock>(&mut self, rt: &R, buffer: &mut [u8]) -> Result<Given, ReadFault>
         requires { IsSound I.holds self.old }
         ensures sound { IsSound I.holds self.new }
         ensures number { self.new.number ≡ self.old.number }
         ensures backlogs { self.new.backlogs ≡ self.old.backlogs }
-        ensures within { IfOk result (λ count. count ≤ length buffer.new) }
-        ensures gave { IfOk result (λ count. Consumes (rest_of I.holds self.old) (rest_of I.holds self.new) (take count buffer.new)) }
-        ensures end { IfOk result (λ count. count ≡ 0 → 0 < length buffer.new → IsAtEnd (rest_of I.holds self.new)) }
+        ensures of { IfOk result (λ given. given.number ≡ self.old.number) }
+        ensures within { IfOk result (λ given. given.count ≤ length buffer.new) }
+        ensures gave { IfOk result (λ given. Consumes (rest_of I.holds self.old) (rest_of I.holds self.new) (take given.count buffer.new)) }
+        ensures end { IfOk result (λ given. given.count ≡ 0 → 0 < length buffer.new → IsAtEnd (rest_of I.holds self.new)) }
         ensures kept { OnErr result (Keeps (rest_of I.holds self.old) (rest_of I.holds self.new)) }
         ensures failed { OnErr result (self.new.phase ≡ Failed) }
         ensures drained { OnErr result (self.new.at ≡ length self.new.front.items) }
@@ -347,10 +310,39 @@ impl<I: Contents> Incoming<I> {
             (self.old.phase ≡ Failed) ⊎ (length (received self.old.consumer) < length (received self.new.consumer)) }
     {
         self.go_on(rt);
-        let share = self.backlogs.share(rt, self.number).min(buffer.len());
-        let count = self.give(rt, &mut buffer[..share])?;
-        self.backlogs.give(rt, self.number, count);
-        Ok(count)
+        let share = self.backlogs.share(rt, self.number);
+        let count = self.give_share(rt, share, buffer)?;
+        Ok(self.backlogs.give(rt, self.number, count))
+    }
+
+    /// Fills a buffer as far as bytes lie ready, but not with more than the share, and answers how many they are; where none do, the
+    /// end or the failure.
+    fn give_share<R: Wait + Clock>(
+        &mut self,
+        rt: &R,
+        share: Share,
+        buffer: &mut [u8],
+    ) -> Result<usize, ReadFault>
+        requires of { share.number ≡ self.old.number }
+        requires bytes { 0 < share.bytes }
+        requires sound { IsSound I.holds self.old }
+        requires phase { self.old.phase ≢ Opening }
+        requires some { (self.old.at < length self.old.front.items) ⊎ (self.old.phase ≢ Going) }
+        ensures sound { IsSound I.holds self.new }
+        ensures number { self.new.number ≡ self.old.number }
+        ensures backlogs { self.new.backlogs ≡ self.old.backlogs }
+        ensures most { IfOk result (λ count. count ≤ share.bytes) }
+        ensures within { IfOk result (λ count. count ≤ length buffer.new) }
+        ensures gave { IfOk result (λ count. Consumes (rest_of I.holds self.old) (rest_of I.holds self.new) (take count buffer.new)) }
+        ensures end { IfOk result (λ count. count ≡ 0 → 0 < length buffer.new → IsAtEnd (rest_of I.holds self.new)) }
+        ensures kept { OnErr result (Keeps (rest_of I.holds self.old) (rest_of I.holds self.new)) }
+        ensures failed { OnErr result ((self.old.phase ≡ Failed) × (self.old.at ≡ length self.old.front.items)) }
+        ensures same { OnErr result (self.new ≡ self.old) }
+        ensures dry { IfOk result (λ count. (count ≡ min share.bytes (length buffer.new)) ⊎ IsDry self.new) }
+        ensures stands { StandsByLast (received self.old.consumer) (received self.new.consumer) self.old.phase self.new.phase }
+    {
+        let most = share.bytes().min(buffer.len());
+        self.give(rt, &mut buffer[..most])
     }
 
     /// Fills a buffer as far as bytes lie ready, and answers how many they are; where none do, the end or the failure.
@@ -425,6 +417,7 @@ fn wait_message<R: Wait + Clock, I: Contents>(
     ensures allowed { IfOk result (MayFollow I.holds I.refuses (received consumer.old)) }
     ensures none { OnErr result (received consumer.new ≡ received consumer.old) }
     ensures ready { 0 < length (known_items consumer.old) → IsOk result }
+    ensures of { IfErr result (λ silence. silence.number ≡ number) }
     ensures silent { IfErr result (λ silence. silence.is_over ≡ true) }
     ensures patient { OnErr result (backlogs.now.stall ≢ None) }
 {
@@ -437,7 +430,7 @@ fn wait_message<R: Wait + Clock, I: Contents>(
         if silence.is_over() {
             return Err(silence);
         }
-        let _ = backlogs.wait_past(rt, seen);
+        let _ = backlogs.wait_past(rt, seen, Unready::of(silence));
     }
     unreachable!()
 }

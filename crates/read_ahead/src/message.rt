@@ -1,5 +1,5 @@
 use crate::input::Contents;
-use crate::opening::Openness;
+use crate::opening::{Openness, Refusal};
 use rtrb::Protocol;
 use std::marker::PhantomData;
 use std::snapshot::Snapshot;
@@ -18,7 +18,7 @@ pub enum Message<I> {
     /// A read failed.
     Failed,
     /// It can't be opened.
-    Refused,
+    Refused(Refusal),
 }
 
 /// The order of messages: the blocks, joined, begin the bytes that the input has, the end is told only where they are all, and a

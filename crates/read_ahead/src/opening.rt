@@ -1,5 +1,5 @@
 //! Inputs are opened.
-ghost use Rattle.std.specs.Prelude.{◌≡◌, IfNone, IfSome};
+ghost use Rattle.std.specs.Prelude.{◌≡◌, IfOk, OnErr};
 
 use crate::input::Input;
 
@@ -9,11 +9,19 @@ pub struct Openness {
     _of: (),
 }
 
-/// Opens an input; None where it can't be opened.
-pub fn open<I: Input>(input: I) -> Option<(I::Reader, Openness)>
-    ensures ok { IfSome result (λ opened. I.Reader.remaining opened.0 ≡ I.holds input) }
-    ensures none { IfNone result (I.refuses input) }
+/// An input can't be opened. Only `open` makes one.
+#[derive(Drop)]
+pub struct Refusal {
+    _of: (),
+}
+
+/// Opens an input, or answers that it can't be opened.
+pub fn open<I: Input>(input: I) -> Result<(I::Reader, Openness), Refusal>
+    ensures ok { IfOk result (λ opened. I.Reader.remaining opened.0 ≡ I.holds input) }
+    ensures refused { OnErr result (I.refuses input) }
 {
-    let reader = input.open()?;
-    Some((reader, Openness { _of: () }))
+    match input.open() {
+        Some(reader) => Ok((reader, Openness { _of: () })),
+        None => Err(Refusal { _of: () }),
+    }
 }

@@ -3,6 +3,7 @@ ghost use Rattle.std.specs.Prelude.{◌≡◌, [], ◌∷◌, ◌++◌};
 ghost use Rattle.rtrb.specs.Ring.{sent};
 ghost use Rattle.read_ahead.specs.Messages.{MayFollow};
 
+use crate::counts::Told;
 use crate::input::Contents;
 use crate::message::{InOrder, Message};
 use rtrb::{Producer, PushError};
@@ -16,8 +17,8 @@ pub struct Pushed {
 }
 
 impl Pushed {
-    /// It is told.
-    pub fn is_told(self) {
+    /// It is told: it counts as news.
+    pub fn is_told(self, _told: Told) {
         let Pushed { _of: _ } = self;
     }
 }

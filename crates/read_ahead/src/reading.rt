@@ -41,14 +41,18 @@ pub fn open_and_read<R: Wait + Clock, I: Input>(
     ensures some { IfSome result.reader (λ reader. (goes_on (sent sender.new.producer) ≡ false)
         ⊎ LeavesOut I.holds (sent sender.new.producer) (I.Reader.remaining reader)) }
 {
-    let Some((reader, openness)) = open(input) else {
-        sender.send(rt, Message::Refused);
-        return Untold::nothing();
-    };
-    sender.send(rt, Message::Opened(openness));
-    let mut reader = reader;
-    let stop = read_ahead(rt, alloc, sender, &mut reader);
-    Untold::of(stop, reader)
+    match open(input) {
+        Ok((reader, openness)) => {
+            sender.send(rt, Message::Opened(openness));
+            let mut reader = reader;
+            let stop = read_ahead(rt, alloc, sender, &mut reader);
+            Untold::of(stop, reader)
+        }
+        Err(refusal) => {
+            sender.send(rt, Message::Refused(refusal));
+            Untold::nothing()
+        }
+    }
 }
 
 /// Tells all that an open input gives, and its end or a failure. Want of memory is told as a failed read; where no more of the input
@@ -127,20 +131,21 @@ fn copy_by<R: Wait + Clock, I: Input>(
     ensures failed { OnErr result (Tells I.holds (sent sender.new.producer) (I.Reader.remaining reader.new)) }
 {
     for _ in rt.forever() {
-        sender.begin_wait(rt);
+        let awaited = sender.begin_wait(rt);
         let read = read_some(reader, buffer);
-        sender.end_wait(rt);
+        let waited = sender.end_wait(rt, awaited);
         let count = read?;
         if count == 0 {
             return Ok(ReadingEnd::AtEnd);
         }
-        if !sender.wait_for_room(rt, count).is_given() {
+        let room = sender.wait_for_room(rt, waited, count);
+        if !room.is_given() {
             return Ok(ReadingEnd::Left);
         }
         let Ok(block) = copy_of(alloc, &buffer[..count]) else {
             return Ok(ReadingEnd::NoMemory);
         };
-        sender.send(rt, Message::Bytes(block));
+        sender.send_block(rt, block, room);
     }
     unreachable!()
 }

@@ -223,6 +223,6 @@ fn run<R: Wait + Clock, I: Input>(
 {
     let mut sender = Sender::new(producer, backlogs, number);
     let untold = open_and_read(rt, alloc, &mut sender, input);
-    drop(sender);
+    sender.close(&untold);
     let _ = untold.throw_away(rt);
 }

@@ -7,9 +7,10 @@ ghost use Rattle.read_ahead.specs.declared.incoming.Phase.TheVariants.{Failed, O
 use crate::ahead::Ahead;
 use crate::backlogs::Backlogs;
 use crate::clock_reading::ClockReading;
-use crate::incoming::{Incoming, Readiness, Unready};
+use crate::incoming::Incoming;
 use crate::input::Contents;
 use crate::limits::MOMENT;
+use crate::readiness::{Readiness, Unready};
 use crate::times::has_passed;
 use std::sync::Wait;
 use std::time::{Clock, Duration};
@@ -86,10 +87,12 @@ pub fn wait_ready<R: Wait + Clock + Copy, I: Contents>(
 {
     for _ in rt.forever() {
         let seen = sources[0].news();
-        if let Ok(ready) = first_ready(sources) {
-            return ready;
+        match first_ready(sources) {
+            Ok(ready) => return ready,
+            Err(unready) => {
+                let _ = sources[0].wait_past(seen, unready);
+            }
         }
-        let _ = sources[0].wait_past(seen);
     }
     unreachable!()
 }

@@ -4,4 +4,4 @@ use Rattle.read_ahead.proofs.reading.open_and_read.Goals as goal
 
 pub read_ahead-stop-requires : goal.read_ahead-stop-requires
 read_ahead-stop-requires g c =
-    rw c.send-2.ensures.ok (tells_first g.I.Contents.holds (sent c.args.sender.now.producer) c.args.sender.now.number c.args.input (g.I.Reader.Read.remaining c.in-Some.reader) c.in-Some.openness c.requires c.in-Some.ensures.ok)
+    rw c.send.ensures.ok (tells_first g.I.Contents.holds (sent c.args.sender.now.producer) c.args.sender.now.number c.args.input (g.I.Reader.Read.remaining c.in-Ok.reader) c.in-Ok.openness c.requires c.in-Ok.ensures.ok)

@@ -12,7 +12,7 @@ returns-in-Opened-clause-same g c =
 pub returns-in-Refused-clause-same : goal.returns-in-Refused-clause-same
 returns-in-Refused-clause-same g c =
     let s = c.args.self.now in
-    next_plain g.I.Contents.holds (received s.consumer) (received c.wait_message.new.consumer) Refused (drop s.at s.front.items) (in_order (received s.consumer) (received c.wait_message.new.consumer) c.in-Ok.message Refused c.in-Ok.ensures.order c.in-Refused.is) c.requires.sound.some refl
+    next_plain g.I.Contents.holds (received s.consumer) (received c.wait_message.new.consumer) (Refused c.in-Refused.field-0) (drop s.at s.front.items) (in_order (received s.consumer) (received c.wait_message.new.consumer) c.in-Ok.message (Refused c.in-Refused.field-0) c.in-Ok.ensures.order c.in-Refused.is) c.requires.sound.some refl
 
 pub returns-in-Err-clause-stands : goal.returns-in-Err-clause-stands
 returns-in-Err-clause-stands g c = inl (c.fall_silent.ensures.told ∙ c.in-Err.ensures.none, c.fall_silent.ensures.phase)
