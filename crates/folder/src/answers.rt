@@ -1,6 +1,6 @@
 //! What the system answered on the files of a folder, as receipts. Only these functions make them, each of an answer of the
 //! system, and each move that is noted takes one: what the system didn't confirm can't be noted.
-ghost use Rattle.std.specs.Prelude.{◌≡◌, ◌≢◌, Err, IfErr, IfOk, IsErr, IsOk, None, Ok, OnErr, OnOk, Option, Some, is_some};
+ghost use Rattle.std.specs.Prelude.{◌≡◌, ◌≢◌, Err, IfErr, IfOk, IfSome, IsErr, IsOk, IsSome, None, Ok, OnErr, OnOk, Option, Some, is_some};
 ghost use Rattle.std.specs.Fs.{IsFile, file_type};
 ghost use Rattle.std.specs.Io.KnownBytes.{Appends};
 ghost use Rattle.std.specs.IoError.{error_kind};
@@ -14,17 +14,31 @@ use ghost_list::GhostList;
 use std::fs::Metadata;
 use std::io;
 use std::io::Write;
+use std::os::unix::fs::MetadataExt;
 
-/// A file or a folder is on the disk.
+/// The file or the folder at a path is on the disk.
 #[derive(Drop)]
 pub struct Synced {
-    of: GhostList<u8>,
+    path: GhostList<u8>,
+}
+
+/// It was tried to remove the file at a path, whatever stood there.
+#[derive(Drop)]
+pub struct Cleared {
+    path: GhostList<u8>,
 }
 
 /// Bytes went into a file, whole.
 #[derive(Drop)]
 pub struct Filled {
     bytes: GhostList<u8>,
+}
+
+/// The folder that was found at a path: its device and its inode.
+#[derive(Drop)]
+pub struct Node {
+    path: GhostList<u8>,
+    found: (u64, u64),
 }
 
 /// A file was written anew.
@@ -64,6 +78,15 @@ impl Written {
     }
 }
 
+impl Node {
+    /// Its device and its inode.
+    pub fn found(&self) -> (u64, u64)
+        ensures { result ≡ self.now.found }
+    {
+        self.found
+    }
+}
+
 impl Sight {
     /// Whether there is one.
     pub fn is_there(&self) -> bool
@@ -81,13 +104,36 @@ impl Sight {
 }
 
 /// A sync is done where the system says so.
-pub fn sync_of(answer: io::Result<()>) -> io::Result<Synced>
+pub fn sync_of(path: &str, answer: io::Result<()>) -> io::Result<Synced>
     ensures ok { OnOk answer (IsOk result) }
     ensures err { IfErr answer (λ error. result ≡ Err error) }
+    ensures of { IfOk result (λ synced. synced.path.items ≡ path.now) }
 {
     answer?;
     Ok(Synced {
-        of: GhostList::new(),
+        path: known(path.as_bytes()),
+    })
+}
+
+/// It was tried to remove a file, and the system answered something.
+pub fn clearing_of(path: &str, _answer: io::Result<()>) -> Cleared
+    ensures { result.path.items ≡ path.now }
+{
+    Cleared {
+        path: known(path.as_bytes()),
+    }
+}
+
+/// The device and the inode of the folder at a path that the system looked at; none where it couldn't.
+pub fn node_of(path: &str, looked: io::Result<Metadata>) -> Option<Node>
+    ensures some { OnOk looked (IsSome result) }
+    ensures none { OnErr looked (result ≡ None) }
+    ensures of { IfSome result (λ node. node.path.items ≡ path.now) }
+{
+    let metadata = looked.ok()?;
+    Some(Node {
+        path: known(path.as_bytes()),
+        found: (metadata.dev(), metadata.ino()),
     })
 }
 
@@ -103,8 +149,10 @@ pub fn fill<W: Write>(file: &mut W, bytes: &[u8]) -> io::Result<Filled>
     })
 }
 
-/// The new file at a path was filled, and synced if it was.
-pub fn write_of(path: &str, filled: Filled, synced: Option<Synced>) -> Written
+/// The new file at a path, which was cleared, was filled, and synced if it was.
+pub fn write_of(path: &str, _cleared: Cleared, filled: Filled, synced: Option<Synced>) -> Written
+    requires cleared { _cleared.path.items ≡ path.now }
+    requires of { IfSome synced (λ it. it.path.items ≡ path.now) }
     ensures path { result.path.items ≡ path.now }
     ensures bytes { result.bytes.items ≡ filled.bytes.items }
     ensures synced { result.is_synced ≡ is_some synced }

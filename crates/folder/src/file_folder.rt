@@ -1,4 +1,4 @@
-ghost use Rattle.std.specs.Prelude.{◌≡◌, ◌≢◌, ◌⊎◌, ◌++◌, ◌∷◌, [], true, false, List, None, Some, Decides, IfErr, IfOk, IsErr, IsOk, IsSome, OnErr, OnOk};
+ghost use Rattle.std.specs.Prelude.{◌≡◌, ◌≢◌, ◌⊎◌, ◌++◌, ◌∷◌, [], true, false, List, None, Some, Decides, IfErr, IfOk, IfSome, IsErr, IsOk, OnErr, OnOk};
 ghost use Rattle.std.specs.Option.{unwrap_or};
 ghost use Rattle.std.specs.IoError.{error_kind};
 ghost use Rattle.std.specs.Path.{path_buf_bytes, path_join};
@@ -8,7 +8,10 @@ ghost use Rattle.folder.specs.FileFolders.{folder_path};
 ghost use Rattle.folder.specs.Kills.{IsFailedWrite};
 ghost use Rattle.folder.specs.Moves.{Looked, Move, Remove, Rename, Sync, Write};
 
-use crate::answers::{Removed, Renamed, Synced, Written, fill, gone, rename_of, sync_of, write_of};
+use crate::answers::{
+    Node, Removed, Renamed, Synced, Written, clearing_of, fill, gone, node_of, rename_of, sync_of,
+    write_of,
+};
 use crate::fault::FolderFault;
 use crate::file_reader::file_at;
 use crate::folder::Folder;
@@ -18,8 +21,7 @@ use crate::notes::{
 };
 use ghost_list::GhostList;
 use std::alloc::{AllocError, Global};
-use std::fs::{File, Files, Metadata, OpenFile};
-use std::os::unix::fs::MetadataExt;
+use std::fs::{File, Files, OpenFile};
 use std::path::{Path, PathBuf};
 use std::{fs, io};
 
@@ -95,29 +97,31 @@ impl<R> FileFolder<R> {
 
 impl<R: Files> FileFolder<R> {
     /// Whether the folder that was found at the path is the one that was first written to, which it becomes where none was.
-    fn is_first(&mut self, found: (u64, u64)) -> bool
-        ensures same { Decides result (self.new.node ≡ Some found) }
-        ensures kept { self.new ≡ record self.old { node = Some (unwrap_or self.old.node found) } }
+    fn is_first(&mut self, node: &Node) -> bool
+        requires { node.now.path.items ≡ folder_path self.old }
+        ensures same { Decides result (self.new.node ≡ Some node.now.found) }
+        ensures kept { self.new ≡ record self.old { node = Some (unwrap_or self.old.node node.now.found) } }
     {
-        *self.node.get_or_insert(found) == found
+        *self.node.get_or_insert(node.found()) == node.found()
     }
 
     /// Writes a new file into the folder that was found at the path, and syncs it if all are. One of its name that was there is
     /// removed before, so that whoever has it open keeps what it was.
-    fn write_anew(&self, found: (u64, u64), path: &str, bytes: &[u8]) -> io::Result<Written>
-        requires { self.now.node ≡ Some found }
+    fn write_anew(&self, _node: Node, path: &str, bytes: &[u8]) -> io::Result<Written>
+        requires of { _node.path.items ≡ folder_path self.now }
+        requires first { self.now.node ≡ Some _node.found }
         ensures path { IfOk result (λ written. written.path.items ≡ path.now) }
         ensures bytes { IfOk result (λ written. written.bytes.items ≡ bytes.now) }
         ensures synced { IfOk result (λ written. written.is_synced ≡ self.now.syncs) }
     {
-        let _ = fs::remove_file(&self.files, path);
+        let cleared = clearing_of(path, fs::remove_file(&self.files, path));
         let mut file = File::create_new(&self.files, path)?;
         let filled = fill(&mut file, bytes)?;
         if !self.syncs {
-            return Ok(write_of(path, filled, None));
+            return Ok(write_of(path, cleared, filled, None));
         }
-        let synced = sync_of(file.sync_all())?;
-        Ok(write_of(path, filled, Some(synced)))
+        let synced = sync_of(path, file.sync_all())?;
+        Ok(write_of(path, cleared, filled, Some(synced)))
     }
 }
 
@@ -138,21 +142,24 @@ impl<R: Files> Folder for FileFolder<R> {
         ensures path { folder_path self.new ≡ folder_path self.old }
     {
         let path = self.path_of(name)?;
-        let Some(found) = node_of(fs::metadata(&self.files, self.path.as_str())) else {
+        let Some(node) = node_at(&self.files, self.path.as_str()) else {
             return Err(FolderFault);
         };
-        if !self.is_first(found) {
+        if !self.is_first(&node) {
             return Err(FolderFault);
         }
-        match self.write_anew(found, path.as_str(), bytes) {
+        match self.write_anew(node, path.as_str(), bytes) {
             Ok(written) => {
                 let folder = self.path.as_str();
                 note_write(&mut self.made, folder, name, self.syncs, written);
                 Ok(())
             }
             Err(_) => {
-                let _ = fs::remove_file(&self.files, path.as_str());
-                note_failed_write(&mut self.made, name, bytes);
+                let cleared = clearing_of(
+                    path.as_str(),
+                    fs::remove_file(&self.files, path.as_str()),
+                );
+                note_failed_write(&mut self.made, self.path.as_str(), name, bytes, cleared);
                 // what it left of the file isn't synced
                 self.syncs = false;
                 Err(FolderFault)
@@ -210,7 +217,7 @@ impl<R: Files> Folder for FileFolder<R> {
         let Ok(synced) = sync_path(&self.files, self.path.as_str()) else {
             return Err(FolderFault);
         };
-        note_sync(&mut self.made, synced);
+        note_sync(&mut self.made, self.path.as_str(), synced);
         Ok(())
     }
 }
@@ -230,16 +237,16 @@ fn rename_at<R: Files>(files: &R, from: &str, to: &str) -> Result<Renamed, Folde
     rename_of(from, to, fs::rename(files, from, to))
 }
 
-/// The device and the inode of what the system looked at; none where it couldn't.
-fn node_of(looked: io::Result<Metadata>) -> Option<(u64, u64)>
-    ensures some { OnOk looked (IsSome result) }
-    ensures none { OnErr looked (result ≡ None) }
+/// The folder that is found at a path; none where there is none, or it can't be looked at.
+fn node_at<R: Files>(files: &R, path: &str) -> Option<Node>
+    ensures { IfSome result (λ node. node.path.items ≡ path.now) }
 {
-    let metadata = looked.ok()?;
-    Some((metadata.dev(), metadata.ino()))
+    node_of(path, fs::metadata(files, path))
 }
 
 /// Syncs a folder: which files it has, and under which names.
-fn sync_path<R: Files>(files: &R, path: &str) -> io::Result<Synced> {
-    sync_of(File::open(files, path)?.sync_all())
+fn sync_path<R: Files>(files: &R, path: &str) -> io::Result<Synced>
+    ensures { IfOk result (λ synced. synced.path.items ≡ path.now) }
+{
+    sync_of(path, File::open(files, path)?.sync_all())
 }

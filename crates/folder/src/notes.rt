@@ -5,7 +5,7 @@ ghost use Rattle.folder.specs.GhostMoves.{ghost_moves};
 ghost use Rattle.folder.specs.Kills.{IsFailedWrite};
 ghost use Rattle.folder.specs.Moves.{Looked, Move, Remove, Rename, Sync, Write};
 
-use crate::answers::{Removed, Renamed, Sight, Synced, Written};
+use crate::answers::{Cleared, Removed, Renamed, Sight, Synced, Written};
 use crate::ghost_move::GhostMove;
 use ghost_list::GhostList;
 
@@ -77,15 +77,24 @@ pub(crate) fn note_sight(
     there
 }
 
-/// All is on the disk.
-pub(crate) fn note_sync(made: &mut GhostList<GhostMove>, _synced: Synced)
+/// All of the folder at a path is on the disk.
+pub(crate) fn note_sync(made: &mut GhostList<GhostMove>, folder: &str, _synced: Synced)
+    requires { _synced.path.items ≡ folder.now }
     ensures { ghost_moves made.new.items ≡ ghost_moves made.old.items ++ Sync ∷ [] }
 {
     made.push(&GhostMove::Synced);
 }
 
-/// Notes a write that failed. No more is known of it than the clause says, though the body names one of its cases.
-pub(crate) fn note_failed_write(made: &mut GhostList<GhostMove>, name: &str, _bytes: &[u8])
+/// Notes a write that failed, whose file was cleared. No more is known of it than the clause says, though the body names one of its
+/// cases.
+pub(crate) fn note_failed_write(
+    made: &mut GhostList<GhostMove>,
+    folder: &str,
+    name: &str,
+    _bytes: &[u8],
+    _cleared: Cleared,
+)
+    requires { _cleared.path.items ≡ path_join folder.now name.now }
     ensures { (more : List Move) × (ghost_moves made.new.items ≡ ghost_moves made.old.items ++ more) ×
         IsFailedWrite name.now _bytes.now more }
 {
