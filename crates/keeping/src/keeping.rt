@@ -190,14 +190,22 @@ fn listed_so_far(alloc: Global, least: u64, micros: &[u64]) -> Result<Retention,
     // Memory can only be wanted where there is a row.
     ensures scarce { OnErr result (0 < length micros.now) }
 {
+    can_be_counted(micros.len())?;
     let mut kept = Retention::new(alloc, least);
-    if micros.len() as u64 > 1 << 52 {
-        return Err(AllocError);
-    }
     for each in micros {
         kept.push(*each, 0)?;
     }
     Ok(kept)
+}
+
+/// Whether so many segments can be counted.
+fn can_be_counted(count: usize) -> Result<(), AllocError>
+    ensures { MatchResult result (λ _. count ≤ 2 ^ 52) (λ _. 2 ^ 52 < count) }
+{
+    if count as u64 > 1 << 52 {
+        return Err(AllocError);
+    }
+    Ok(())
 }
 
 /// The step of a media playlist.
