@@ -80,7 +80,7 @@ struct Crew<L: Ledger, M: Ledger> {
 /// Feeds all plans, which are two with other numbers, closes the desk and takes what came of them.
 fn drive<'p, L: Ledger, M: Ledger, R: Wait>(
     rt: &R,
-    desk: &Desk<'p, L, M>,
+    desk: &Desk<'p, L, M, Brand>,
     taker: &mut Pass<M>,
     plans: &'p [Plan],
 ) -> Taken {
@@ -105,7 +105,7 @@ fn drive<'p, L: Ledger, M: Ledger, R: Wait>(
 /// Feeds a plan under another number.
 fn feed<'p, L: Ledger, M: Ledger, R: Wait>(
     rt: &R,
-    desk: &Desk<'p, L, M>,
+    desk: &Desk<'p, L, M, Brand>,
     plan: PlanRef<'p>,
     number: u64,
 ) -> bool {
@@ -140,7 +140,7 @@ fn gather<L: Ledger, R: Threads>(
 fn in_scope<'p, L: Ledger + Send + Sync, M: Ledger + Send + Sync, R: Threads + Wait + Sync>(
     rt: &R,
     alloc: Global,
-    desk: &Desk<'p, L, M>,
+    desk: &Desk<'p, L, M, Brand>,
     crew: Crew<L, M>,
     plans: &'p [Plan],
     keys: &[Keys],
@@ -197,7 +197,7 @@ fn run_with<L: Ledger + Send + Sync, M: Ledger + Send + Sync, R: Threads + Wait 
         workers,
         taker,
         rest,
-    } = Desk::<'_, L, M>::new(alloc, PLANS, WORKERS, claims, takes).ok()?;
+    } = Desk::<'_, L, M, Brand>::new(alloc, PLANS, WORKERS, claims, takes).ok()?;
     let crew = Crew {
         workers,
         taker,

@@ -15,3 +15,4 @@ pub mod Ending
 pub mod Pacing
 pub mod Soon
 pub mod Telling
+pub mod Permitting

@@ -3,6 +3,7 @@ pub mod Courses
 pub mod Paces
 pub mod Rounds
 pub mod Gated
+pub mod Permitted
 pub mod Collected
 pub mod Shown
 pub mod Begun

@@ -68,107 +68,107 @@ pub record InRound {X Y : Type 0} (input : SourceView X) (out : OutletView Y) (l
   pub keys : (k : ℕ) → k < length g.sequences → (sequence_at g k).keys ≡ (rendition_at ladder k).keys
 
 -- the run stands here in a round, of which these plans aren't fed yet
-abbrev pub StandsIn : {X Y L M R : Type 0} → SourceView X → OutletView Y → Ladder → Start X Y → List (List SegmentPlan) → Round X Y L M R → Type 0
+abbrev pub StandsIn : {X Y L M P R : Type 0} → SourceView X → OutletView Y → Ladder → Start X Y → List (List SegmentPlan) → Round X Y L M P R → Type 0
 StandsIn input out ladder start unfed at = InRound input out ladder start unfed at.broadcast.course at.broadcast.held.publisher at.collector
 
 -- some run stands here in a round
-abbrev pub IsSomewhere : {X Y L M R : Type 0} → SourceView X → OutletView Y → Ladder → Round X Y L M R → Type 0
+abbrev pub IsSomewhere : {X Y L M P R : Type 0} → SourceView X → OutletView Y → Ladder → Round X Y L M P R → Type 0
 IsSomewhere {X} {Y} input out ladder at = (start : Start X Y) × (unfed : List (List SegmentPlan)) × StandsIn input out ladder start unfed at
 
 -- each run that stands there stands here now
-abbrev pub Moves : {X Y L M R : Type 0} → SourceView X → OutletView Y → Ladder → Round X Y L M R → Round X Y L M R → Type 0
+abbrev pub Moves : {X Y L M P R : Type 0} → SourceView X → OutletView Y → Ladder → Round X Y L M P R → Round X Y L M P R → Type 0
 Moves {X} {Y} input out ladder old new =
     (start : Start X Y) (unfed : List (List SegmentPlan)) → StandsIn input out ladder start unfed old → StandsIn input out ladder start unfed new
 
 -- the run was stopped here by a fault
-abbrev pub StopsIn : {X Y L M R : Type 0} → SourceView X → OutletView Y → Ladder → Start X Y → Round X Y L M R → PackFault → Type 0
+abbrev pub StopsIn : {X Y L M P R : Type 0} → SourceView X → OutletView Y → Ladder → Start X Y → Round X Y L M P R → PackFault → Type 0
 StopsIn input out ladder start at fault = IsStopped input out ladder start at.broadcast.course at.broadcast.held.publisher fault
 
 -- each run that stands there was stopped by a fault
-abbrev pub Breaks : {X Y L M R : Type 0} → SourceView X → OutletView Y → Ladder → Round X Y L M R → Round X Y L M R → PackFault → Type 0
+abbrev pub Breaks : {X Y L M P R : Type 0} → SourceView X → OutletView Y → Ladder → Round X Y L M P R → Round X Y L M P R → PackFault → Type 0
 Breaks {X} {Y} input out ladder old new fault =
     (start : Start X Y) (unfed : List (List SegmentPlan)) → StandsIn input out ladder start unfed old → StopsIn input out ladder start new fault
 
 -- In a round, what is read stops with the turns that make it enough for the next one: before them, one of each rendition at the
 -- most, there wasn't enough, by the segments that were awaited and the turns that were had then.
-pub record StopsInTime {X Y L M R : Type 0} (input : SourceView X) (out : OutletView Y) (ladder : Ladder) (pace : Pace) (old new : Round X Y L M R) : Type 0 where
-  pub before : Round X Y L M R
+pub record StopsInTime {X Y L M P R : Type 0} (input : SourceView X) (out : OutletView Y) (ladder : Ladder) (pace : Pace) (old new : Round X Y L M P R) : Type 0 where
+  pub before : Round X Y L M P R
   pub moves : Moves input out ladder old before
   pub further : ReadsMore old.broadcast.course before.broadcast.course
   pub few : HasEnough (wanted pace (awaited before.collector.sequences) (turns_in before.broadcast.course - turns_in old.broadcast.course)) before.broadcast.course → ⊥
   pub last : (k : ℕ) → HadOneAtMost input k before.broadcast.course new.broadcast.course
 
 -- no more right segments were taken than were gathered
-abbrev pub IsFair : {X Y L M R : Type 0} → Round X Y L M R → Round X Y L M R → Type 0
+abbrev pub IsFair : {X Y L M P R : Type 0} → Round X Y L M P R → Round X Y L M P R → Type 0
 IsFair old new = new.taker.right + gathered old.collector.sequences ≤ old.taker.right + gathered new.collector.sequences
 
 -- each right segment that was taken was gathered, and no other
-abbrev pub IsExact : {X Y L M R : Type 0} → Round X Y L M R → Round X Y L M R → Type 0
+abbrev pub IsExact : {X Y L M P R : Type 0} → Round X Y L M P R → Round X Y L M P R → Type 0
 IsExact old new = new.taker.right + gathered old.collector.sequences ≡ old.taker.right + gathered new.collector.sequences
 
 -- what was taken stays taken, and no more is missing than before
-abbrev pub LosesNone : {X Y L M R : Type 0} → Round X Y L M R → Round X Y L M R → Type 0
+abbrev pub LosesNone : {X Y L M P R : Type 0} → Round X Y L M P R → Round X Y L M P R → Type 0
 LosesNone old new =
     (old.taker.pass.count ≤ new.taker.pass.count) × (length (missing_in new.collector.sequences) ≤ length (missing_in old.collector.sequences))
 
 -- in a round nothing was read
-abbrev pub ReadsNoneIn : {X Y L M R : Type 0} → Round X Y L M R → Round X Y L M R → Type 0
+abbrev pub ReadsNoneIn : {X Y L M P R : Type 0} → Round X Y L M P R → Round X Y L M P R → Type 0
 ReadsNoneIn old new = ReadsNone old.broadcast.course new.broadcast.course
 
 -- nothing is in front of rendition r
-abbrev pub IsDry : {X Y L M R : Type 0} → ℕ → Round X Y L M R → Type 0
+abbrev pub IsDry : {X Y L M P R : Type 0} → ℕ → Round X Y L M P R → Type 0
 IsDry r at = leading (sequence_at at.collector r).slots ≡ 0
 
 -- but for rendition r, the collector is as it was
-abbrev pub KeepsOthers : {X Y L M R : Type 0} → ℕ → Round X Y L M R → Round X Y L M R → Type 0
+abbrev pub KeepsOthers : {X Y L M P R : Type 0} → ℕ → Round X Y L M P R → Round X Y L M P R → Type 0
 KeepsOthers r old new = (k : ℕ) → k ≢ r → sequence_at new.collector k ≡ sequence_at old.collector k
 
 -- what was gathered and what is missing are as many as before, and nothing was taken
-abbrev pub KeepsCounts : {X Y L M R : Type 0} → Round X Y L M R → Round X Y L M R → Type 0
+abbrev pub KeepsCounts : {X Y L M P R : Type 0} → Round X Y L M P R → Round X Y L M P R → Type 0
 KeepsCounts old new =
     (gathered new.collector.sequences ≡ gathered old.collector.sequences)
     × (length (missing_in new.collector.sequences) ≡ length (missing_in old.collector.sequences)) × (new.taker ≡ old.taker)
 
 -- some run stands here, and `plan` is the first of rendition r that isn't fed yet
-abbrev pub IsFirstUnfed : {X Y L M R : Type 0} → SourceView X → OutletView Y → Ladder → ℕ → SegmentPlan → Round X Y L M R → Type 0
+abbrev pub IsFirstUnfed : {X Y L M P R : Type 0} → SourceView X → OutletView Y → Ladder → ℕ → SegmentPlan → Round X Y L M P R → Type 0
 IsFirstUnfed {X} {Y} input out ladder r plan at =
     (start : Start X Y) × (unfed : List (List SegmentPlan)) × (left : List SegmentPlan) × StandsIn input out ladder start unfed at × (unfed_of unfed r ≡ plan ∷ left)
 
 -- each run of which that plan is the first that isn't fed stands here, with it fed
-abbrev pub FeedsPlan : {X Y L M R : Type 0} → SourceView X → OutletView Y → Ladder → ℕ → SegmentPlan → Round X Y L M R → Round X Y L M R → Type 0
+abbrev pub FeedsPlan : {X Y L M P R : Type 0} → SourceView X → OutletView Y → Ladder → ℕ → SegmentPlan → Round X Y L M P R → Round X Y L M P R → Type 0
 FeedsPlan {X} {Y} input out ladder r plan old new =
     (start : Start X Y) (unfed : List (List SegmentPlan)) (left : List SegmentPlan) → unfed_of unfed r ≡ plan ∷ left
     → StandsIn input out ladder start unfed old → StandsIn input out ladder start (slice_set unfed r left) new
 
 -- some run stands here, of which these plans of rendition r aren't fed yet
-abbrev pub IsUnfed : {X Y L M R : Type 0} → SourceView X → OutletView Y → Ladder → ℕ → List SegmentPlan → Round X Y L M R → Type 0
+abbrev pub IsUnfed : {X Y L M P R : Type 0} → SourceView X → OutletView Y → Ladder → ℕ → List SegmentPlan → Round X Y L M P R → Type 0
 IsUnfed {X} {Y} input out ladder r spool at =
     (start : Start X Y) × (unfed : List (List SegmentPlan)) × StandsIn input out ladder start unfed at × (unfed_of unfed r ≡ spool)
 
 -- each run of which those plans of rendition r weren't fed stands here, with them fed
-abbrev pub FeedsSpool : {X Y L M R : Type 0} → SourceView X → OutletView Y → Ladder → ℕ → List SegmentPlan → Round X Y L M R → Round X Y L M R → Type 0
+abbrev pub FeedsSpool : {X Y L M P R : Type 0} → SourceView X → OutletView Y → Ladder → ℕ → List SegmentPlan → Round X Y L M P R → Round X Y L M P R → Type 0
 FeedsSpool {X} {Y} input out ladder r spool old new =
     (start : Start X Y) (unfed : List (List SegmentPlan)) → unfed_of unfed r ≡ spool
     → StandsIn input out ladder start unfed old → StandsIn input out ladder start (slice_set unfed r []) new
 
 -- or was stopped by a fault
-abbrev pub BreaksSpool : {X Y L M R : Type 0} → SourceView X → OutletView Y → Ladder → ℕ → List SegmentPlan → Round X Y L M R → Round X Y L M R → PackFault → Type 0
+abbrev pub BreaksSpool : {X Y L M P R : Type 0} → SourceView X → OutletView Y → Ladder → ℕ → List SegmentPlan → Round X Y L M P R → Round X Y L M P R → PackFault → Type 0
 BreaksSpool {X} {Y} input out ladder r spool old new fault =
     (start : Start X Y) (unfed : List (List SegmentPlan)) → unfed_of unfed r ≡ spool
     → StandsIn input out ladder start unfed old → StopsIn input out ladder start new fault
 
 -- some run stands here, of which none of these plans is fed yet
-abbrev pub HasAllUnfed : {X Y L M R : Type 0} → SourceView X → OutletView Y → Ladder → List (List SegmentPlan) → Round X Y L M R → Type 0
+abbrev pub HasAllUnfed : {X Y L M P R : Type 0} → SourceView X → OutletView Y → Ladder → List (List SegmentPlan) → Round X Y L M P R → Type 0
 HasAllUnfed {X} {Y} input out ladder spools at = (start : Start X Y) × StandsIn input out ladder start spools at
 
 -- each run of which none of those plans was fed stands here, with all of them fed
-abbrev pub FeedsAll : {X Y L M R : Type 0} → SourceView X → OutletView Y → Ladder → List (List SegmentPlan) → Round X Y L M R → Round X Y L M R → Type 0
+abbrev pub FeedsAll : {X Y L M P R : Type 0} → SourceView X → OutletView Y → Ladder → List (List SegmentPlan) → Round X Y L M P R → Round X Y L M P R → Type 0
 FeedsAll {X} {Y} input out ladder spools old new =
     (start : Start X Y) → StandsIn input out ladder start spools old
     → (left : List (List SegmentPlan)) × StandsIn input out ladder start left new × ((k : ℕ) → unfed_of left k ≡ [])
 
 -- or was stopped by a fault
-abbrev pub BreaksAll : {X Y L M R : Type 0} → SourceView X → OutletView Y → Ladder → List (List SegmentPlan) → Round X Y L M R → Round X Y L M R → PackFault → Type 0
+abbrev pub BreaksAll : {X Y L M P R : Type 0} → SourceView X → OutletView Y → Ladder → List (List SegmentPlan) → Round X Y L M P R → Round X Y L M P R → PackFault → Type 0
 BreaksAll {X} {Y} input out ladder spools old new fault =
     (start : Start X Y) → StandsIn input out ladder start spools old → StopsIn input out ladder start new fault
 
@@ -211,7 +211,7 @@ SwapsOne {X} {Y} input out r old new full =
     → IsOn input out ladder start old shows waiting → IsOn input out ladder start new shows still
 
 -- the collector expects nothing yet, and each of its renditions stands behind the segments that were given of it
-abbrev pub IsBehind : {X Y L M R : Type 0} → Ladder → Round X Y L M R → Type 0
+abbrev pub IsBehind : {X Y L M P R : Type 0} → Ladder → Round X Y L M P R → Type 0
 IsBehind ladder at =
     at.collector.sequences ≡ sequences_from 0 (map (λ (r : RenditionValue). r.keys) ladder.renditions) (counts_of at.broadcast.course.playlists.items)
 
@@ -258,7 +258,7 @@ abbrev pub snapshots_in : {X Y R : Type 0} → Broadcast X Y R → ℕ
 snapshots_in at = length at.held.publisher.list
 
 -- how many there will be once all that is awaited in a round was given
-abbrev pub due_in : {X Y L M R : Type 0} → Round X Y L M R → ℕ
+abbrev pub due_in : {X Y L M P R : Type 0} → Round X Y L M P R → ℕ
 due_in at = snapshots_in at.broadcast + awaited at.collector.sequences
 
 -- fewer snapshots than so many were shown, unless the fault names a segment as held back

@@ -95,7 +95,7 @@ impl Taken {
 /// Feeds a plan, once there is room.
 fn feed_one<'p, L: Ledger, M: Ledger, R: Wait>(
     rt: &R,
-    desk: &Desk<'p, L, M>,
+    desk: &Desk<'p, L, M, Brand>,
     taker: &mut Pass<M>,
     plan: PlanRef<'p>,
     taken: &mut Taken,
@@ -120,7 +120,7 @@ fn feed_one<'p, L: Ledger, M: Ledger, R: Wait>(
 /// Feeds all plans.
 fn feed_all<'p, L: Ledger, M: Ledger, G, R: Wait>(
     rt: &R,
-    desk: &Desk<'p, L, M>,
+    desk: &Desk<'p, L, M, Brand>,
     taker: &mut Pass<M>,
     plans: &'p [Plan],
     job: &Job<'_, G>,
@@ -143,7 +143,7 @@ fn feed_all<'p, L: Ledger, M: Ledger, G, R: Wait>(
 /// Takes what is left.
 fn take_all<L: Ledger, M: Ledger, R: Wait>(
     rt: &R,
-    desk: &Desk<'_, L, M>,
+    desk: &Desk<'_, L, M, Brand>,
     taker: &mut Pass<M>,
     taken: &mut Taken,
 ) {
@@ -158,7 +158,7 @@ fn take_all<L: Ledger, M: Ledger, R: Wait>(
 /// Closes the desk, or has a thread of its own stop it, and takes what is left.
 fn end<L: Ledger + Send + Sync, M: Ledger + Send + Sync, R: Threads + Wait + Sync>(
     rt: &R,
-    desk: &Desk<'_, L, M>,
+    desk: &Desk<'_, L, M, Brand>,
     taker: Pass<M>,
     taken: Taken,
     stops: bool,
@@ -213,7 +213,7 @@ fn in_scope<
 >(
     rt: &R,
     alloc: Global,
-    desk: &Desk<'p, L, M>,
+    desk: &Desk<'p, L, M, Brand>,
     crew: Crew<L, M>,
     plans: &'p [Plan],
     keys: &[Keys],
@@ -284,7 +284,7 @@ fn run_with<
         workers,
         taker,
         rest,
-    } = Desk::<'_, L, M>::new(alloc, job.queue, job.workers, claims, takes)?;
+    } = Desk::<'_, L, M, Brand>::new(alloc, job.queue, job.workers, claims, takes)?;
     let crew = Crew {
         workers,
         taker,

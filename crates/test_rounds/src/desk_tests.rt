@@ -228,7 +228,7 @@ fn a_stop_wakes_a_taker_that_waits(rt: HostRuntime) -> Result<(), Fail> {
 /// What is told of a plan that is fed, and the number of the plan that comes back.
 fn feed<'s, L: Ledger, M: Ledger, R: Wait>(
     rt: &R,
-    desk: &Desk<'s, L, M>,
+    desk: &Desk<'s, L, M, Brand>,
     plan: PlanRef<'s>,
 ) -> (&'static str, u64) {
     match desk.feed(rt, plan) {
@@ -243,7 +243,7 @@ fn feed<'s, L: Ledger, M: Ledger, R: Wait>(
 /// Whether a claim comes, which is refused.
 fn refuses_one<L: Ledger, M: Ledger, R: Wait>(
     rt: &R,
-    desk: &Desk<'_, L, M>,
+    desk: &Desk<'_, L, M, Brand>,
     pass: &mut Pass<L>,
 ) -> bool {
     let Some(claim) = desk.claim(rt, pass) else {
@@ -271,7 +271,7 @@ fn fed_with<'s, L: Ledger, M: Ledger, R: Wait>(
         mut workers,
         mut taker,
         ..
-    } = Desk::<'s, L, M>::new(alloc, queue, 1, claims, takes)?;
+    } = Desk::<'s, L, M, Brand>::new(alloc, queue, 1, claims, takes)?;
     let Some(mut pass) = workers.pop() else {
         return Err(Fail::from("no pass"));
     };

@@ -1,1 +1,2 @@
 pub mod Pushing
+pub mod Permitting

@@ -1,3 +1,4 @@
 pub mod Batches
+pub mod Permits
 pub mod Waiting
 pub mod Works

@@ -3,9 +3,12 @@
 ghost use Rattle.std.specs.Prelude.{OnErr, ◌≡◌, ◌+◌, ◌<◌, ℕ, Some, IfOk, OnOk, IfErr, IfSome, IfNone, true, vec_len, slice_get};
 ghost use Rattle.cutter.specs.Lent.{lent};
 ghost use Rattle.flow_core.specs.Queues.{IsOwnOutcome, first_queue};
+ghost use Rattle.work_desk.specs.Permits.{IsPermitted};
 ghost use Rattle.work_desk.specs.Waiting.{GivesBack};
 
+use crate::gate::Permit;
 use crate::pass::Pass;
+use crate::permitted::PermittedQueue;
 use crate::sealing::Worked;
 use crate::steps::{
     Ended, Seen, claim, claim_more, close, deliver, stop, take, take_awaited, taker_waits,
@@ -19,9 +22,10 @@ use std::sync::ledger::{Blank, Ledger, Share};
 use std::sync::{Condvar, Mutex, Wait};
 
 /// A queue that many threads share. Each call makes one step of it under its lock; one that waits looks again when it is woken.
+/// What it hands out sealed may be: that was asked before it was delivered.
 #[derive(Drop)]
-pub struct Desk<'s, L: Ledger, M: Ledger> {
-    queue: Mutex<Queue<'s, L, M>>,
+pub struct Desk<'s, L: Ledger, M: Ledger, P: Permit> {
+    queue: Mutex<PermittedQueue<'s, L, M, P>>,
     /// How many plans may be outstanding in it.
     most: usize,
     /// A plan was fed, or no more are.
@@ -34,8 +38,8 @@ pub struct Desk<'s, L: Ledger, M: Ledger> {
 
 /// A desk that was opened, and who may use it.
 #[derive(Drop)]
-pub struct Opened<'s, L: Ledger, M: Ledger> {
-    pub desk: Desk<'s, L, M>,
+pub struct Opened<'s, L: Ledger, M: Ledger, P: Permit> {
+    pub desk: Desk<'s, L, M, P>,
     /// A pass for each worker, by its number.
     pub workers: Vec<Pass<L>>,
     pub taker: Pass<M>,
@@ -62,7 +66,7 @@ fn new_passes<L: Ledger>(
     Ok(passes)
 }
 
-impl<'s, L: Ledger, M: Ledger> Desk<'s, L, M> {
+impl<'s, L: Ledger, M: Ledger, P: Permit> Desk<'s, L, M, P> {
     /// Opens a desk at which at most `queue` plans are outstanding, with two ledgers: of claims, with a part for each
     /// worker, and of what is taken, with one part.
     pub fn new(
@@ -71,7 +75,7 @@ impl<'s, L: Ledger, M: Ledger> Desk<'s, L, M> {
         workers: usize,
         claims: Blank,
         takes: Blank,
-    ) -> Result<Opened<'s, L, M>, AllocError>
+    ) -> Result<Opened<'s, L, M, P>, AllocError>
         requires claims { (claims.name ≡ L.name) × (claims.parts ≡ L.parts) × (L.parts ≡ workers) }
         requires takes { (takes.name ≡ M.name) × (takes.parts ≡ M.parts) × (M.parts ≡ 1) }
         ensures passes { IfOk result (λ opened. vec_len opened.workers ≡ workers) }
@@ -95,12 +99,12 @@ impl<'s, L: Ledger, M: Ledger> Desk<'s, L, M> {
     }
 
     /// A desk over a queue that nothing happened to, of at most so many plans.
-    fn over(queue: Queue<'s, L, M>, most: usize, workers: usize) -> Desk<'s, L, M>
+    fn over(queue: Queue<'s, L, M>, most: usize, workers: usize) -> Desk<'s, L, M, P>
         requires { queue ≡ first_queue most }
         ensures { result.most ≡ most }
     {
         Desk {
-            queue: Mutex::new(queue),
+            queue: Mutex::new(PermittedQueue::first(queue)),
             most,
             fed: Condvar::new(),
             done: Condvar::new(),
@@ -113,7 +117,7 @@ impl<'s, L: Ledger, M: Ledger> Desk<'s, L, M> {
         ensures fed { IfOk result (λ fed. fed ≡ lent plan.entry) }
         ensures back { IfErr result (GivesBack (lent plan.entry)) }
     {
-        let answer = self.queue.lock(rt).feed(plan);
+        let answer = self.queue.lock(rt).inner.feed(plan);
         self.fed.notify_one();
         answer
     }
@@ -171,7 +175,8 @@ impl<'s, L: Ledger, M: Ledger> Desk<'s, L, M> {
     /// Something became of a claimed plan, which was sealed if it is a segment of its own. Where nobody has that claim at
     /// this desk, nothing changes.
     pub fn deliver<R: Wait>(&self, rt: &R, claim: Claim<'s>, outcome: Outcome<'s>)
-        requires { IsOwnOutcome claim.plan outcome }
+        requires own { IsOwnOutcome claim.plan outcome }
+        requires permitted { IsPermitted P.permits outcome }
     {
         deliver(&mut self.queue.lock(rt), claim, outcome);
         self.done.notify_one();
@@ -179,7 +184,8 @@ impl<'s, L: Ledger, M: Ledger> Desk<'s, L, M> {
 
     /// What a worker made of a plan that it claimed becomes of that plan.
     pub(crate) fn hand_in<R: Wait>(&self, rt: &R, worked: Worked<'s>)
-        requires { IsOwnOutcome worked.claim.plan worked.outcome }
+        requires own { IsOwnOutcome worked.claim.plan worked.outcome }
+        requires permitted { IsPermitted P.permits worked.outcome }
     {
         worked.deliver_to(&mut self.queue.lock(rt));
         self.done.notify_one();
@@ -187,6 +193,7 @@ impl<'s, L: Ledger, M: Ledger> Desk<'s, L, M> {
 
     /// Takes what has been done the longest; none where nothing is done. It waits for the lock alone.
     pub fn take_done<R: Wait>(&self, rt: &R, pass: &mut Pass<M>) -> Option<Delivery<'s>>
+        ensures permitted { IfSome result (λ delivery. IsPermitted P.permits delivery.outcome) }
         ensures counted { IfSome result (λ _. pass.new.count ≡ pass.old.count + 1) }
         ensures uncounted { IfNone result (pass.new.count ≡ pass.old.count) }
         ensures number { pass.new.number ≡ pass.old.number }
@@ -196,6 +203,7 @@ impl<'s, L: Ledger, M: Ledger> Desk<'s, L, M> {
 
     /// The same, with what was seen where there is none.
     pub fn look_done<R: Wait>(&self, rt: &R, pass: &mut Pass<M>) -> Result<Delivery<'s>, Seen>
+        ensures permitted { IfOk result (λ delivery. IsPermitted P.permits delivery.outcome) }
         ensures none { IfErr result (λ seen. seen.done ≡ 0) }
         ensures counted { OnOk result (pass.new.count ≡ pass.old.count + 1) }
         ensures uncounted { OnErr result (pass.new.count ≡ pass.old.count) }
@@ -206,6 +214,7 @@ impl<'s, L: Ledger, M: Ledger> Desk<'s, L, M> {
 
     /// Waits until something is done, and takes what has been done the longest. None where nothing is outstanding.
     pub fn wait_done<R: Wait>(&self, rt: &R, pass: &mut Pass<M>) -> Option<Delivery<'s>>
+        ensures permitted { IfSome result (λ delivery. IsPermitted P.permits delivery.outcome) }
         ensures counted { IfSome result (λ _. pass.new.count ≡ pass.old.count + 1) }
         ensures uncounted { IfNone result (pass.new.count ≡ pass.old.count) }
         ensures number { pass.new.number ≡ pass.old.number }
@@ -215,6 +224,7 @@ impl<'s, L: Ledger, M: Ledger> Desk<'s, L, M> {
 
     /// The same, with what was seen where there is none.
     pub fn await_done<R: Wait>(&self, rt: &R, pass: &mut Pass<M>) -> Result<Delivery<'s>, Seen>
+        ensures permitted { IfOk result (λ delivery. IsPermitted P.permits delivery.outcome) }
         ensures counted { OnOk result (pass.new.count ≡ pass.old.count + 1) }
         ensures uncounted { OnErr result (pass.new.count ≡ pass.old.count) }
         ensures number { pass.new.number ≡ pass.old.number }
@@ -261,6 +271,6 @@ impl<'s, L: Ledger, M: Ledger> Desk<'s, L, M> {
         ensures claims { (claimers.new.amount ≡ claimers.old.amount) × (claimers.new.parts ≡ claimers.old.parts) }
         ensures takes { (takers.new.amount ≡ takers.old.amount) × (takers.new.parts ≡ takers.old.parts) }
     {
-        self.queue.lock(rt).settle(claimers, takers)
+        self.queue.lock(rt).inner.settle(claimers, takers)
     }
 }

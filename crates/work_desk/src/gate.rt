@@ -2,6 +2,8 @@
 
 ghost use Rattle.std.specs.Prelude.{◌≡◌, ℕ, true, false};
 
+use std::marker::Brand;
+
 /// Who is asked before each segment is sealed. Many workers ask at once.
 pub trait Gate {
     /// What holds of a segment, by its rendition and its number, that was let through.
@@ -28,4 +30,14 @@ impl Gate for FreeGate {
     fn pass(&self, _rendition: usize, _number: u64) -> bool {
         true
     }
+}
+
+/// Which segments may be sealed, by their rendition and their number. A type stands for it, which a run picks by its gate: so what
+/// a desk of that type hands out is known to have been let through.
+pub trait Permit {
+    ghost permits: { ℕ → ℕ → Type 0 };
+}
+
+impl Permit for Brand {
+    ghost permits = { λ _ _. Unit {0} };
 }

@@ -10,13 +10,15 @@
 mod desk;
 mod gate;
 mod pass;
+mod permitted;
 mod sealing;
 mod steps;
 mod worker;
 
 pub use desk::{Desk, Opened};
 pub use flow_core::{Claim, Delivery, Fed, FeedFault, Outcome};
-pub use gate::{FreeGate, Gate};
+pub use gate::{FreeGate, Gate, Permit};
 pub use pass::{Pass, Tally};
+pub use permitted::PermittedQueue;
 pub use steps::Seen;
 pub use worker::work;

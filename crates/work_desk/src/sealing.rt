@@ -6,11 +6,13 @@ ghost use Rattle.flow_core.specs.declared.outcome.Outcome.TheVariants.{Sealed as
 ghost use Rattle.flow_core.specs.Lists.{In};
 ghost use Rattle.flow_core.specs.Queues.{IsOwnOutcome};
 ghost use Rattle.flow_core.specs.Steps.{Delivers};
+ghost use Rattle.work_desk.specs.Permits.{IsPermitted};
 ghost use Rattle.work_desk.specs.Works.{IsBegun, IsTurnedAway, outcome_of};
 
-use crate::gate::Gate;
+use crate::gate::{Gate, Permit};
+use crate::permitted::PermittedQueue;
 use crate::steps::deliver;
-use flow_core::{Claim, Outcome, Queue};
+use flow_core::{Claim, Outcome};
 use segment_job::{Keys, Sealed, Unsealed, seal_four, seal_two};
 use std::alloc::Global;
 use std::sync::ledger::Ledger;
@@ -53,8 +55,12 @@ impl<'s> Worked<'s> {
     }
 
     /// Delivers it. Nothing changes where nobody has that claim at this queue.
-    pub(crate) fn deliver_to<L: Ledger, M: Ledger>(self, queue: &mut Queue<'s, L, M>)
-        requires { IsOwnOutcome self.claim.plan self.outcome }
+    pub(crate) fn deliver_to<L: Ledger, M: Ledger, P: Permit>(
+        self,
+        queue: &mut PermittedQueue<'s, L, M, P>,
+    )
+        requires own { IsOwnOutcome self.claim.plan self.outcome }
+        requires permitted { IsPermitted P.permits self.outcome }
         ensures yes { In self.entry.claim queue.old.claimed → Delivers queue.old self.entry.claim self.entry.outcome queue.new }
         ensures no { (In self.entry.claim queue.old.claimed → ⊥) → queue.new ≡ queue.old }
     {

@@ -4,10 +4,13 @@ ghost use Rattle.std.specs.Prelude.{◌≡◌, ◌+◌, ◌<◌, ◌≤◌, ◌�
 ghost use Rattle.flow_core.specs.Lists.{In};
 ghost use Rattle.flow_core.specs.Queues.{outstanding, IsOwnOutcome};
 ghost use Rattle.flow_core.specs.Steps.{Claims, Delivers, Gives, IsFirst, closed_queue, stopped_queue};
+ghost use Rattle.work_desk.specs.Permits.{IsPermitted};
 ghost use Rattle.work_desk.specs.Waiting.{WorkersWait, TakerWaits, seen_in};
 
+use crate::gate::Permit;
 use crate::pass::Pass;
-use flow_core::{Claim, Delivery, Outcome, Queue};
+use crate::permitted::PermittedQueue;
+use flow_core::{Claim, Delivery, Outcome};
 use std::marker::Model;
 use std::sync::ledger::Ledger;
 
@@ -30,40 +33,40 @@ impl Model for Seen {
 }
 
 /// What is seen of a queue.
-fn look<L: Ledger, M: Ledger>(queue: &Queue<'_, L, M>) -> Seen
+fn look<L: Ledger, M: Ledger, P: Permit>(queue: &PermittedQueue<'_, L, M, P>) -> Seen
     ensures { result ≡ seen_in queue.now }
 {
     Seen {
-        closed: queue.is_closed(),
-        waiting: queue.waiting(),
-        done: queue.done(),
-        outstanding: queue.outstanding(),
+        closed: queue.inner.is_closed(),
+        waiting: queue.inner.waiting(),
+        done: queue.inner.done(),
+        outstanding: queue.inner.outstanding(),
     }
 }
 
 /// Whether workers wait.
-pub fn workers_wait<L: Ledger, M: Ledger>(queue: &Queue<'_, L, M>) -> bool
+pub fn workers_wait<L: Ledger, M: Ledger, P: Permit>(queue: &PermittedQueue<'_, L, M, P>) -> bool
     ensures { Decides result (WorkersWait queue.now) }
 {
-    if queue.is_closed() {
+    if queue.inner.is_closed() {
         return false;
     }
-    !queue.has_waiting()
+    !queue.inner.has_waiting()
 }
 
 /// Whether the taker waits.
-pub fn taker_waits<L: Ledger, M: Ledger>(queue: &Queue<'_, L, M>) -> bool
+pub fn taker_waits<L: Ledger, M: Ledger, P: Permit>(queue: &PermittedQueue<'_, L, M, P>) -> bool
     ensures { Decides result (TakerWaits queue.now) }
 {
-    if queue.has_done() {
+    if queue.inner.has_done() {
         return false;
     }
-    queue.outstanding() > 0
+    queue.inner.outstanding() > 0
 }
 
 /// Claims the plan that waits the longest; none where no more plans are fed and none waits.
-pub fn claim<'s, L: Ledger, M: Ledger>(
-    queue: &mut Queue<'s, L, M>,
+pub fn claim<'s, L: Ledger, M: Ledger, P: Permit>(
+    queue: &mut PermittedQueue<'s, L, M, P>,
     pass: &mut Pass<L>,
 ) -> Result<Claim<'s>, Seen>
     requires { WorkersWait queue.old → ⊥ }
@@ -80,7 +83,7 @@ pub fn claim<'s, L: Ledger, M: Ledger>(
         count,
         share,
     } = pass;
-    let Some(claim) = queue.claim(*number, share) else {
+    let Some(claim) = queue.inner.claim(*number, share) else {
         return Err(look(queue));
     };
     *count += 1;
@@ -88,8 +91,8 @@ pub fn claim<'s, L: Ledger, M: Ledger>(
 }
 
 /// Claims the plan that waits the longest where more wait than so many workers are idle; none elsewhere.
-pub fn claim_more<'s, L: Ledger, M: Ledger>(
-    queue: &mut Queue<'s, L, M>,
+pub fn claim_more<'s, L: Ledger, M: Ledger, P: Permit>(
+    queue: &mut PermittedQueue<'s, L, M, P>,
     idle: usize,
     pass: &mut Pass<L>,
 ) -> Result<Claim<'s>, Seen>
@@ -102,42 +105,44 @@ pub fn claim_more<'s, L: Ledger, M: Ledger>(
     ensures uncounted { OnErr result (pass.new.count ≡ pass.old.count) }
     ensures number { pass.new.number ≡ pass.old.number }
 {
-    if queue.waiting() <= idle {
+    if queue.inner.waiting() <= idle {
         return Err(look(queue));
     }
     claim(queue, pass)
 }
 
 /// Something became of a claimed plan. Nothing changes where nobody has that claim.
-pub fn deliver<'s, L: Ledger, M: Ledger>(
-    queue: &mut Queue<'s, L, M>,
+pub fn deliver<'s, L: Ledger, M: Ledger, P: Permit>(
+    queue: &mut PermittedQueue<'s, L, M, P>,
     claim: Claim<'s>,
     outcome: Outcome<'s>,
 )
-    requires { IsOwnOutcome claim.plan outcome }
+    requires own { IsOwnOutcome claim.plan outcome }
+    requires permitted { IsPermitted P.permits outcome }
     ensures yes { In claim.entry queue.old.claimed → Delivers queue.old claim.entry outcome.entry queue.new }
     ensures no { (In claim.entry queue.old.claimed → ⊥) → queue.new ≡ queue.old }
 {
     match outcome {
         Outcome::Sealed(segment) => {
-            let _ = queue.deliver(claim, segment);
+            let _ = queue.inner.deliver(claim, segment);
         }
         Outcome::Refused => {
-            let _ = queue.refuse(claim);
+            let _ = queue.inner.refuse(claim);
         }
         Outcome::Held => {
-            let _ = queue.hold(claim);
+            let _ = queue.inner.hold(claim);
         }
     }
 }
 
 /// Takes what has been done the longest; none where nothing is done.
-pub fn take<'s, L: Ledger, M: Ledger>(
-    queue: &mut Queue<'s, L, M>,
+pub fn take<'s, L: Ledger, M: Ledger, P: Permit>(
+    queue: &mut PermittedQueue<'s, L, M, P>,
     pass: &mut Pass<M>,
 ) -> Result<Delivery<'s>, Seen>
     ensures some { IfOk result (λ delivery. Gives queue.old delivery queue.new) }
     ensures first { IfOk result (λ delivery. IsFirst delivery queue.old.done queue.new.done) }
+    ensures permitted { IfOk result (λ delivery. IsPermitted P.permits delivery.outcome) }
     ensures none { OnErr result ((queue.new ≡ queue.old) × (queue.old.done ≡ [])) }
     ensures seen { IfErr result (λ seen. seen ≡ seen_in queue.old) }
     ensures counted { OnOk result (pass.new.count ≡ pass.old.count + 1) }
@@ -145,7 +150,7 @@ pub fn take<'s, L: Ledger, M: Ledger>(
     ensures number { pass.new.number ≡ pass.old.number }
 {
     let Pass { count, share, .. } = pass;
-    let Some(delivery) = queue.take(share) else {
+    let Some(delivery) = queue.inner.take(share) else {
         return Err(look(queue));
     };
     *count += 1;
@@ -153,13 +158,14 @@ pub fn take<'s, L: Ledger, M: Ledger>(
 }
 
 /// Takes what has been done the longest; none where nothing is outstanding.
-pub fn take_awaited<'s, L: Ledger, M: Ledger>(
-    queue: &mut Queue<'s, L, M>,
+pub fn take_awaited<'s, L: Ledger, M: Ledger, P: Permit>(
+    queue: &mut PermittedQueue<'s, L, M, P>,
     pass: &mut Pass<M>,
 ) -> Result<Delivery<'s>, Seen>
     requires { TakerWaits queue.old → ⊥ }
     ensures some { IfOk result (λ delivery. Gives queue.old delivery queue.new) }
     ensures first { IfOk result (λ delivery. IsFirst delivery queue.old.done queue.new.done) }
+    ensures permitted { IfOk result (λ delivery. IsPermitted P.permits delivery.outcome) }
     ensures none { OnErr result ((queue.new ≡ queue.old) × (outstanding queue.old ≡ 0)) }
     ensures seen { IfErr result (λ seen. seen ≡ seen_in queue.old) }
     ensures counted { OnOk result (pass.new.count ≡ pass.old.count + 1) }
@@ -177,27 +183,27 @@ pub struct Ended {
 }
 
 /// No more plans are fed.
-pub fn close<L: Ledger, M: Ledger>(queue: &mut Queue<'_, L, M>) -> Ended
+pub fn close<L: Ledger, M: Ledger, P: Permit>(queue: &mut PermittedQueue<'_, L, M, P>) -> Ended
     ensures closed { queue.new ≡ closed_queue queue.old }
     ensures seen { result ≡ record { given_up = 0; left = length queue.old.waiting } }
 {
-    let before = queue.waiting();
-    queue.close();
+    let before = queue.inner.waiting();
+    queue.inner.close();
     Ended {
-        given_up: before - queue.waiting(),
-        left: queue.waiting(),
+        given_up: before - queue.inner.waiting(),
+        left: queue.inner.waiting(),
     }
 }
 
 /// No more plans are fed, and those that wait are given up.
-pub fn stop<L: Ledger, M: Ledger>(queue: &mut Queue<'_, L, M>) -> Ended
+pub fn stop<L: Ledger, M: Ledger, P: Permit>(queue: &mut PermittedQueue<'_, L, M, P>) -> Ended
     ensures stopped { queue.new ≡ stopped_queue queue.old }
     ensures seen { result ≡ record { given_up = length queue.old.waiting; left = 0 } }
 {
-    let before = queue.waiting();
-    queue.stop();
+    let before = queue.inner.waiting();
+    queue.inner.stop();
     Ended {
-        given_up: before - queue.waiting(),
-        left: queue.waiting(),
+        given_up: before - queue.inner.waiting(),
+        left: queue.inner.waiting(),
     }
 }

@@ -2,10 +2,11 @@
 
 ghost use Rattle.std.specs.Prelude.{◌≡◌, ◌+◌, IfErr, IfNone, IfOk, IfSome, None, OnErr, Some, true};
 ghost use Rattle.work_desk.specs.Batches.{AreLetThrough, IsLetThrough};
+ghost use Rattle.work_desk.specs.Permits.{LetsOnly};
 ghost use Rattle.work_desk.specs.Works.{IsBegun};
 
 use crate::desk::Desk;
-use crate::gate::Gate;
+use crate::gate::{Gate, Permit};
 use crate::pass::{Pass, Tally};
 use crate::sealing::{Begun, Means, finish_four, finish_one, finish_two};
 use crate::steps::Seen;
@@ -23,14 +24,15 @@ use std::sync::ledger::Ledger;
 ///
 /// The gate is asked when a plan was claimed, before it is sealed: what it doesn't let through is Held. Refused is a
 /// plan that there was no memory to seal, or of a rendition that has no keys; which, no clause says.
-pub fn work<'s, L: Ledger, M: Ledger, G: Gate, R: Wait>(
+pub fn work<'s, L: Ledger, M: Ledger, P: Permit, G: Gate, R: Wait>(
     rt: &R,
     alloc: Global,
-    desk: &Desk<'s, L, M>,
+    desk: &Desk<'s, L, M, P>,
     pass: Pass<L>,
     keys: &[Keys],
     gate: &G,
 ) -> Tally<L>
+    requires only { LetsOnly (G.lets gate.now) P.permits }
     ensures { result.worker ≡ pass.number }
 {
     let mut pass = pass;
@@ -39,21 +41,22 @@ pub fn work<'s, L: Ledger, M: Ledger, G: Gate, R: Wait>(
 }
 
 /// Claims, seals and delivers until no more plans are fed and none waits, and tells that it saw so.
-fn serve<'s, L: Ledger, M: Ledger, G: Gate, R: Wait>(
+fn serve<'s, L: Ledger, M: Ledger, P: Permit, G: Gate, R: Wait>(
     rt: &R,
     alloc: Global,
-    desk: &Desk<'s, L, M>,
+    desk: &Desk<'s, L, M, P>,
     pass: &mut Pass<L>,
     keys: &[Keys],
     gate: &G,
 ) -> Seen
+    requires only { LetsOnly (G.lets gate.now) P.permits }
     ensures number { pass.new.number ≡ pass.old.number }
     ensures over { (result.closed ≡ true) × (result.waiting ≡ 0) }
 {
     let means = Means { alloc, keys, gate };
     for _ in rt.forever() {
         match begin_some(rt, desk, pass, &means) {
-            Ok(batch) => finish_all(rt, desk, gate, batch),
+            Ok(batch) => finish_all(rt, desk, batch),
             Err(seen) => return seen,
         }
     }
@@ -96,17 +99,18 @@ impl<'s> Batch<'s> {
 
 /// Claims a plan, and up to three more where more wait than workers are idle, and makes their segments ready. None where no
 /// more plans are fed and none waits.
-fn begin_some<'s, L: Ledger, M: Ledger, G: Gate, R: Wait>(
+fn begin_some<'s, L: Ledger, M: Ledger, P: Permit, G: Gate, R: Wait>(
     rt: &R,
-    desk: &Desk<'s, L, M>,
+    desk: &Desk<'s, L, M, P>,
     pass: &mut Pass<L>,
     means: &Means<'_, G>,
 ) -> Result<Batch<'s>, Seen>
+    requires only { LetsOnly (G.lets means.now.gate.now) P.permits }
     ensures number { pass.new.number ≡ pass.old.number }
     ensures none { OnErr result (pass.new.count ≡ pass.old.count) }
     ensures over { IfErr result (λ seen. (seen.closed ≡ true) × (seen.waiting ≡ 0)) }
     ensures asked { IfOk result (λ batch. IfNone batch.no_more (pass.new.count ≡ pass.old.count + 4)) }
-    ensures let_through { IfOk result (AreLetThrough (G.lets means.now.gate.now)) }
+    ensures permitted { IfOk result (AreLetThrough P.permits) }
 {
     let claim = match desk.next_claim(rt, pass) {
         Ok(claim) => claim,
@@ -138,15 +142,16 @@ fn begin_some<'s, L: Ledger, M: Ledger, G: Gate, R: Wait>(
 }
 
 /// Makes the segment of a claimed plan ready. What can't be sealed is delivered at once.
-fn begin<'s, L: Ledger, M: Ledger, G: Gate, R: Wait>(
+fn begin<'s, L: Ledger, M: Ledger, P: Permit, G: Gate, R: Wait>(
     rt: &R,
-    desk: &Desk<'s, L, M>,
+    desk: &Desk<'s, L, M, P>,
     means: &Means<'_, G>,
     claim: Claim<'s>,
 ) -> Option<Begun<'s>>
+    requires only { LetsOnly (G.lets means.now.gate.now) P.permits }
     ensures claim { IfSome result (λ begun. begun.claim ≡ claim.entry) }
     ensures begun { IfSome result (λ begun. IsBegun (G.lets means.now.gate.now) means.now.keys.now claim.entry.plan begun.segment) }
-    ensures let_through { IsLetThrough (G.lets means.now.gate.now) result }
+    ensures permitted { IsLetThrough P.permits result }
 {
     match means.begin(claim) {
         Ok(begun) => Some(begun),
@@ -157,14 +162,13 @@ fn begin<'s, L: Ledger, M: Ledger, G: Gate, R: Wait>(
     }
 }
 
-/// Seals what was begun, side by side, and delivers it. All of it was let through by the gate.
-fn finish_all<'s, L: Ledger, M: Ledger, G: Gate, R: Wait>(
+/// Seals what was begun, side by side, and delivers it. All of it was let through.
+fn finish_all<'s, L: Ledger, M: Ledger, P: Permit, R: Wait>(
     rt: &R,
-    desk: &Desk<'s, L, M>,
-    _gate: &G,
+    desk: &Desk<'s, L, M, P>,
     batch: Batch<'s>,
 )
-    requires { AreLetThrough (G.lets _gate.now) batch }
+    requires { AreLetThrough P.permits batch }
 {
     let Batch {
         first,
@@ -189,12 +193,15 @@ fn finish_all<'s, L: Ledger, M: Ledger, G: Gate, R: Wait>(
 }
 
 /// Seals what was begun of two, side by side where both were, and delivers it.
-fn finish_pair<'s, L: Ledger, M: Ledger, R: Wait>(
+fn finish_pair<'s, L: Ledger, M: Ledger, P: Permit, R: Wait>(
     rt: &R,
-    desk: &Desk<'s, L, M>,
+    desk: &Desk<'s, L, M, P>,
     first: Option<Begun<'s>>,
     second: Option<Begun<'s>>,
-) {
+)
+    requires first { IsLetThrough P.permits first }
+    requires second { IsLetThrough P.permits second }
+{
     match (first, second) {
         (Some(first), Some(second)) => {
             let (one, two) = finish_two(first, second);

@@ -3,6 +3,7 @@
 ghost use Rattle.std.specs.Prelude.{◌≡◌, ◌≢◌, ◌<◌, [], ℕ, IfErr, OnErr, OnOk, Some, false, length, slice_get, slice_index_or};
 ghost use Rattle.ingest.specs.Lanes.{is_good};
 ghost use Rattle.ingest.specs.declared.lane.Lane.{Lane};
+ghost use Rattle.live_board.specs.Counts.{counts_shown};
 ghost use Rattle.rounds.specs.Courses.{HasEndDue, HasGoodEnds, IsEndDue, IsSomeBetween, ReadsNone, StaysBetween, StopsAt, StopsBetween};
 ghost use Rattle.rounds.specs.Gated.{IsUnheld};
 ghost use Rattle.rounds.specs.Heralds.{AllTold};
@@ -23,6 +24,7 @@ impl<'r, S: Source, O: Outlet, R: Wait> Broadcast<'r, S, O, R> {
         ensures ok { OnOk result (StaysBetween S.input O.output settings.now self.old self.new) }
         ensures err { IfErr result (StopsBetween S.input O.output settings.now self.old self.new) }
         ensures unheld { IfErr result IsUnheld }
+        ensures shown { counts_shown self.new.held.publisher.list ≡ counts_shown self.old.held.publisher.list }
         ensures none_read { ReadsNone self.old.course self.new.course }
         ensures playlists { self.new.course.playlists ≡ self.old.course.playlists }
         ensures ended { OnOk result ((lane : Lane) → slice_get self.old.course.lanes.items r ≡ Some lane → lane.intake.filled ≡ []
@@ -56,6 +58,7 @@ impl<'r, S: Source, O: Outlet, R: Wait> Broadcast<'r, S, O, R> {
         ensures ok { OnOk result (StaysBetween S.input O.output settings.now self.old self.new) }
         ensures err { IfErr result (StopsBetween S.input O.output settings.now self.old self.new) }
         ensures unheld { IfErr result IsUnheld }
+        ensures shown { counts_shown self.new.held.publisher.list ≡ counts_shown self.old.held.publisher.list }
         ensures none_read { ReadsNone self.old.course self.new.course }
         ensures playlists { self.new.course.playlists ≡ self.old.course.playlists }
         ensures ended { OnOk result (HasGoodEnds settings.now self.new.course) }

@@ -68,6 +68,7 @@ impl<'r, S: Source, O: Outlet, R: Wait> Broadcast<'r, S, O, R> {
         ensures board { self.new.held.publisher.board ≡ self.old.held.publisher.board }
         ensures none_read { ReadsNone self.old.course self.new.course }
         ensures playlists { self.new.course.playlists ≡ self.old.course.playlists }
+        ensures shown { counts_shown self.new.held.publisher.list ≡ counts_shown self.old.held.publisher.list }
         ensures failures { OnOk result (O.output.failures self.new.course.outlet ≡ O.output.failures self.old.course.outlet) }
         ensures fault { IfErr result (λ fault. SaysFailures fault (O.output.failures self.old.course.outlet) (O.output.failures self.new.course.outlet)) }
     {

@@ -10,10 +10,12 @@ ghost use Rattle.rounds.specs.Paces.{HasEnough, ReadsEnough, ReadsForNext, wante
 ghost use Rattle.rounds.specs.Rounds.{Breaks, IsBehind, IsBroken, IsDriven, IsExact, IsSomeFull, IsSomewhere, Moves, NoneReady, StopsInTime};
 ghost use Rattle.rounds.specs.Rounds.{ShowsFewer, StopsShort, due_in};
 ghost use Rattle.rounds.specs.Showing.{counts_of};
+ghost use Rattle.work_desk.specs.Permits.{LetsOnly};
 ghost use Rattle.item_io.specs.declared.limits.TheConstants.{PIECE};
 
 use crate::giving::snapshots::counts;
 use crate::round::machine::Round;
+use crate::round::permitted_collector::PermittedCollector;
 use crate::round::sealer::Sealer;
 use crate::run::first::copy_keys;
 use crate::run::pace::Pace;
@@ -24,14 +26,14 @@ use ladder_items::{PackFault, Playlists, Settings};
 use std::alloc::{AllocError, Global};
 use std::sync::Wait;
 use std::sync::ledger::Ledger;
-use work_desk::Gate;
+use work_desk::{Gate, Permit};
 
 /// A collector that goes on after the segments given so far.
-pub fn collector_behind<'s>(
+pub fn collector_behind<'s, P: Permit>(
     alloc: Global,
     settings: &Settings,
     playlists: &[Playlists],
-) -> Result<Collector<'s>, AllocError>
+) -> Result<PermittedCollector<'s, P>, AllocError>
     ensures ok { IfOk result (λ collector. collector ≡ record {
       most = settings.now.queue;
       sequences = sequences_from 0 (map (λ (r : RenditionValue). r.keys) settings.now.renditions) (counts_of playlists.now);
@@ -40,10 +42,11 @@ pub fn collector_behind<'s>(
 {
     let keys = copy_keys(alloc, &settings.renditions)?;
     let starts = counts(alloc, playlists)?;
-    Collector::starting(alloc, keys, starts, settings.queue as usize)
+    let collector = Collector::starting(alloc, keys, starts, settings.queue as usize)?;
+    Ok(PermittedCollector::over(collector))
 }
 
-impl<'d, 's, 'r, S: Source, O: Outlet, L: Ledger, M: Ledger, R: Wait> Round<
+impl<'d, 's, 'r, S: Source, O: Outlet, L: Ledger, M: Ledger, P: Permit, R: Wait> Round<
     'd,
     's,
     'r,
@@ -51,6 +54,7 @@ impl<'d, 's, 'r, S: Source, O: Outlet, L: Ledger, M: Ledger, R: Wait> Round<
     O,
     L,
     M,
+    P,
     R,
 > {
     /// Drives the round: feeds the plans of the full spools, reads for the next round what is ready, and gives every segment in
@@ -62,6 +66,7 @@ impl<'d, 's, 'r, S: Source, O: Outlet, L: Ledger, M: Ledger, R: Wait> Round<
         pace: Pace,
         spools: &'s [Spool],
     ) -> Result<(), PackFault>
+        requires only { LetsOnly (G.lets sealer.now.gate.now) P.permits }
         requires each { length spools.now ≡ length settings.now.renditions }
         requires on { IsSomeFull S.input O.output settings.now spools.now self.old.broadcast }
         requires behind { IsBehind settings.now self.old }
@@ -88,6 +93,7 @@ impl<'d, 's, 'r, S: Source, O: Outlet, L: Ledger, M: Ledger, R: Wait> Round<
         pace: Pace,
         buffer: &mut [u8],
     ) -> Result<(), PackFault>
+        requires only { LetsOnly (G.lets sealer.now.gate.now) P.permits }
         requires whole { length buffer.old ≡ PIECE }
         requires somewhere { IsSomewhere S.input O.output settings.now self.old }
         ensures ok { OnOk result (Moves S.input O.output settings.now self.old self.new) }
@@ -106,15 +112,15 @@ impl<'d, 's, 'r, S: Source, O: Outlet, L: Ledger, M: Ledger, R: Wait> Round<
             → self.new ≡ self.old) }
         ensures none { OnErr result (HasEnough (wanted pace (awaited self.old.collector.sequences) 0) self.old.broadcast.course → ⊥) }
     {
-        let rt = self.broadcast.held.rt;
-        let before = self.broadcast.course.turns_had();
+        let rt = self.broadcast.rt();
+        let before = self.broadcast.turns_had();
         for _ in rt.forever() {
             let awaited = self.collector.awaited();
-            let turns = self.broadcast.course.turns_had() - before;
-            if self.broadcast.course.is_enough(pace, awaited, turns) {
+            let turns = self.broadcast.turns_had() - before;
+            if self.broadcast.is_enough(pace, awaited, turns) {
                 return Ok(());
             }
-            if !self.broadcast.course.read_ready(buffer)? {
+            if !self.broadcast.read_ready(buffer)? {
                 return Ok(());
             }
             self.take_and_give(sealer, settings)?;

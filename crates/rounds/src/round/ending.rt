@@ -3,10 +3,13 @@
 ghost use Rattle.std.specs.Prelude.{◌≡◌, ◌+◌, ◌<◌, ◌^◌, ℕ, IfErr, OnOk, length, slice_index_or, sum};
 ghost use Rattle.rounds.specs.Gated.{IsGatesWord};
 ghost use Rattle.rounds.specs.Paces.{ReadsForNext, pace_in};
+ghost use Rattle.rounds.specs.Permitted.{ShowsPermitted};
 ghost use Rattle.rounds.specs.Rounds.{IsBroken, IsDriven, IsSomeFull};
+ghost use Rattle.work_desk.specs.Permits.{LetsOnly};
 
 use crate::round::driving::collector_behind;
 use crate::round::machine::Round;
+use crate::round::permitted_broadcast::PermittedBroadcast;
 use crate::round::sealer::Sealer;
 use crate::round::taker::Taker;
 use crate::run::between::BetweenRounds;
@@ -16,7 +19,7 @@ use item_io::{Outlet, Source};
 use ladder_items::PackFault;
 use std::sync::Wait;
 use std::sync::ledger::Ledger;
-use work_desk::{Desk, Gate, Pass};
+use work_desk::{Desk, Gate, Pass, Permit};
 
 /// A round that the calling thread has driven to its end.
 #[derive(Drop)]
@@ -27,13 +30,15 @@ pub struct EndedRound<'r, S, O, M: Ledger, R: Wait> {
 }
 
 /// Does the calling thread's part of a round, taking and returning by value what it changes.
-pub fn driven<'s, 'r, S: Source, O: Outlet, G: Gate, L: Ledger, M: Ledger, R: Wait>(
+pub fn driven<'s, 'r, S: Source, O: Outlet, G: Gate, L: Ledger, M: Ledger, P: Permit, R: Wait>(
     setup: &Setup<'_, G, R>,
     spools: &'s [Spool],
-    desk: &Desk<'s, L, M>,
+    desk: &Desk<'s, L, M, P>,
     pass: Pass<M>,
     between: BetweenRounds<'r, S, O, R>,
 ) -> EndedRound<'r, S, O, M, R>
+    requires only { LetsOnly (G.lets setup.now.gate.now) P.permits }
+    requires shown { ShowsPermitted P.permits between.broadcast.held.publisher.list }
     requires each { length spools.now ≡ length setup.now.settings.now.renditions }
     requires unused { pass.count ≡ 0 }
     requires on { IsSomeFull S.input O.output setup.now.settings.now spools.now between.broadcast }
@@ -43,6 +48,7 @@ pub fn driven<'s, 'r, S: Source, O: Outlet, G: Gate, L: Ledger, M: Ledger, R: Wa
     ensures held { IfErr result.answer (IsGatesWord (G.stops setup.now.gate.now)) }
     ensures enough { OnOk result.answer (ReadsForNext S.tells (pace_in setup.now) between.entry.broadcast.course result.between.broadcast.course) }
     ensures books { result.between.books ≡ between.entry.books }
+    ensures shown { ShowsPermitted P.permits result.between.broadcast.held.publisher.list }
 {
     let BetweenRounds { broadcast, books } = between;
     let taker = Taker {
@@ -64,7 +70,7 @@ pub fn driven<'s, 'r, S: Source, O: Outlet, G: Gate, L: Ledger, M: Ledger, R: Wa
     };
     let mut round = Round {
         desk,
-        broadcast,
+        broadcast: PermittedBroadcast::over(broadcast),
         collector,
         taker,
     };
@@ -76,7 +82,10 @@ pub fn driven<'s, 'r, S: Source, O: Outlet, G: Gate, L: Ledger, M: Ledger, R: Wa
         taker,
     } = round;
     EndedRound {
-        between: BetweenRounds { broadcast, books },
+        between: BetweenRounds {
+            broadcast: broadcast.into_inner(),
+            books,
+        },
         answer,
         taker,
     }

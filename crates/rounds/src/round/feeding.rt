@@ -8,19 +8,21 @@ ghost use Rattle.ladder_items.specs.declared.fault.PackFault.TheVariants.{NoMemo
 ghost use Rattle.rounds.specs.Rounds.{Breaks, BreaksAll, BreaksSpool, FeedsAll, FeedsPlan, FeedsSpool, HasAllUnfed, IsFirstUnfed, IsUnfed, unfed_of};
 ghost use Rattle.rounds.specs.Gated.{IsGatesWord, IsHandedOn, IsUnsealed};
 ghost use Rattle.rounds.specs.Rounds.{HasKeys, IsFair, Keeps, ReadsNoneIn, ShowsFewer, due_in, gathered, plans_in};
+ghost use Rattle.work_desk.specs.Permits.{LetsOnly};
 ghost use Rattle.limits.specs.declared.TheConstants.{LAST_SEGMENT};
 
 use crate::round::machine::Round;
+use crate::round::permitted_collector::PermittedCollector;
 use crate::round::sealer::Sealer;
 use cutter::{PlanRef, Spool};
-use flow_core::{Collector, Fed};
+use flow_core::Fed;
 use item_io::{Outlet, Source};
 use ladder_items::{PackFault, Settings};
 use std::sync::Wait;
 use std::sync::ledger::Ledger;
-use work_desk::{Desk, Gate};
+use work_desk::{Desk, Gate, Permit};
 
-impl<'d, 's, 'r, S: Source, O: Outlet, L: Ledger, M: Ledger, R: Wait> Round<
+impl<'d, 's, 'r, S: Source, O: Outlet, L: Ledger, M: Ledger, P: Permit, R: Wait> Round<
     'd,
     's,
     'r,
@@ -28,6 +30,7 @@ impl<'d, 's, 'r, S: Source, O: Outlet, L: Ledger, M: Ledger, R: Wait> Round<
     O,
     L,
     M,
+    P,
     R,
 > {
     /// Feeds every plan of the full spools, rendition by rendition.
@@ -37,6 +40,7 @@ impl<'d, 's, 'r, S: Source, O: Outlet, L: Ledger, M: Ledger, R: Wait> Round<
         settings: &Settings,
         spools: &'s [Spool],
     ) -> Result<(), PackFault>
+        requires only { LetsOnly (G.lets sealer.now.gate.now) P.permits }
         requires somewhere { HasAllUnfed S.input O.output settings.now spools.now self.old }
         ensures ok { OnOk result (FeedsAll S.input O.output settings.now spools.now self.old self.new) }
         ensures err { IfErr result (BreaksAll S.input O.output settings.now spools.now self.old self.new) }
@@ -62,6 +66,7 @@ impl<'d, 's, 'r, S: Source, O: Outlet, L: Ledger, M: Ledger, R: Wait> Round<
         spool: &'s Spool,
     ) -> Result<(), PackFault>
         requires within { r < length settings.now.renditions }
+        requires only { LetsOnly (G.lets sealer.now.gate.now) P.permits }
         requires somewhere { IsUnfed S.input O.output settings.now r spool.now self.old }
         ensures ok { OnOk result (FeedsSpool S.input O.output settings.now r spool.now self.old self.new) }
         ensures err { IfErr result (BreaksSpool S.input O.output settings.now r spool.now self.old self.new) }
@@ -91,6 +96,7 @@ impl<'d, 's, 'r, S: Source, O: Outlet, L: Ledger, M: Ledger, R: Wait> Round<
         plan: PlanRef<'s>,
     ) -> Result<Option<Fed<'s>>, PackFault>
         requires within { r < length settings.now.renditions }
+        requires only { LetsOnly (G.lets sealer.now.gate.now) P.permits }
         requires somewhere { IsFirstUnfed S.input O.output settings.now r (lent plan) self.old }
         ensures ok { OnOk result (FeedsPlan S.input O.output settings.now r (lent plan.entry) self.old self.new) }
         ensures handed { IfOk result (IsHandedOn (G.lets sealer.now.gate.now) (lent plan.entry) self.new.collector) }
@@ -104,7 +110,7 @@ impl<'d, 's, 'r, S: Source, O: Outlet, L: Ledger, M: Ledger, R: Wait> Round<
         self.make_room(sealer, settings)?;
         expect(&mut self.collector, plan)?;
         let fed = offer(
-            self.broadcast.held.rt,
+            self.broadcast.rt(),
             sealer,
             settings,
             self.desk,
@@ -116,7 +122,10 @@ impl<'d, 's, 'r, S: Source, O: Outlet, L: Ledger, M: Ledger, R: Wait> Round<
 }
 
 /// Has the collector expect a plan, for which there is room.
-fn expect<'s>(collector: &mut Collector<'s>, plan: PlanRef<'s>) -> Result<(), PackFault>
+fn expect<'s, P: Permit>(
+    collector: &mut PermittedCollector<'s, P>,
+    plan: PlanRef<'s>,
+) -> Result<(), PackFault>
     requires room { awaited collector.old.sequences < collector.old.most }
     requires rendition { plan.rendition < length collector.old.sequences }
     requires number { plan.number ≡ following (sequence_at collector.old plan.rendition) }
@@ -132,14 +141,15 @@ fn expect<'s>(collector: &mut Collector<'s>, plan: PlanRef<'s>) -> Result<(), Pa
 }
 
 /// Offers a plan to the workers. If the desk refuses it, it is sealed on this thread, without a receipt.
-fn offer<'s, G: Gate, L: Ledger, M: Ledger, R: Wait>(
+fn offer<'s, G: Gate, L: Ledger, M: Ledger, P: Permit, R: Wait>(
     rt: &R,
     sealer: &Sealer<'_, G>,
     settings: &Settings,
-    desk: &Desk<'s, L, M>,
+    desk: &Desk<'s, L, M, P>,
     plan: PlanRef<'s>,
-    collector: &mut Collector<'s>,
+    collector: &mut PermittedCollector<'s, P>,
 ) -> Result<Option<Fed<'s>>, PackFault>
+    requires only { LetsOnly (G.lets sealer.now.gate.now) P.permits }
     requires keys { HasKeys settings.now collector.old }
     ensures keeps { Keeps collector.old collector.new }
     ensures more { gathered collector.old.sequences ≤ gathered collector.new.sequences }

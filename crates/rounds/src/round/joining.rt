@@ -9,12 +9,12 @@ use ladder_items::PackFault;
 use std::sync::Wait;
 use std::sync::ledger::{Ledger, Share};
 use std::thread::{JoinHandle, Threads};
-use work_desk::{Desk, Pass, Tally};
+use work_desk::{Desk, Pass, Permit, Tally};
 
 /// Closes a round: shuts the desk, joins the workers, and enters what each did into the books.
-pub fn joined<'r, S, O, L: Ledger, M: Ledger, R: Threads + Wait>(
+pub fn joined<'r, S, O, L: Ledger, M: Ledger, P: Permit, R: Threads + Wait>(
     rt: &R,
-    desk: &Desk<'_, L, M>,
+    desk: &Desk<'_, L, M, P>,
     running: Vec<JoinHandle<Tally<L>>>,
     rest: Share<L>,
     claims: Vec<u128>,
@@ -78,9 +78,9 @@ fn join_all<L: Ledger, R: Threads>(
 }
 
 /// Compares the desk's books with the shares of the workers and the taker. Returns how many claimed segments weren't taken.
-fn settled<L: Ledger, M: Ledger, R: Wait>(
+fn settled<L: Ledger, M: Ledger, P: Permit, R: Wait>(
     rt: &R,
-    desk: &Desk<'_, L, M>,
+    desk: &Desk<'_, L, M, P>,
     rest: &mut Share<L>,
     taker: &mut Taker<M>,
 ) -> usize

@@ -6,6 +6,8 @@ pub mod ending;
 pub mod feeding;
 pub mod joining;
 pub mod machine;
+pub mod permitted_broadcast;
+pub mod permitted_collector;
 pub mod ready;
 pub mod scoped;
 pub mod sealer;

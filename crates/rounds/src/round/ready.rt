@@ -11,9 +11,9 @@ use ladder_items::{PackFault, Settings};
 use std::alloc::Global;
 use std::sync::Wait;
 use std::sync::ledger::Ledger;
-use work_desk::Seen;
+use work_desk::{Permit, Seen};
 
-impl<'d, 's, 'r, S: Source, O: Outlet, L: Ledger, M: Ledger, R: Wait> Round<
+impl<'d, 's, 'r, S: Source, O: Outlet, L: Ledger, M: Ledger, P: Permit, R: Wait> Round<
     'd,
     's,
     'r,
@@ -21,6 +21,7 @@ impl<'d, 's, 'r, S: Source, O: Outlet, L: Ledger, M: Ledger, R: Wait> Round<
     O,
     L,
     M,
+    P,
     R,
 > {
     /// Gives the sealed segments of every rendition, up to its first gap, once the desk was seen with nothing done.

@@ -4,7 +4,9 @@ ghost use Rattle.std.specs.Prelude.{◌≡◌, ◌+◌, ◌<◌, ◌^◌, IfErr,
 ghost use Rattle.rounds.specs.Begun.{keys_of};
 ghost use Rattle.rounds.specs.Gated.{IsGatesWord};
 ghost use Rattle.rounds.specs.Paces.{pace_in};
+ghost use Rattle.rounds.specs.Permitted.{ShowsPermitted};
 ghost use Rattle.rounds.specs.Rounds.{IsBroken, IsRound, IsSomeFull};
+ghost use Rattle.work_desk.specs.Permits.{LetsOnly};
 
 use crate::round::crew::Crew;
 use crate::round::ending::driven;
@@ -18,7 +20,7 @@ use segment_job::Keys;
 use std::sync::Wait;
 use std::sync::ledger::Ledger;
 use std::thread::{self, JoinHandle, Threads};
-use work_desk::{Desk, Gate, Tally, work};
+use work_desk::{Desk, Gate, Permit, Tally, work};
 
 /// Runs a round in a scope of threads, at the desk that was opened for it.
 pub fn in_scope<
@@ -29,15 +31,18 @@ pub fn in_scope<
     G: Gate + Sync,
     L: Ledger + Send + Sync,
     M: Ledger + Send + Sync,
+    P: Permit + Send + Sync,
     R: Threads + Wait + Sync,
 >(
     setup: &Setup<'_, G, R>,
     keys: &[Keys],
     spools: &'s [Spool],
-    desk: &Desk<'s, L, M>,
+    desk: &Desk<'s, L, M, P>,
     crew: Crew<L, M>,
     between: BetweenRounds<'r, S, O, R>,
 ) -> (BetweenRounds<'r, S, O, R>, Result<(), PackFault>)
+    requires only { LetsOnly (G.lets setup.now.gate.now) P.permits }
+    requires shown { ShowsPermitted P.permits between.broadcast.held.publisher.list }
     requires keys { keys.now ≡ keys_of setup.now.settings.now }
     requires each { length spools.now ≡ length setup.now.settings.now.renditions }
     requires on { IsSomeFull S.input O.output setup.now.settings.now spools.now between.broadcast }
@@ -50,20 +55,25 @@ pub fn in_scope<
     ensures ok { OnOk result.1 (IsRound S.input O.output setup.now.settings.now spools.now (pace_in setup.now) between.entry result.0) }
     ensures err { IfErr result.1 (IsBroken S.input O.output setup.now.settings.now spools.now between.entry.broadcast result.0.broadcast) }
     ensures held { IfErr result.1 (IsGatesWord (G.stops setup.now.gate.now)) }
+    ensures shown { ShowsPermitted P.permits result.0.broadcast.held.publisher.list }
 {
     let (rt, alloc, gate) = (setup.rt, setup.alloc, setup.gate);
     thread::scope(
         thread::scope_env(),
         rt,
         |scope| -> (BetweenRounds<'_, S, O, R>, Result<(), PackFault>)
-            requires { (length spools.now ≡ length setup.now.settings.now.renditions) × (crew.taker.count ≡ 0) × (crew.rest.amount ≡ 0)
+            requires stands { (length spools.now ≡ length setup.now.settings.now.renditions) × (crew.taker.count ≡ 0) × (crew.rest.amount ≡ 0)
                 × IsSomeFull S.input O.output setup.now.settings.now spools.now between.broadcast × (M.parts ≡ 1)
                 × (crew.rest.parts + vec_len crew.workers ≡ L.parts) × (sum crew.claims.items ≡ 0) × (length crew.claims.items ≡ vec_len crew.workers)
                 × (length crew.claims.items ≡ length between.books.workers.items) × (between.books.rounds < 2 ^ 46) }
+            requires only { LetsOnly (G.lets setup.now.gate.now) P.permits }
+            requires asked { LetsOnly (G.lets gate.now) P.permits }
+            requires shown { ShowsPermitted P.permits between.broadcast.held.publisher.list }
             ensures ok { OnOk result.1 (IsRound S.input O.output setup.entry.now.settings.now spools.entry.now (pace_in setup.entry.now)
                 between.entry result.0) }
             ensures err { IfErr result.1 (IsBroken S.input O.output setup.entry.now.settings.now spools.entry.now between.entry.broadcast result.0.broadcast) }
             ensures held { IfErr result.1 (IsGatesWord (G.stops setup.entry.now.gate.now)) }
+            ensures shown { ShowsPermitted P.permits result.0.broadcast.held.publisher.list }
         {
             let Crew {
                 workers: passes,
@@ -74,7 +84,12 @@ pub fn in_scope<
             let workers = passes.len();
             let mut running: Vec<JoinHandle<Tally<L>>> = Vec::new(alloc);
             for pass in passes {
-                let Ok(child) = scope.spawn(move || work(rt, alloc, desk, pass, keys, gate)) else {
+                let child = scope.spawn(
+                    move || -> Tally<L>
+                        requires { LetsOnly (G.lets gate.now) P.permits }
+                    { work(rt, alloc, desk, pass, keys, gate) },
+                );
+                let Ok(child) = child else {
                     break;
                 };
                 if running.push(child).is_err() {

@@ -9,17 +9,20 @@ ghost use Rattle.ladder_items.specs.declared.fault.PackFault.TheVariants.{Held, 
 ghost use Rattle.rounds.specs.Collected.{Collects, TakesIn};
 ghost use Rattle.rounds.specs.Gated.{Follows, IsLeft, IsUnsealed, SealsOwn};
 ghost use Rattle.rounds.specs.Rounds.{HasKeys, Keeps, gathered};
+ghost use Rattle.work_desk.specs.Permits.{IsPermitted, LetsOnly};
 
+use crate::round::permitted_collector::PermittedCollector;
 use crate::round::sealer::Sealer;
 use cutter::PlanRef;
-use flow_core::{Collector, Delivery, Fed, FeedFault, Outcome};
+use flow_core::{Delivery, Fed, FeedFault, Outcome};
 use ladder_items::{PackFault, Settings};
 use segment_job::{Sealed, seal_plan};
-use work_desk::{Gate, Seen};
+use work_desk::{Gate, Permit, Seen};
 
 /// Collects a sealed segment, and returns whether it was right.
 #[tactic(auto, using(crate::proofs::Collecting::keeps_same))]
-fn collect<'s>(collector: &mut Collector<'s>, sealed: Sealed<'s>) -> bool
+fn collect<'s, P: Permit>(collector: &mut PermittedCollector<'s, P>, sealed: Sealed<'s>) -> bool
+    requires permitted { P.permits sealed.plan.rendition sealed.plan.number }
     ensures keeps { Keeps collector.old collector.new }
     ensures right { result ≡ true → gathered collector.new.sequences ≡ gathered collector.old.sequences + 1 }
     ensures wrong { result ≡ false → collector.new ≡ collector.old }
@@ -36,13 +39,14 @@ fn collect<'s>(collector: &mut Collector<'s>, sealed: Sealed<'s>) -> bool
 /// Takes in what is done. A sealed segment that isn't right is thrown away, as is a refusal. Of a segment that a worker held back
 /// the gate is asked again: where it stops that one, the run stops, and else this thread will seal it.
 #[tactic(auto, using(crate::proofs::Collecting::keeps_same))]
-pub fn take_in<'s, G: Gate>(
+pub fn take_in<'s, G: Gate, P: Permit>(
     gate: &G,
-    collector: &mut Collector<'s>,
+    collector: &mut PermittedCollector<'s, P>,
     done: Delivery<'s>,
     right: &mut u64,
     thrown: &mut u64,
 ) -> Result<(), PackFault>
+    requires permitted { IsPermitted P.permits done.outcome }
     requires few { right.old + thrown.old + 1 < 2 ^ 64 }
     ensures keeps { Keeps collector.old collector.new }
     ensures counted { right.new + thrown.new ≡ right.old + thrown.old + 1 }
@@ -84,12 +88,13 @@ pub fn take_in<'s, G: Gate>(
 impl<'g, G: Gate> Sealer<'g, G> {
     /// Asks the gate about a plan, and seals it on this thread. If its sealed segment has come in the meantime, that one stays.
     #[tactic(auto, using(crate::proofs::Collecting::keeps_same))]
-    pub fn seal_own<'s>(
+    pub fn seal_own<'s, P: Permit>(
         &self,
         settings: &Settings,
         plan: PlanRef<'s>,
-        collector: &mut Collector<'s>,
+        collector: &mut PermittedCollector<'s, P>,
     ) -> Result<(), PackFault>
+        requires only { LetsOnly (G.lets self.now.gate.now) P.permits }
         requires keys { HasKeys settings.now collector.old }
         ensures keeps { Keeps collector.old collector.new }
         ensures more { gathered collector.old.sequences ≤ gathered collector.new.sequences }
@@ -112,13 +117,14 @@ impl<'g, G: Gate> Sealer<'g, G> {
     /// Does what the desk's answer to a plan asks for: a plan that the desk took is left to the workers, and its receipt returned;
     /// want of memory is told; and a plan that it refused is sealed on this thread, without a receipt.
     #[tactic(auto, using(crate::proofs::Collecting::keeps_same))]
-    pub fn follow<'s>(
+    pub fn follow<'s, P: Permit>(
         &self,
         answer: Result<Fed<'s>, FeedFault<'s>>,
         settings: &Settings,
         plan: PlanRef<'s>,
-        collector: &mut Collector<'s>,
+        collector: &mut PermittedCollector<'s, P>,
     ) -> Result<Option<Fed<'s>>, PackFault>
+        requires only { LetsOnly (G.lets self.now.gate.now) P.permits }
         requires keys { HasKeys settings.now collector.old }
         ensures keeps { Keeps collector.old collector.new }
         ensures more { gathered collector.old.sequences ≤ gathered collector.new.sequences }
@@ -136,13 +142,14 @@ impl<'g, G: Gate> Sealer<'g, G> {
 
     /// Seals everything that is missing on this thread, once the desk was seen with nothing outstanding.
     #[tactic(auto, using(crate::proofs::Collecting::keeps_same))]
-    pub fn seal_missing(
+    pub fn seal_missing<P: Permit>(
         &self,
         settings: &Settings,
-        collector: &mut Collector<'_>,
+        collector: &mut PermittedCollector<'_, P>,
         _seen: Seen,
     ) -> Result<(), PackFault>
         requires over { _seen.outstanding ≡ 0 }
+        requires only { LetsOnly (G.lets self.now.gate.now) P.permits }
         requires keys { HasKeys settings.now collector.old }
         ensures keeps { Keeps collector.old collector.new }
         ensures more { gathered collector.old.sequences ≤ gathered collector.new.sequences }

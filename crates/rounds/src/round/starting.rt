@@ -5,7 +5,9 @@ ghost use Rattle.rounds.specs.Begun.{keys_of};
 ghost use Rattle.rounds.specs.Gated.{IsGatesWord};
 ghost use Rattle.rounds.specs.Heralds.{complete_in};
 ghost use Rattle.rounds.specs.Paces.{pace_in};
+ghost use Rattle.rounds.specs.Permitted.{ShowsLetThrough, ShowsPermitted};
 ghost use Rattle.rounds.specs.Rounds.{HasDueEnds, IsBroken, IsRound, IsSomeFull};
+ghost use Rattle.work_desk.specs.Permits.{LetsOnly};
 
 use crate::round::crew::Crew;
 use crate::round::scoped::in_scope;
@@ -21,7 +23,7 @@ use std::marker::Brand;
 use std::sync::Wait;
 use std::sync::ledger::{Blank, Ledger};
 use std::thread::Threads;
-use work_desk::{Desk, Gate, Opened};
+use work_desk::{Desk, Gate, Opened, Permit};
 
 /// Runs a round: the workers seal the plans of the full spools, which are given in sequence, and meanwhile what is ready is read
 /// for the next round. The ends that were due have been given, and the herald was told how many segments are complete.
@@ -49,13 +51,14 @@ pub fn run_round<
     ensures ok { OnOk result.1 (IsRound S.input O.output setup.now.settings.now spools.now (pace_in setup.now) between.entry result.0) }
     ensures err { IfErr result.1 (IsBroken S.input O.output setup.now.settings.now spools.now between.entry.broadcast result.0.broadcast) }
     ensures held { IfErr result.1 (IsGatesWord (G.stops setup.now.gate.now)) }
+    ensures let_through { ShowsLetThrough (G.lets setup.now.gate.now) between.entry.broadcast.held.publisher.list result.0.broadcast.held.publisher.list }
 {
     let claims = Blank::new(setup.workers as u64);
     let takes = Blank::new(1);
-    round_with::<S, O, G, Brand, Brand, R>(setup, keys, spools, claims, takes, between)
+    round_with::<S, O, G, Brand, Brand, Brand, R>(setup, keys, spools, claims, takes, between)
 }
 
-/// Runs a round with the ledgers that the caller picks.
+/// Runs a round with the ledgers that the caller picks, and with what may be sealed in it.
 fn round_with<
     'r,
     S: Source + Drop,
@@ -63,6 +66,7 @@ fn round_with<
     G: Gate + Sync,
     L: Ledger + Send + Sync,
     M: Ledger + Send + Sync,
+    P: Permit + Send + Sync,
     R: Threads + Wait + Sync,
 >(
     setup: &Setup<'_, G, R>,
@@ -72,6 +76,8 @@ fn round_with<
     takes: Blank,
     between: BetweenRounds<'r, S, O, R>,
 ) -> (BetweenRounds<'r, S, O, R>, Result<(), PackFault>)
+    requires only { LetsOnly (G.lets setup.now.gate.now) P.permits }
+    requires shown { ShowsPermitted P.permits between.broadcast.held.publisher.list }
     requires keys { keys.now ≡ keys_of setup.now.settings.now }
     requires each { length spools.now ≡ length setup.now.settings.now.renditions }
     requires on { IsSomeFull S.input O.output setup.now.settings.now spools.now between.broadcast }
@@ -82,13 +88,14 @@ fn round_with<
     ensures ok { OnOk result.1 (IsRound S.input O.output setup.now.settings.now spools.now (pace_in setup.now) between.entry result.0) }
     ensures err { IfErr result.1 (IsBroken S.input O.output setup.now.settings.now spools.now between.entry.broadcast result.0.broadcast) }
     ensures held { IfErr result.1 (IsGatesWord (G.stops setup.now.gate.now)) }
+    ensures shown { ShowsPermitted P.permits result.0.broadcast.held.publisher.list }
 {
     let Ok(counts) = no_counts(setup.alloc, setup.workers) else {
         return (between, Err(PackFault::NoMemory));
     };
     let settings = setup.settings;
     let queue = settings.queue as usize;
-    let Ok(opened) = Desk::<L, M>::new(setup.alloc, queue, setup.workers, claims, takes) else {
+    let Ok(opened) = Desk::<L, M, P>::new(setup.alloc, queue, setup.workers, claims, takes) else {
         return (between, Err(PackFault::NoMemory));
     };
     let Opened {

@@ -5,19 +5,21 @@ ghost use Rattle.flow_core.specs.Gatherings.{awaited, missing_in};
 ghost use Rattle.rounds.specs.Gated.{IsGatesWord, IsHeldBack, IsLeft, IsOwnFault, IsUnheld};
 ghost use Rattle.rounds.specs.Rounds.{Breaks, HasKeys, IsExact, IsFair, IsSomewhere, Keeps, LosesNone, Moves, NoneReady, ReadsNoneIn, gathered};
 ghost use Rattle.rounds.specs.Rounds.{ShowsFewer, due_in};
+ghost use Rattle.work_desk.specs.Permits.{IsPermitted, LetsOnly};
 
 use crate::round::machine::Round;
+use crate::round::permitted_collector::PermittedCollector;
 use crate::round::sealer::Sealer;
 use crate::round::sealing::take_in;
 use crate::round::taker::Taker;
-use flow_core::{Collector, Delivery};
+use flow_core::Delivery;
 use item_io::{Outlet, Source};
 use ladder_items::{PackFault, Settings};
 use std::sync::Wait;
 use std::sync::ledger::Ledger;
-use work_desk::{Desk, Gate, Pass, Seen};
+use work_desk::{Desk, Gate, Pass, Permit, Seen};
 
-impl<'d, 's, 'r, S: Source, O: Outlet, L: Ledger, M: Ledger, R: Wait> Round<
+impl<'d, 's, 'r, S: Source, O: Outlet, L: Ledger, M: Ledger, P: Permit, R: Wait> Round<
     'd,
     's,
     'r,
@@ -25,6 +27,7 @@ impl<'d, 's, 'r, S: Source, O: Outlet, L: Ledger, M: Ledger, R: Wait> Round<
     O,
     L,
     M,
+    P,
     R,
 > {
     /// Waits and gives what is ready until one more plan may be expected.
@@ -33,6 +36,7 @@ impl<'d, 's, 'r, S: Source, O: Outlet, L: Ledger, M: Ledger, R: Wait> Round<
         sealer: &Sealer<'_, G>,
         settings: &Settings,
     ) -> Result<(), PackFault>
+        requires only { LetsOnly (G.lets sealer.now.gate.now) P.permits }
         requires somewhere { IsSomewhere S.input O.output settings.now self.old }
         ensures ok { OnOk result (Moves S.input O.output settings.now self.old self.new) }
         ensures err { IfErr result (Breaks S.input O.output settings.now self.old self.new) }
@@ -45,7 +49,7 @@ impl<'d, 's, 'r, S: Source, O: Outlet, L: Ledger, M: Ledger, R: Wait> Round<
         ensures none { OnErr result (awaited self.old.collector.sequences < self.old.collector.most → ⊥) }
         ensures told { IfErr result (IsOwnFault (G.lets sealer.now.gate.now) (G.stops sealer.now.gate.now) self.old.collector self.new.collector) }
     {
-        for _ in self.broadcast.held.rt.forever() {
+        for _ in self.broadcast.rt().forever() {
             if self.collector.room() {
                 break;
             }
@@ -60,6 +64,7 @@ impl<'d, 's, 'r, S: Source, O: Outlet, L: Ledger, M: Ledger, R: Wait> Round<
         sealer: &Sealer<'_, G>,
         settings: &Settings,
     ) -> Result<(), PackFault>
+        requires only { LetsOnly (G.lets sealer.now.gate.now) P.permits }
         requires somewhere { IsSomewhere S.input O.output settings.now self.old }
         ensures ok { OnOk result (Moves S.input O.output settings.now self.old self.new) }
         ensures err { IfErr result (Breaks S.input O.output settings.now self.old self.new) }
@@ -72,7 +77,7 @@ impl<'d, 's, 'r, S: Source, O: Outlet, L: Ledger, M: Ledger, R: Wait> Round<
         ensures none { OnErr result (awaited self.old.collector.sequences ≢ 0) }
         ensures told { IfErr result (IsOwnFault (G.lets sealer.now.gate.now) (G.stops sealer.now.gate.now) self.old.collector self.new.collector) }
     {
-        for _ in self.broadcast.held.rt.forever() {
+        for _ in self.broadcast.rt().forever() {
             if self.collector.awaited() == 0 {
                 break;
             }
@@ -87,6 +92,7 @@ impl<'d, 's, 'r, S: Source, O: Outlet, L: Ledger, M: Ledger, R: Wait> Round<
         sealer: &Sealer<'_, G>,
         settings: &Settings,
     ) -> Result<(), PackFault>
+        requires only { LetsOnly (G.lets sealer.now.gate.now) P.permits }
         requires somewhere { IsSomewhere S.input O.output settings.now self.old }
         ensures ok { OnOk result (Moves S.input O.output settings.now self.old self.new) }
         ensures err { IfErr result (Breaks S.input O.output settings.now self.old self.new) }
@@ -101,7 +107,7 @@ impl<'d, 's, 'r, S: Source, O: Outlet, L: Ledger, M: Ledger, R: Wait> Round<
         ensures told { IfErr result (IsOwnFault (G.lets sealer.now.gate.now) (G.stops sealer.now.gate.now) self.old.collector self.new.collector) }
     {
         wait_or_seal(
-            self.broadcast.held.rt,
+            self.broadcast.rt(),
             sealer,
             settings,
             self.desk,
@@ -118,6 +124,7 @@ impl<'d, 's, 'r, S: Source, O: Outlet, L: Ledger, M: Ledger, R: Wait> Round<
         sealer: &Sealer<'_, G>,
         settings: &Settings,
     ) -> Result<(), PackFault>
+        requires only { LetsOnly (G.lets sealer.now.gate.now) P.permits }
         requires somewhere { IsSomewhere S.input O.output settings.now self.old }
         ensures ok { OnOk result (Moves S.input O.output settings.now self.old self.new) }
         ensures err { IfErr result (Breaks S.input O.output settings.now self.old self.new) }
@@ -132,7 +139,7 @@ impl<'d, 's, 'r, S: Source, O: Outlet, L: Ledger, M: Ledger, R: Wait> Round<
         ensures told { IfErr result (λ fault. IsUnheld fault → awaited self.new.collector.sequences < awaited self.old.collector.sequences) }
     {
         let seen = take_all(
-            self.broadcast.held.rt,
+            self.broadcast.rt(),
             sealer.gate,
             self.desk,
             &mut self.taker,
@@ -145,14 +152,15 @@ impl<'d, 's, 'r, S: Source, O: Outlet, L: Ledger, M: Ledger, R: Wait> Round<
 
 /// Takes what has been done longest from the desk. With `wait`, waits for it as long as anything is outstanding. Where there is
 /// nothing, returns what was seen at the desk.
-fn hand_out<'s, L: Ledger, M: Ledger, R: Wait>(
+fn hand_out<'s, L: Ledger, M: Ledger, P: Permit, R: Wait>(
     rt: &R,
-    desk: &Desk<'s, L, M>,
+    desk: &Desk<'s, L, M, P>,
     wait: bool,
     pass: &mut Pass<M>,
 ) -> Result<Delivery<'s>, Seen>
     ensures counted { OnOk result (pass.new.count ≡ pass.old.count + 1) }
     ensures uncounted { OnErr result (pass.new.count ≡ pass.old.count) }
+    ensures permitted { IfOk result (λ delivery. IsPermitted P.permits delivery.outcome) }
     ensures none { IfErr result (λ seen. seen.done ≡ 0) }
     ensures over { IfErr result (λ seen. wait ≡ true → seen.outstanding ≡ 0) }
 {
@@ -163,13 +171,13 @@ fn hand_out<'s, L: Ledger, M: Ledger, R: Wait>(
 }
 
 /// Takes in what the desk hands out. Where that is nothing, returns what was seen there.
-fn take_one<'s, G: Gate, L: Ledger, M: Ledger, R: Wait>(
+fn take_one<'s, G: Gate, L: Ledger, M: Ledger, P: Permit, R: Wait>(
     rt: &R,
     gate: &G,
-    desk: &Desk<'s, L, M>,
+    desk: &Desk<'s, L, M, P>,
     wait: bool,
     taker: &mut Taker<M>,
-    collector: &mut Collector<'s>,
+    collector: &mut PermittedCollector<'s, P>,
 ) -> Result<Result<(), Seen>, PackFault>
     ensures keeps { Keeps collector.old collector.new }
     ensures fair { taker.new.right + gathered collector.old.sequences ≡ taker.old.right + gathered collector.new.sequences }
@@ -196,12 +204,12 @@ fn take_one<'s, G: Gate, L: Ledger, M: Ledger, R: Wait>(
 }
 
 /// Takes in everything that is done, until the desk is seen with nothing of the kind.
-fn take_all<'s, G: Gate, L: Ledger, M: Ledger, R: Wait>(
+fn take_all<'s, G: Gate, L: Ledger, M: Ledger, P: Permit, R: Wait>(
     rt: &R,
     gate: &G,
-    desk: &Desk<'s, L, M>,
+    desk: &Desk<'s, L, M, P>,
     taker: &mut Taker<M>,
-    collector: &mut Collector<'s>,
+    collector: &mut PermittedCollector<'s, P>,
 ) -> Result<Seen, PackFault>
     ensures keeps { Keeps collector.old collector.new }
     ensures fair { taker.new.right + gathered collector.old.sequences ≡ taker.old.right + gathered collector.new.sequences }
@@ -219,14 +227,15 @@ fn take_all<'s, G: Gate, L: Ledger, M: Ledger, R: Wait>(
 }
 
 /// Waits until something is done, and takes it in. If nothing is outstanding, seals what is missing on this thread.
-fn wait_or_seal<'s, G: Gate, L: Ledger, M: Ledger, R: Wait>(
+fn wait_or_seal<'s, G: Gate, L: Ledger, M: Ledger, P: Permit, R: Wait>(
     rt: &R,
     sealer: &Sealer<'_, G>,
     settings: &Settings,
-    desk: &Desk<'s, L, M>,
+    desk: &Desk<'s, L, M, P>,
     taker: &mut Taker<M>,
-    collector: &mut Collector<'s>,
+    collector: &mut PermittedCollector<'s, P>,
 ) -> Result<(), PackFault>
+    requires only { LetsOnly (G.lets sealer.now.gate.now) P.permits }
     requires keys { HasKeys settings.now collector.old }
     ensures keeps { Keeps collector.old collector.new }
     ensures fair { taker.new.right + gathered collector.old.sequences ≤ taker.old.right + gathered collector.new.sequences }

@@ -7,6 +7,7 @@ ghost use Rattle.rounds.specs.Begun.{IsBegun};
 ghost use Rattle.rounds.specs.Courses.{AreLeft, IsBetween};
 ghost use Rattle.rounds.specs.Gated.{IsGatesWord};
 ghost use Rattle.rounds.specs.Heralds.{IsHeardOf};
+ghost use Rattle.rounds.specs.Permitted.{ShowsLetThrough};
 ghost use Rattle.rounds.specs.Shown.{EndsFaulted, EndsPacked, FitsStart, start_at};
 ghost use Rattle.item_io.specs.declared.limits.TheConstants.{READS};
 
@@ -39,6 +40,7 @@ fn set_out<'r, S: Source, O: Outlet, R: Wait>(
     requires failures { O.output.failures endpoints.outlet < 2 ^ 63 }
     ensures on { (ladder : Ladder) (workers : ℕ) → FitsStart ladder workers (start_at endpoints) → IsBegun ladder workers first →
         IsBetween S.input O.output ladder (start_at endpoints) result.0.broadcast }
+    ensures shown { result.0.broadcast.held.publisher ≡ endpoints.publisher }
     ensures books { result.0.books ≡ first.books }
     ensures spare { result.1 ≡ first.spare }
     ensures keys { result.2 ≡ first.keys }
@@ -90,6 +92,7 @@ pub fn pack_fitted<
     ensures fault { IfErr result.answer (EndsFaulted S.input O.output setup.now.settings.now setup.now.workers (start_at endpoints) result) }
     ensures board { result.publisher.board ≡ endpoints.publisher.board }
     ensures held { IfErr result.answer (IsGatesWord (G.stops setup.now.gate.now)) }
+    ensures let_through { ShowsLetThrough (G.lets setup.now.gate.now) endpoints.publisher.list result.publisher.list }
     ensures left { OnOk result.answer (AreLeft S.input result.sources.items) }
     ensures told { IfErr result.answer (IsHeardOf (H.was_told herald.now)) }
 {

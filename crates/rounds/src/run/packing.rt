@@ -7,6 +7,7 @@ ghost use Rattle.rounds.specs.Begun.{IsBegun};
 ghost use Rattle.rounds.specs.Courses.{AreLeft};
 ghost use Rattle.rounds.specs.Gated.{IsGatesWord, IsUnheld};
 ghost use Rattle.rounds.specs.Heralds.{IsHeardOf};
+ghost use Rattle.rounds.specs.Permitted.{ShowsLetThrough};
 ghost use Rattle.rounds.specs.Shown.{EndsAway, EndsFaulted, EndsPacked, Fits, FitsStart, IsUnbegun, start_at, start_of};
 
 use crate::run::first::{First, beginning};
@@ -32,7 +33,7 @@ use work_desk::Gate;
 ///
 /// The publisher must have as many renditions as the settings, none of them with a segment, and there must be 1 to 64 workers;
 /// otherwise the answer is Settings. The gate is asked before a segment is sealed. It is asked again, by the calling thread, about one
-/// that a worker wasn't let through with: if it stops that one, the answer is Held with its rendition and its number. Want of memory
+/// that a worker wasn't let through with: if it stops that one, the answer is Held with its rendition and its number. Each segment that the publisher shows by then was let through. Want of memory
 /// (a thread that can't be started counts as that), a failed put and a held segment stop the run at once. Every thread that was started
 /// has ended by the time it answers.
 pub fn pack_parallel<S: Source + Drop, O: Outlet + Drop, G: Gate + Sync, R: Threads + Wait + Sync>(
@@ -53,6 +54,7 @@ pub fn pack_parallel<S: Source + Drop, O: Outlet + Drop, G: Gate + Sync, R: Thre
     ensures fits { OnOk result.answer (Fits settings.now (length sources.items) workers (counts_shown publisher.list)) }
     ensures breach { IfErr result.answer (EndsAway S.input O.output settings.now workers (start_of sources.items outlet publisher READS) result) }
     ensures held { IfErr result.answer (IsGatesWord (G.stops gate.now)) }
+    ensures let_through { ShowsLetThrough (G.lets gate.now) publisher.list result.publisher.list }
     ensures left { OnOk result.answer (AreLeft S.input result.sources.items) }
 {
     pack_parallel_reads(
@@ -89,6 +91,7 @@ pub fn pack_parallel_reads<
     ensures fits { OnOk result.answer (Fits settings.now (length sources.items) workers (counts_shown publisher.list)) }
     ensures breach { IfErr result.answer (EndsAway S.input O.output settings.now workers (start_of sources.items outlet publisher reads) result) }
     ensures held { IfErr result.answer (IsGatesWord (G.stops gate.now)) }
+    ensures let_through { ShowsLetThrough (G.lets gate.now) publisher.list result.publisher.list }
     ensures left { OnOk result.answer (AreLeft S.input result.sources.items) }
 {
     let setup = Setup::new(rt, alloc, settings, workers, gate);
@@ -122,6 +125,7 @@ pub fn pack_heralded<
         (counts_shown endpoints.publisher.list)) }
     ensures breach { IfErr result.answer (EndsAway S.input O.output setup.now.settings.now setup.now.workers (start_at endpoints) result) }
     ensures held { IfErr result.answer (IsGatesWord (G.stops setup.now.gate.now)) }
+    ensures let_through { ShowsLetThrough (G.lets setup.now.gate.now) endpoints.publisher.list result.publisher.list }
     ensures left { OnOk result.answer (AreLeft S.input result.sources.items) }
     ensures told { IfErr result.answer (IsHeardOf (H.was_told herald.now)) }
 {
@@ -161,6 +165,7 @@ fn turn_away<S: Source, O: Outlet>(
     ensures breach { EndsAway S.input O.output settings.now workers (start_at endpoints) result fault }
     ensures unheld { IsUnheld fault }
     ensures board { result.publisher.board ≡ endpoints.publisher.board }
+    ensures shown { result.publisher.list ≡ endpoints.publisher.list }
 {
     let Endpoints {
         sources,

@@ -2,12 +2,14 @@
 
 ghost use Rattle.std.specs.Prelude.{◌≡◌, ◌+◌, ◌<◌, ◌≤◌, IfErr, IfOk, OnErr, OnOk, length, sum};
 ghost use Rattle.ingest.specs.Lanes.{HasBroken};
+ghost use Rattle.live_board.specs.Counts.{counts_shown};
 ghost use Rattle.rounds.specs.Begun.{keys_of};
 ghost use Rattle.rounds.specs.Courses.{HasGoodEnds, IsAllGiven, IsSomeBetween, NoneClosed, ReadsNone, StaysBetween, StopsBetween};
 ghost use Rattle.rounds.specs.Courses.{HasEndDue, IsRun, ReadsMore, ReadsOn, ReadsShort, turns_in};
 ghost use Rattle.rounds.specs.Gated.{IsGatesWord, IsUnheld};
 ghost use Rattle.rounds.specs.Heralds.{AllHeard, AreHeard, TellsAll, complete_in};
 ghost use Rattle.rounds.specs.Paces.{HasEnough, ReadsEnough, StopsSoon, wanted};
+ghost use Rattle.rounds.specs.Permitted.{ShowsLetThrough};
 ghost use Rattle.rounds.specs.Rounds.{SwapsOut, SwapsShort, TakesClosed};
 ghost use Rattle.rounds.specs.Showing.{counts_of};
 ghost use Rattle.rounds.specs.declared.run.telling.TheConstants.{RENDITIONS};
@@ -40,6 +42,7 @@ fn give_due_ends<'r, S: Source, O: Outlet, R: Wait, H: Herald>(
     ensures ok { OnOk result.1 (StaysBetween S.input O.output settings.now between.entry.broadcast result.0.broadcast) }
     ensures err { IfErr result.1 (StopsBetween S.input O.output settings.now between.entry.broadcast result.0.broadcast) }
     ensures unheld { IfErr result.1 IsUnheld }
+    ensures shown { counts_shown result.0.broadcast.held.publisher.list ≡ counts_shown between.entry.broadcast.held.publisher.list }
     ensures none_read { ReadsNone between.entry.broadcast.course result.0.broadcast.course }
     ensures playlists { result.0.broadcast.course.playlists ≡ between.entry.broadcast.course.playlists }
     ensures ended { OnOk result.1 (HasGoodEnds settings.now result.0.broadcast.course) }
@@ -151,6 +154,7 @@ pub fn run_rounds<
     ensures ok { OnOk result.1 (StaysBetween S.input O.output setup.now.settings.now between.entry.broadcast result.0.broadcast) }
     ensures err { IfErr result.1 (StopsBetween S.input O.output setup.now.settings.now between.entry.broadcast result.0.broadcast) }
     ensures held { IfErr result.1 (IsGatesWord (G.stops setup.now.gate.now)) }
+    ensures let_through { ShowsLetThrough (G.lets setup.now.gate.now) between.entry.broadcast.held.publisher.list result.0.broadcast.held.publisher.list }
     ensures all { OnOk result.1 (IsAllGiven result.0.broadcast.course) }
     ensures right { OnOk result.1 (result.0.books.right + sum (counts_of between.entry.broadcast.course.playlists.items)
         ≤ between.entry.books.right + sum (counts_of result.0.broadcast.course.playlists.items)) }

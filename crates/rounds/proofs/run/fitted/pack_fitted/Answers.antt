@@ -8,6 +8,7 @@ use Rattle.rounds.specs.Shown.{start_at}
 use Rattle.rounds.proofs.Answered.{ok-weaker}
 use Rattle.rounds.proofs.Ending.{all-left, stopped-shown, told-shown, packed-shown}
 use Rattle.rounds.proofs.Telling.{heard-answered, heard-sudden}
+use Rattle.rounds.proofs.Permitting.{through-as}
 use Rattle.rounds.proofs.Gates.{answered-unheld, unheld-word}
 use Rattle.rounds.proofs.run.fitted.pack_fitted.Goals as goal
 
@@ -118,3 +119,13 @@ returns-clause-told g c =
     let all = IfOk-at_ok _ c.in_default.is c.run_rounds-between.ensures.told in
     rw c.give_back-2.ensures.answer
     (IfErr-weaker c.answer_of-answer.result _ _ (λ fault told. heard-answered (g.H.Herald.was_told c.args.herald.now) _ fault all (rw (← c.deref-2.ensures.value) told)) c.answer_of-answer.ensures.fault)
+
+pub returns-in-Err-clause-let_through : goal.returns-in-Err-clause-let_through
+returns-in-Err-clause-let_through g c =
+    through-as (g.G.Gate.lets c.args.setup.now.gate.now) c.args.endpoints.publisher c.set_out-between.result.0.broadcast.held.publisher c.run_rounds-between.result.0.broadcast.held.publisher c.give_back.result.publisher
+    c.set_out-between.ensures.shown c.give_back.ensures.publisher c.run_rounds-between.ensures.let_through
+
+pub returns-clause-let_through : goal.returns-clause-let_through
+returns-clause-let_through g c =
+    through-as (g.G.Gate.lets c.args.setup.now.gate.now) c.args.endpoints.publisher c.set_out-between.result.0.broadcast.held.publisher c.run_rounds-between.result.0.broadcast.held.publisher c.give_back-2.result.publisher
+    c.set_out-between.ensures.shown c.give_back-2.ensures.publisher c.run_rounds-between.ensures.let_through

@@ -4,6 +4,7 @@ use Rattle.ladder_items.specs.declared.fault.PackFault.{PackFault}
 use Rattle.ladder_items.specs.declared.report.Report.{Report}
 use Rattle.rounds.specs.Shown.{EndsAway, start_at}
 use Rattle.rounds.proofs.Answered.{fault-told}
+use Rattle.rounds.proofs.Permitting.{through-unshown}
 use Rattle.rounds.proofs.Gates.{unheld-word}
 use Rattle.rounds.proofs.run.packing.pack_heralded.Goals as goal
 
@@ -42,3 +43,9 @@ returns-in-Ok-clause-left g c = c.pack_fitted.ensures.left
 
 pub returns-in-Ok-clause-told : goal.returns-in-Ok-clause-told
 returns-in-Ok-clause-told g c = c.pack_fitted.ensures.told
+
+pub returns-in-Err-clause-let_through : goal.returns-in-Err-clause-let_through
+returns-in-Err-clause-let_through g c = through-unshown (g.G.Gate.lets c.args.setup.now.gate.now) c.args.endpoints.publisher.list c.turn_away.result.publisher.list c.turn_away.ensures.shown
+
+pub returns-in-Ok-clause-let_through : goal.returns-in-Ok-clause-let_through
+returns-in-Ok-clause-let_through g c = c.pack_fitted.ensures.let_through

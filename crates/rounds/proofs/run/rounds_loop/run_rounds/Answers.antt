@@ -5,6 +5,7 @@ use Rattle.ingest.specs.Lanes.{is_good}
 use Rattle.ingest.specs.declared.lane.Lane.{Lane}
 use Rattle.std.specs.Prelude.{sum}
 use Rattle.std.proofs.lemmas.Result.{IfErr-at_err, IfOk-at_ok}
+use Rattle.live_board.specs.Counts.{counts_shown}
 use Rattle.live_board.specs.Snapshots.{Known}
 use Rattle.ladder_items.specs.declared.fault.PackFault.{PackFault}
 use Rattle.ladder_items.specs.declared.fault.PackFault.TheVariants.{NoMemory}
@@ -17,6 +18,7 @@ use Rattle.rounds.specs.Heralds.{AllHeard, AreHeard, TellsAll}
 use Rattle.rounds.proofs.Telling.{heard-all, heard-none, heard-stayed, heard-swapped, heard-told}
 use Rattle.rounds.proofs.Between.{counted-more, counted-read, few-rounds, counted-round, on-turns, on-as, never, all-given}
 use Rattle.rounds.proofs.Gates.{none-word, unheld-word}
+use Rattle.rounds.proofs.Permitting.{through-none, through-same, through-then}
 use Rattle.rounds.proofs.run.rounds_loop.run_rounds.Goals as goal
 use Rattle.rounds.proofs.run.rounds_loop.run_rounds.Goals.{in-None, in-Some+in_default+then-not-any_closed+then-rests}
 
@@ -124,6 +126,11 @@ loop-preserved g c =
           (heard-swapped W 32 (length c.in-Ok.full.items) c.give_due_ends-now.new.telling.told c.give_due_ends-now.result.0.broadcast.course.lanes.items c.swap_spools-now.result.0.broadcast.course.lanes.items
           (full.world.same_lanes ∙ sym on1.world.same_lanes) (sym (IfOk-at_ok _ c.in-Ok.is t.each)) (λ k lane now below at is. (IfOk-at_ok _ c.in-Ok.is t.taken k lane now below at is).1) told2);
       herald = ap (λ h. h.now) e.herald ∙ c.loop.invariant.herald;
+      let_through = through-then (g.G.Gate.lets c.args.setup.now.gate.now) c.args.between.broadcast.held.publisher.list
+          c.swap_spools-now.result.0.broadcast.held.publisher.list
+          c.run_round-now.result.0.broadcast.held.publisher.list
+          (through-same (g.G.Gate.lets c.args.setup.now.gate.now) c.args.between.broadcast.held.publisher.list c.loop.between.broadcast.held.publisher.list c.swap_spools-now.result.0.broadcast.held.publisher.list
+          (ap (λ (k : Known). counts_shown k.list) t.held ∙ e.shown) c.loop.invariant.let_through) c.run_round-now.ensures.let_through;
       counted = counted-round c.swap_spools-now.result.0.books.rounds c.run_round-now.result.0.books.rounds c.swap_spools-now.result.0.broadcast.course c.run_round-now.result.0.broadcast.course r.rounds (omega (arith, few, ap (λ (b : Books). b.rounds) t.books, turns)) r.driven.further none;
     }
 
@@ -166,6 +173,8 @@ loop-preserved-then-not-any_closed g c =
       told = subst (λ h. AreHeard (g.H.Herald.was_told h) 32 c.give_due_ends-now.new.telling.told c.give_due_ends-now.result.0.broadcast.course.lanes.items
           → AreHeard (g.H.Herald.was_told h) 32 c.read_between-now.new.telling.told c.read_between-now.result.0.broadcast.course.lanes.items) same (IfOk-at_ok _ c.in_default-read.is r.told) told2;
       herald = ap (λ h. h.now) r.herald ∙ same;
+      let_through = through-same (g.G.Gate.lets c.args.setup.now.gate.now) c.args.between.broadcast.held.publisher.list c.loop.between.broadcast.held.publisher.list c.read_between-now.result.0.broadcast.held.publisher.list
+          (ap (λ (k : Known). counts_shown k.list) r.held ∙ e.shown) c.loop.invariant.let_through;
       counted = counted-more c.give_due_ends-now.result.0.books.rounds c.read_between-now.result.0.books.rounds _ _ (ap (λ (b : Books). b.rounds) r.books) (IfOk-at_ok _ c.in_default-read.is r.further)
           (counted-read c.loop.between.books.rounds c.give_due_ends-now.result.0.books.rounds _ _ (ap (λ (b : Books). b.rounds) e.books) e.none_read c.loop.invariant.counted);
     }
@@ -210,6 +219,7 @@ loop-init g c = record {
   right = omega arith;
   told = subst (λ t. AreHeard (g.H.Herald.was_told c.args.herald.now) 32 t c.args.between.broadcast.course.lanes.items) (sym c.new-telling.ensures.none) (heard-none _ 32 _);
   herald = ap (λ h. h.now) c.new-telling.ensures.herald;
+  let_through = through-none (g.G.Gate.lets c.args.setup.now.gate.now) c.args.between.broadcast.held.publisher.list;
   counted = inl (omega (arith, c.requires.first));
 }
 
@@ -249,3 +259,32 @@ pub run_round-now-requires-clause-workers : goal.run_round-now-requires-clause-w
 run_round-now-requires-clause-workers g c κs within =
     ap (λ (b : Books). length b.workers.items) c.swap_spools-now.ensures.books
     ∙ (ap (λ (b : Books). length b.workers.items) c.give_due_ends-now.ensures.books ∙ c.loop.invariant.workers)
+
+pub returns-in-Err-clause-let_through : goal.returns-in-Err-clause-let_through
+returns-in-Err-clause-let_through g c = through-same (g.G.Gate.lets c.args.setup.now.gate.now) c.args.between.broadcast.held.publisher.list c.loop.between.broadcast.held.publisher.list c.give_due_ends-now.result.0.broadcast.held.publisher.list c.give_due_ends-now.ensures.shown c.loop.invariant.let_through
+
+pub returns-in_default-swapped-clause-let_through : goal.returns-in_default-swapped-clause-let_through
+returns-in_default-swapped-clause-let_through g c =
+    through-same (g.G.Gate.lets c.args.setup.now.gate.now) c.args.between.broadcast.held.publisher.list c.loop.between.broadcast.held.publisher.list c.swap_spools-now.result.0.broadcast.held.publisher.list
+    (ap (λ (k : Known). counts_shown k.list) c.swap_spools-now.ensures.held ∙ c.give_due_ends-now.ensures.shown) c.loop.invariant.let_through
+
+pub returns-in-Err-answer-clause-let_through : goal.returns-in-Err-answer-clause-let_through
+returns-in-Err-answer-clause-let_through g c =
+    through-then (g.G.Gate.lets c.args.setup.now.gate.now) c.args.between.broadcast.held.publisher.list
+    c.swap_spools-now.result.0.broadcast.held.publisher.list
+    c.run_round-now.result.0.broadcast.held.publisher.list
+    (through-same (g.G.Gate.lets c.args.setup.now.gate.now) c.args.between.broadcast.held.publisher.list c.loop.between.broadcast.held.publisher.list c.swap_spools-now.result.0.broadcast.held.publisher.list
+    (ap (λ (k : Known). counts_shown k.list) c.swap_spools-now.ensures.held ∙ c.give_due_ends-now.ensures.shown) c.loop.invariant.let_through)
+    c.run_round-now.ensures.let_through
+
+pub returns-in-Err-read-clause-let_through : goal.returns-in-Err-read-clause-let_through
+returns-in-Err-read-clause-let_through g c =
+    through-same (g.G.Gate.lets c.args.setup.now.gate.now) c.args.between.broadcast.held.publisher.list c.loop.between.broadcast.held.publisher.list c.read_between-now.result.0.broadcast.held.publisher.list
+    (ap (λ (k : Known). counts_shown k.list) c.read_between-now.ensures.held ∙ c.give_due_ends-now.ensures.shown) c.loop.invariant.let_through
+
+pub returns-clause-let_through : goal.returns-clause-let_through
+returns-clause-let_through g c =
+    elim c.match-next.branch [
+      | in-None w ↦ never w.in-None.ensures.steps
+      | in-Some+in_default+then-not-any_closed+then-rests w ↦ rw w.between-is (through-same (g.G.Gate.lets c.args.setup.now.gate.now) c.args.between.broadcast.held.publisher.list c.loop.between.broadcast.held.publisher.list w.give_due_ends-now.result.0.broadcast.held.publisher.list w.give_due_ends-now.ensures.shown c.loop.invariant.let_through)
+    ]

@@ -19,6 +19,7 @@ loop-r-preserved g c = record {
   ok = λ start on. c.in_ok-give_end_of.ensures.ok start (c.loop-r.invariant.ok start on);
   none_read = reads-then _ _ _ c.loop-r.invariant.none_read c.in_ok-give_end_of.ensures.none_read;
   playlists = c.in_ok-give_end_of.ensures.playlists ∙ c.loop-r.invariant.playlists;
+  shown = c.in_ok-give_end_of.ensures.shown ∙ c.loop-r.invariant.shown;
   ended = λ k lane below at filled.
       elim (cases_eq k c.loop-r.r) as (λ _. slice_index_or c.give_end_of.new.self.course.ended.items k false ≡ is_good lane.stop) [
         | inl q ↦
@@ -69,3 +70,6 @@ pub returns-in_err-give_end_of-clause-ended : goal.returns-in_err-give_end_of-cl
 returns-in_err-give_end_of-clause-ended g c =
     let told = err_from_is_err_and c.from_residual.result c.from_residual.ensures.1 in
     rw told.1 tt
+
+pub returns-in_err-give_end_of-clause-shown : goal.returns-in_err-give_end_of-clause-shown
+returns-in_err-give_end_of-clause-shown g c = c.in_err-give_end_of.ensures.shown ∙ c.loop-r.invariant.shown

@@ -5,6 +5,7 @@ use Rattle.ladder_items.specs.Items.{Part}
 use Rattle.ladder_items.specs.Shown.{Shown}
 use Rattle.ladder_items.specs.Giving.{IsGoing}
 use Rattle.ladder_items.proofs.Blocks.{shown-going, shown-each}
+use Rattle.rounds.proofs.Permitting.{shows-end}
 use Rattle.rounds.proofs.Steps.{ends-end, end-shown}
 use Rattle.rounds.proofs.giving.broadcast.Broadcast.give_its_end.Goals as goal
 
@@ -41,3 +42,6 @@ publish_given-requires-clause-ends g c =
     let next = c.requires.next.1 in
     let each = shown-each c.args.settings.now parts _ next.each next.shown_are in
     omega (arith, length-set c.args.self.now.course.ended.items c.args.r true, ap length c.requires.next.2, length-map parts (λ (part : Part). part.ended), next.each, each)
+
+pub returns-clause-shown : goal.returns-clause-shown
+returns-clause-shown g c = shows-end _ _ _ _ _ c.in_ok-publish_given.ensures.ok c.requires.shows

@@ -7,7 +7,7 @@ use Rattle.rounds.proofs.Running.{reads-then}
 use Rattle.rounds.proofs.round.machine.Round.give_expected.Goals as goal
 
 pub wait_and_give-requires : goal.wait_and_give-requires
-wait_and_give-requires g c = let some = c.requires.somewhere in record { somewhere = (some.0, some.1, c.loop.invariant.ok some.0 some.1 some.2) }
+wait_and_give-requires g c = let some = c.requires.somewhere in record { only = c.requires.only; somewhere = (some.0, some.1, c.loop.invariant.ok some.0 some.1 some.2) }
 
 pub returns-in_err-wait_and_give-clause-err : goal.returns-in_err-wait_and_give-clause-err
 returns-in_err-wait_and_give-clause-err g c =
@@ -24,7 +24,7 @@ returns-in_err-wait_and_give-clause-none g c =
     let told = err_from_is_err_and c.from_residual.result c.from_residual.ensures.1 in
     rw told.1 (λ has.
     let same = c.loop.invariant.idle has in
-    let left = ap (λ (s : Round _ _ _ _ _). awaited s.collector.sequences) same in
+    let left = ap (λ (s : Round _ _ _ _ _ _). awaited s.collector.sequences) same in
     absurd (omega (arith, has, left, c.awaited.ensures, c.if-awaited-eq0.false)))
 
 pub loop-preserved : goal.loop-preserved
@@ -36,7 +36,7 @@ loop-preserved g c = record {
   fewer = omega (arith, c.loop.invariant.fewer, c.in_ok-wait_and_give.ensures.fewer);
   idle = λ has.
       let same = c.loop.invariant.idle has in
-      let left = ap (λ (s : Round _ _ _ _ _). awaited s.collector.sequences) same in
+      let left = ap (λ (s : Round _ _ _ _ _ _). awaited s.collector.sequences) same in
       absurd (omega (arith, has, left, c.awaited.ensures, c.if-awaited-eq0.false));
 }
 

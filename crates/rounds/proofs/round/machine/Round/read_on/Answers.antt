@@ -1,11 +1,14 @@
-use Rattle.std.proofs.Common.{◌≡◌, ◌∙◌, ◌-◌, inl, inr, refl, sym, ap, arith, rules}
+use Rattle.std.proofs.Common.{◌≡◌, ◌∙◌, ◌-◌, inl, inr, refl, sym, ap, subst, arith, rules, length}
 use Rattle.std.proofs.lemmas.Bool.{false≢true}
 use Rattle.std.proofs.lemmas.Result.{err_from_is_err_and}
 use Rattle.rounds.specs.declared.run.course.Course.{Course}
 use Rattle.flow_core.specs.Gatherings.{awaited}
 use Rattle.rounds.specs.declared.round.machine.Round.{Round}
-use Rattle.rounds.specs.Courses.{turns_in}
+use Rattle.live_board.specs.Snapshots.{Known}
+use Rattle.ladder_items.specs.declared.fault.PackFault.TheVariants.{NoMemory}
+use Rattle.rounds.specs.Courses.{IsStopped, turns_in}
 use Rattle.rounds.proofs.Driven.{in-read}
+use Rattle.rounds.proofs.Permitting.{in-shown}
 use Rattle.rounds.proofs.Pacing.{enough-as, still-enough}
 use Rattle.rounds.proofs.Soon.{most-before, none-unread}
 use Rattle.rounds.proofs.Turning.{more-none, more-then, more-unread, none-more}
@@ -29,12 +32,14 @@ returns-in_err-read_ready-clause-err g c =
     let told = err_from_is_err_and c.from_residual.result c.from_residual.ensures.1 in
     rw (told.1, told.2) (λ start unfed old.
     let now = c.loop.invariant.ok start unfed old in
-    c.in_err-read_ready.ensures.err c.args.settings.now start c.loop.self.broadcast.held.publisher now.waiting now.on)
+    subst (λ (k : Known). IsStopped g.S.Source.input g.O.Outlet.output c.args.settings.now start c.read_ready.new.self.course k NoMemory) (sym c.in_err-read_ready.ensures.held)
+    (c.in_err-read_ready.ensures.err c.args.settings.now start c.loop.self.broadcast.held.publisher now.waiting now.on))
 
 pub returns-then-not-branch-clause-ok : goal.returns-then-not-branch-clause-ok
 returns-then-not-branch-clause-ok g c start unfed old =
     let same = ap (λ (d : Course _ _). d.playlists) c.in_ok-read_ready.ensures.same in
-    in-read _ _ _ _ _ start unfed _ _ _ _ (λ waiting on. c.in_ok-read_ready.ensures.ok c.args.settings.now start c.loop.self.broadcast.held.publisher waiting on) same (c.loop.invariant.ok start unfed old)
+    in-shown _ _ _ start unfed _ _ _ _ c.in_ok-read_ready.ensures.held
+    (in-read _ _ _ _ _ start unfed _ _ _ _ (λ waiting on. c.in_ok-read_ready.ensures.ok c.args.settings.now start c.loop.self.broadcast.held.publisher waiting on) same (c.loop.invariant.ok start unfed old))
 
 pub returns-then-not-branch-clause-further : goal.returns-then-not-branch-clause-further
 returns-then-not-branch-clause-further g c = more-then _ _ _ c.loop.invariant.further c.in_ok-read_ready.ensures.further
@@ -47,9 +52,11 @@ take_and_give-requires g c =
       somewhere = (
         some.0,
         some.1,
-        in-read _ _ _ _ _ some.0 some.1 _ _ _ _ (λ waiting on. c.in_ok-read_ready.ensures.ok c.args.settings.now some.0 c.loop.self.broadcast.held.publisher waiting on) same
-            (c.loop.invariant.ok some.0 some.1 some.2),
+        in-shown _ _ _ some.0 some.1 _ _ _ _ c.in_ok-read_ready.ensures.held
+            (in-read _ _ _ _ _ some.0 some.1 _ _ _ _ (λ waiting on. c.in_ok-read_ready.ensures.ok c.args.settings.now some.0 c.loop.self.broadcast.held.publisher waiting on) same
+            (c.loop.invariant.ok some.0 some.1 some.2)),
       );
+      only = c.requires.only;
     }
 
 pub returns-in_err-take_and_give-clause-err : goal.returns-in_err-take_and_give-clause-err
@@ -57,21 +64,23 @@ returns-in_err-take_and_give-clause-err g c =
     let told = err_from_is_err_and c.from_residual-in_err-take_and_give.result c.from_residual-in_err-take_and_give.ensures.1 in
     let same = ap (λ (d : Course _ _). d.playlists) c.in_ok-read_ready.ensures.same in
     rw (told.1, told.2) (λ start unfed old. c.in_err-take_and_give.ensures.err start unfed
-    (in-read _ _ _ _ _ start unfed _ _ _ _ (λ waiting on. c.in_ok-read_ready.ensures.ok c.args.settings.now start c.loop.self.broadcast.held.publisher waiting on) same (c.loop.invariant.ok start unfed old)))
+    (in-shown _ _ _ start unfed _ _ _ _ c.in_ok-read_ready.ensures.held
+    (in-read _ _ _ _ _ start unfed _ _ _ _ (λ waiting on. c.in_ok-read_ready.ensures.ok c.args.settings.now start c.loop.self.broadcast.held.publisher waiting on) same (c.loop.invariant.ok start unfed old))))
 
 pub loop-preserved : goal.loop-preserved
 loop-preserved g c =
     let same = ap (λ (d : Course _ _). d.playlists) c.in_ok-read_ready.ensures.same in
     record {
       ok = λ start unfed old. c.in_ok-take_and_give.ensures.ok start unfed
-          (in-read _ _ _ _ _ start unfed _ _ _ _ (λ waiting on. c.in_ok-read_ready.ensures.ok c.args.settings.now start c.loop.self.broadcast.held.publisher waiting on) same (c.loop.invariant.ok start unfed old));
+          (in-shown _ _ _ start unfed _ _ _ _ c.in_ok-read_ready.ensures.held
+          (in-read _ _ _ _ _ start unfed _ _ _ _ (λ waiting on. c.in_ok-read_ready.ensures.ok c.args.settings.now start c.loop.self.broadcast.held.publisher waiting on) same (c.loop.invariant.ok start unfed old)));
       further = more-then _ _ _ c.loop.invariant.further (more-then _ _ _ c.in_ok-read_ready.ensures.further (more-unread _ _ c.in_ok-take_and_give.ensures.none_read));
       exact = omega (arith, c.loop.invariant.exact, c.in_ok-take_and_give.ensures.exact);
-      due = c.in_ok-take_and_give.ensures.due ∙ c.loop.invariant.due;
+      due = omega (arith, c.in_ok-take_and_give.ensures.due, c.loop.invariant.due, ap (λ (k : Known). length k.list) c.in_ok-read_ready.ensures.held);
       dry = λ more. c.in_ok-take_and_give.ensures.dry;
       idle = λ enough. let at = c.loop.invariant.idle enough in
-          let course = ap (λ (s : Round _ _ _ _ _). s.broadcast.course) at in
-          let left = c.awaited-awaited.ensures ∙ ap (λ (s : Round _ _ _ _ _). awaited s.collector.sequences) at in
+          let course = ap (λ (s : Round _ _ _ _ _ _). s.broadcast.course) at in
+          let left = c.awaited-awaited.ensures ∙ ap (λ (s : Round _ _ _ _ _ _). awaited s.collector.sequences) at in
           let none : c.turns_had.result - c.turns_had-before.result ≡ 0 = omega (arith, c.turns_had.ensures.is, c.turns_had-before.ensures.is, ap turns_in course) in
           absurd (false≢true (c.if-is_enough.ensures.1 (still-enough c.args.pace _ _ _ _ _ course left none enough)));
       soon = λ more. record {
@@ -99,8 +108,8 @@ returns-in_err-take_and_give-clause-held g c =
 pub returns-then-not-branch-clause-idle : goal.returns-then-not-branch-clause-idle
 returns-then-not-branch-clause-idle g c enough =
     let at = c.loop.invariant.idle enough in
-    let course = ap (λ (s : Round _ _ _ _ _). s.broadcast.course) at in
-    let left = c.awaited-awaited.ensures ∙ ap (λ (s : Round _ _ _ _ _). awaited s.collector.sequences) at in
+    let course = ap (λ (s : Round _ _ _ _ _ _). s.broadcast.course) at in
+    let left = c.awaited-awaited.ensures ∙ ap (λ (s : Round _ _ _ _ _ _). awaited s.collector.sequences) at in
     let none : c.turns_had.result - c.turns_had-before.result ≡ 0 = omega (arith, c.turns_had.ensures.is, c.turns_had-before.ensures.is, ap turns_in course) in
     absurd (false≢true (c.if-is_enough.ensures.1 (still-enough c.args.pace _ _ _ _ _ course left none enough)))
 
@@ -114,8 +123,8 @@ returns-in_err-read_ready-clause-none g c =
     let told = err_from_is_err_and c.from_residual.result c.from_residual.ensures.1 in
     rw told.1 (λ enough.
     let at = c.loop.invariant.idle enough in
-    let course = ap (λ (s : Round _ _ _ _ _). s.broadcast.course) at in
-    let left = c.awaited-awaited.ensures ∙ ap (λ (s : Round _ _ _ _ _). awaited s.collector.sequences) at in
+    let course = ap (λ (s : Round _ _ _ _ _ _). s.broadcast.course) at in
+    let left = c.awaited-awaited.ensures ∙ ap (λ (s : Round _ _ _ _ _ _). awaited s.collector.sequences) at in
     let none : c.turns_had.result - c.turns_had-before.result ≡ 0 = omega (arith, c.turns_had.ensures.is, c.turns_had-before.ensures.is, ap turns_in course) in
     false≢true (c.if-is_enough.ensures.1 (still-enough c.args.pace _ _ _ _ _ course left none enough)))
 
@@ -124,8 +133,8 @@ returns-in_err-take_and_give-clause-none g c =
     let told = err_from_is_err_and c.from_residual-in_err-take_and_give.result c.from_residual-in_err-take_and_give.ensures.1 in
     rw told.1 (λ enough.
     let at = c.loop.invariant.idle enough in
-    let course = ap (λ (s : Round _ _ _ _ _). s.broadcast.course) at in
-    let left = c.awaited-awaited.ensures ∙ ap (λ (s : Round _ _ _ _ _). awaited s.collector.sequences) at in
+    let course = ap (λ (s : Round _ _ _ _ _ _). s.broadcast.course) at in
+    let left = c.awaited-awaited.ensures ∙ ap (λ (s : Round _ _ _ _ _ _). awaited s.collector.sequences) at in
     let none : c.turns_had.result - c.turns_had-before.result ≡ 0 = omega (arith, c.turns_had.ensures.is, c.turns_had-before.ensures.is, ap turns_in course) in
     false≢true (c.if-is_enough.ensures.1 (still-enough c.args.pace _ _ _ _ _ course left none enough)))
 
@@ -148,7 +157,7 @@ returns-in_err-read_ready-clause-left g c =
 pub returns-in_err-take_and_give-clause-left : goal.returns-in_err-take_and_give-clause-left
 returns-in_err-take_and_give-clause-left g c =
     let told = err_from_is_err_and c.from_residual-in_err-take_and_give.result c.from_residual-in_err-take_and_give.ensures.1 in
-    rw (told.1, told.2) (inr (λ unheld. omega (arith, c.loop.invariant.due, c.in_err-take_and_give.ensures.short unheld)))
+    rw (told.1, told.2) (inr (λ unheld. omega (arith, c.loop.invariant.due, ap (λ (k : Known). length k.list) c.in_ok-read_ready.ensures.held, c.in_err-take_and_give.ensures.short unheld)))
 
 pub returns-then-is_enough-clause-enough : goal.returns-then-is_enough-clause-enough
 returns-then-is_enough-clause-enough g c =
@@ -263,7 +272,7 @@ pub returns-then-not-branch-clause-exact : goal.returns-then-not-branch-clause-e
 returns-then-not-branch-clause-exact g c = c.loop.invariant.exact
 
 pub returns-then-not-branch-clause-due : goal.returns-then-not-branch-clause-due
-returns-then-not-branch-clause-due g c = c.loop.invariant.due
+returns-then-not-branch-clause-due g c = omega (arith, c.loop.invariant.due, ap (λ (k : Known). length k.list) c.in_ok-read_ready.ensures.held)
 
 pub loop-init : goal.loop-init
 loop-init g c = record {
