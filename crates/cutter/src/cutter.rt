@@ -1,4 +1,5 @@
-ghost use Rattle.std.specs.Prelude.{◌≡◌, ◌≢◌, ◌<◌, ◌^◌, ◌⊎◌, [], ◌∷◌, ◌++◌, ℕ, List, Ok, Err, true, false, None, length, IfSome, IfOk, IfErr, IsOk, OnOk, OnErr};
+ghost use Rattle.std.specs.Prelude.{◌≡◌, ◌≢◌, ◌<◌, ◌^◌, ◌⊎◌, [], ◌∷◌, ◌++◌, ℕ, List, Ok, Err, true, false};
+ghost use Rattle.std.specs.Prelude.{None, length, IfSome, IfOk, IfErr, IsOk, OnOk, OnErr};
 ghost use Rattle.cutter.specs.declared.fault.CutFault.TheVariants.{NoMemory, Ended};
 ghost use Rattle.cutter.specs.Cuts.{cuts, closed, fault, plans, made, Ends, HasSegment, MayWantBody};
 ghost use Rattle.cutter.specs.Ordered.{IsPlan};

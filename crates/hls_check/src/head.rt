@@ -1,6 +1,7 @@
 //! The head of a segment, taken off (RFC 8216, 3.2).
 
-ghost use Rattle.std.specs.Prelude.{◌≡◌, ◌≢◌, ◌*◌, ◌<◌, ◌≤◌, ◌^◌, ℕ, List, [], ◌++◌, length, slice_index, IfOk, OnErr, IsSome, IsSomeAnd, MatchOption, Decides, None};
+ghost use Rattle.std.specs.Prelude.{◌≡◌, ◌≢◌, ◌*◌, ◌<◌, ◌≤◌, ◌^◌, ℕ, List, [], ◌++◌, length, slice_index};
+ghost use Rattle.std.specs.Prelude.{IfOk, OnErr, IsSome, IsSomeAnd, MatchOption, Decides, None};
 ghost use Rattle.psi_tables.specs.ProgramMap.{pmt_fault, program_map};
 ghost use Rattle.psi_tables.specs.Head.{head, section_packets, IsSendable};
 ghost use Rattle.hls_check.specs.Unpacking.{BeginsWithHead};

@@ -5,7 +5,8 @@ ghost use Rattle.ingest.specs.Lanes.{HasBroken};
 ghost use Rattle.ladder_items.specs.Ladder.{IsAllowed, rendition_at};
 ghost use Rattle.ladder_items.specs.Putting.{SaysFailures};
 ghost use Rattle.live_board.specs.Counts.{counts_shown};
-ghost use Rattle.rounds.specs.Courses.{GivesNext, GivesNextInPart, HadOneAtMost, IsNextOf, IsRun, NoneWaits, ReadsMore, ReadsNone, ReadsOn, ReadsShort, Rests, turns_in};
+ghost use Rattle.rounds.specs.Courses.{GivesNext, GivesNextInPart, HadOneAtMost, IsNextOf, IsRun, NoneWaits, ReadsMore, ReadsNone, ReadsOn};
+ghost use Rattle.rounds.specs.Courses.{ReadsShort, Rests, turns_in};
 ghost use Rattle.rounds.specs.Paces.{HasEnough, wanted};
 ghost use Rattle.rounds.specs.Permitted.{ShowsPermitted};
 ghost use Rattle.rounds.specs.Showing.{counts_of};
@@ -90,7 +91,8 @@ impl<'r, S: Source, O: Outlet, P: Permit, R: Wait> PermittedBroadcast<'r, S, O, 
         requires on { IsRun S.input O.output self.old.course }
         ensures ok { OnOk result (ReadsOn S.input O.output self.old.course self.new.course) }
         ensures err { OnErr result (ReadsShort S.input O.output self.old.course self.new.course) }
-        ensures same { OnOk result (self.new.course ≡ record self.old.course { sources = self.new.course.sources; lanes = self.new.course.lanes; turns = self.new.course.turns }) }
+        ensures same { OnOk result (self.new.course
+            ≡ record self.old.course { sources = self.new.course.sources; lanes = self.new.course.lanes; turns = self.new.course.turns }) }
         ensures further { OnOk result (ReadsMore self.old.course self.new.course) }
         ensures told { IfOk result (λ any. Decides any (turns_in self.old.course < turns_in self.new.course)) }
         ensures each { OnOk result ((k : ℕ) → HadOneAtMost S.input k self.old.course self.new.course) }

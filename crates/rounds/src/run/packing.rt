@@ -33,9 +33,9 @@ use work_desk::Gate;
 ///
 /// The publisher must have as many renditions as the settings, none of them with a segment, and there must be 1 to 64 workers;
 /// otherwise the answer is Settings. The gate is asked before a segment is sealed. It is asked again, by the calling thread, about one
-/// that a worker wasn't let through with: if it stops that one, the answer is Held with its rendition and its number. Each segment that the publisher shows by then was let through. Want of memory
-/// (a thread that can't be started counts as that), a failed put and a held segment stop the run at once. Every thread that was started
-/// has ended by the time it answers.
+/// that a worker wasn't let through with: if it stops that one, the answer is Held with its rendition and its number. Each segment that
+/// the publisher shows at the end was let through. Want of memory (a thread that can't be started counts as that), a failed put and a
+/// held segment stop the run at once. Every thread that was started has ended by the time it answers.
 pub fn pack_parallel<S: Source + Drop, O: Outlet + Drop, G: Gate + Sync, R: Threads + Wait + Sync>(
     rt: &R,
     alloc: Global,
