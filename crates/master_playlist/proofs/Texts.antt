@@ -1,5 +1,5 @@
 -- Texts of lines, one piece after another.
-use Rattle.std.proofs.Common.{Bor, ◌≡◌, ℕ, ◌+◌, ◌<◌, List, [], ◌∷◌, ◌++◌, map, length, length-append, refl, ap, ◌∙◌, arith}
+use Rattle.std.proofs.Common.{Bor, ◌≡◌, ℕ, ◌+◌, ◌<◌, List, [], ◌∷◌, ◌++◌, map, length, length-append, refl, ap, sym, subst, ◌∙◌, arith}
 use Rattle.std.specs.Prelude.{Result, Ok, Err, OnErr, codes, false}
 use Rattle.std.proofs.lemmas.List.Elements.{All-nil, All-cons}
 use Rattle.playlist_text.specs.AttributeValues.{is_hexadecimal, HaveNoHexadecimal}
@@ -8,6 +8,8 @@ use Rattle.playlist_text.specs.declared.attribute.Value.TheVariants.{Decimal, Qu
 use Rattle.std.specs.List.{flat_map}
 use Rattle.std.proofs.lemmas.List.{append-nil, append_assoc}
 use Rattle.std.proofs.lemmas.List.Concat.{flat_map-append}
+use Rattle.playlist_text.specs.Appended.{AppendsPart}
+use Rattle.playlist_text.proofs.Appending.{part-front}
 use Rattle.playlist_text.specs.Lines.{ended_line, text_of}
 use Rattle.playlist_text.specs.Uris.{media_uri, frames_uri}
 use Rattle.playlist_text.specs.Attributes.{quoted, attribute, attribute_list}
@@ -121,6 +123,13 @@ pub frames-is : (v : Listed) →
 unfolding text_of frames_line
 frames-is v =
     ap (λ (t : List ℕ). ((codes "#EXT-X-I-FRAME-STREAM-INF:" ++ t) ++ codes "\n") ++ []) (one_behind v v.frame_peak v.frame_average (attribute (codes "URI") (quoted (frames_uri v.name))))
+
+-- a beginning of that line was appended, before its end
+pub frame-part : (v : Listed) (old new : List ℕ)
+    → AppendsPart old (codes "#EXT-X-I-FRAME-STREAM-INF:" ++ ((attribute_list (attributes v v.frame_peak v.frame_average) ++ codes ",") ++ attribute_list (attribute (codes "URI") (quoted (frames_uri v.name)) ∷ []))) new
+    → AppendsPart old (text_of (frames_line v ∷ [])) new
+frame-part v old new p =
+    subst (λ (all : List ℕ). AppendsPart old all new) (sym (frames-is v)) (part-front _ _ [] _ (part-front _ _ (codes "\n") _ p))
 
 -- the whole text of some variants
 pub master_text-some : (vs : List Listed) → 0 < length vs →

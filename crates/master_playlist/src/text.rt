@@ -1,6 +1,7 @@
 ghost use Rattle.std.specs.Prelude.{◌≡◌, ◌+◌, ◌<◌, ◌≤◌, [], ◌∷◌, ◌++◌, length, map, Some, None, IfOk, IsOk, OnOk, OnErr, MatchOption, IsOkUnless};
 ghost use Rattle.std.specs.List.{flat_map};
 ghost use Rattle.std.specs.String.{string_bytes, string_capacity, string_len};
+ghost use Rattle.playlist_text.specs.Appended.{AppendsPart};
 ghost use Rattle.playlist_text.specs.Lines.{text_of};
 ghost use Rattle.playlist_text.specs.AttributeValues.{attribute_text, HaveNoHexadecimal};
 ghost use Rattle.master_playlist.specs.MasterLines;
@@ -88,6 +89,7 @@ fn push_stream(out: &mut String, variant: &Variant<'_>) -> Result<(), AllocError
 fn push_frame(out: &mut String, variant: &Variant<'_>) -> Result<(), AllocError>
     ensures ok { OnOk result (string_bytes out.new ≡ string_bytes out.old ++ text_of (frames_line variant.now ∷ [])) }
     ensures capacity { string_capacity out.old ≤ string_capacity out.new }
+    ensures part { OnErr result (AppendsPart (string_bytes out.old) (text_of (frames_line variant.now ∷ [])) (string_bytes out.new)) }
 {
     let mut uri = String::new(*out.allocator());
     push_frames_uri(&mut uri, variant.name)?;

@@ -4,5 +4,6 @@ pub mod Uris
 pub mod Attributes
 pub mod AttributeValues
 pub mod Lines
+pub mod Appended
 pub mod MediaLines
 pub mod Vectors

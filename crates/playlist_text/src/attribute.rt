@@ -1,5 +1,6 @@
 ghost use Rattle.std.specs.Prelude.{◌≡◌, ◌+◌, ◌<◌, ◌≤◌, ◌++◌, [], false, length, map, IsOk, OnErr, OnOk};
 ghost use Rattle.std.specs.String.{string_bytes, string_capacity, string_len};
+ghost use Rattle.playlist_text.specs.Appended.{AppendsPart};
 ghost use Rattle.playlist_text.specs.Attributes.{quoted, hexadecimal, resolution, attribute_list};
 ghost use Rattle.playlist_text.specs.AttributeValues.{value_text, attribute_text, is_hexadecimal, HaveNoHexadecimal};
 
@@ -33,6 +34,7 @@ pub fn push_attribute_list(out: &mut String, attributes: &[Attribute<'_>]) -> Re
     ensures full { HaveNoHexadecimal attributes.now → OnErr result
         (string_capacity out.old < string_len out.old + length (attribute_list (map attribute_text attributes.now))) }
     ensures capacity { string_capacity out.old ≤ string_capacity out.new }
+    ensures part { OnErr result (AppendsPart (string_bytes out.old) (attribute_list (map attribute_text attributes.now)) (string_bytes out.new)) }
 {
     let Some((first, others)) = attributes.split_first() else {
         return Ok(());
@@ -50,6 +52,7 @@ fn push_attribute(out: &mut String, attribute: &Attribute<'_>) -> Result<(), All
     ensures full { is_hexadecimal attribute.now.value ≡ false → OnErr result
         (string_capacity out.old < string_len out.old + length (attribute_text attribute.now)) }
     ensures capacity { string_capacity out.old ≤ string_capacity out.new }
+    ensures part { OnErr result (AppendsPart (string_bytes out.old) (attribute_text attribute.now) (string_bytes out.new)) }
 {
     out.push_str(attribute.name)?;
     out.push_str("=")?;
@@ -61,6 +64,7 @@ fn push_value(out: &mut String, value: Value<'_>) -> Result<(), AllocError>
     ensures full { is_hexadecimal value.entry ≡ false → OnErr result
         (string_capacity out.old < string_len out.old + length (value_text value.entry)) }
     ensures capacity { string_capacity out.old ≤ string_capacity out.new }
+    ensures part { OnErr result (AppendsPart (string_bytes out.old) (value_text value.entry) (string_bytes out.new)) }
 {
     match value {
         Value::Decimal(number) => push_decimal(out, u128::from(number)),
@@ -76,6 +80,7 @@ fn push_value(out: &mut String, value: Value<'_>) -> Result<(), AllocError>
 pub fn push_hexadecimal(out: &mut String, bytes: &[u8; 16]) -> Result<(), AllocError>
     ensures ok { OnOk result (string_bytes out.new ≡ string_bytes out.old ++ hexadecimal bytes.now) }
     ensures capacity { string_capacity out.old ≤ string_capacity out.new }
+    ensures part { OnErr result (AppendsPart (string_bytes out.old) (hexadecimal bytes.now) (string_bytes out.new)) }
 {
     let digits = hex::encode_upper(*out.allocator(), *bytes)?;
     out.push_str("0x")?;
@@ -88,6 +93,7 @@ pub fn push_quoted(out: &mut String, text: &str) -> Result<(), AllocError>
     ensures ok { OnOk result (string_bytes out.new ≡ string_bytes out.old ++ quoted text.now) }
     ensures full { OnErr result (string_capacity out.old < string_len out.old + length (quoted text.now)) }
     ensures capacity { string_capacity out.old ≤ string_capacity out.new }
+    ensures part { OnErr result (AppendsPart (string_bytes out.old) (quoted text.now) (string_bytes out.new)) }
 {
     out.push_str("\"")?;
     out.push_str(text)?;
@@ -100,6 +106,7 @@ pub fn push_resolution(out: &mut String, width: u64, height: u64) -> Result<(), 
     ensures ok { OnOk result (string_bytes out.new ≡ string_bytes out.old ++ resolution width height) }
     ensures full { OnErr result (string_capacity out.old < string_len out.old + length (resolution width height)) }
     ensures capacity { string_capacity out.old ≤ string_capacity out.new }
+    ensures part { OnErr result (AppendsPart (string_bytes out.old) (resolution width height) (string_bytes out.new)) }
 {
     push_decimal(out, u128::from(width))?;
     out.push_str("x")?;

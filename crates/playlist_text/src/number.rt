@@ -1,6 +1,7 @@
 ghost use Rattle.std.specs.Prelude.{◌≡◌, ◌+◌, ◌<◌, ◌≤◌, ◌∷◌, [], ◌++◌, length, OnErr, OnOk};
 ghost use Rattle.std.specs.String.{string_bytes, string_capacity, string_len};
 ghost use Rattle.std.specs.Fmt.{decimal};
+ghost use Rattle.playlist_text.specs.Appended.{AppendsPart};
 ghost use Rattle.playlist_text.specs.Numbers;
 ghost use Rattle.playlist_text.specs.Numbers.{six_digits, seconds};
 
@@ -26,6 +27,7 @@ pub fn push_decimal(out: &mut String, number: u128) -> Result<(), AllocError>
     ensures ok { OnOk result (string_bytes out.new ≡ string_bytes out.old ++ decimal number) }
     ensures full { OnErr result (string_capacity out.old < string_len out.old + length (decimal number)) }
     ensures capacity { string_capacity out.old ≤ string_capacity out.new }
+    ensures part { OnErr result (AppendsPart (string_bytes out.old) (decimal number) (string_bytes out.new)) }
 {
     out.push_str(Buffer::new().format(number))
 }
@@ -36,6 +38,7 @@ pub fn push_seconds(out: &mut String, micros: u128) -> Result<(), AllocError>
     ensures ok { OnOk result (string_bytes out.new ≡ string_bytes out.old ++ seconds micros) }
     ensures full { OnErr result (string_capacity out.old < string_len out.old + length (seconds micros)) }
     ensures capacity { string_capacity out.old ≤ string_capacity out.new }
+    ensures part { OnErr result (AppendsPart (string_bytes out.old) (seconds micros) (string_bytes out.new)) }
 {
     push_decimal(out, micros / 1_000_000)?;
     out.push('.')?;
@@ -47,6 +50,7 @@ fn push_six_digits(out: &mut String, number: u128) -> Result<(), AllocError>
     ensures ok { OnOk result (string_bytes out.new ≡ string_bytes out.old ++ six_digits number) }
     ensures full { OnErr result (string_capacity out.old < string_len out.old + 6) }
     ensures capacity { string_capacity out.old ≤ string_capacity out.new }
+    ensures part { OnErr result (AppendsPart (string_bytes out.old) (six_digits number) (string_bytes out.new)) }
 {
     push_digit(out, number / 100_000 % 10)?;
     push_digit(out, number / 10_000 % 10)?;
@@ -61,6 +65,7 @@ fn push_digit(out: &mut String, digit: u128) -> Result<(), AllocError>
     ensures ok { OnOk result (string_bytes out.new ≡ string_bytes out.old ++ (48 + digit) ∷ []) }
     ensures full { OnErr result (string_capacity out.old < string_len out.old + 1) }
     ensures capacity { string_capacity out.old ≤ string_capacity out.new }
+    ensures part { OnErr result (AppendsPart (string_bytes out.old) ((48 + digit) ∷ []) (string_bytes out.new)) }
 {
     out.push(char::from(b'0' + digit as u8))
 }

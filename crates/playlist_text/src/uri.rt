@@ -1,5 +1,6 @@
 ghost use Rattle.std.specs.Prelude.{◌≡◌, ◌++◌, ◌+◌, ◌<◌, ◌≤◌, length, OnErr, OnOk};
 ghost use Rattle.std.specs.String.{string_bytes, string_capacity, string_len};
+ghost use Rattle.playlist_text.specs.Appended.{AppendsPart};
 ghost use Rattle.playlist_text.specs.Uris.{escaped, segment_uri, key_uri, media_uri, frames_uri};
 
 use crate::number::push_decimal;
@@ -17,6 +18,7 @@ pub fn push_escaped(out: &mut String, name: &str) -> Result<(), AllocError>
     ensures ok { OnOk result (string_bytes out.new ≡ string_bytes out.old ++ escaped name.now) }
     ensures full { OnErr result (string_capacity out.old < string_len out.old + length (escaped name.now)) }
     ensures capacity { string_capacity out.old ≤ string_capacity out.new }
+    ensures part { OnErr result (AppendsPart (string_bytes out.old) (escaped name.now) (string_bytes out.new)) }
 {
     for piece in utf8_percent_encode(name, ESCAPED) {
         out.push_str(piece)?;
@@ -30,6 +32,7 @@ pub fn push_segment_uri(out: &mut String, name: &str, number: u64) -> Result<(),
     ensures ok { OnOk result (string_bytes out.new ≡ string_bytes out.old ++ segment_uri name.now number) }
     ensures full { OnErr result (string_capacity out.old < string_len out.old + length (segment_uri name.now number)) }
     ensures capacity { string_capacity out.old ≤ string_capacity out.new }
+    ensures part { OnErr result (AppendsPart (string_bytes out.old) (segment_uri name.now number) (string_bytes out.new)) }
 {
     push_escaped(out, name)?;
     out.push_str(".")?;
@@ -43,6 +46,7 @@ pub fn push_key_uri(out: &mut String, name: &str, index: u64) -> Result<(), Allo
     ensures ok { OnOk result (string_bytes out.new ≡ string_bytes out.old ++ key_uri name.now index) }
     ensures full { OnErr result (string_capacity out.old < string_len out.old + length (key_uri name.now index)) }
     ensures capacity { string_capacity out.old ≤ string_capacity out.new }
+    ensures part { OnErr result (AppendsPart (string_bytes out.old) (key_uri name.now index) (string_bytes out.new)) }
 {
     push_escaped(out, name)?;
     out.push_str(".")?;
@@ -56,6 +60,7 @@ pub fn push_media_uri(out: &mut String, name: &str) -> Result<(), AllocError>
     ensures ok { OnOk result (string_bytes out.new ≡ string_bytes out.old ++ media_uri name.now) }
     ensures full { OnErr result (string_capacity out.old < string_len out.old + length (media_uri name.now)) }
     ensures capacity { string_capacity out.old ≤ string_capacity out.new }
+    ensures part { OnErr result (AppendsPart (string_bytes out.old) (media_uri name.now) (string_bytes out.new)) }
 {
     push_escaped(out, name)?;
     out.push_str(".m3u8")
@@ -67,6 +72,7 @@ pub fn push_frames_uri(out: &mut String, name: &str) -> Result<(), AllocError>
     ensures ok { OnOk result (string_bytes out.new ≡ string_bytes out.old ++ frames_uri name.now) }
     ensures full { OnErr result (string_capacity out.old < string_len out.old + length (frames_uri name.now)) }
     ensures capacity { string_capacity out.old ≤ string_capacity out.new }
+    ensures part { OnErr result (AppendsPart (string_bytes out.old) (frames_uri name.now) (string_bytes out.new)) }
 {
     push_escaped(out, name)?;
     out.push_str(".iframes.m3u8")
