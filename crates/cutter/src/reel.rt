@@ -191,6 +191,11 @@ impl Reel {
             → self.new.body ≡ last.body ++ self.old.body }
         ensures frames { (plans : List SegmentPlan) (last : SegmentPlan) → self.old.plans ≡ plans ++ last ∷ []
             → self.new.framing.ended ≡ last.frames ++ self.old.framing.ended }
+
+        // No I-frame goes on in it. Where there is no plan, it stays as it is.
+        ensures pending { (plans : List SegmentPlan) (last : SegmentPlan) → self.old.plans ≡ plans ++ last ∷ [] → self.new.framing.pending ≡ None }
+        ensures offset { self.new.framing.offset ≡ length self.new.body }
+        ensures none { self.old.plans ≡ [] → self.new ≡ self.old }
     {
         let Some(plan_at) = self.plans_at.pop() else {
             return;

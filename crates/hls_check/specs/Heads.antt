@@ -1,6 +1,7 @@
 -- Where a segment head tells what it is made of.
-use Rattle.std.specs.Prelude.{◌≡◌, ℕ, zero, suc, ◌+◌, ◌*◌, ◌/◌, ◌≤◌, List, [], ◌++◌, length, take, drop}
+use Rattle.std.specs.Prelude.{◌≡◌, ℕ, zero, suc, ◌+◌, ◌*◌, ◌/◌, ◌≤◌, List, [], ◌++◌, length, take, drop, slice_range, slice_index, None}
 use Rattle.psi_tables.specs.InForce.{InForce}
+use Rattle.psi_tables.specs.ProgramMap.{pmt_fault}
 use Rattle.psi_tables.specs.Section.{section_length, number_at, pid_at, length_at}
 use Rattle.psi_tables.specs.Head.{head, IsSendable}
 use Rattle.hls_check.specs.Unpacking.{BeginsWithHead}
@@ -32,6 +33,18 @@ MayHoldHead text = (2 * PACKET ≤ length text) × HasPackets (drop PACKET text)
 unfoldable pub payloads : ℕ → List ℕ → List ℕ
 payloads zero packets = []
 payloads (suc count) packets = take 184 (drop 4 packets) ++ payloads count (drop PACKET packets)
+
+-- the section whose length the first of some packets tells, out of their payloads behind a pointer
+abbrev pub section_in : List ℕ → List ℕ
+section_in packets = slice_range (payloads ((3 + length_at packets 6 + 184) / 184) packets) 1 (1 + (3 + length_at packets 6))
+
+-- where a head has them, a text has as many packets as it tells, and in them the section of a good PMT
+abbrev pub HoldsTables : List ℕ → Type 0
+HoldsTables text = MayHoldHead text × (pmt_fault (section_in (drop PACKET text)) ≡ None)
+
+-- the head of the tables and counters that stand there
+abbrev pub head_in : List ℕ → List ℕ
+head_in text = head (told_tables (take PACKET text) (section_in (drop PACKET text))) (slice_index (take PACKET text) 3) (slice_index (drop PACKET text) 3)
 
 -- the bytes are a head, and the only one that the text may begin with
 pub record IsTheHead (text bytes : List ℕ) : Type 0 where

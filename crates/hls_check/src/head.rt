@@ -1,12 +1,12 @@
 //! The head of a segment, taken off (RFC 8216, 3.2).
 
 ghost use Rattle.std.specs.Prelude.{◌≡◌, ◌≢◌, ◌*◌, ◌<◌, ◌≤◌, ◌^◌, ℕ, List, [], ◌++◌, length, slice_index};
-ghost use Rattle.std.specs.Prelude.{IfOk, OnErr, IsSome, IsSomeAnd, MatchOption, Decides, None};
+ghost use Rattle.std.specs.Prelude.{IfOk, IfSome, IfNone, OnErr, IsSome, IsSomeAnd, MatchOption, Decides, None};
 ghost use Rattle.psi_tables.specs.ProgramMap.{pmt_fault, program_map};
 ghost use Rattle.psi_tables.specs.Head.{head, section_packets, IsSendable};
 ghost use Rattle.hls_check.specs.Unpacking.{BeginsWithHead};
 ghost use Rattle.hls_check.specs.Heads;
-ghost use Rattle.hls_check.specs.Heads.{IsSized, IsTheHead, HasPackets, MayHoldHead, told_tables};
+ghost use Rattle.hls_check.specs.Heads.{IsSized, IsTheHead, HasPackets, HoldsTables, MayHoldHead, head_in, section_in, told_tables};
 
 use psi_tables::{
     PAYLOAD, Pmt, TableFault, append_section, pat_section, read_length, read_number, read_pid,
@@ -34,6 +34,8 @@ fn told_head(alloc: Global, text: &[u8]) -> Result<Option<Vec<u8>>, AllocError>
     ensures found { IfOk result (λ found. MatchOption found
         ((rest : List ℕ) → ¬ BeginsWithHead text.now rest)
         (λ bytes. IsTheHead text.now bytes.items)) }
+    ensures told { IfOk result (λ found. IfSome found (λ bytes. HoldsTables text.now × (bytes.items ≡ head_in text.now))) }
+    ensures none { IfOk result (λ found. IfNone found (¬ HoldsTables text.now)) }
     ensures memory { OnErr result (MayHoldHead text.now) }
 {
     if text.len() < 2 * PACKET {
@@ -87,6 +89,8 @@ fn carried_section(alloc: Global, packets: &[u8]) -> Result<Option<Vec<u8>>, All
     ensures found { IfOk result (λ found. (pid counter : ℕ) (section rest : List ℕ) → IsSized section →
         packets.now ≡ section_packets pid counter section ++ rest → IsSomeAnd found (λ bytes. bytes.items ≡ section)) }
     ensures whole { IfOk result (λ found. IsSome found → HasPackets packets.now) }
+    ensures section { IfOk result (λ found. IfSome found (λ bytes. bytes.items ≡ section_in packets.now)) }
+    ensures enough { IfOk result (λ found. IfNone found (¬ HasPackets packets.now)) }
     ensures memory { OnErr result (HasPackets packets.now) }
 {
     let len = 3 + read_length(packets, 6);

@@ -265,6 +265,10 @@ abbrev pub Tells : Bool → Option Progress → Progress → Type 0
 Tells true next new = next ≡ Some new
 Tells false next new = next ≡ None
 
+-- A reading that takes no line is as it was, or told no discontinuity.
+abbrev pub IsUntaken : Progress → Progress → Type 0
+IsUntaken old new = (new ≡ old) ⊎ (new ≡ record old { discontinuity = false })
+
 -- a number is left for the next entry
 abbrev pub has_number : Progress → Bool
 has_number p = is_some (number_left p)

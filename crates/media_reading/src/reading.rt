@@ -1,11 +1,11 @@
 //! The lines of a media playlist, one after another.
 
-ghost use Rattle.std.specs.Prelude.{◌≡◌, ◌≢◌, ◌⊎◌, ◌≤◌, Some, None, true, IfOk, OnErr, option_map, ◌==◌, vec_capacity, vec_len};
+ghost use Rattle.std.specs.Prelude.{◌≡◌, ◌≢◌, ◌⊎◌, ◌≤◌, Some, None, true, false, IfOk, OnErr, option_map, ◌==◌, vec_capacity, vec_len};
 ghost use Rattle.std.specs.Cow.{cow_str_bytes};
 ghost use Rattle.std.specs.List.{before_first};
 ghost use Rattle.media_reading.specs.State.{step, step_at, fresh, expect, begun, headed, salt_in, keyed, keyed_or_timed, timed};
 ghost use Rattle.media_reading.specs.State.{listed, listing_at, name_in, number_left, entered};
-ghost use Rattle.media_reading.specs.State.{progress_of, HasEscapes, IsKept, Moves, Tells, awaits_first_key, has_number, key_may_want, may_want};
+ghost use Rattle.media_reading.specs.State.{progress_of, HasEscapes, IsKept, IsUntaken, Moves, Tells, awaits_first_key, has_number, key_may_want, may_want};
 ghost use Rattle.media_reading.specs.declared.reading.Stage.TheVariants.{Versioned, Targeted, Sequenced, Headed, Timed};
 
 use crate::listing::{Entry, LAST_LISTED, Listing};
@@ -97,6 +97,8 @@ impl Reading {
         ensures scarce { OnErr result (may_want self.old.stage (progress_of self.old) line.now ≡ true) }
         ensures kept { OnErr result (IsKept (step (progress_of self.old) line.now) (progress_of self.old) line.now) }
         ensures full { self.old.stage ≡ Timed → OnErr result (vec_capacity self.old.entries ≤ vec_len self.old.entries) }
+        ensures refused { IfOk result (λ taken. taken ≡ false → IsUntaken (progress_of self.old) (progress_of self.new)) }
+        ensures lost { OnErr result (IsUntaken (progress_of self.old) (progress_of self.new)) }
     {
         match self.stage {
             Stage::Fresh => Ok(self.take_text(line, b"#EXTM3U", Stage::Tagged)),
@@ -114,7 +116,8 @@ impl Reading {
     }
 
     fn take_text(&mut self, line: &[u8], wanted: &[u8], next: Stage) -> bool
-        ensures { Tells result (expect line.now wanted.now (record (progress_of self.old) { stage = next })) (progress_of self.new) }
+        ensures taken { Tells result (expect line.now wanted.now (record (progress_of self.old) { stage = next })) (progress_of self.new) }
+        ensures refused { result ≡ false → progress_of self.new ≡ progress_of self.old }
     {
         if line != wanted {
             return false;
@@ -124,7 +127,8 @@ impl Reading {
     }
 
     fn take_target(&mut self, line: &[u8]) -> bool
-        ensures { Tells result (step_at Versioned (progress_of self.old) line.now) (progress_of self.new) }
+        ensures taken { Tells result (step_at Versioned (progress_of self.old) line.now) (progress_of self.new) }
+        ensures refused { result ≡ false → progress_of self.new ≡ progress_of self.old }
     {
         let Some(target) = read_tagged(line, b"#EXT-X-TARGETDURATION:", MOST_TARGET + 1) else {
             return false;
@@ -138,7 +142,8 @@ impl Reading {
     }
 
     fn take_sequence(&mut self, line: &[u8]) -> bool
-        ensures { Tells result (step_at Targeted (progress_of self.old) line.now) (progress_of self.new) }
+        ensures taken { Tells result (step_at Targeted (progress_of self.old) line.now) (progress_of self.new) }
+        ensures refused { result ≡ false → progress_of self.new ≡ progress_of self.old }
     {
         let Some(sequence) = read_tagged(line, b"#EXT-X-MEDIA-SEQUENCE:", NUMBERS) else {
             return false;
@@ -149,7 +154,8 @@ impl Reading {
     }
 
     fn take_discontinuity_sequence(&mut self, line: &[u8]) -> bool
-        ensures { Tells result (step_at Sequenced (progress_of self.old) line.now) (progress_of self.new) }
+        ensures taken { Tells result (step_at Sequenced (progress_of self.old) line.now) (progress_of self.new) }
+        ensures refused { result ≡ false → progress_of self.new ≡ progress_of self.old }
     {
         let Some(number) = read_tagged(line, b"#EXT-X-DISCONTINUITY-SEQUENCE:", DISCONTINUITIES)
         else {
@@ -166,6 +172,8 @@ impl Reading {
         ensures taken { IfOk result (λ taken. Tells taken (headed (progress_of self.old) line.now) (progress_of self.new)) }
         ensures scarce { OnErr result (may_want Headed (progress_of self.old) line.now ≡ true) }
         ensures kept { OnErr result (IsKept (headed (progress_of self.old) line.now) (progress_of self.old) line.now) }
+        ensures refused { IfOk result (λ taken. taken ≡ false → IsUntaken (progress_of self.old) (progress_of self.new)) }
+        ensures lost { OnErr result (IsUntaken (progress_of self.old) (progress_of self.new)) }
     {
         if line != b"#EXT-X-PLAYLIST-TYPE:EVENT".as_slice() {
             return self.take_first(line);
@@ -194,6 +202,8 @@ impl Reading {
         ensures taken { IfOk result (λ taken. Tells taken (begun (progress_of self.old) line.now) (progress_of self.new)) }
         ensures scarce { OnErr result (key_may_want (progress_of self.old) line.now ≡ true) }
         ensures kept { OnErr result (IsKept (begun (progress_of self.old) line.now) (progress_of self.old) line.now) }
+        ensures refused { IfOk result (λ taken. taken ≡ false → IsUntaken (progress_of self.old) (progress_of self.new)) }
+        ensures lost { OnErr result (IsUntaken (progress_of self.old) (progress_of self.new)) }
     {
         if line == b"#EXT-X-ENDLIST".as_slice() {
             if self.entries.is_empty() {
@@ -212,6 +222,8 @@ impl Reading {
         ensures taken { IfOk result (λ taken. Tells taken (entered (progress_of self.old) line.now) (progress_of self.new)) }
         ensures scarce { OnErr result (key_may_want (progress_of self.old) line.now ≡ true) }
         ensures kept { OnErr result (IsKept (entered (progress_of self.old) line.now) (progress_of self.old) line.now) }
+        ensures refused { IfOk result (λ taken. taken ≡ false → IsUntaken (progress_of self.old) (progress_of self.new)) }
+        ensures lost { OnErr result (IsUntaken (progress_of self.old) (progress_of self.new)) }
     {
         if line == b"#EXT-X-DISCONTINUITY".as_slice() {
             self.discontinuity = true;
@@ -226,6 +238,8 @@ impl Reading {
         ensures taken { IfOk result (λ taken. Tells taken (keyed_or_timed (progress_of self.old) line.now) (progress_of self.new)) }
         ensures scarce { OnErr result (key_may_want (progress_of self.old) line.now ≡ true) }
         ensures kept { OnErr result (IsKept (keyed_or_timed (progress_of self.old) line.now) (progress_of self.old) line.now) }
+        ensures refused { IfOk result (λ taken. taken ≡ false → IsUntaken (progress_of self.old) (progress_of self.new)) }
+        ensures lost { OnErr result (IsUntaken (progress_of self.old) (progress_of self.new)) }
     {
         if self.take_key(line)? {
             return Ok(true);
@@ -240,6 +254,7 @@ impl Reading {
         ensures scarce { OnErr result (key_may_want (progress_of self.old) line.now ≡ true) }
         ensures kept { OnErr result (IsKept (keyed (progress_of self.old) line.now) (progress_of self.old) line.now) }
         ensures taken { IfOk result (λ taken. Moves taken (keyed (progress_of self.old) line.now) (progress_of self.old) (progress_of self.new)) }
+        ensures lost { OnErr result (progress_of self.new ≡ progress_of self.old) }
     {
         if !line.starts_with(KEY_BEGIN.as_bytes()) {
             return Ok(false);
@@ -252,6 +267,7 @@ impl Reading {
         ensures scarce { OnErr result (awaits_first_key (progress_of self.old) ≡ true) }
         ensures kept { OnErr result (IsKept (keyed (progress_of self.old) line.now) (progress_of self.old) line.now) }
         ensures taken { IfOk result (λ taken. Moves taken (keyed (progress_of self.old) line.now) (progress_of self.old) (progress_of self.new)) }
+        ensures lost { OnErr result (progress_of self.new ≡ progress_of self.old) }
     {
         let Some(number) = self.next_number() else {
             return Ok(false);
@@ -276,6 +292,7 @@ impl Reading {
         requires number { number_left (progress_of self.old) ≡ Some number }
         ensures taken { IfOk result (λ taken. Moves taken (keyed (progress_of self.old) line.now) (progress_of self.old) (progress_of self.new)) }
         ensures kept { OnErr result ((keyed (progress_of self.old) line.now ≢ None) ⊎ HasEscapes line.now) }
+        ensures lost { OnErr result (progress_of self.new ≡ progress_of self.old) }
     {
         let alloc = *self.entries.allocator();
         let Some(name) = read_name(alloc, line)? else {
@@ -296,7 +313,8 @@ impl Reading {
 
     #[tactic(auto, unfolding(crate::specs::State::timed))]
     fn take_duration(&mut self, line: &[u8]) -> bool
-        ensures { Tells result (timed (progress_of self.old) line.now) (progress_of self.new) }
+        ensures taken { Tells result (timed (progress_of self.old) line.now) (progress_of self.new) }
+        ensures refused { result ≡ false → progress_of self.new ≡ progress_of self.old }
     {
         if self.name.is_none() {
             return false;
@@ -317,6 +335,8 @@ impl Reading {
         ensures scarce { OnErr result (may_want Timed (progress_of self.old) line.now ≡ true) }
         ensures kept { OnErr result (listed (progress_of self.old) line.now ≢ None) }
         ensures full { OnErr result (vec_capacity self.old.entries ≤ vec_len self.old.entries) }
+        ensures refused { IfOk result (λ taken. taken ≡ false → IsUntaken (progress_of self.old) (progress_of self.new)) }
+        ensures lost { OnErr result (IsUntaken (progress_of self.old) (progress_of self.new)) }
     {
         if !line.ends_with(SEGMENT_END.as_bytes()) {
             return Ok(false);
@@ -330,6 +350,8 @@ impl Reading {
         ensures scarce { OnErr result (has_number (progress_of self.old) ≡ true) }
         ensures kept { OnErr result (listed (progress_of self.old) line.now ≢ None) }
         ensures full { OnErr result (vec_capacity self.old.entries ≤ vec_len self.old.entries) }
+        ensures refused { IfOk result (λ taken. taken ≡ false → IsUntaken (progress_of self.old) (progress_of self.new)) }
+        ensures lost { OnErr result (IsUntaken (progress_of self.old) (progress_of self.new)) }
     {
         let Some(number) = self.next_number() else {
             return Ok(false);

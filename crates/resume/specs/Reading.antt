@@ -37,9 +37,15 @@ pub record ArePicked (p : Picks) (first : ℕ) (rows : List SegmentRow) : Type 0
 abbrev pub frames_between : List FrameRow → ℕ → ℕ → List FrameRow
 frames_between frames start end = take (end - start) (drop start frames)
 
+abbrev pub start_at : Picks → ℕ → ℕ
+start_at p place = slice_index_or p.starts place (length p.frames)
+
 abbrev pub frames_at : Picks → ℕ → List FrameRow
-frames_at p place =
-    frames_between p.frames (slice_index_or p.starts place (length p.frames)) (slice_index_or p.starts (place + 1) (length p.frames))
+frames_at p place = frames_between p.frames (start_at p place) (start_at p (place + 1))
+
+-- from one place to another lie no I-frames of a list: the second one is before the first, or behind the list's end
+abbrev pub IsOutside : List FrameRow → ℕ → ℕ → Type 0
+IsOutside frames start end = (end < start) ⊎ (length frames < end)
 
 -- The row of the first segment, as its entry, its file and the I-frames that were picked for it tell it: it has an I-frame, or
 -- it may be the first.

@@ -1,14 +1,14 @@
 //! The I-frames of an I-frame playlist. What is read here is trusted only once the whole text was written again.
 
-ghost use Rattle.std.specs.Prelude.{◌≡◌, ◌==◌, ◌++◌, ◌-◌, ◌<◌, ◌≤◌, ◌⊎◌, ◌^◌, List, ℕ, All, true, length, take, drop, slice_index_or};
-ghost use Rattle.std.specs.Prelude.{IfOk, IfSome, IsNone, IsSomeAnd, OnErr, OnOk};
+ghost use Rattle.std.specs.Prelude.{◌≡◌, ◌==◌, ◌++◌, ◌+◌, ◌-◌, ◌<◌, ◌≤◌, ◌⊎◌, ◌^◌, List, ℕ, All, true, length, take, drop, slice_index_or};
+ghost use Rattle.std.specs.Prelude.{IfOk, IfSome, IfNone, IsNone, IsSomeAnd, OnErr, OnOk};
 ghost use Rattle.std.specs.List.{before_first};
 ghost use Rattle.playlist_text.specs.Lines.{text_of};
 ghost use Rattle.media_reading.specs.MediaTexts.{IsLine};
 ghost use Rattle.resume.specs.Picking.{MayWantMemory, may_want, no_picks, pick_line, pick_lines, len_in, offset_in};
 ghost use Rattle.media_playlist.specs.Rows.{SegmentRow};
 ghost use Rattle.resume.specs.Picked.{picks_of};
-ghost use Rattle.resume.specs.Reading.{ArePicked, frames_at, frames_between};
+ghost use Rattle.resume.specs.Reading.{ArePicked, IsOutside, frames_at, frames_between, start_at};
 
 use ladder_items::FrameRow;
 use media_reading::{read_duration, read_tagged, split_line};
@@ -69,6 +69,7 @@ impl Picked {
         ensures ok { (first : ℕ) (rows : List SegmentRow) (d : SegmentRow) → ArePicked (picks_of self.now) first rows → place < length rows →
             IsSomeAnd result (λ frames. frames.now ≡ (slice_index_or rows place d).frames) }
         ensures picked { IfSome result (λ frames. frames.now ≡ frames_at (picks_of self.now) place) }
+        ensures none { IfNone result (IsOutside (picks_of self.now).frames (start_at (picks_of self.now) place) (start_at (picks_of self.now) (place + 1))) }
     {
         let count = self.frames.len();
         let start = number_at(&self.starts, place, count);
@@ -89,6 +90,7 @@ fn part(frames: &[FrameRow], start: usize, end: usize) -> Option<&[FrameRow]>
     ensures some { start ≤ end → end ≤ length frames.now → IsSomeAnd result (λ part. part.now ≡ take (end - start) (drop start frames.now)) }
     ensures none { (end < start) ⊎ (length frames.now < end) → IsNone result }
     ensures picked { IfSome result (λ part. part.now ≡ frames_between frames.now start end) }
+    ensures outside { IfNone result (IsOutside frames.now start end) }
 {
     if end < start || frames.len() < end {
         return None;
@@ -99,6 +101,10 @@ fn part(frames: &[FrameRow], start: usize, end: usize) -> Option<&[FrameRow]>
 /// Picks the I-frames out of a text.
 pub fn pick(alloc: Global, text: &str) -> Result<Picked, AllocError>
     ensures picked { IfOk result (λ picked. (lines : List (List ℕ)) → All IsLine lines → text.now ≡ text_of lines →
+        picks_of picked ≡ pick_lines no_picks lines) }
+
+    // Behind the last LF no line stands.
+    ensures begun { IfOk result (λ picked. (lines : List (List ℕ)) (rest : List ℕ) → All IsLine lines → IsLine rest → text.now ≡ text_of lines ++ rest →
         picks_of picked ≡ pick_lines no_picks lines) }
     ensures scarce { OnErr result (MayWantMemory text.now) }
 {

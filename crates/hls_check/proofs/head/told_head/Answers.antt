@@ -1,10 +1,11 @@
-use Rattle.std.proofs.Common.{◌≡◌, ◌≢◌, ℕ, List, ◌++◌, Option, Some, None, subst, refl, arith, get_or, sym, ap, ◌∙◌, rules}
+use Rattle.std.proofs.Common.{take, drop, ◌≡◌, ◌≢◌, ℕ, List, ◌++◌, Option, Some, None, subst, refl, arith, get_or, sym, ap, ◌∙◌, rules}
 use Rattle.hls_check.proofs.TheHead.{begins-long, begins-pmt, begins-sized, begins-told, the-head-made}
 use Rattle.std.specs.Option.{IsSomeAnd, is_some}
 use Rattle.std.proofs.lemmas.Result.{err_from_is_err_and}
 use Rattle.psi_tables.specs.Head.{head}
 use Rattle.hls_check.specs.Unpacking.{BeginsWithHead}
-use Rattle.hls_check.specs.Heads.{HasPackets, told_tables}
+use Rattle.hls_check.specs.Heads.{HasPackets, section_in, told_tables}
+use Rattle.std.specs.Prelude.{IfSome, IfNone}
 use Rattle.psi_tables.specs.ProgramMap.{pmt_fault}
 use Rattle.hls_check.proofs.head.told_head.Goals as goal
 
@@ -16,6 +17,11 @@ IsSomeAnd-at o x P is holds = subst (λ r. IsSomeAnd r P) is holds
 IsSomeAnd-none : {A : Type 0} (o : Option A) (P : A → Type 0) → ((x : A) → o ≢ Some x) → ¬ IsSomeAnd o P
 IsSomeAnd-none None P nothing holds = holds
 IsSomeAnd-none (Some x) P nothing holds = nothing x refl
+
+-- where nothing is, what is said of nothing holds
+IfNone-none : {A P : Type 0} (o : Option A) → ((x : A) → o ≢ Some x) → IfNone o P → P
+IfNone-none None nothing holds = holds
+IfNone-none (Some x) nothing holds = absurd (nothing x refl)
 
 pub returns-then-text-clause-found : goal.returns-then-text-clause-found
 returns-then-text-clause-found c = λ rest begins. omega (arith, c.if-text.true, begins-long c.args.text.now rest begins)
@@ -57,3 +63,29 @@ pub returns-in_err-made_head-clause-memory : goal.returns-in_err-made_head-claus
 returns-in_err-made_head-clause-memory c =
     let told = err_from_is_err_and c.from_residual-in_err-made_head.result c.from_residual-in_err-made_head.ensures.1 in
     rw told.1 (c.if-text.false, subst HasPackets c.split_at.ensures.back (c.in_ok-section.ensures.whole (ap is_some c.in-Some.is)))
+
+pub returns-clause-told : goal.returns-clause-told
+returns-clause-told c =
+    let section : c.in-Some.section.items ≡ section_in c.split_at.result.1.now = subst (λ o. IfSome o (λ bytes. bytes.items ≡ section_in c.split_at.result.1.now)) c.in-Some.is c.in_ok-section.ensures.section in
+    let good : pmt_fault c.deref.result.now ≡ None = search (rules, c.if-not-branch.false, c.in_ok-is_pmt.ensures.good) in
+    let back = c.split_at.ensures.back in
+    let is = section ∙ ap section_in back in (
+      ((c.if-text.false, subst HasPackets back (c.in_ok-section.ensures.whole (ap is_some c.in-Some.is))), sym (ap pmt_fault (c.deref.ensures.value ∙ is)) ∙ good),
+      c.in_ok-made_head.ensures.is
+          ∙ ap (λ x. head (told_tables c.split_at.result.0.now x) (get_or c.split_at.result.0.now 3 0) (get_or c.split_at.result.1.now 3 0)) (c.deref-2.ensures.value ∙ is)
+          ∙ ap (λ x. head (told_tables x (section_in (drop 188 c.args.text.now))) (get_or x 3 0) (get_or c.split_at.result.1.now 3 0)) c.split_at.ensures.front
+          ∙ ap (λ x. head (told_tables (take 188 c.args.text.now) (section_in (drop 188 c.args.text.now))) (get_or (take 188 c.args.text.now) 3 0) (get_or x 3 0)) back,
+    )
+
+pub returns-then-text-clause-none : goal.returns-then-text-clause-none
+returns-then-text-clause-none c holds = omega (arith, c.if-text.true, holds.0.0)
+
+pub returns-in_default-clause-none : goal.returns-in_default-clause-none
+returns-in_default-clause-none c holds =
+    IfNone-none _ c.in_default.not-Some c.in_ok-section.ensures.enough (subst HasPackets (sym c.split_at.ensures.back) holds.0.1)
+
+pub returns-then-not-branch-clause-none : goal.returns-then-not-branch-clause-none
+returns-then-not-branch-clause-none c holds =
+    let section : c.in-Some.section.items ≡ section_in c.split_at.result.1.now = subst (λ o. IfSome o (λ bytes. bytes.items ≡ section_in c.split_at.result.1.now)) c.in-Some.is c.in_ok-section.ensures.section in
+    let good : pmt_fault c.deref.result.now ≡ None = ap pmt_fault (c.deref.ensures.value ∙ (section ∙ ap section_in c.split_at.ensures.back)) ∙ holds.1 in
+    absurd (search (rules, c.if-not-branch.true, c.in_ok-is_pmt.ensures.good, good))

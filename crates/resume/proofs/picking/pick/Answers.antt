@@ -52,3 +52,10 @@ returns-in_err-take-clause-scarce c =
       whole = sym held.whole ∙ ap (λ x. text_of held.lines ++ x) parts.1;
       wants = subst (λ (p : Picks). may_want p c.in-Some.line.now ≡ true) held.picked c.in_err-take.ensures.scarce;
     })
+
+pub returns-clause-begun : goal.returns-clause-begun
+returns-clause-begun c = λ lines rest each behind is.
+    let held = c.line.invariant in
+    let open_end : IsLine c.line.rest.now = MatchOption-at_none _ _ c.in_default.is c.split_line.ensures in
+    let same = lines-same held.lines lines c.line.rest.now rest held.each each open_end behind (held.whole ∙ is) in
+    held.picked ∙ ap (pick_lines no_picks) same.0

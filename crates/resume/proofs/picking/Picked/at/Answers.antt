@@ -1,9 +1,9 @@
 use Rattle.std.proofs.Common.{◌≡◌, ℕ, suc, ◌+◌, ◌-◌, List, [], length, take, drop, get_or, refl, ap, subst, ◌∙◌, arith}
-use Rattle.std.specs.Prelude.{IfSome, IsSomeAnd}
+use Rattle.std.specs.Prelude.{IfSome, IfNone, IsSomeAnd}
 use Rattle.media_playlist.specs.declared.row.FrameRow.{FrameRow}
 use Rattle.media_playlist.specs.Sequences.{frames_of}
 use Rattle.resume.specs.Picked.{picks_of}
-use Rattle.resume.specs.Reading.{frames_at, frames_between}
+use Rattle.resume.specs.Reading.{IsOutside, frames_at, frames_between, start_at}
 use Rattle.resume.specs.Starts.{starts_from}
 use Rattle.resume.proofs.Between.{between}
 use Rattle.resume.proofs.picking.Picked.at.Goals as goal
@@ -46,3 +46,19 @@ returns-clause-picked c =
     ap (λ (xs : List FrameRow). frames_between xs s e) c.deref-3.ensures.value ∙ ap (λ (k : ℕ). frames_between p.frames k e) start
     ∙ ap (λ (k : ℕ). frames_between p.frames (get_or p.starts i (length p.frames)) k) end in
     subst (λ (zs : List FrameRow). IfSome c.part.result (λ part. part.now ≡ zs)) same c.part.ensures.picked
+
+pub returns-clause-none : goal.returns-clause-none
+returns-clause-none c =
+    let p = picks_of c.args.self.now in
+    let i = c.args.place in
+    let total = c.len-count.result in
+    let s = c.number_at-start.result in
+    let e = c.number_at-end.result in
+    let count : total ≡ length p.frames = omega (arith, c.len-count.ensures) in
+    let start : s ≡ start_at p i =
+    c.number_at-start.ensures ∙ ap (λ (xs : List ℕ). get_or xs i total) c.deref.ensures.value ∙ ap (λ (k : ℕ). get_or p.starts i k) count in
+    let end : e ≡ start_at p (i + 1) =
+    c.number_at-end.ensures ∙ ap (λ (xs : List ℕ). get_or xs (i + 1) total) c.deref-2.ensures.value ∙ ap (λ (k : ℕ). get_or p.starts (i + 1) k) count in
+    subst (λ (frames : List FrameRow). IfNone c.part.result (IsOutside frames (start_at p i) (start_at p (i + 1)))) c.deref-3.ensures.value
+    (subst (λ (k : ℕ). IfNone c.part.result (IsOutside c.deref-3.result.now k (start_at p (i + 1)))) start
+    (subst (λ (k : ℕ). IfNone c.part.result (IsOutside c.deref-3.result.now s k)) end c.part.ensures.outside))
