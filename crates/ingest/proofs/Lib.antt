@@ -1,6 +1,7 @@
 pub mod Fronts
 pub mod Growing
 pub mod Taking
+pub mod Parting
 pub mod Splitting
 pub mod Lengths
 pub mod HeadBytes

@@ -6,7 +6,7 @@ use Rattle.cutter.specs.Plans.{SegmentPlan}
 use Rattle.ingest.specs.declared.lane.Stop.{Stop}
 use Rattle.ingest.specs.declared.lane.Stop.TheVariants.{Good, Cut, Read}
 use Rattle.ingest.specs.declared.lane.Lane.{Lane}
-use Rattle.ingest.specs.Streams.{Taken, Stays, as_cut, untaken, plans_of, fault_of, closed_of}
+use Rattle.ingest.specs.Streams.{Taken, GrowsPart, Stays, as_cut, untaken, plans_of, fault_of, closed_of}
 use Rattle.item_io.specs.Views.{SourceView}
 use Rattle.ingest.specs.Inputs.{SourceSays, IsRead}
 
@@ -78,6 +78,12 @@ pub record IsTurned {X : Type 0} (input : SourceView X) (source source_now : X) 
   pub takes : Takes old new (old.intake.stream ++ piece)
   pub says : SourceSays input old.intake.rendition old.intake.settings (old.intake.stream ++ piece) new.stop source source_now
   pub counted : new.stop ≡ None → input.reads source_now ≡ input.reads source + 1
+
+-- Memory ran out: an intake has ended, and its spool holds the first of the plans that come of its bytes and of some more.
+pub record IsSpoiled (old new : Taken) : Type 0 where
+  pub kept : new ≡ record old { stream = new.stream; ended = true; filled = new.filled }
+  pub more : List ℕ
+  pub part : GrowsPart (closed_of old.rendition old.settings old.stream) (plans_of old.rendition old.settings (old.stream ++ more)) old.filled new.filled
 
 -- memory was wanting in the turn of some rendition: its intake has ended, though it hasn't stopped
 pub record HasBroken (lanes : List Lane) : Type 0 where

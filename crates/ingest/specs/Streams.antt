@@ -60,6 +60,13 @@ pub record GrowsAlike (r : ℕ) (s : CutSettings) (before after old new : List S
   pub given : new ≡ old ++ more
   pub order : AreNext r s (length before) more
 
+-- `new` goes on from `old` by the first of the plans by which `after` goes on from `before`
+pub record GrowsPart (before after old new : List SegmentPlan) : Type 0 where
+  pub more : List SegmentPlan
+  pub rest : List SegmentPlan
+  pub grown : after ≡ before ++ (more ++ rest)
+  pub given : new ≡ old ++ more
+
 -- a stream of these packets has this fault, and the plans that come before it were closed in the spool
 pub record Stops (pushed : Spooling) (whole : List (List ℕ)) (told : CutFault) (filled : List SegmentPlan) : Type 0 where
   pub fault : fault pushed.rendition pushed.settings whole ≡ Some told

@@ -5,7 +5,7 @@ ghost use Rattle.cutter.specs.declared.settings.CutSettings.{CutSettings};
 ghost use Rattle.cutter.specs.declared.fault.CutFault.TheVariants.{NoMemory};
 ghost use Rattle.cutter.specs.Cuts.{closed};
 ghost use Rattle.cutter.specs.Settings.{IsAllowed};
-ghost use Rattle.ingest.specs.Streams.{untaken, plans_of, fault_of, closed_of, GrowsAlike, Stops, LacksMemoryAtPacket, Faults, Stays};
+ghost use Rattle.ingest.specs.Streams.{untaken, plans_of, fault_of, closed_of, GrowsAlike, GrowsPart, Stops, LacksMemoryAtPacket, Faults, Stays};
 ghost use Rattle.ingest.specs.Streams.{HasNoneOpen, LacksMemory, LacksMemoryAtEnd};
 
 use cutter::{CutFault, CutSettings, Spool, SpoolCutter};
@@ -73,6 +73,12 @@ impl Intake {
             ⊎ (Faults self.old (self.old.stream ++ piece.now) e self.new.filled
             × Stays self.old.rendition self.old.settings (self.old.stream ++ piece.now) e)) }
         ensures scarce { IfErr result (λ e. e ≡ NoMemory → LacksMemory self.old piece.now) }
+
+        // Before it, only plans that the bytes close were closed, the first ones first.
+        ensures part { OnErr result (GrowsPart
+            (closed_of self.old.rendition self.old.settings self.old.stream)
+            (closed_of self.old.rendition self.old.settings (self.old.stream ++ piece.now))
+            self.old.filled self.new.filled) }
         ensures err { OnErr result (self.new ≡ record self.old { stream = self.new.stream; ended = true; filled = self.new.filled }) }
     {
         decided_begin();
@@ -97,6 +103,10 @@ impl Intake {
         ensures fault { IfErr result (λ e. (e ≡ NoMemory)
             ⊎ Faults self.old self.old.stream e self.new.filled) }
         ensures scarce { IfErr result (λ e. e ≡ NoMemory → LacksMemoryAtEnd self.old) }
+        ensures part { OnErr result (GrowsPart
+            (closed_of self.old.rendition self.old.settings self.old.stream)
+            (plans_of self.old.rendition self.old.settings self.old.stream)
+            self.old.filled self.new.filled) }
         ensures ended { self.new ≡ record self.old { stream = self.new.stream; ended = true; filled = self.new.filled } }
     {
         decided_begin();
@@ -168,6 +178,10 @@ fn push_both(
     ensures fault { IfErr result (λ e. (e ≡ NoMemory) ⊎ ((more : List (List ℕ)) →
         Stops cutter.old ((cutter.old.list ++ (front.now ++ back.now)) ++ more) e cutter.new.filled)) }
     ensures scarce { IfErr result (λ e. e ≡ NoMemory → LacksMemoryAtPacket cutter.old.rendition cutter.old.settings cutter.old.list (front.now ++ back.now)) }
+    ensures part { OnErr result (GrowsPart
+        (closed cutter.old.rendition cutter.old.settings cutter.old.list)
+        (closed cutter.old.rendition cutter.old.settings (cutter.old.list ++ (front.now ++ back.now)))
+        cutter.old.filled cutter.new.filled) }
     ensures ended { OnErr result (cutter.new.ended ≡ true) }
     ensures kept { (cutter.new.rendition ≡ cutter.old.rendition) × (cutter.new.settings ≡ cutter.old.settings) × (cutter.new.turned ≡ cutter.old.turned) }
 {
@@ -188,6 +202,10 @@ fn push_all(cutter: &mut SpoolCutter, packets: &[[u8; 188]]) -> Result<(), CutFa
     ensures fault { IfErr result (λ e. (e ≡ NoMemory) ⊎ ((more : List (List ℕ)) →
         Stops cutter.old ((cutter.old.list ++ packets.now) ++ more) e cutter.new.filled)) }
     ensures scarce { IfErr result (λ e. e ≡ NoMemory → LacksMemoryAtPacket cutter.old.rendition cutter.old.settings cutter.old.list packets.now) }
+    ensures part { OnErr result (GrowsPart
+        (closed cutter.old.rendition cutter.old.settings cutter.old.list)
+        (closed cutter.old.rendition cutter.old.settings (cutter.old.list ++ packets.now))
+        cutter.old.filled cutter.new.filled) }
     ensures ended { OnErr result (cutter.new.ended ≡ true) }
     ensures kept { (cutter.new.rendition ≡ cutter.old.rendition) × (cutter.new.settings ≡ cutter.old.settings) × (cutter.new.turned ≡ cutter.old.turned) }
 {

@@ -6,7 +6,7 @@ ghost use Rattle.cutter.specs.declared.fault.CutFault.TheVariants.{Ended};
 ghost use Rattle.ingest.specs.Inputs.{IsCutOff};
 ghost use Rattle.ingest.specs.Streams.{LacksMemory, LacksMemoryAtEnd, fault_of};
 ghost use Rattle.ingest.specs.declared.lane.Stop.TheVariants.{Read};
-ghost use Rattle.ingest.specs.Lanes.{is_good, IsFirst, IsOfPiece, IsOfEnd, Takes, IsTurned};
+ghost use Rattle.ingest.specs.Lanes.{is_good, IsFirst, IsOfPiece, IsOfEnd, IsSpoiled, Takes, IsTurned};
 ghost use Rattle.item_io.specs.declared.limits.TheConstants.{PIECE};
 
 use crate::fault::{StreamFault, of_stream};
@@ -68,11 +68,13 @@ impl Lane {
         ensures unread { OnOk result (self.new.stop ≡ Some Read → self.new.intake ≡ record self.old.intake { ended = true }) }
         ensures err { OnErr result (IsCutOff S.input source.old source.new self.old.intake) }
         ensures broken { OnErr result (self.new.intake.ended ≡ true) }
+        ensures spoiled { OnErr result (IsSpoiled self.old.intake self.new.intake) }
         ensures no_read_failed { OnErr result (S.input.failures source.new ≡ S.input.failures source.old) }
         ensures stop { OnErr result (self.new.stop ≡ self.old.stop) }
         ensures ended { OnOk result (self.new.stop ≢ None → self.new.intake.ended ≡ true) }
         ensures left { OnOk result (self.new.stop ≢ None → S.input.is_left source.new ≡ true) }
         ensures unleft { OnOk result (self.new.stop ≡ None → S.input.is_left source.new ≡ false) }
+        ensures unleft_at_err { OnErr result (S.input.is_left source.new ≡ false) }
     {
         self.read(source, buffer)?;
         if self.stop.is_some() {
@@ -93,6 +95,7 @@ impl Lane {
         ensures unread { OnOk result (self.new.stop ≡ Some Read → self.new.intake ≡ record self.old.intake { ended = true }) }
         ensures err { OnErr result (IsCutOff S.input source.old source.new self.old.intake) }
         ensures broken { OnErr result (self.new.intake.ended ≡ true) }
+        ensures spoiled { OnErr result (IsSpoiled self.old.intake self.new.intake) }
         ensures no_read_failed { OnErr result (S.input.failures source.new ≡ S.input.failures source.old) }
         ensures stop { OnErr result (self.new.stop ≡ self.old.stop) }
         ensures ended { OnOk result (self.new.stop ≢ None → self.new.intake.ended ≡ true) }
@@ -122,6 +125,7 @@ impl Lane {
         ensures stays { OnOk result (IsOfPiece self.new.stop self.old.intake.rendition self.old.intake.settings (self.old.intake.stream ++ piece.now)) }
         ensures stop { OnErr result (self.new.stop ≡ self.old.stop) }
         ensures broken { OnErr result (self.new.intake.ended ≡ true) }
+        ensures spoiled { OnErr result (IsSpoiled self.old.intake self.new.intake) }
         ensures scarce { OnErr result (LacksMemory self.old.intake piece.now) }
         ensures ended { OnOk result (self.new.stop ≢ None → self.new.intake.ended ≡ true) }
     {
@@ -141,6 +145,7 @@ impl Lane {
         ensures ends { OnOk result (IsOfEnd self.new.stop) }
         ensures stop { OnErr result (self.new.stop ≡ self.old.stop) }
         ensures broken { OnErr result (self.new.intake.ended ≡ true) }
+        ensures spoiled { OnErr result (IsSpoiled self.old.intake self.new.intake) }
         ensures scarce { OnErr result (LacksMemoryAtEnd self.old.intake) }
         ensures ended { OnOk result (self.new.stop ≢ None → self.new.intake.ended ≡ true) }
     {

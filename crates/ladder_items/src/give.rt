@@ -9,6 +9,7 @@ ghost use Rattle.ladder_items.specs.Items.{Part, shown_all};
 ghost use Rattle.ladder_items.specs.Weave.{Row, End, after, after_all, block, blocks};
 ghost use Rattle.ladder_items.specs.Giving.{IsGoing, IsNext, AreNextPlans, rows, block_of};
 ghost use Rattle.ladder_items.specs.Putting.{PutAll, PutFewer, PutSome, SaysFailures};
+ghost use Rattle.ladder_items.specs.Leaving.{LeavesRow, LeavesRows, TakesNoRow};
 
 use crate::fault::PackFault;
 use crate::playlists::Playlists;
@@ -39,6 +40,8 @@ pub fn give_segments<O: Outlet>(
         PutSome O.output outlet.old outlet.new (blocks settings.now parts (rows r spool.now))) }
     ensures left { OnErr result ((parts : List Part) → AreNextPlans settings.now r parts playlists.old.items spool.now →
         PutFewer O.output outlet.old outlet.new (blocks settings.now parts (rows r spool.now))) }
+    ensures stopped { OnErr result ((parts : List Part) → AreNextPlans settings.now r parts playlists.old.items spool.now →
+        LeavesRows O.output outlet.old outlet.new settings.now r parts spool.now playlists.new.items) }
     ensures failures { OnOk result (O.output.failures outlet.new ≡ O.output.failures outlet.old) }
     ensures fault { IfErr result (λ fault. SaysFailures fault (O.output.failures outlet.old) (O.output.failures outlet.new)) }
     ensures none { spool.now ≡ [] → IsOk result }
@@ -95,6 +98,8 @@ fn give_segment<O: Outlet>(
         PutSome O.output outlet.old outlet.new (block settings.now parts (Row r (lent plan.entry)))) }
     ensures left { OnErr result ((parts : List Part) → IsNext settings.now r parts playlists.old.items (lent plan.entry) →
         PutFewer O.output outlet.old outlet.new (block settings.now parts (Row r (lent plan.entry)))) }
+    ensures stopped { OnErr result ((parts : List Part) → IsNext settings.now r parts playlists.old.items (lent plan.entry) →
+        LeavesRow O.output outlet.old outlet.new [] settings.now r parts (lent plan.entry) playlists.new.items) }
     ensures failures { OnOk result (O.output.failures outlet.new ≡ O.output.failures outlet.old) }
     ensures fault { IfErr result (λ fault. SaysFailures fault (O.output.failures outlet.old) (O.output.failures outlet.new)) }
 {
@@ -137,6 +142,8 @@ pub fn give_sealed<O: Outlet>(
         PutSome O.output outlet.old outlet.new (block settings.now parts (Row r sealed.entry.plan))) }
     ensures left { OnErr result ((parts : List Part) → IsNext settings.now r parts playlists.old.items sealed.entry.plan →
         PutFewer O.output outlet.old outlet.new (block settings.now parts (Row r sealed.entry.plan))) }
+    ensures stopped { OnErr result ((parts : List Part) → IsNext settings.now r parts playlists.old.items sealed.entry.plan →
+        LeavesRow O.output outlet.old outlet.new [] settings.now r parts sealed.entry.plan playlists.new.items) }
     ensures failures { OnOk result (O.output.failures outlet.new ≡ O.output.failures outlet.old) }
     ensures fault { IfErr result (λ fault. SaysFailures fault (O.output.failures outlet.old) (O.output.failures outlet.new)) }
 {
@@ -185,6 +192,7 @@ fn add_row(
     requires sealed { sealed.now ≡ sealed_segment (rendition_at settings.now r).keys sealed.now.plan }
     ensures shown { OnOk result ((parts : List Part) → IsNext settings.now r parts playlists.old.items sealed.now.plan →
         playlists.new.items ≡ shown_all settings.now (after parts (Row r sealed.now.plan))) }
+    ensures stopped { OnErr result (TakesNoRow r playlists.old.items playlists.new.items) }
     ensures fault { IfErr result (λ fault. fault ≡ NoMemory) }
 {
     cutter::frames_share_the_time();

@@ -1,4 +1,5 @@
 pub mod Dues
+pub mod Leaving
 pub mod AtOnce
 pub mod Answering
 pub mod Stepping

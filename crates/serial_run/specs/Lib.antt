@@ -1,3 +1,4 @@
 pub mod Answers
 pub mod Dues
+pub mod Leaving
 pub mod OneThread

@@ -18,6 +18,7 @@ use Rattle.ladder_items.specs.Lanes.{HasGiven}
 use Rattle.ladder_items.specs.Packed.{IsCutShort}
 use Rattle.item_io.specs.declared.limits.TheConstants.{PIECE}
 use Rattle.serial_run.specs.Dues.{due}
+use Rattle.serial_run.specs.Leaving.{AreLeftAtStops, IsLeftAtStop}
 
 -- A run that was stopped in a turn of rendition r: before that turn each rendition had given all that its bytes close, or
 -- had stopped, and in the turn one read was made, of r alone.
@@ -71,9 +72,12 @@ pub record IsCutAtOnce {X Y : Type 0} (run : Run X Y) (ladder : Ladder) : Type 0
   pub why : StopsFor run ladder in_turn at_once.earlier cut.streams at_once.piece.0
   pub unfailed : (a b : X) → slice_get run.before in_turn ≡ Some a → slice_get run.now in_turn ≡ Some b → run.input.failures b ≡ run.input.failures a
 
--- Why a turn of rendition r stops a run: what its read brought may want memory, or something was due behind it.
+-- Why a turn of rendition r stops a run: what its read brought may want memory, or something was due behind it. Its source is left
+-- only where the rendition stopped.
 abbrev pub StopsIn : {X : Type 0} → SourceView X → ℕ → X → X → Lane → Type 0
-StopsIn input r old new lane = IsCutOff input old new lane.intake ⊎ ((turned : Lane) × IsTurned input old new lane turned × (due r turned ≢ []))
+StopsIn input r old new lane =
+    (IsCutOff input old new lane.intake × (input.is_left new ≡ false))
+    ⊎ ((turned : Lane) × IsTurned input old new lane turned × IsLeftAtStop input turned.stop old new × (due r turned ≢ []))
 
 -- A run was stopped in a turn of one rendition: until then all had their turns in order, round by round, and nothing that was due was
 -- left; no other was read since, and in that turn memory may have been wanted, or something was due.
@@ -86,6 +90,7 @@ pub record StopsInOrder {X Y : Type 0} (run : Run X Y) (ladder : Ladder) : Type 
   pub lanes : List Lane
   pub shown : List Shown
   pub due : NothingDue (run_of run.input run.out run.most_reads run.before earlier run.outlet put) ladder (turns_of rounds in_turn) lanes shown
+  pub left : AreLeftAtStops run.input run.before earlier lanes
   pub others : (k : ℕ) → (k ≡ in_turn → ⊥) → slice_get run.now k ≡ slice_get earlier k
   pub old : X
   pub old_there : slice_get earlier in_turn ≡ Some old

@@ -7,6 +7,7 @@ ghost use Rattle.ladder_items.specs.Weave.{after_all, blocks};
 ghost use Rattle.ladder_items.specs.Giving.{AreNextPlans, rows};
 ghost use Rattle.ladder_items.specs.Putting.{PutAll, PutFewer, PutSome, SaysFailures};
 ghost use Rattle.serial_run.specs.Dues.{due};
+ghost use Rattle.serial_run.specs.Leaving.{LeavesClosed, LeavesDue, turned_out};
 
 use cutter::Spool;
 use ingest::{Intake, Lane};
@@ -46,8 +47,12 @@ pub fn give_due<O: Outlet>(
     ensures left { OnErr result ((parts : List Part) →
         AreNextPlans rendition.entry.settings.now rendition.entry.number parts playlists.old.items lane.old.intake.filled →
         PutFewer O.output outlet.old outlet.new (blocks rendition.entry.settings.now parts (due rendition.entry.number lane.old))) }
-    ensures stop { OnOk result (lane.new.stop ≡ lane.old.stop) }
-    ensures intake { OnOk result (lane.new.intake ≡ record lane.old.intake { turned = lane.old.intake.turned ++ lane.old.intake.filled; filled = [] }) }
+    ensures stopped { OnErr result ((parts : List Part) →
+        AreNextPlans rendition.entry.settings.now rendition.entry.number parts playlists.old.items lane.old.intake.filled →
+        LeavesDue O.output outlet.old outlet.new rendition.entry.settings.now rendition.entry.number parts
+        lane.old lane.new playlists.old.items playlists.new.items) }
+    ensures stop { lane.new.stop ≡ lane.old.stop }
+    ensures intake { OnOk result (lane.new.intake ≡ turned_out lane.old.intake) }
     ensures failures { OnOk result (O.output.failures outlet.new ≡ O.output.failures outlet.old) }
     ensures fault { IfErr result (λ fault. SaysFailures fault (O.output.failures outlet.old) (O.output.failures outlet.new)) }
 
@@ -84,7 +89,11 @@ fn give_closed<O: Outlet>(
     ensures left { OnErr result ((parts : List Part) →
         AreNextPlans rendition.entry.settings.now rendition.entry.number parts playlists.old.items intake.old.filled →
         PutFewer O.output outlet.old outlet.new (blocks rendition.entry.settings.now parts (rows rendition.entry.number intake.old.filled))) }
-    ensures intake { OnOk result (intake.new ≡ record intake.old { turned = intake.old.turned ++ intake.old.filled; filled = [] }) }
+    ensures stopped { OnErr result ((parts : List Part) →
+        AreNextPlans rendition.entry.settings.now rendition.entry.number parts playlists.old.items intake.old.filled →
+        LeavesClosed O.output outlet.old outlet.new rendition.entry.settings.now rendition.entry.number parts
+        intake.old intake.new playlists.old.items playlists.new.items) }
+    ensures intake { OnOk result (intake.new ≡ turned_out intake.old) }
     ensures failures { OnOk result (O.output.failures outlet.new ≡ O.output.failures outlet.old) }
     ensures fault { IfErr result (λ fault. SaysFailures fault (O.output.failures outlet.old) (O.output.failures outlet.new)) }
     ensures none { intake.old.filled ≡ [] → IsOk result }
@@ -101,7 +110,11 @@ fn give_closed<O: Outlet>(
 /// Turns out the spool of an intake, against the spare one.
 fn turn_out(alloc: Global, intake: &mut Intake, spare: &mut Spool) -> Result<(), AllocError>
     ensures full { OnOk result (spare.new ≡ intake.old.filled) }
-    ensures turned { OnOk result (intake.new ≡ record intake.old { turned = intake.old.turned ++ intake.old.filled; filled = [] }) }
+    ensures turned { OnOk result (intake.new ≡ turned_out intake.old) }
+
+    // For want of memory the intake goes on as it was.
+    ensures kept { OnErr result (intake.new ≡ intake.old) }
+    ensures spare { OnErr result (spare.new ≡ []) }
     ensures ended { intake.old.ended ≡ true → IsOk result }
     ensures none { intake.old.ended ≡ false → HasNoneOpen intake.old → IsOk result }
 {

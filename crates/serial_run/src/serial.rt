@@ -1,4 +1,4 @@
-ghost use Rattle.std.specs.Prelude.{◌≡◌, ◌≢◌, ◌<◌, ◌≤◌, ◌^◌, ◌⊎◌, ℕ, [], Some, None, All, false, length, slice_get, IfOk, IfErr, OnOk, OnErr};
+ghost use Rattle.std.specs.Prelude.{◌≡◌, ◌≢◌, ◌<◌, ◌≤◌, ◌^◌, ◌⊎◌, ℕ, [], Some, None, All, true, false, length, slice_get, IfOk, IfErr, OnOk, OnErr};
 ghost use Rattle.ladder_items.specs.declared.fault.PackFault.TheVariants.{Settings as SettingsFault, Outlet as OutletFault, NoMemory, Held};
 ghost use Rattle.ingest.specs.declared.lane.Lane.{Lane};
 ghost use Rattle.ladder_items.specs.Ladder.{Ladder, IsAllowed};
@@ -7,6 +7,7 @@ ghost use Rattle.ladder_items.specs.Putting.{PutAll, SaysFailures};
 ghost use Rattle.ladder_items.specs.World.{HaveRoom, NothingDue, turns_of};
 ghost use Rattle.ladder_items.specs.Packed.{IsPacked, IsAlone, FaultSays};
 ghost use Rattle.serial_run.specs.Answers.{IsAnswer, IsAnswered};
+ghost use Rattle.serial_run.specs.Leaving.{AreLeftAtStops};
 ghost use Rattle.serial_run.specs.OneThread.{IsCutAtOnce, StopsInOrder};
 
 use crate::due::{RenditionAt, give_due};
@@ -51,6 +52,7 @@ pub fn pack_serial<S: Source, O: Outlet>(
         IsCutAtOnce (run_of S.input O.output READS sources.old.items sources.new.items outlet.old outlet.new) settings.now) }
     ensures never_held { IfErr result (λ fault. (r n : ℕ) → fault ≢ Held r n) }
     ensures alone { IfOk result IsAlone }
+    ensures left { OnOk result (All (λ source. S.input.is_left source ≡ true) sources.new.items) }
     ensures allowed { OnOk result (IsAllowed settings.now × (length sources.old.items ≡ length settings.now.renditions)) }
     ensures breach { IfErr result (λ fault. ((IsAllowed settings.now × (length sources.old.items ≡ length settings.now.renditions)) → ⊥) →
         (fault ≡ SettingsFault) × (sources.new.items ≡ sources.old.items) × PutAll O.output outlet.old outlet.new []) }
@@ -80,6 +82,7 @@ pub fn pack_serial_reads<S: Source, O: Outlet>(
         IsCutAtOnce (run_of S.input O.output reads sources.old.items sources.new.items outlet.old outlet.new) settings.now) }
     ensures never_held { IfErr result (λ fault. (r n : ℕ) → fault ≢ Held r n) }
     ensures alone { IfOk result IsAlone }
+    ensures left { OnOk result (All (λ source. S.input.is_left source ≡ true) sources.new.items) }
     ensures allowed { OnOk result (IsAllowed settings.now × (length sources.old.items ≡ length settings.now.renditions)) }
     ensures breach { IfErr result (λ fault. ((IsAllowed settings.now × (length sources.old.items ≡ length settings.now.renditions)) → ⊥) →
         (fault ≡ SettingsFault) × (sources.new.items ≡ sources.old.items) × PutAll O.output outlet.old outlet.new []) }
@@ -123,10 +126,12 @@ fn turns<S: Source, O: Outlet>(
     requires room { HaveRoom S.input reads sources.old.items }
     requires start { NothingDue (run_of S.input O.output reads sources.old.items sources.old.items outlet.old outlet.old) settings.now
         (turns_of 0 0) renditions.old.lanes.items renditions.old.playlists.items }
+    requires going { (k : ℕ) (lane : Lane) → slice_get renditions.old.lanes.items k ≡ Some lane → lane.stop ≡ None }
     ensures ok { OnOk result ((rounds : ℕ) × (rounds ≤ reads) ×
         NothingDue (run_of S.input O.output reads sources.old.items sources.new.items outlet.old outlet.new) settings.now
         (turns_of rounds 0) renditions.new.lanes.items renditions.new.playlists.items
         × ((k : ℕ) (lane : Lane) → slice_get renditions.new.lanes.items k ≡ Some lane → lane.stop ≡ None → rounds ≡ reads)) }
+    ensures left { OnOk result (AreLeftAtStops S.input sources.old.items sources.new.items renditions.new.lanes.items) }
     ensures err { OnErr result (IsCutAtOnce (run_of S.input O.output reads sources.old.items sources.new.items outlet.old outlet.new) settings.now) }
     ensures order { OnErr result (StopsInOrder (run_of S.input O.output reads sources.old.items sources.new.items outlet.old outlet.new) settings.now) }
     ensures failures { OnOk result (O.output.failures outlet.new ≡ O.output.failures outlet.old) }

@@ -1,5 +1,6 @@
-use Rattle.std.proofs.Common.{◌≡◌, ◌∙◌, ◌+◌, ◌<◌, ap, arith, rules, length}
+use Rattle.std.proofs.Common.{inl, refl, ◌≡◌, ◌∙◌, ◌+◌, ◌<◌, ap, arith, rules, length}
 use Rattle.std.specs.Vec.{vec_len}
+use Rattle.std.proofs.lemmas.Result.{err_from_is_err_and}
 use Rattle.segment_job.specs.Rotation.{KeyRotation, number_of}
 use Rattle.segment_job.specs.Segments.{sealed_segment}
 use Rattle.ladder_items.specs.Ladder.{rendition_at, no_rendition}
@@ -7,6 +8,7 @@ use Rattle.ladder_items.specs.Shown.{Shown, known}
 use Rattle.ladder_items.specs.Rows.{row_of}
 use Rattle.ladder_items.specs.Items.{count, part_at, shown_of}
 use Rattle.ladder_items.proofs.RowFacts.{short-ticks, next-row}
+use Rattle.ladder_items.proofs.Leaving.{ends-here}
 use Rattle.ladder_items.proofs.Nexts.{here, here-long, known-long, shown-next}
 use Rattle.ladder_items.proofs.give.add_row.Goals as goal
 
@@ -57,3 +59,13 @@ pub returns-clause-shown : goal.returns-clause-shown
 returns-clause-shown c parts next =
     let row_is = c.in_ok-row.ensures.row ∙ (ap (row_of c.keys_of-keys.result.now) c.requires.sealed ∙ ap (λ (k : KeyRotation). row_of k (sealed_segment (rendition_at c.args.settings.now c.args.r).keys c.args.sealed.now.plan)) c.keys_of-keys.ensures) in
     shown-next c.args.settings.now c.args.r parts c.args.playlists.now.items c.args.sealed.now.plan c.index_mut.result.now c.push.new.self c.in_ok-row.row next c.index_mut.ensures.value c.in_ok-push.ensures.pushed row_is
+
+pub returns-in_err-row-clause-stopped : goal.returns-in_err-row-clause-stopped
+returns-in_err-row-clause-stopped c =
+    let told = err_from_is_err_and c.from_residual.result c.from_residual.ensures.1 in
+    rw told.1 (inl refl)
+
+pub returns-in_err-push-clause-stopped : goal.returns-in_err-push-clause-stopped
+returns-in_err-push-clause-stopped c =
+    let told = err_from_is_err_and c.from_residual-in_err-push.result c.from_residual-in_err-push.ensures.1 in
+    rw told.1 (ends-here c.args.settings.now c.args.r c.requires.next.0 c.args.playlists.now.items c.index_mut.result.now c.push.new.self c.requires.next.1.goes_on c.index_mut.ensures.value c.in_err-push.ensures.err)

@@ -1,7 +1,8 @@
-use Rattle.std.proofs.Common.{◌∙◌, arith, rules}
+use Rattle.std.proofs.Common.{inl, inr, ◌∙◌, arith, rules}
 use Rattle.std.proofs.lemmas.Result.{err_from_is_err_and}
 use Rattle.ladder_items.specs.Weave.{after_all}
 use Rattle.ladder_items.specs.Giving.{rows}
+use Rattle.ladder_items.proofs.Leaving.{part-of}
 use Rattle.ladder_items.proofs.Blocks.{shown-each}
 use Rattle.serial_run.proofs.Dues.{going-on, gave-rows, gave-end, cut-rows, cut-end, left-rows, left-end}
 use Rattle.serial_run.proofs.due.give_due.Goals as goal
@@ -55,3 +56,22 @@ returns-in_err-give_end-clause-left g c =
     let now = c.in_ok-give_closed.ensures.ok parts next in
     let h = going-on c.args.rendition.settings.now c.args.rendition.number parts c.args.playlists.now.items c.deref.result.now ps next.goes_on (c.deref.ensures.value ∙ now.1) in
     left-end _ c.args.rendition.settings.now c.args.rendition.number parts _ _ _ c.args.lane.now (search rules) now.0 (c.in_err-give_end.ensures.left (after_all parts (rows c.args.rendition.number ps)) h))
+
+pub returns-in_err-give_closed-clause-stopped : goal.returns-in_err-give_closed-clause-stopped
+returns-in_err-give_closed-clause-stopped g c =
+    let told = err_from_is_err_and c.from_residual.result c.from_residual.ensures.1 in
+    rw told.1 (λ parts next. inl (c.in_err-give_closed.ensures.stopped parts next))
+
+pub returns-in_err-give_end-clause-stopped : goal.returns-in_err-give_end-clause-stopped
+returns-in_err-give_end-clause-stopped g c =
+    let told = err_from_is_err_and c.from_residual-in_err-give_end.result c.from_residual-in_err-give_end.ensures.1 in
+    let ps = c.args.lane.now.intake.filled in
+    rw told.1 (λ parts next.
+    let now = c.in_ok-give_closed.ensures.ok parts next in
+    let h = going-on c.args.rendition.settings.now c.args.rendition.number parts c.args.playlists.now.items c.deref.result.now ps next.goes_on (c.deref.ensures.value ∙ now.1) in
+    inr (record {
+      good = search rules;
+      intake = c.in_ok-give_closed.ensures.intake;
+      shown = now.1;
+      put = part-of _ c.args.outlet.now c.give_closed.new.outlet c.give_end.new.outlet _ _ now.0 (c.in_err-give_end.ensures.left (after_all parts (rows c.args.rendition.number ps)) h);
+    }))

@@ -9,6 +9,7 @@ use Rattle.ladder_items.proofs.Endings.{at-once}
 use Rattle.ladder_items.proofs.Unheld.{sudden-unheld}
 use Rattle.serial_run.proofs.Answering.{answered, answered-unheld, answered-at-once, packed}
 use Rattle.serial_run.proofs.AtOnce.{none-at-once}
+use Rattle.serial_run.proofs.Leaving.{all-left, on-ok}
 use Rattle.serial_run.proofs.serial.pack_serial_reads.Goals as goal
 
 pub returns-in_err-lanes-clause-fault : goal.returns-in_err-lanes-clause-fault
@@ -102,3 +103,12 @@ returns-clause-never_held g c =
 
 pub returns-clause-alone : goal.returns-clause-alone
 returns-clause-alone g c = IfOk-weaker c.answer_of.result _ _ (λ report is. is.alone) c.answer_of.ensures.ok
+
+pub turns-requires-clause-going : goal.turns-requires-clause-going
+turns-requires-clause-going g c k lane at = (c.in_ok-lanes.ensures.first k lane at).stop
+
+pub returns-clause-left : goal.returns-clause-left
+returns-clause-left g c =
+    let w = c.in_ok-turns.ensures.ok.2.world in
+    on-ok _ c.answer_of.result c.answer_of.ensures.ok (λ report is.
+    all-left g.S.Source.input _ _ _ (w.same_before ∙ sym w.same_now) (w.same_lanes ∙ sym w.same_now) c.in_ok-turns.ensures.left (rw c.deref.ensures.value at is.good))

@@ -9,7 +9,11 @@ use Rattle.ladder_items.proofs.Stages.{turns-now}
 use Rattle.ladder_items.proofs.Worlds.{put-back, parts-of, reads-fit, stage-at}
 use Rattle.serial_run.proofs.Stepping.{has-read, due-step, due-cut, read-cut, due-skip, due-round}
 use Rattle.serial_run.proofs.AtOnce.{due-none}
+use Rattle.serial_run.proofs.Leaving.{left-first, left-turn}
 use Rattle.serial_run.proofs.serial.turns.Goals as goal
+
+pub loop-init : goal.loop-init
+loop-init g c = record { failures = refl; left = left-first g.S.Source.input _ _ c.requires.going; due = c.requires.start }
 
 pub returns-then-have_stopped-clause-ok : goal.returns-then-have_stopped-clause-ok
 returns-then-have_stopped-clause-ok g c =
@@ -94,6 +98,7 @@ loop-r-preserved-then-is_some g c =
     let below : c.loop-r.r < length c.args.settings.now.renditions = omega (arith, c.loop-r-test.true, c.len-r-end.ensures, c.loop.invariant.due.world.same_lanes) in
     record {
       failures = c.loop-r.invariant.failures;
+      left = rw (put-back c.loop-r.renditions.lanes.items c.loop-r.r c.index_mut-lane.result.now c.index_mut-lane.ensures.value) c.loop-r.invariant.left;
       due = rw (put-back c.loop-r.renditions.lanes.items c.loop-r.r c.index_mut-lane.result.now c.index_mut-lane.ensures.value) (due-skip _ _ _ _ _ _ c.loop.counter c.loop-r.r _ _ _ _ _ _ c.index_mut-lane.result.now
           (slice_get_read c.loop-r.renditions.lanes.items _ c.loop-r.r c.index_mut-lane.result.now (sym w.same_lanes) below c.index_mut-lane.ensures.value) (some-there _ (sym c.if-is_some.ensures)) c.loop-r.invariant.due);
     }
@@ -109,6 +114,7 @@ loop-r-preserved g c =
     (none-there _ (sym c.if-is_some.ensures)) c.in_ok-turn.ensures.ok (λ stop r. made_of-at stop r c.args.settings.now.cut) c.loop-r.invariant.due in
     record {
       failures = c.in_ok-give_due.ensures.failures ∙ c.loop-r.invariant.failures;
+      left = left-turn g.S.Source.input _ _ _ c.loop-r.r c.turn.new.source c.turn.new.self c.give_due.new.lane c.loop-r.invariant.left c.in_ok-turn.ensures.left c.in_ok-turn.ensures.unleft c.in_ok-give_due.ensures.stop;
       due = due-step _ _ _ _ _ _ c.loop.counter c.loop-r.r _ _ _ _ _ _ _ _ c.turn.new.source c.index_mut-lane.result.now c.turn.new.self c.give_due.new.lane
           there c.loop-r.invariant.due _ h c.in_ok-give_due.ensures.ok c.in_ok-give_due.ensures.stop c.in_ok-give_due.ensures.intake;
     }
@@ -117,6 +123,7 @@ pub loop-preserved : goal.loop-preserved
 loop-preserved g c =
     let w = c.loop-r.invariant.due.world in record {
       failures = c.loop-r.invariant.failures;
+      left = c.loop-r.invariant.left;
       due = due-round _ _ _ _ _ _ c.loop.counter c.loop-r.r _ _ _ _ _ _ (omega (arith, c.loop-r-test.false, c.len-r-end.ensures, c.loop.invariant.due.world.same_lanes)) c.loop-r.invariant.due;
     }
 
@@ -134,6 +141,7 @@ returns-in_err-turn-clause-order g c =
       lanes = c.loop-r.renditions.lanes.items;
       shown = c.loop-r.renditions.playlists.items;
       due = c.loop-r.invariant.due;
+      left = c.loop-r.invariant.left;
       others = λ k other. set-elsewhere c.loop-r.sources.items c.loop-r.r k c.turn.new.source other;
       old = c.index_mut.result.now;
       old_there = slice_get_read c.loop-r.sources.items _ c.loop-r.r c.index_mut.result.now (sym w.same_now) below c.index_mut.ensures.value;
@@ -141,7 +149,7 @@ returns-in_err-turn-clause-order g c =
       new_there = set-there c.loop-r.sources.items c.loop-r.r c.turn.new.source (omega (arith, below, w.same_now));
       lane = c.index_mut-lane.result.now;
       lane_there = slice_get_read c.loop-r.renditions.lanes.items _ c.loop-r.r c.index_mut-lane.result.now (sym w.same_lanes) below c.index_mut-lane.ensures.value;
-      why = inl c.in_err-turn.ensures.err;
+      why = inl (c.in_err-turn.ensures.err, c.in_err-turn.ensures.unleft_at_err);
     })
 
 pub returns-in_err-give_due-clause-order : goal.returns-in_err-give_due-clause-order
@@ -158,6 +166,7 @@ returns-in_err-give_due-clause-order g c =
       lanes = c.loop-r.renditions.lanes.items;
       shown = c.loop-r.renditions.playlists.items;
       due = c.loop-r.invariant.due;
+      left = c.loop-r.invariant.left;
       others = λ k other. set-elsewhere c.loop-r.sources.items c.loop-r.r k c.turn.new.source other;
       old = c.index_mut.result.now;
       old_there = slice_get_read c.loop-r.sources.items _ c.loop-r.r c.index_mut.result.now (sym w.same_now) below c.index_mut.ensures.value;
@@ -168,6 +177,7 @@ returns-in_err-give_due-clause-order g c =
       why = inr (
         c.turn.new.self,
         c.in_ok-turn.ensures.ok,
+        (c.in_ok-turn.ensures.left, λ none. inr (c.in_ok-turn.ensures.unleft none)),
         λ none.
             let parts = due-none c.loop-r.r c.turn.new.self.intake.filled (is_good c.turn.new.self.stop) none in
             false≢true (c.in_err-give_due.ensures.none parts.0 parts.1),

@@ -1,7 +1,9 @@
-use Rattle.std.proofs.Common.{◌∙◌, ◌++◌, inl, inr, length, ap, sym, length-append, arith}
+use Rattle.std.proofs.Common.{refl, ◌∙◌, ◌++◌, inl, inr, length, ap, sym, length-append, arith}
 use Rattle.std.proofs.lemmas.Result.{err_from_is_err_and}
 use Rattle.ts_packet.specs.Packets.{decided}
 use Rattle.ingest.proofs.Taking.{lent-first, few-packets, faults-at, grown-to, no-room, wants-behind}
+use Rattle.ingest.proofs.Ordered.{closed_of-grow}
+use Rattle.ingest.proofs.Parting.{part-none, part-of-piece}
 use Rattle.ingest.proofs.intake.Intake.take.Goals as goal
 
 pub push_both-requires-clause-few : goal.push_both-requires-clause-few
@@ -49,3 +51,18 @@ returns-in_err-push_both-clause-scarce c =
     let grown = ap decided (sym c.in_ok-lent.ensures.fed) ∙ lent-first _ _ _ _ _ c.deref.result.now c.in_ok-lent.ensures.packets c.clear.ensures.items c.deref.ensures.value in
     rw (told.1, told.2, ← c.self.view_is) (λ none. inr (wants-behind c.self.inside.ended c.self.inside.cutter c.self.inside.reader (decided next) more
     (c.self.invariant.list going) grown (c.in_err-push_both.ensures.scarce none)))
+
+pub returns-in_err-lent-clause-part : goal.returns-in_err-lent-clause-part
+returns-in_err-lent-clause-part c =
+    let told = err_from_is_err_and c.from_residual.result c.from_residual.ensures.1 in
+    rw (told.1, ← c.self.view_is) (part-none _ _ _ _ (closed_of-grow c.self.inside.cutter.rendition c.self.inside.cutter.settings c.self.inside.reader c.args.piece.now) refl)
+
+pub returns-in_err-push_both-clause-part : goal.returns-in_err-push_both-clause-part
+returns-in_err-push_both-clause-part c =
+    let told = err_from_is_err_and c.from_residual-in_err-push_both.result c.from_residual-in_err-push_both.ensures.1 in
+    let going = rw (← c.self.view_is) at c.requires.going in
+    let next = c.self.inside.reader ++ c.args.piece.now in
+    let more = c.in_ok-lent.lent.now ++ c.deref.result.now in
+    let grown = ap decided (sym c.in_ok-lent.ensures.fed) ∙ lent-first _ _ _ _ _ c.deref.result.now c.in_ok-lent.ensures.packets c.clear.ensures.items c.deref.ensures.value in
+    rw (told.1, ← c.self.view_is) (part-of-piece c.self.inside.cutter c.self.inside.reader next more c.push_both.new.cutter.filled
+    (c.self.invariant.list going) grown c.in_err-push_both.ensures.part)
