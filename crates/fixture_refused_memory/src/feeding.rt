@@ -4,7 +4,7 @@ ghost use Rattle.std.specs.Prelude.{◌≡◌};
 
 use cutter::{Plan, PlanRef};
 use fixture_standard_stream::keys;
-use flow_core::{FeedFault, Flow, Queue};
+use flow_core::{Flow, Obstacle, Queue};
 use std::alloc::Global;
 use std::marker::Brand;
 use std::sync::ledger::{Blank, Ledger};
@@ -15,7 +15,7 @@ fn feed<'s, L: Ledger, M: Ledger>(queue: &mut Queue<'s, L, M>, plan: PlanRef<'s>
     let back = match queue.feed(plan) {
         Ok(fed) if fed.plan().same(plan) => return "at once",
         Ok(_) => return "wrong",
-        Err(FeedFault::NoMemory(back)) => back,
+        Err(fault) if fault.why() == Obstacle::NoMemory => fault.plan(),
         Err(_) => return "wrong",
     };
     let same = queue.outstanding() == before && back.same(plan);
@@ -36,9 +36,10 @@ fn flow<'s, L: Ledger, M: Ledger>(flow: &mut Flow<'s, L, M>, plan: PlanRef<'s>) 
     let Err(fault) = flow.feed(plan) else {
         return "at once";
     };
-    let FeedFault::NoMemory(back) = fault else {
+    if fault.why() != Obstacle::NoMemory {
         return "wrong";
-    };
+    }
+    let back = fault.plan();
     let after = (flow.queue().outstanding(), flow.collector().awaited());
     let second = flow.feed(plan);
     if before == after && back.same(plan) && second.is_ok() {

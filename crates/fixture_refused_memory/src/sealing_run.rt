@@ -45,12 +45,12 @@ impl Taken {
     }
 
     fn note(&mut self, delivery: &Delivery<'_>) {
-        match self.came.get_mut(delivery.number as usize) {
+        match self.came.get_mut(delivery.number() as usize) {
             Some(came) if !*came => *came = true,
             _ => self.right = false,
         }
-        match &delivery.outcome {
-            Outcome::Sealed(sealed) if sealed.plan().number == delivery.number => {
+        match delivery.outcome() {
+            Outcome::Sealed(sealed) if sealed.plan().number == delivery.number() => {
                 self.told.sealed = self.told.sealed.saturating_add(1);
             }
             Outcome::Refused => self.told.refused = self.told.refused.saturating_add(1),

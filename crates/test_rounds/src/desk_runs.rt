@@ -11,7 +11,7 @@ use std::sync::Wait;
 use std::sync::ledger::{Blank, Ledger, Share};
 use std::test::Fail;
 use std::thread::{self, JoinHandle, Threads};
-use work_desk::{Delivery, Desk, FeedFault, Gate, Opened, Outcome, Pass, Tally, work};
+use work_desk::{Delivery, Desk, Gate, Obstacle, Opened, Outcome, Pass, Tally, work};
 
 /// What is run: so many plans by so many workers, over a desk on which so many may be outstanding.
 #[derive(Drop)]
@@ -77,12 +77,12 @@ impl Taken {
     }
 
     fn note(&mut self, delivery: &Delivery<'_>) {
-        match self.came.get_mut(delivery.number as usize) {
+        match self.came.get_mut(delivery.number() as usize) {
             Some(came) if !*came => *came = true,
             _ => self.is_wrong(),
         }
-        match &delivery.outcome {
-            Outcome::Sealed(sealed) if sealed.plan().number == delivery.number => {
+        match delivery.outcome() {
+            Outcome::Sealed(sealed) if sealed.plan().number == delivery.number() => {
                 self.told.sealed = self.told.sealed.saturating_add(1);
             }
             Outcome::Sealed(_) => self.is_wrong(),
@@ -103,7 +103,7 @@ fn feed_one<'p, L: Ledger, M: Ledger, R: Wait>(
     for _ in rt.forever() {
         match desk.feed(rt, plan) {
             Ok(_) => return,
-            Err(FeedFault::Full(_)) => {}
+            Err(fault) if fault.why() == Obstacle::Full => {}
             Err(_) => {
                 taken.is_wrong();
                 return;

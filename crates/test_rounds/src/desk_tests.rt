@@ -11,7 +11,7 @@ use std::sync::Wait;
 use std::sync::ledger::{Blank, Ledger};
 use std::test::Fail;
 use std::thread::Threads;
-use work_desk::{Desk, FeedFault, FreeGate, Gate, Opened, Outcome, Pass};
+use work_desk::{Desk, FreeGate, Gate, Obstacle, Opened, Outcome, Pass};
 
 /// How often each run is made, so that threads meet in many orders.
 const TIMES: u64 = 200;
@@ -225,6 +225,16 @@ fn a_stop_wakes_a_taker_that_waits(rt: HostRuntime) -> Result<(), Fail> {
     )
 }
 
+/// What is told of a plan that isn't fed.
+fn told(why: Obstacle) -> &'static str {
+    match why {
+        Obstacle::Full => "full",
+        Obstacle::Closed => "closed",
+        Obstacle::Twice => "twice",
+        Obstacle::NoMemory => "no memory",
+    }
+}
+
 /// What is told of a plan that is fed, and the number of the plan that comes back.
 fn feed<'s, L: Ledger, M: Ledger, R: Wait>(
     rt: &R,
@@ -233,10 +243,7 @@ fn feed<'s, L: Ledger, M: Ledger, R: Wait>(
 ) -> (&'static str, u64) {
     match desk.feed(rt, plan) {
         Ok(fed) => ("waits", fed.plan().number),
-        Err(FeedFault::Full(back)) => ("full", back.number),
-        Err(FeedFault::Closed(back)) => ("closed", back.number),
-        Err(FeedFault::Twice(back)) => ("twice", back.number),
-        Err(FeedFault::NoMemory(back)) => ("no memory", back.number),
+        Err(fault) => (told(fault.why()), fault.plan().number),
     }
 }
 

@@ -3,7 +3,7 @@
 ghost use Rattle.std.specs.Prelude.{◌<◌, vec_len, vec_capacity};
 
 use cutter::PlanRef;
-use flow_core::{Claim, CollectFault, Collected, Delivery, Fed, FeedFault, Outcome};
+use flow_core::{Claim, CollectFault, Collected, Delivery, Fed, FeedFault, Obstacle, Outcome};
 
 /// A plan, by its rendition and its number.
 pub(crate) type Name = (usize, u64);
@@ -48,10 +48,18 @@ pub(crate) fn name(plan: PlanRef<'_>) -> Name {
 pub(crate) fn fed(answer: Result<(), FeedFault<'_>>) -> Told {
     match answer {
         Ok(()) => Told::Done,
-        Err(FeedFault::Full(back)) => Told::Full(name(back)),
-        Err(FeedFault::Closed(back)) => Told::Closed(name(back)),
-        Err(FeedFault::Twice(back)) => Told::Twice(name(back)),
-        Err(FeedFault::NoMemory(back)) => Told::NoMemory(name(back)),
+        Err(fault) => refused(&fault),
+    }
+}
+
+/// What is told of a plan that isn't fed.
+fn refused(fault: &FeedFault<'_>) -> Told {
+    let back = name(fault.plan());
+    match fault.why() {
+        Obstacle::Full => Told::Full(back),
+        Obstacle::Closed => Told::Closed(back),
+        Obstacle::Twice => Told::Twice(back),
+        Obstacle::NoMemory => Told::NoMemory(back),
     }
 }
 
@@ -83,10 +91,11 @@ pub(crate) fn ended(stood: bool) -> Told {
 
 /// What is told of a delivery of a queue or a desk.
 pub(crate) fn given(delivery: &Delivery<'_>) -> Told {
-    match &delivery.outcome {
-        Outcome::Sealed(sealed) => Told::Sealed((delivery.rendition, sealed.plan().number)),
-        Outcome::Refused => Told::Refused((delivery.rendition, delivery.number)),
-        Outcome::Held => Told::Held((delivery.rendition, delivery.number)),
+    let (rendition, number) = (delivery.rendition(), delivery.number());
+    match delivery.outcome() {
+        Outcome::Sealed(sealed) => Told::Sealed((rendition, sealed.plan().number)),
+        Outcome::Refused => Told::Refused((rendition, number)),
+        Outcome::Held => Told::Held((rendition, number)),
     }
 }
 

@@ -1,9 +1,7 @@
 -- Who waits at a desk.
 use Rattle.std.specs.Prelude.{◌≡◌, ◌<◌, ℕ, Bool, false, [], length}
 use Rattle.cutter.specs.Plans.{SegmentPlan}
-use Rattle.cutter.specs.Lent.{lent}
-use Rattle.flow_core.specs.declared.fault.FeedFault.{FeedFault}
-use Rattle.flow_core.specs.declared.fault.FeedFault.TheVariants.{Full, Closed, Twice, NoMemory}
+use Rattle.flow_core.specs.Steps.{NotFed}
 use Rattle.flow_core.specs.Queues.{QueueValue, outstanding}
 
 -- workers wait while no plan waits for them and more may be fed
@@ -25,8 +23,5 @@ abbrev pub seen_in : QueueValue → Sight
 seen_in q = record { closed = q.closed; waiting = length q.waiting; done = length q.done; outstanding = outstanding q }
 
 -- the plan comes back
-abbrev pub GivesBack : SegmentPlan → FeedFault → Type 0
-GivesBack plan (Full back) = lent back ≡ plan
-GivesBack plan (Closed back) = lent back ≡ plan
-GivesBack plan (Twice back) = lent back ≡ plan
-GivesBack plan (NoMemory back) = lent back ≡ plan
+abbrev pub GivesBack : SegmentPlan → NotFed → Type 0
+GivesBack plan fault = fault.plan ≡ plan

@@ -9,11 +9,11 @@ ghost use Rattle.work_desk.specs.Waiting.{GivesBack};
 use crate::gate::Permit;
 use crate::pass::Pass;
 use crate::permitted::PermittedQueue;
-use crate::sealing::Worked;
+use crate::sealing::{Job, Worked};
 use crate::steps::{
-    Ended, Seen, claim, claim_more, close, deliver, stop, take, take_awaited, taker_waits,
-    workers_wait,
+    Seen, claim, claim_more, close, deliver, stop, take, take_awaited, taker_waits, workers_wait,
 };
+use crate::waking::{Closed, wake_closed, wake_stopped};
 use cutter::PlanRef;
 use flow_core::{Claim, Delivery, Fed, FeedFault, Outcome, Queue};
 use std::alloc::{AllocError, Global};
@@ -132,8 +132,22 @@ impl<'s, L: Ledger, M: Ledger, P: Permit> Desk<'s, L, M, P> {
         self.next_claim(rt, pass).ok()
     }
 
+    /// The same, as a job that a worker has to begin.
+    pub(crate) fn next_job<R: Wait>(&self, rt: &R, pass: &mut Pass<L>) -> Result<Job<'s>, Seen>
+        ensures worker { IfOk result (λ job. job.claim.worker ≡ pass.old.number) }
+        ensures counted { OnOk result (pass.new.count ≡ pass.old.count + 1) }
+        ensures uncounted { OnErr result (pass.new.count ≡ pass.old.count) }
+        ensures number { pass.new.number ≡ pass.old.number }
+        ensures over { IfErr result (λ seen. (seen.closed ≡ true) × (seen.waiting ≡ 0)) }
+    {
+        match self.next_claim(rt, pass) {
+            Ok(claim) => Ok(Job::of(claim)),
+            Err(seen) => Err(seen),
+        }
+    }
+
     /// The same, with what was seen where there is none.
-    pub(crate) fn next_claim<R: Wait>(&self, rt: &R, pass: &mut Pass<L>) -> Result<Claim<'s>, Seen>
+    fn next_claim<R: Wait>(&self, rt: &R, pass: &mut Pass<L>) -> Result<Claim<'s>, Seen>
         ensures worker { IfOk result (λ claim. claim.worker ≡ pass.old.number) }
         ensures counted { OnOk result (pass.new.count ≡ pass.old.count + 1) }
         ensures uncounted { OnErr result (pass.new.count ≡ pass.old.count) }
@@ -160,8 +174,21 @@ impl<'s, L: Ledger, M: Ledger, P: Permit> Desk<'s, L, M, P> {
         self.spare_claim(rt, pass).ok()
     }
 
+    /// The same, as a job that a worker has to begin.
+    pub(crate) fn spare_job<R: Wait>(&self, rt: &R, pass: &mut Pass<L>) -> Result<Job<'s>, Seen>
+        ensures worker { IfOk result (λ job. job.claim.worker ≡ pass.old.number) }
+        ensures counted { OnOk result (pass.new.count ≡ pass.old.count + 1) }
+        ensures uncounted { OnErr result (pass.new.count ≡ pass.old.count) }
+        ensures number { pass.new.number ≡ pass.old.number }
+    {
+        match self.spare_claim(rt, pass) {
+            Ok(claim) => Ok(Job::of(claim)),
+            Err(seen) => Err(seen),
+        }
+    }
+
     /// The same, with what was seen where there is none.
-    pub(crate) fn spare_claim<R: Wait>(&self, rt: &R, pass: &mut Pass<L>) -> Result<Claim<'s>, Seen>
+    fn spare_claim<R: Wait>(&self, rt: &R, pass: &mut Pass<L>) -> Result<Claim<'s>, Seen>
         ensures worker { IfOk result (λ claim. claim.worker ≡ pass.old.number) }
         ensures counted { OnOk result (pass.new.count ≡ pass.old.count + 1) }
         ensures uncounted { OnErr result (pass.new.count ≡ pass.old.count) }
@@ -236,30 +263,15 @@ impl<'s, L: Ledger, M: Ledger, P: Permit> Desk<'s, L, M, P> {
     }
 
     /// No more plans are fed. Workers end when none waits.
-    pub fn close<R: Wait>(&self, rt: &R) {
+    pub fn close<R: Wait>(&self, rt: &R) -> Closed {
         let ended = close(&mut self.queue.lock(rt));
-        self.tell_closed(ended);
-    }
-
-    /// Wakes the workers: no more plans are fed, and none was given up.
-    fn tell_closed(&self, _ended: Ended)
-        requires { _ended.given_up ≡ 0 }
-    {
-        self.fed.notify_all();
+        wake_closed(&self.fed, ended)
     }
 
     /// No more plans are fed, and those that wait are given up. What is claimed or done goes on.
-    pub fn stop<R: Wait>(&self, rt: &R) {
+    pub fn stop<R: Wait>(&self, rt: &R) -> Closed {
         let ended = stop(&mut self.queue.lock(rt));
-        self.tell_stopped(ended);
-    }
-
-    /// Wakes the workers and the taker: no more plans are fed, and none waits.
-    fn tell_stopped(&self, _ended: Ended)
-        requires { _ended.left ≡ 0 }
-    {
-        self.fed.notify_all();
-        self.done.notify_all();
+        wake_stopped(&self.fed, &self.done, ended)
     }
 
     /// Compares the desk's books with the shares of all workers and the taker's: what was claimed is what was taken, and

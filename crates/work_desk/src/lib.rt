@@ -13,12 +13,14 @@ mod pass;
 mod permitted;
 mod sealing;
 mod steps;
+mod waking;
 mod worker;
 
 pub use desk::{Desk, Opened};
-pub use flow_core::{Claim, Delivery, Fed, FeedFault, Outcome};
+pub use flow_core::{Claim, Delivery, Fed, FeedFault, Obstacle, Outcome};
 pub use gate::{FreeGate, Gate, Permit};
 pub use pass::{Pass, Tally};
 pub use permitted::PermittedQueue;
 pub use steps::Seen;
+pub use waking::Closed;
 pub use worker::work;

@@ -6,7 +6,7 @@ ghost use Rattle.flow_core.specs.declared.outcome.Outcome.TheVariants.{Sealed as
 ghost use Rattle.flow_core.specs.Lists.{In};
 ghost use Rattle.flow_core.specs.Queues.{IsOwnOutcome};
 ghost use Rattle.flow_core.specs.Steps.{Delivers};
-ghost use Rattle.work_desk.specs.Permits.{IsPermitted};
+ghost use Rattle.work_desk.specs.Permits.{IsPermitted, LetsOnly};
 ghost use Rattle.work_desk.specs.Works.{IsBegun, IsTurnedAway, outcome_of};
 
 use crate::gate::{Gate, Permit};
@@ -15,12 +15,27 @@ use crate::steps::deliver;
 use flow_core::{Claim, Outcome};
 use segment_job::{Keys, Sealed, Unsealed, seal_four, seal_two};
 use std::alloc::Global;
+use std::marker::PhantomData;
 use std::sync::ledger::Ledger;
+
+/// A plan that a worker claimed, and has to begin. All that can be done with it is [`Means::begin`].
+pub(crate) struct Job<'s> {
+    claim: Claim<'s>,
+}
+
+impl<'s> Job<'s> {
+    /// The job of a claim.
+    pub(crate) fn of(claim: Claim<'s>) -> Job<'s>
+        ensures { result.claim ≡ claim.entry }
+    {
+        Job { claim }
+    }
+}
 
 /// A claimed plan whose segment is to be sealed.
 pub(crate) struct Begun<'s> {
-    pub claim: Claim<'s>,
-    pub segment: Unsealed<'s>,
+    claim: Claim<'s>,
+    segment: Unsealed<'s>,
     pub ghost own: { segment.plan ≡ claim.plan },
 }
 
@@ -82,8 +97,8 @@ pub(crate) enum Why {
 
 /// A claimed plan that isn't sealed, and why.
 pub(crate) struct TurnedAway<'s> {
-    pub claim: Claim<'s>,
-    pub why: Why,
+    claim: Claim<'s>,
+    why: Why,
 }
 
 impl<'s> TurnedAway<'s> {
@@ -104,21 +119,38 @@ impl<'s> TurnedAway<'s> {
 
 /// What a worker has to seal with: the keys of each rendition, by its number, and the gate that it asks.
 #[derive(Drop)]
-pub(crate) struct Means<'k, G> {
-    pub alloc: Global,
-    pub keys: &'k [Keys],
-    pub gate: &'k G,
+pub(crate) struct Means<'k, G, P: Permit> {
+    alloc: Global,
+    keys: &'k [Keys],
+    gate: &'k G,
+    of: PhantomData<P>,
 }
 
-impl<'k, G: Gate> Means<'k, G> {
-    /// Asks the gate about a claimed plan, and makes its segment ready to be sealed. Where that can't be, says why.
-    pub(crate) fn begin<'s>(&self, claim: Claim<'s>) -> Result<Begun<'s>, TurnedAway<'s>>
-        ensures claim { IfOk result (λ begun. begun.claim ≡ claim.entry) }
-        ensures begun { IfOk result (λ begun. IsBegun (G.lets self.now.gate.now) self.now.keys.now claim.entry.plan begun.segment) }
-        ensures same { IfErr result (λ away. away.claim ≡ claim.entry) }
-        ensures away { IfErr result (λ away. IsTurnedAway (G.lets self.now.gate.now) (G.stops self.now.gate.now) self.now.keys.now
-            claim.entry.plan away.why) }
+impl<'k, G: Gate, P: Permit> Means<'k, G, P> {
+    /// The right keys, and a gate that lets through only what may be sealed.
+    pub(crate) fn new(alloc: Global, keys: &'k [Keys], gate: &'k G) -> Means<'k, G, P>
+        requires only { LetsOnly (G.lets gate.now) P.permits }
+        requires keys { P.keys keys.now }
+        ensures keys { result.keys.now ≡ keys.entry.now }
+        ensures gate { result.gate.now ≡ gate.entry.now }
     {
+        Means {
+            alloc,
+            keys,
+            gate,
+            of: PhantomData,
+        }
+    }
+
+    /// Asks the gate about a claimed plan, and makes its segment ready to be sealed. Where that can't be, says why.
+    pub(crate) fn begin<'s>(&self, job: Job<'s>) -> Result<Begun<'s>, TurnedAway<'s>>
+        ensures claim { IfOk result (λ begun. begun.claim ≡ job.entry.claim) }
+        ensures begun { IfOk result (λ begun. IsBegun (G.lets self.now.gate.now) self.now.keys.now job.entry.claim.plan begun.segment) }
+        ensures same { IfErr result (λ away. away.claim ≡ job.entry.claim) }
+        ensures away { IfErr result (λ away. IsTurnedAway (G.lets self.now.gate.now) (G.stops self.now.gate.now) self.now.keys.now
+            job.entry.claim.plan away.why) }
+    {
+        let Job { claim } = job;
         let plan = claim.plan();
         if !self.gate.pass(plan.rendition, plan.number) {
             return Err(TurnedAway {

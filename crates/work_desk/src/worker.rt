@@ -8,9 +8,8 @@ ghost use Rattle.work_desk.specs.Works.{IsBegun};
 use crate::desk::Desk;
 use crate::gate::{Gate, Permit};
 use crate::pass::{Pass, Tally};
-use crate::sealing::{Begun, Means, finish_four, finish_one, finish_two};
+use crate::sealing::{Begun, Job, Means, finish_four, finish_one, finish_two};
 use crate::steps::Seen;
-use flow_core::Claim;
 use segment_job::Keys;
 use std::alloc::Global;
 use std::sync::Wait;
@@ -33,6 +32,7 @@ pub fn work<'s, L: Ledger, M: Ledger, P: Permit, G: Gate, R: Wait>(
     gate: &G,
 ) -> Tally<L>
     requires only { LetsOnly (G.lets gate.now) P.permits }
+    requires keys { P.keys keys.now }
     ensures { result.worker ≡ pass.number }
 {
     let mut pass = pass;
@@ -50,10 +50,11 @@ fn serve<'s, L: Ledger, M: Ledger, P: Permit, G: Gate, R: Wait>(
     gate: &G,
 ) -> Seen
     requires only { LetsOnly (G.lets gate.now) P.permits }
+    requires keys { P.keys keys.now }
     ensures number { pass.new.number ≡ pass.old.number }
     ensures over { (result.closed ≡ true) × (result.waiting ≡ 0) }
 {
-    let means = Means { alloc, keys, gate };
+    let means = Means::new(alloc, keys, gate);
     for _ in rt.forever() {
         match begin_some(rt, desk, pass, &means) {
             Ok(batch) => finish_all(rt, desk, batch),
@@ -103,7 +104,7 @@ fn begin_some<'s, L: Ledger, M: Ledger, P: Permit, G: Gate, R: Wait>(
     rt: &R,
     desk: &Desk<'s, L, M, P>,
     pass: &mut Pass<L>,
-    means: &Means<'_, G>,
+    means: &Means<'_, G, P>,
 ) -> Result<Batch<'s>, Seen>
     requires only { LetsOnly (G.lets means.now.gate.now) P.permits }
     ensures number { pass.new.number ≡ pass.old.number }
@@ -112,26 +113,26 @@ fn begin_some<'s, L: Ledger, M: Ledger, P: Permit, G: Gate, R: Wait>(
     ensures asked { IfOk result (λ batch. IfNone batch.no_more (pass.new.count ≡ pass.old.count + 4)) }
     ensures permitted { IfOk result (AreLetThrough P.permits) }
 {
-    let claim = match desk.next_claim(rt, pass) {
-        Ok(claim) => claim,
+    let job = match desk.next_job(rt, pass) {
+        Ok(job) => job,
         Err(seen) => return Err(seen),
     };
-    let first = begin(rt, desk, means, claim);
-    let claim = match desk.spare_claim(rt, pass) {
-        Ok(claim) => claim,
+    let first = begin(rt, desk, means, job);
+    let job = match desk.spare_job(rt, pass) {
+        Ok(job) => job,
         Err(seen) => return Ok(Batch::short(first, None, None, seen)),
     };
-    let second = begin(rt, desk, means, claim);
-    let claim = match desk.spare_claim(rt, pass) {
-        Ok(claim) => claim,
+    let second = begin(rt, desk, means, job);
+    let job = match desk.spare_job(rt, pass) {
+        Ok(job) => job,
         Err(seen) => return Ok(Batch::short(first, second, None, seen)),
     };
-    let third = begin(rt, desk, means, claim);
-    let claim = match desk.spare_claim(rt, pass) {
-        Ok(claim) => claim,
+    let third = begin(rt, desk, means, job);
+    let job = match desk.spare_job(rt, pass) {
+        Ok(job) => job,
         Err(seen) => return Ok(Batch::short(first, second, third, seen)),
     };
-    let fourth = begin(rt, desk, means, claim);
+    let fourth = begin(rt, desk, means, job);
     Ok(Batch {
         first,
         second,
@@ -145,15 +146,15 @@ fn begin_some<'s, L: Ledger, M: Ledger, P: Permit, G: Gate, R: Wait>(
 fn begin<'s, L: Ledger, M: Ledger, P: Permit, G: Gate, R: Wait>(
     rt: &R,
     desk: &Desk<'s, L, M, P>,
-    means: &Means<'_, G>,
-    claim: Claim<'s>,
+    means: &Means<'_, G, P>,
+    job: Job<'s>,
 ) -> Option<Begun<'s>>
     requires only { LetsOnly (G.lets means.now.gate.now) P.permits }
-    ensures claim { IfSome result (λ begun. begun.claim ≡ claim.entry) }
-    ensures begun { IfSome result (λ begun. IsBegun (G.lets means.now.gate.now) means.now.keys.now claim.entry.plan begun.segment) }
+    ensures claim { IfSome result (λ begun. begun.claim ≡ job.entry.claim) }
+    ensures begun { IfSome result (λ begun. IsBegun (G.lets means.now.gate.now) means.now.keys.now job.entry.claim.plan begun.segment) }
     ensures permitted { IsLetThrough P.permits result }
 {
-    match means.begin(claim) {
+    match means.begin(job) {
         Ok(begun) => Some(begun),
         Err(away) => {
             desk.hand_in(rt, away.into_worked());

@@ -76,10 +76,9 @@ pub fn driven<'s, 'r, S: Source, O: Outlet, G: Gate, L: Ledger, M: Ledger, P: Pe
     };
     let answer = round.drive(&sealer, setup.settings, setup.pace(), spools);
     let Round {
-        desk: _,
         broadcast,
-        collector: _,
         taker,
+        ..
     } = round;
     EndedRound {
         between: BetweenRounds {

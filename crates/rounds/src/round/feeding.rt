@@ -15,7 +15,7 @@ use crate::round::machine::Round;
 use crate::round::permitted_collector::PermittedCollector;
 use crate::round::sealer::Sealer;
 use cutter::{PlanRef, Spool};
-use flow_core::Fed;
+use flow_core::{Fed, FeedFault};
 use item_io::{Outlet, Source};
 use ladder_items::{PackFault, Settings};
 use std::sync::Wait;
@@ -81,20 +81,20 @@ impl<'d, 's, 'r, S: Source, O: Outlet, L: Ledger, M: Ledger, P: Permit, R: Wait>
             let Some(plan) = spool.plan(i) else {
                 continue;
             };
-            self.feed_plan(sealer, settings, r, plan)?;
+            let _ = self.feed_plan(sealer, settings, r, plan)?;
         }
         Ok(())
     }
 
-    /// Feeds the first plan of rendition `r` that hasn't been fed, once there is room for it. Returns the desk's receipt, or None
-    /// where it was sealed on this thread.
+    /// Feeds the first plan of rendition `r` that hasn't been fed, once there is room for it. Returns the desk's answer: its receipt, or
+    /// its refusal, where the plan was sealed on this thread.
     fn feed_plan<G: Gate>(
         &mut self,
         sealer: &Sealer<'_, G>,
         settings: &Settings,
         r: usize,
         plan: PlanRef<'s>,
-    ) -> Result<Option<Fed<'s>>, PackFault>
+    ) -> Result<Result<Fed<'s>, FeedFault<'s>>, PackFault>
         requires within { r < length settings.now.renditions }
         requires only { LetsOnly (G.lets sealer.now.gate.now) P.permits }
         requires somewhere { IsFirstUnfed S.input O.output settings.now r (lent plan) self.old }
@@ -140,7 +140,7 @@ fn expect<'s, P: Permit>(
     }
 }
 
-/// Offers a plan to the workers. If the desk refuses it, it is sealed on this thread, without a receipt.
+/// Offers a plan to the workers. If the desk refuses it, it is sealed on this thread. Returns the desk's answer.
 fn offer<'s, G: Gate, L: Ledger, M: Ledger, P: Permit, R: Wait>(
     rt: &R,
     sealer: &Sealer<'_, G>,
@@ -148,7 +148,7 @@ fn offer<'s, G: Gate, L: Ledger, M: Ledger, P: Permit, R: Wait>(
     desk: &Desk<'s, L, M, P>,
     plan: PlanRef<'s>,
     collector: &mut PermittedCollector<'s, P>,
-) -> Result<Option<Fed<'s>>, PackFault>
+) -> Result<Result<Fed<'s>, FeedFault<'s>>, PackFault>
     requires only { LetsOnly (G.lets sealer.now.gate.now) P.permits }
     requires keys { HasKeys settings.now collector.old }
     ensures keeps { Keeps collector.old collector.new }

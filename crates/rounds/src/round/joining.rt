@@ -9,7 +9,7 @@ use ladder_items::PackFault;
 use std::sync::Wait;
 use std::sync::ledger::{Ledger, Share};
 use std::thread::{JoinHandle, Threads};
-use work_desk::{Desk, Pass, Permit, Tally};
+use work_desk::{Closed, Desk, Pass, Permit, Tally};
 
 /// Closes a round: shuts the desk, joins the workers, and enters what each did into the books.
 pub fn joined<'r, S, O, L: Ledger, M: Ledger, P: Permit, R: Threads + Wait>(
@@ -35,14 +35,14 @@ pub fn joined<'r, S, O, L: Ledger, M: Ledger, P: Permit, R: Threads + Wait>(
         answer,
         mut taker,
     } = ended;
-    if answer.is_err() {
-        desk.stop(rt);
+    let shut = if answer.is_err() {
+        desk.stop(rt)
     } else {
-        desk.close(rt);
-    }
+        desk.close(rt)
+    };
     let mut rest = rest;
     let mut claims = claims;
-    join_all(rt, running, &mut rest, &mut claims);
+    join_all(rt, shut, running, &mut rest, &mut claims);
     let left = settled(rt, desk, &mut rest, &mut taker);
     let ended = EndedRound {
         between,
@@ -52,9 +52,10 @@ pub fn joined<'r, S, O, L: Ledger, M: Ledger, P: Permit, R: Threads + Wait>(
     closed(ended, &claims, left)
 }
 
-/// Joins the workers, notes how many segments each claimed, and merges their shares.
+/// Joins the workers of a desk that was closed, notes how many segments each claimed, and merges their shares.
 fn join_all<L: Ledger, R: Threads>(
     rt: &R,
+    _closed: Closed,
     running: Vec<JoinHandle<Tally<L>>>,
     rest: &mut Share<L>,
     claims: &mut [u128],

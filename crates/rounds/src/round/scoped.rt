@@ -1,14 +1,14 @@
 //! A round in a scope of threads: the workers seal at the desk, and the calling thread drives.
 
-ghost use Rattle.std.specs.Prelude.{◌≡◌, ◌+◌, ◌<◌, ◌^◌, IfErr, OnOk, length, sum, vec_len};
-ghost use Rattle.rounds.specs.Begun.{keys_of};
+ghost use Rattle.std.specs.Prelude.{◌≡◌, ◌+◌, ◌<◌, ◌≤◌, ◌^◌, Err, IfErr, OnOk, length, sum, vec_len};
+ghost use Rattle.ladder_items.specs.declared.fault.PackFault.TheVariants.{NoMemory};
 ghost use Rattle.rounds.specs.Gated.{IsGatesWord};
 ghost use Rattle.rounds.specs.Paces.{pace_in};
 ghost use Rattle.rounds.specs.Permitted.{ShowsPermitted};
 ghost use Rattle.rounds.specs.Rounds.{IsBroken, IsRound, IsSomeFull};
 ghost use Rattle.work_desk.specs.Permits.{LetsOnly};
 
-use crate::round::crew::Crew;
+use crate::round::crew::{Balance, Crew};
 use crate::round::ending::driven;
 use crate::round::joining::joined;
 use crate::run::between::BetweenRounds;
@@ -20,7 +20,7 @@ use segment_job::Keys;
 use std::sync::Wait;
 use std::sync::ledger::Ledger;
 use std::thread::{self, JoinHandle, Threads};
-use work_desk::{Desk, Gate, Permit, Tally, work};
+use work_desk::{Closed, Desk, Gate, Permit, Tally, work};
 
 /// Runs a round in a scope of threads, at the desk that was opened for it.
 pub fn in_scope<
@@ -43,14 +43,15 @@ pub fn in_scope<
 ) -> (BetweenRounds<'r, S, O, R>, Result<(), PackFault>)
     requires only { LetsOnly (G.lets setup.now.gate.now) P.permits }
     requires shown { ShowsPermitted P.permits between.broadcast.held.publisher.list }
-    requires keys { keys.now ≡ keys_of setup.now.settings.now }
+    requires keys { P.keys keys.now }
+    requires queue { desk.now.most ≡ setup.now.settings.now.queue }
     requires each { length spools.now ≡ length setup.now.settings.now.renditions }
     requires on { IsSomeFull S.input O.output setup.now.settings.now spools.now between.broadcast }
-    requires unused { crew.taker.count ≡ 0 }
-    requires parts { crew.rest.parts + vec_len crew.workers ≡ L.parts }
-    requires none { (crew.rest.amount ≡ 0) × (M.parts ≡ 1) }
-    requires unclaimed { (sum crew.claims.items ≡ 0) × (length crew.claims.items ≡ vec_len crew.workers) }
-    requires booked { length crew.claims.items ≡ length between.books.workers.items }
+    requires unused { crew.balance.taker.count ≡ 0 }
+    requires parts { crew.balance.rest.parts + vec_len crew.workers ≡ L.parts }
+    requires none { (crew.balance.rest.amount ≡ 0) × (M.parts ≡ 1) }
+    requires unclaimed { (sum crew.balance.claims.items ≡ 0) × (length crew.balance.claims.items ≡ vec_len crew.workers) }
+    requires booked { length crew.balance.claims.items ≡ length between.books.workers.items }
     requires rounds { between.books.rounds < 2 ^ 46 }
     ensures ok { OnOk result.1 (IsRound S.input O.output setup.now.settings.now spools.now (pace_in setup.now) between.entry result.0) }
     ensures err { IfErr result.1 (IsBroken S.input O.output setup.now.settings.now spools.now between.entry.broadcast result.0.broadcast) }
@@ -62,12 +63,13 @@ pub fn in_scope<
         thread::scope_env(),
         rt,
         |scope| -> (BetweenRounds<'_, S, O, R>, Result<(), PackFault>)
-            requires stands { (length spools.now ≡ length setup.now.settings.now.renditions) × (crew.taker.count ≡ 0) × (crew.rest.amount ≡ 0)
-                × IsSomeFull S.input O.output setup.now.settings.now spools.now between.broadcast × (M.parts ≡ 1)
-                × (crew.rest.parts + vec_len crew.workers ≡ L.parts) × (sum crew.claims.items ≡ 0) × (length crew.claims.items ≡ vec_len crew.workers)
-                × (length crew.claims.items ≡ length between.books.workers.items) × (between.books.rounds < 2 ^ 46) }
+            requires stands { (length spools.now ≡ length setup.now.settings.now.renditions) × (crew.balance.taker.count ≡ 0)
+                × (crew.balance.rest.amount ≡ 0) × IsSomeFull S.input O.output setup.now.settings.now spools.now between.broadcast × (M.parts ≡ 1)
+                × (crew.balance.rest.parts + vec_len crew.workers ≡ L.parts) × (sum crew.balance.claims.items ≡ 0)
+                × (length crew.balance.claims.items ≡ vec_len crew.workers)
+                × (length crew.balance.claims.items ≡ length between.books.workers.items) × (between.books.rounds < 2 ^ 46) }
             requires only { LetsOnly (G.lets setup.now.gate.now) P.permits }
-            requires asked { LetsOnly (G.lets gate.now) P.permits }
+            requires asked { LetsOnly (G.lets gate.now) P.permits × P.keys keys.now }
             requires shown { ShowsPermitted P.permits between.broadcast.held.publisher.list }
             ensures ok { OnOk result.1 (IsRound S.input O.output setup.entry.now.settings.now spools.entry.now (pace_in setup.entry.now)
                 between.entry result.0) }
@@ -75,18 +77,13 @@ pub fn in_scope<
             ensures held { IfErr result.1 (IsGatesWord (G.stops setup.entry.now.gate.now)) }
             ensures shown { ShowsPermitted P.permits result.0.broadcast.held.publisher.list }
         {
-            let Crew {
-                workers: passes,
-                taker,
-                rest,
-                claims,
-            } = crew;
-            let workers = passes.len();
+            let Crew { workers, balance } = crew;
+            let count = workers.len();
             let mut running: Vec<JoinHandle<Tally<L>>> = Vec::new(alloc);
-            for pass in passes {
+            for pass in workers {
                 let child = scope.spawn(
                     move || -> Tally<L>
-                        requires { LetsOnly (G.lets gate.now) P.permits }
+                        requires { LetsOnly (G.lets gate.now) P.permits × P.keys keys.now }
                     { work(rt, alloc, desk, pass, keys, gate) },
                 );
                 let Ok(child) = child else {
@@ -96,12 +93,65 @@ pub fn in_scope<
                     break;
                 }
             }
-            if running.len() != workers {
-                desk.close(rt);
-                return (between, Err(PackFault::NoMemory));
-            }
-            let ended = driven(setup, spools, desk, taker, between);
-            joined(rt, desk, running, rest, claims, ended)
+            with_workers(setup, spools, desk, count, running, balance, between)
         },
     )
+}
+
+/// Drives a round at whose desk so many workers are to run, and joins them. Where fewer do, shuts the desk: those that run will end.
+fn with_workers<
+    's,
+    'r,
+    S: Source,
+    O: Outlet,
+    G: Gate,
+    L: Ledger,
+    M: Ledger,
+    P: Permit,
+    R: Threads + Wait,
+>(
+    setup: &Setup<'_, G, R>,
+    spools: &'s [Spool],
+    desk: &Desk<'s, L, M, P>,
+    workers: usize,
+    running: Vec<JoinHandle<Tally<L>>>,
+    balance: Balance<L, M>,
+    between: BetweenRounds<'r, S, O, R>,
+) -> (BetweenRounds<'r, S, O, R>, Result<(), PackFault>)
+    requires only { LetsOnly (G.lets setup.now.gate.now) P.permits }
+    requires shown { ShowsPermitted P.permits between.broadcast.held.publisher.list }
+    requires each { length spools.now ≡ length setup.now.settings.now.renditions }
+    requires on { IsSomeFull S.input O.output setup.now.settings.now spools.now between.broadcast }
+    requires unused { balance.taker.count ≡ 0 }
+    requires parts { balance.rest.parts + workers ≡ L.parts }
+    requires none { (balance.rest.amount ≡ 0) × (M.parts ≡ 1) }
+    requires unclaimed { (sum balance.claims.items ≡ 0) × (length balance.claims.items ≡ workers) }
+    requires booked { length balance.claims.items ≡ length between.books.workers.items }
+    requires rounds { between.books.rounds < 2 ^ 46 }
+    ensures ok { OnOk result.1 (IsRound S.input O.output setup.now.settings.now spools.now (pace_in setup.now) between.entry result.0) }
+    ensures err { IfErr result.1 (IsBroken S.input O.output setup.now.settings.now spools.now between.entry.broadcast result.0.broadcast) }
+    ensures held { IfErr result.1 (IsGatesWord (G.stops setup.now.gate.now)) }
+    ensures shown { ShowsPermitted P.permits result.0.broadcast.held.publisher.list }
+{
+    let rt = setup.rt;
+    if running.len() != workers {
+        return unbegun(between, desk.close(rt));
+    }
+    let Balance {
+        taker,
+        rest,
+        claims,
+    } = balance;
+    let ended = driven(setup, spools, desk, taker, between);
+    joined(rt, desk, running, rest, claims, ended)
+}
+
+/// A round that there was no memory to begin: its desk was closed, so that the workers that run will end.
+fn unbegun<'r, S, O, R: Wait>(
+    between: BetweenRounds<'r, S, O, R>,
+    _closed: Closed,
+) -> (BetweenRounds<'r, S, O, R>, Result<(), PackFault>)
+    ensures { result ≡ (between.entry, Err NoMemory) }
+{
+    (between, Err(PackFault::NoMemory))
 }

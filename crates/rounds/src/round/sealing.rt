@@ -1,6 +1,6 @@
 //! Collects what is done at the desk, and seals on this thread what is missing.
 
-ghost use Rattle.std.specs.Prelude.{◌≡◌, ◌<◌, ◌≤◌, ◌^◌, ◌+◌, [], true, false, IfErr, OnErr, OnOk, length};
+ghost use Rattle.std.specs.Prelude.{◌≡◌, ◌<◌, ◌≤◌, ◌^◌, ◌+◌, [], true, false, IfErr, IfOk, OnErr, OnOk, length};
 ghost use Rattle.cutter.specs.Lent.{lent};
 ghost use Rattle.flow_core.specs.Gatherings.{sequence_at, missing_in};
 ghost use Rattle.flow_core.specs.Sequences.{IsRight, Lacks};
@@ -14,7 +14,7 @@ ghost use Rattle.work_desk.specs.Permits.{IsPermitted, LetsOnly};
 use crate::round::permitted_collector::PermittedCollector;
 use crate::round::sealer::Sealer;
 use cutter::PlanRef;
-use flow_core::{Delivery, Fed, FeedFault, Outcome};
+use flow_core::{Delivery, Fed, FeedFault, Obstacle, Outcome};
 use ladder_items::{PackFault, Settings};
 use segment_job::{Sealed, seal_plan};
 use work_desk::{Gate, Permit, Seen};
@@ -36,7 +36,14 @@ fn collect<'s, P: Permit>(collector: &mut PermittedCollector<'s, P>, sealed: Sea
     true
 }
 
-/// Takes in what is done. A sealed segment that isn't right is thrown away, as is a refusal. Of a segment that a worker held back
+/// The receipt for what a desk handed out of a plan, and was taken in. Only [`take_in`] makes one.
+#[derive(Drop)]
+pub struct TakenIn {
+    rendition: usize,
+    number: u64,
+}
+
+/// Takes in what is done, and returns the receipt. A sealed segment that isn't right is thrown away, as is a refusal. Of a segment that a worker held back
 /// the gate is asked again: where it stops that one, the run stops, and else this thread will seal it.
 #[tactic(auto, using(crate::proofs::Collecting::keeps_same))]
 pub fn take_in<'s, G: Gate, P: Permit>(
@@ -45,7 +52,7 @@ pub fn take_in<'s, G: Gate, P: Permit>(
     done: Delivery<'s>,
     right: &mut u64,
     thrown: &mut u64,
-) -> Result<(), PackFault>
+) -> Result<TakenIn, PackFault>
     requires permitted { IsPermitted P.permits done.outcome }
     requires few { right.old + thrown.old + 1 < 2 ^ 64 }
     ensures keeps { Keeps collector.old collector.new }
@@ -53,32 +60,30 @@ pub fn take_in<'s, G: Gate, P: Permit>(
     ensures fair { right.new + gathered collector.old.sequences ≡ right.old + gathered collector.new.sequences }
     ensures rest { length (missing_in collector.new.sequences) ≤ length (missing_in collector.old.sequences) }
     ensures taken { TakesIn done.entry.outcome collector.old collector.new }
+    ensures of { IfOk result (λ took. (took.rendition ≡ done.entry.rendition) × (took.number ≡ done.entry.number)) }
     ensures held { OnErr result (done.entry.outcome ≡ HeldBack) }
     ensures unheld { OnOk result (done.entry.outcome ≡ HeldBack → G.lets gate.now done.entry.rendition done.entry.number) }
     ensures fault { IfErr result (λ fault. (fault ≡ Held done.entry.rendition done.entry.number) × G.stops gate.now done.entry.rendition done.entry.number) }
 {
-    let Delivery {
-        rendition,
-        number,
-        outcome,
-    } = done;
+    let (rendition, number, outcome) = done.into_parts();
+    let took = TakenIn { rendition, number };
     match outcome {
         Outcome::Sealed(sealed) => {
             if collect(collector, sealed) {
                 *right += 1;
-                return Ok(());
+                return Ok(took);
             }
             *thrown += 1;
-            Ok(())
+            Ok(took)
         }
         Outcome::Refused => {
             *thrown += 1;
-            Ok(())
+            Ok(took)
         }
         Outcome::Held => {
             *thrown += 1;
             if gate.pass(rendition, number) {
-                return Ok(());
+                return Ok(took);
             }
             Err(PackFault::Held(rendition, number))
         }
@@ -114,8 +119,8 @@ impl<'g, G: Gate> Sealer<'g, G> {
         Ok(())
     }
 
-    /// Does what the desk's answer to a plan asks for: a plan that the desk took is left to the workers, and its receipt returned;
-    /// want of memory is told; and a plan that it refused is sealed on this thread, without a receipt.
+    /// Does what the desk's answer to a plan asks for, and hands that answer on: a plan that the desk took is left to the workers; want
+    /// of memory is told; and a plan that it refused is sealed on this thread.
     #[tactic(auto, using(crate::proofs::Collecting::keeps_same))]
     pub fn follow<'s, P: Permit>(
         &self,
@@ -123,19 +128,22 @@ impl<'g, G: Gate> Sealer<'g, G> {
         settings: &Settings,
         plan: PlanRef<'s>,
         collector: &mut PermittedCollector<'s, P>,
-    ) -> Result<Option<Fed<'s>>, PackFault>
+    ) -> Result<Result<Fed<'s>, FeedFault<'s>>, PackFault>
         requires only { LetsOnly (G.lets self.now.gate.now) P.permits }
         requires keys { HasKeys settings.now collector.old }
         ensures keeps { Keeps collector.old collector.new }
         ensures more { gathered collector.old.sequences ≤ gathered collector.new.sequences }
         ensures follows { Follows (G.lets self.now.gate.now) (G.stops self.now.gate.now) (lent plan.entry) collector.old collector.new answer.entry result }
     {
-        match answer {
-            Ok(fed) => Ok(Some(fed)),
-            Err(FeedFault::NoMemory(_)) => Err(PackFault::NoMemory),
-            Err(FeedFault::Full(_) | FeedFault::Closed(_) | FeedFault::Twice(_)) => {
+        let refused = match answer {
+            Ok(fed) => return Ok(Ok(fed)),
+            Err(refused) => refused,
+        };
+        match refused.why() {
+            Obstacle::NoMemory => Err(PackFault::NoMemory),
+            Obstacle::Full | Obstacle::Closed | Obstacle::Twice => {
                 self.seal_own(settings, plan, collector)?;
-                Ok(None)
+                Ok(Err(refused))
             }
         }
     }

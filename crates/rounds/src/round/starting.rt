@@ -9,7 +9,7 @@ ghost use Rattle.rounds.specs.Permitted.{ShowsLetThrough, ShowsPermitted};
 ghost use Rattle.rounds.specs.Rounds.{HasDueEnds, IsBroken, IsRound, IsSomeFull};
 ghost use Rattle.work_desk.specs.Permits.{LetsOnly};
 
-use crate::round::crew::Crew;
+use crate::round::crew::{Balance, Crew};
 use crate::round::scoped::in_scope;
 use crate::run::between::BetweenRounds;
 use crate::run::books::no_counts;
@@ -78,7 +78,7 @@ fn round_with<
 ) -> (BetweenRounds<'r, S, O, R>, Result<(), PackFault>)
     requires only { LetsOnly (G.lets setup.now.gate.now) P.permits }
     requires shown { ShowsPermitted P.permits between.broadcast.held.publisher.list }
-    requires keys { keys.now ≡ keys_of setup.now.settings.now }
+    requires keys { P.keys keys.now }
     requires each { length spools.now ≡ length setup.now.settings.now.renditions }
     requires on { IsSomeFull S.input O.output setup.now.settings.now spools.now between.broadcast }
     requires workers { length between.books.workers.items ≡ setup.now.workers }
@@ -104,11 +104,11 @@ fn round_with<
         taker,
         rest,
     } = opened;
-    let crew = Crew {
-        workers,
+    let balance = Balance {
         taker,
         rest,
         claims: counts,
     };
+    let crew = Crew { workers, balance };
     in_scope(setup, keys, spools, &desk, crew, between)
 }

@@ -10,7 +10,7 @@ ghost use Rattle.work_desk.specs.Permits.{IsPermitted, LetsOnly};
 use crate::round::machine::Round;
 use crate::round::permitted_collector::PermittedCollector;
 use crate::round::sealer::Sealer;
-use crate::round::sealing::take_in;
+use crate::round::sealing::{TakenIn, take_in};
 use crate::round::taker::Taker;
 use flow_core::Delivery;
 use item_io::{Outlet, Source};
@@ -170,7 +170,7 @@ fn hand_out<'s, L: Ledger, M: Ledger, P: Permit, R: Wait>(
     desk.look_done(rt, pass)
 }
 
-/// Takes in what the desk hands out. Where that is nothing, returns what was seen there.
+/// Takes in what the desk hands out, and returns the receipt. Where that is nothing, returns what was seen there.
 fn take_one<'s, G: Gate, L: Ledger, M: Ledger, P: Permit, R: Wait>(
     rt: &R,
     gate: &G,
@@ -178,7 +178,7 @@ fn take_one<'s, G: Gate, L: Ledger, M: Ledger, P: Permit, R: Wait>(
     wait: bool,
     taker: &mut Taker<M>,
     collector: &mut PermittedCollector<'s, P>,
-) -> Result<Result<(), Seen>, PackFault>
+) -> Result<Result<TakenIn, Seen>, PackFault>
     ensures keeps { Keeps collector.old collector.new }
     ensures fair { taker.new.right + gathered collector.old.sequences ≡ taker.old.right + gathered collector.new.sequences }
     ensures counted { IfOk result (λ took. OnOk took (taker.new.pass.count ≡ taker.old.pass.count + 1)) }
@@ -199,8 +199,8 @@ fn take_one<'s, G: Gate, L: Ledger, M: Ledger, P: Permit, R: Wait>(
         Err(seen) => return Ok(Err(seen)),
     };
     prove!(pass.count > 0);
-    take_in(gate, collector, done, right, thrown)?;
-    Ok(Ok(()))
+    let took = take_in(gate, collector, done, right, thrown)?;
+    Ok(Ok(took))
 }
 
 /// Takes in everything that is done, until the desk is seen with nothing of the kind.
@@ -247,7 +247,7 @@ fn wait_or_seal<'s, G: Gate, L: Ledger, M: Ledger, P: Permit, R: Wait>(
         ⊎ IsLeft (G.lets sealer.now.gate.now) (G.stops sealer.now.gate.now) collector.new fault) }
 {
     match take_one(rt, sealer.gate, desk, true, taker, collector)? {
-        Ok(()) => Ok(()),
+        Ok(_) => Ok(()),
         Err(seen) => sealer.seal_missing(settings, collector, seen),
     }
 }

@@ -1,14 +1,13 @@
 //! Faults are told when they stand, while the other renditions are packed on.
 
 ghost use Rattle.std.specs.Prelude.{◌≡◌, ◌<◌, ℕ};
-ghost use Rattle.rounds.specs.Heralds.{fault_of, TellsAll, TellsOne};
+ghost use Rattle.rounds.specs.Heralds.{TellsAll, TellsOne};
 ghost use Rattle.rounds.specs.declared.run.telling.TheConstants.{RENDITIONS};
 ghost use Rattle.ladder_items.specs.declared.fault.PackFault.{PackFault};
-ghost use Rattle.ladder_items.specs.Packed.{told_of_cut};
 
 use crate::run::course::Course;
-use crate::run::telling::{RENDITIONS, Telling};
-use ingest::{Stop, StreamFault};
+use crate::run::telling::{RENDITIONS, Telling, fault_of};
+use ingest::Stop;
 use ladder_items::PackFault;
 
 /// Who is told how a run goes on: each rendition's fault as soon as it stands, and how many segments are complete. What a run
@@ -49,34 +48,9 @@ impl<'h, H: Herald> Telling<'h, H> {
         if self.has_told(r) {
             return;
         }
-        if let Some(fault) = fault_of(r, stop) {
-            self.tell_first(r, fault);
+        if let Some(found) = fault_of(r, stop) {
+            self.tell_first(found);
         }
-    }
-}
-
-/// The fault by which rendition `r` stopped.
-fn fault_of(r: usize, stop: Option<Stop>) -> Option<PackFault>
-    ensures { result ≡ fault_of r stop }
-{
-    match stop {
-        None => None,
-        Some(Stop::Good(_)) => None,
-        Some(Stop::Read) => Some(PackFault::Read(r)),
-        Some(Stop::Cut(fault)) => Some(cut_fault(r, fault)),
-    }
-}
-
-/// The fault of a rendition's stream.
-fn cut_fault(r: usize, fault: StreamFault) -> PackFault
-    ensures { result ≡ told_of_cut r fault }
-{
-    match fault {
-        StreamFault::NoProgram => PackFault::NoProgram(r),
-        StreamFault::NoStart => PackFault::NoStart(r),
-        StreamFault::LongSegment(number) => PackFault::LongSegment(r, number),
-        StreamFault::BigSegment(number) => PackFault::BigSegment(r, number),
-        StreamFault::Limit => PackFault::Limit(r),
     }
 }
 

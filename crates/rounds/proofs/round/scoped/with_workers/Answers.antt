@@ -4,10 +4,10 @@ use Rattle.rounds.specs.Permitted.{ShowsPermitted}
 use Rattle.rounds.proofs.Answered.{round-closed, break-closed, fault-told}
 use Rattle.rounds.proofs.Gates.{none-word}
 use Rattle.rounds.proofs.Running.{stopped-here}
-use Rattle.rounds.proofs.round.scoped.fn.in_scope.scope.Goals as goal
+use Rattle.rounds.proofs.round.scoped.with_workers.Goals as goal
 
 pub returns-then-len-workers : goal.returns-then-len-workers
-returns-then-len-workers g c = record { ok = tt; err = λ start on. stopped-here _ _ _ _ _ start _ _ _ _ refl on; held = none-word _ _ refl; shown = c.requires.shown }
+returns-then-len-workers g c = rw c.unbegun.ensures (record { ok = tt; err = λ start on. stopped-here _ _ _ _ _ start _ _ _ _ refl on; held = none-word _ _ refl; shown = c.requires.shown })
 
 pub returns : goal.returns
 returns g c =
