@@ -1,10 +1,10 @@
 -- Files that give the segments of a playlist, one behind another.
-use Rattle.std.proofs.Common.{◌≡◌, Vec, Global, ℕ, ◌+◌, ◌<◌, List, [], ◌∷◌, ◌++◌, map, length, take, set, get_or, ap, sym, ◌∙◌, arith}
+use Rattle.std.proofs.Common.{◌≡◌, Vec, Global, ℕ, ◌+◌, ◌<◌, List, [], ◌∷◌, ◌++◌, map, length, take, set, get_or, ap, sym, subst, ◌∙◌, arith}
 use Rattle.std.proofs.lemmas.List.{map-append, get_or-map, length-map, take_more, take_more_set}
 use Rattle.std.specs.Path.{path_buf_bytes}
 use Rattle.std.specs.declared.path.buf.PathBuf.{PathBuf}
 use Rattle.playlist_text.specs.MediaLines.{Entry, Listing}
-use Rattle.commands.specs.Checking.{AllGive, segment_path, segment_paths}
+use Rattle.commands.specs.Checking.{AllGive, RefusesOne, segment_path, segment_paths}
 
 -- the path of a place
 pub path-at : (playlist : List ℕ) (listing : Listing) (i : ℕ) (e : Entry) → i < length listing.entries
@@ -26,6 +26,12 @@ segment-given gives paths segments i x below within each last =
     let items = λ (v : Vec ℕ Global). v.items in
     rw (take_more paths i [] below, take_more_set segments i x within, map-append items (take i segments) (x ∷ []))
     (give-more gives (take i paths) (map items (take i segments)) (get_or paths i []) x.items each last)
+
+-- the file at a path was refused, behind those that gave their bytes
+pub refused-at : (gives : List ℕ → List ℕ → Type 0) (refuses : List ℕ → Type 0) (paths : List (List ℕ)) (segments : List (List ℕ)) (i : ℕ) (path : List ℕ) → i < length paths
+    → AllGive gives (take i paths) segments → path ≡ get_or paths i [] → refuses path → RefusesOne gives refuses paths
+refused-at gives refuses paths segments i path below before is refused =
+    record { place = i; within = below; segments = segments; before = before; refused = subst refuses is refused }
 
 -- one path more
 pub path-more : (playlist : List ℕ) (listing : Listing) (i : ℕ) (e : Entry) (old new : List (PathBuf Global)) (path : PathBuf Global) → i < length listing.entries

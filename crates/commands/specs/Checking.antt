@@ -1,5 +1,5 @@
 -- A playlist and the segments that it lists, read from files.
-use Rattle.std.specs.Prelude.{◌≡◌, ⊤, ℕ, ◌<◌, ◌⊎◌, List, [], ◌∷◌, ◌++◌, Option, map, length, slice_index_or, codes}
+use Rattle.std.specs.Prelude.{◌≡◌, ⊤, ℕ, ◌<◌, ◌⊎◌, List, [], ◌∷◌, ◌++◌, Option, map, length, take, get_or, codes}
 use Rattle.std.specs.Fmt.{decimal}
 use Rattle.std.specs.Io.KnownBytes.{Appends}
 use Rattle.std.specs.Option.{unwrap_or}
@@ -17,6 +17,7 @@ use Rattle.hls_check.specs.Unpacking.{HasBytes, IsTold, packed}
 use Rattle.commands.specs.declared.checking.CheckingFault.{CheckingFault}
 use Rattle.commands.specs.declared.checking.CheckingFault.TheVariants.{Unread, Faulty, Unwritten, NoMemory}
 use Rattle.item_io.specs.Writing.{WritesBeginning}
+use Rattle.commands.specs.Streams.{IsUnwritten}
 
 -- the folder in which a file lies
 abbrev pub folder_of : List ℕ → List ℕ
@@ -37,11 +38,13 @@ AllGive gives (path ∷ paths) (bytes ∷ all) = gives path bytes × AllGive giv
 AllGive gives [] (bytes ∷ all) = ⊥
 AllGive gives (path ∷ paths) [] = ⊥
 
--- the file at one of these paths was refused
-pub record RefusesOne (refuses : List ℕ → Type 0) (paths : List (List ℕ)) : Type 0 where
+-- the file at one of these paths was refused, and those at all paths before it gave their bytes
+pub record RefusesOne (gives : List ℕ → List ℕ → Type 0) (refuses : List ℕ → Type 0) (paths : List (List ℕ)) : Type 0 where
   pub place : ℕ
   pub within : place < length paths
-  pub refused : refuses (slice_index_or paths place [])
+  pub segments : List (List ℕ)
+  pub before : AllGive gives (take place paths) segments
+  pub refused : refuses (get_or paths place [])
 
 -- the file of a playlist gave the text of this listing
 pub record GivesListing (gives : List ℕ → List ℕ → Type 0) (playlist text : List ℕ) (listing : Listing) : Type 0 where
@@ -70,24 +73,24 @@ pub record UnpackWell (gives : List ℕ → List ℕ → Type 0) (keys : List (L
 
 -- why the files at these paths don't give the segments of a playlist, or those don't unpack
 abbrev pub IsSegmentsFault : (List ℕ → List ℕ → Type 0) → (List ℕ → Type 0) → (List ℕ → Type 0) → List (List ℕ) → Listing → List (List ℕ) → CheckingFault → Type 0
-IsSegmentsFault gives refuses wants keys listing paths Unread = RefusesOne refuses paths
+IsSegmentsFault gives refuses wants keys listing paths Unread = RefusesOne gives refuses paths
 IsSegmentsFault gives refuses wants keys listing paths (Faulty (Text why)) = ⊥
 IsSegmentsFault gives refuses wants keys listing paths (Faulty (Segments why)) =
     (segments : List (List ℕ)) × AllGive gives paths segments × IsTold (packed listing.salt listing.entries segments keys) why
     × (why ≡ NoMemoryForSegments → HasBytes (packed listing.salt listing.entries segments keys))
 IsSegmentsFault gives refuses wants keys listing paths Unwritten = ⊥
-IsSegmentsFault gives refuses wants keys listing paths NoMemory = RefusesOne wants paths
+IsSegmentsFault gives refuses wants keys listing paths NoMemory = RefusesOne gives wants paths
 
 -- the file of a playlist was refused, or gave what isn't UTF-8
 abbrev pub IsNoText : (List ℕ → List ℕ → Type 0) → (List ℕ → Type 0) → List ℕ → Type 0
 IsNoText gives refuses playlist = refuses playlist ⊎ ((bytes : List ℕ) × gives playlist bytes × ¬ IsUtf8 bytes)
 
--- it gave a playlist, and the file of one of its segments was refused
+-- it gave a playlist, and the file of one of its segments was refused, and of none before it
 pub record LacksSegment (gives : List ℕ → List ℕ → Type 0) (refuses : List ℕ → Type 0) (playlist : List ℕ) : Type 0 where
   pub text : List ℕ
   pub listing : Listing
   pub playlist_is : GivesListing gives playlist text listing
-  pub lacks : RefusesOne refuses (segment_paths playlist listing)
+  pub lacks : RefusesOne gives refuses (segment_paths playlist listing)
 
 -- why a playlist wasn't checked to its end, or isn't whole. Its text wants memory only for a line that is kept, and its segments only for one
 -- that opens to some bytes.
@@ -122,3 +125,10 @@ pub record BeginsChecked (gives : List ℕ → List ℕ → Type 0) (keys : List
   pub checked : Checked
   pub well : ChecksWell gives keys playlist checked
   pub written : WritesBeginning held held_then (checked_line checked)
+
+-- it is whole, and that line wasn't written
+pub record LeavesChecked (Unflushed : Type 0) (gives : List ℕ → List ℕ → Type 0) (keys : List (List ℕ)) (playlist : List ℕ)
+    (held held_then : Option (List ℕ)) : Type 0 where
+  pub checked : Checked
+  pub well : ChecksWell gives keys playlist checked
+  pub unwritten : IsUnwritten Unflushed held held_then (checked_line checked)

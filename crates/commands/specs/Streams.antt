@@ -5,8 +5,12 @@ use Rattle.ts_packet.specs.Packets.{packets, joined}
 use Rattle.hex.specs.Hex.{decode_of}
 use Rattle.aes_cbc.specs.Chain.{sealed_text}
 use Rattle.aes_cbc.specs.Opening.{Seals, IsInBlocks, IsNotBlocks}
-use Rattle.item_io.specs.Writing.{WritesBeginning, hex_line}
+use Rattle.item_io.specs.Writing.{WritesBeginning, WritesFewer, hex_line}
 use Rattle.commands.specs.Hex.{without_end}
+
+-- The writer got fewer bytes than these, or it wasn't flushed behind them.
+abbrev pub IsUnwritten : Type 0 → Option (List ℕ) → Option (List ℕ) → List ℕ → Type 0
+IsUnwritten Unflushed held held_then text = WritesFewer held held_then text ⊎ Unflushed
 
 -- A reader that had these bytes left gave `bytes` and came to its end.
 pub record ReadsAll (left left_then : Option (List ℕ)) (bytes : List ℕ) : Type 0 where
@@ -38,6 +42,12 @@ pub record BeginsSealed (key vector : List ℕ) (left left_then held held_then :
   pub bytes : List ℕ
   pub read : ReadsAll left left_then bytes
   pub written : WritesBeginning held held_then (sealed_line key vector bytes)
+
+-- All that the reader gave was sealed, and that line wasn't written.
+pub record LeavesSealed (Unflushed : Type 0) (key vector : List ℕ) (left left_then held held_then : Option (List ℕ)) : Type 0 where
+  pub bytes : List ℕ
+  pub read : ReadsAll left left_then bytes
+  pub unwritten : IsUnwritten Unflushed held held_then (sealed_line key vector bytes)
 
 -- The reader gave a line of hex digits, of either case, that stand for `sealed`.
 pub record ReadsDigits (left left_then : Option (List ℕ)) (sealed : List ℕ) : Type 0 where
@@ -72,6 +82,14 @@ pub record BeginsOpened (key vector : List ℕ) (left left_then held held_then :
   pub plain : List ℕ
   pub seals : Seals key vector plain sealed
   pub written : WritesBeginning held held_then (hex_line plain)
+
+-- The reader gave a sealed text, and that line wasn't written.
+pub record LeavesOpened (Unflushed : Type 0) (key vector : List ℕ) (left left_then held held_then : Option (List ℕ)) : Type 0 where
+  pub sealed : List ℕ
+  pub read : ReadsDigits left left_then sealed
+  pub plain : List ℕ
+  pub seals : Seals key vector plain sealed
+  pub unwritten : IsUnwritten Unflushed held held_then (hex_line plain)
 
 -- The reader gave digits that stand for no whole blocks.
 pub record ReadsNoBlocks (left left_then : Option (List ℕ)) : Type 0 where

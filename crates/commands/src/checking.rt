@@ -5,13 +5,12 @@ ghost use Rattle.commands.specs.Checking;
 
 use crate::files::{FileFault, FileReader};
 use crate::kept::Kept;
-use crate::output::write_all;
+use crate::output::{Output, write_all};
 use hls_check::{CheckFault, Checked, UnpackFault, check_listing};
 use item_io::{OutletFault, push_segment_file_name};
 use media_reading::{ListFault, Listing, read_media};
 use playlist_text::push_decimal;
 use std::alloc::{AllocError, Global};
-use std::io::Write;
 use std::path::{Path, PathBuf};
 use thiserror::Error;
 
@@ -164,8 +163,8 @@ fn fill_segments<F: FileReader>(
 ) -> Result<(), FileFault>
     requires places { length segments.now ≡ length paths.now }
     ensures ok { OnOk result (Checking.AllGive (F.gives files.now) (map path_buf_bytes paths.now) (map (λ s. s.items) segments.new)) }
-    ensures unread { IsErrOf result FileFault.Unread → Checking.RefusesOne (F.refuses files.now) (map path_buf_bytes paths.now) }
-    ensures no_memory { IsErrOf result FileFault.NoMemory → Checking.RefusesOne (F.wants files.now) (map path_buf_bytes paths.now) }
+    ensures unread { IsErrOf result FileFault.Unread → Checking.RefusesOne (F.gives files.now) (F.refuses files.now) (map path_buf_bytes paths.now) }
+    ensures no_memory { IsErrOf result FileFault.NoMemory → Checking.RefusesOne (F.gives files.now) (F.wants files.now) (map path_buf_bytes paths.now) }
 {
     for place in 0..paths.len() {
         segments[place] = files.read(alloc, paths[place].as_str())?;
@@ -181,8 +180,8 @@ fn read_segments<F: FileReader>(
 ) -> Result<Vec<Vec<u8>>, FileFault>
     requires places { length room.segments.items ≡ length room.paths.items }
     ensures ok { IfOk result (λ segments. Checking.AllGive (F.gives files.now) (map path_buf_bytes room.paths.items) (map (λ s. s.items) segments.items)) }
-    ensures unread { IsErrOf result FileFault.Unread → Checking.RefusesOne (F.refuses files.now) (map path_buf_bytes room.paths.items) }
-    ensures no_memory { IsErrOf result FileFault.NoMemory → Checking.RefusesOne (F.wants files.now) (map path_buf_bytes room.paths.items) }
+    ensures unread { IsErrOf result FileFault.Unread → Checking.RefusesOne (F.gives files.now) (F.refuses files.now) (map path_buf_bytes room.paths.items) }
+    ensures no_memory { IsErrOf result FileFault.NoMemory → Checking.RefusesOne (F.gives files.now) (F.wants files.now) (map path_buf_bytes room.paths.items) }
 {
     let SegmentRoom {
         paths,
@@ -259,7 +258,7 @@ fn line_of_files<F: FileReader>(
 /// A playlist that can't be read, or isn't UTF-8, is Unread. What is none is told before a segment that can't be read,
 /// and that before all that a segment holds. NoMemory comes only where the file of the playlist wanted it, or gave a
 /// playlist. Before every fault but Unwritten nothing was written; at Unwritten a prefix of the line was.
-pub fn check<F: FileReader, W: Write>(
+pub fn check<F: FileReader, W: Output>(
     alloc: Global,
     files: &F,
     keys: &[[u8; 16]],
@@ -269,6 +268,9 @@ pub fn check<F: FileReader, W: Write>(
     ensures ok { OnOk result (Checking.WritesChecked (F.gives files.now) keys.now playlist.now (W.contents output.old) (W.contents output.new)) }
     ensures unwritten { IsErrOf result CheckingFault.Unwritten →
         Checking.BeginsChecked (F.gives files.now) keys.now playlist.now (W.contents output.old) (W.contents output.new) }
+    ensures flushed { OnOk result (W.flushed output.new) }
+    ensures left { IsErrOf result CheckingFault.Unwritten →
+        Checking.LeavesChecked (W.unflushed output.new) (F.gives files.now) keys.now playlist.now (W.contents output.old) (W.contents output.new) }
     ensures other { IfErr result (λ fault. fault ≢ CheckingFault.Unwritten →
         Checking.IsCheckFault (F.gives files.now) (F.refuses files.now) (F.wants files.now) keys.now playlist.now fault) }
     ensures untouched { IfErr result (λ fault. fault ≢ CheckingFault.Unwritten → output.new ≡ output.old) }

@@ -41,7 +41,7 @@ pub use numbers::{
     DEFAULT_WINDOW, NumberWords, Numbers,
 };
 pub use opening::{OpeningFault, open};
-pub use output::write_all;
+pub use output::{Output, write_all};
 pub use outside::{Ranged, first_outside};
 pub use packing_fault::LadderPackingFault;
 pub use pool::{DEFAULT_QUEUE, DEFAULT_WORKERS, MOST_AHEAD, MOST_STALL, Pool, PoolWords};

@@ -4,16 +4,15 @@ ghost use Rattle.aes_cbc.specs.Opening.{Seals, IsInBlocks, IsNotBlocks};
 ghost use Rattle.hex.specs.Hex.{decode_of, is_hex_digit};
 ghost use Rattle.commands.specs.Counts.{HasRoom, ReadsFewer, OpeningCounts};
 ghost use Rattle.commands.specs.Hex.{without_end};
-ghost use Rattle.commands.specs.Streams.{WritesOpened, BeginsOpened, OpensInput, ReadsOther, ReadsNoBlocks, ReadsNoSealed};
+ghost use Rattle.commands.specs.Streams.{WritesOpened, BeginsOpened, LeavesOpened, OpensInput, ReadsOther, ReadsNoBlocks, ReadsNoSealed};
 
 use crate::kept::Kept;
-use crate::output::write_hex_line;
+use crate::output::{Output, write_hex_line};
 use crate::reading::{ReadingFault, read_all};
 use aes_cbc::{Key, OpenFault};
 use hex::FromHexError;
 use item_io::{OutletFault, Source};
 use std::alloc::Global;
-use std::io::Write;
 use thiserror::Error;
 
 /// Why `open` ends without having done its work.
@@ -192,7 +191,7 @@ fn opened_line<S: Source>(
 /// Unread is told exactly where a read failed, and ReadLimit exactly where 2^40 reads each gave a byte. BadHex is told
 /// before NotBlocks, and that before BadPadding. Before every fault but Unwritten nothing was written; at Unwritten a
 /// prefix of that line was.
-pub fn open<S: Source, W: Write>(
+pub fn open<S: Source, W: Output>(
     alloc: Global,
     key: &Key,
     vector: &[u8; 16],
@@ -205,6 +204,9 @@ pub fn open<S: Source, W: Write>(
     ensures ok_counts { OnOk result (ReadsFewer (S.input.reads input.old) (S.input.reads input.new) (S.input.failures input.old) (S.input.failures input.new)) }
     ensures unwritten { IsErrOf result OpeningFault.Unwritten →
         BeginsOpened key.now vector.now (S.input.left input.old) (S.input.left input.new) (W.contents output.old) (W.contents output.new) }
+    ensures flushed { OnOk result (W.flushed output.new) }
+    ensures left { IsErrOf result OpeningFault.Unwritten → LeavesOpened (W.unflushed output.new) key.now vector.now (S.input.left input.old)
+        (S.input.left input.new) (W.contents output.old) (W.contents output.new) }
     ensures bad_hex { IsErrOf result OpeningFault.BadHex → ReadsOther (S.input.left input.old) (S.input.left input.new) }
     ensures not_blocks { IsErrOf result OpeningFault.NotBlocks → ReadsNoBlocks (S.input.left input.old) (S.input.left input.new) }
     ensures bad_padding { IsErrOf result OpeningFault.BadPadding → ReadsNoSealed key.now vector.now (S.input.left input.old) (S.input.left input.new) }

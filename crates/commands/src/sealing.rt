@@ -1,14 +1,13 @@
 ghost use Rattle.std.specs.Prelude.{◌≡◌, ◌≢◌, IfOk, OnOk, IfErr, IsErrOf};
 ghost use Rattle.commands.specs.Counts.{HasRoom, ReadsFewer, SealingCounts};
-ghost use Rattle.commands.specs.Streams.{WritesSealed, BeginsSealed, HasBegun, ReadsSealed};
+ghost use Rattle.commands.specs.Streams.{WritesSealed, BeginsSealed, HasBegun, LeavesSealed, ReadsSealed};
 
-use crate::output::write_hex_line;
+use crate::output::{Output, write_hex_line};
 use crate::packets::read_packets;
 use crate::reading::ReadingFault;
 use aes_cbc::Key;
 use item_io::{OutletFault, Source};
 use std::alloc::{AllocError, Global};
-use std::io::Write;
 use thiserror::Error;
 
 /// Why `seal` ends without having done its work.
@@ -87,7 +86,7 @@ fn sealed_packets<S: Source>(
 ///
 /// Unread is told exactly where a read failed, and ReadLimit exactly where 2^40 reads each gave a byte. Before every fault
 /// but Unwritten nothing was written; at Unwritten a prefix of that line was.
-pub fn seal<S: Source, W: Write>(
+pub fn seal<S: Source, W: Output>(
     alloc: Global,
     key: &Key,
     vector: &[u8; 16],
@@ -100,6 +99,9 @@ pub fn seal<S: Source, W: Write>(
     ensures ok_counts { OnOk result (ReadsFewer (S.input.reads input.old) (S.input.reads input.new) (S.input.failures input.old) (S.input.failures input.new)) }
     ensures unwritten { IsErrOf result SealingFault.Unwritten →
         BeginsSealed key.now vector.now (S.input.left input.old) (S.input.left input.new) (W.contents output.old) (W.contents output.new) }
+    ensures flushed { OnOk result (W.flushed output.new) }
+    ensures left { IsErrOf result SealingFault.Unwritten → LeavesSealed (W.unflushed output.new) key.now vector.now (S.input.left input.old)
+        (S.input.left input.new) (W.contents output.old) (W.contents output.new) }
     ensures untouched { IfErr result (λ fault. fault ≢ SealingFault.Unwritten → output.new ≡ output.old) }
     ensures counts { IfErr result (SealingCounts (S.input.reads input.old) (S.input.reads input.new) (S.input.failures input.old)
         (S.input.failures input.new)) }

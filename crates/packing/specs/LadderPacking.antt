@@ -12,6 +12,7 @@ use Rattle.rounds.specs.Gated.{IsUnheld}
 use Rattle.rounds.specs.Heralds.{IsHeardOf}
 use Rattle.rounds.specs.Shown.{FaultSaysShown, Fits, IsPackedShown, IsTurnedAway}
 use Rattle.packing.specs.Summaries.{IsSummaryOf}
+use Rattle.commands.specs.Streams.{IsUnwritten}
 use Rattle.commands.specs.declared.packing_fault.LadderPackingFault.{LadderPackingFault}
 use Rattle.commands.specs.declared.packing_fault.LadderPackingFault.TheVariants.{Packing, Unwritten, NoMemory}
 
@@ -26,6 +27,12 @@ pub record BeginsSummary (ladder : Ladder) (report : Report) (held held_then : O
   pub text : List ℕ
   pub is : IsSummaryOf ladder report text
   pub begun : WritesBeginning held held_then text
+
+-- it isn't all written: the writer got fewer bytes than it has, or wasn't flushed behind it
+pub record LeavesSummary (Unflushed : Type 0) (ladder : Ladder) (report : Report) (held held_then : Option (List ℕ)) : Type 0 where
+  pub text : List ℕ
+  pub is : IsSummaryOf ladder report text
+  pub unwritten : IsUnwritten Unflushed held held_then text
 
 -- all was packed and shown, and the writer got a prefix of the summary
 pub record EndsUnwritten {X Y : Type 0} (run : Run X Y) (ladder : Ladder) (workers : ℕ) (old new : List SnapshotFacts) (held held_then : Option (List ℕ)) : Type 0 where

@@ -1,7 +1,7 @@
 -- The lines that tell what a ladder's run gave.
 use Rattle.std.specs.Prelude.{◌≡◌, ℕ, List, [], ◌∷◌, ◌++◌}
 use Rattle.std.specs.List.{flat_map}
-use Rattle.std.specs.List.Sorted.{IsPermutation, IsSortedByKey}
+use Rattle.std.specs.List.Sorted.{IsPermutation, IsSortedByKey, IsStableByKey}
 use Rattle.std.specs.Cmp.Lexicographic.{slice_cmp}
 use Rattle.std.specs.Fmt.{decimal}
 use Rattle.std.specs.Ordering.{nat_cmp}
@@ -27,6 +27,10 @@ line_of told = told.name ++ 32 ∷ decimal told.count ++ 32 ∷ seconds told.mic
 -- names in byte order
 abbrev pub AreByName : List Told → Type 0
 AreByName tolds = IsSortedByKey (λ (told : Told). told.name) (slice_cmp nat_cmp) tolds
+
+-- rows of one name stand in the order that they had
+abbrev pub KeepTies : List SummaryRow → List SummaryRow → Type 0
+KeepTies before now = IsStableByKey (λ (row : SummaryRow). row.name.now) (slice_cmp nat_cmp) before now
 
 -- the lines of these, in byte order of their names
 pub record AreLinesOf (tolds : List Told) (text : List ℕ) : Type 0 where

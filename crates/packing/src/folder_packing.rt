@@ -1,19 +1,20 @@
-ghost use Rattle.std.specs.Prelude.{◌≡◌, [], IfOk, IfErr, OnOk, length};
+ghost use Rattle.std.specs.Prelude.{◌≡◌, [], IfOk, IfErr, IsErrOf, OnOk, length};
 ghost use Rattle.ladder_items.specs.World.{HaveRoom};
 ghost use Rattle.live_board.specs.Counts.{counts_shown};
 ghost use Rattle.rounds.specs.Shown.{Fits, IsPackedShown};
 ghost use Rattle.packing.specs.FolderPacking.{FolderSays, IsPackedInto, LeavesPlayable, LeavesPrefix, folder_run};
-ghost use Rattle.packing.specs.LadderPacking.{IsHeard, IsNeverHeld, LadderSays, TurnsAway, WritesSummary};
+ghost use Rattle.packing.specs.LadderPacking.{IsHeard, IsNeverHeld, LadderSays, LeavesSummary, TurnsAway, WritesSummary};
+ghost use Rattle.commands.specs.declared.packing_fault.LadderPackingFault.TheVariants.{Unwritten};
 
 use crate::destination::{Destination, outlet_of};
 use crate::ladder_packing::{PackedLadder, pack};
 use crate::setup::LadderSetup;
+use commands::Output;
 use folder::Folder;
 use item_io::{FolderOutlet, READS, Source};
 use ladder_laws::names_are_bytes;
 use live_board::Publisher;
-use pipeline::Herald;
-use std::io::Write;
+use pipeline::{Herald, Report};
 use std::sync::Wait;
 use std::thread::Threads;
 
@@ -28,7 +29,7 @@ use std::thread::Threads;
 pub fn pack_into_folder<
     S: Source + Drop,
     F: Folder + Drop,
-    W: Write,
+    W: Output,
     R: Threads + Wait + Sync,
     H: Herald,
 >(
@@ -62,6 +63,9 @@ pub fn pack_into_folder<
         setup.now.settings.now setup.now.pool.workers publisher.list result.publisher.list) }
     ensures never_held { IfErr result.answer IsNeverHeld }
     ensures told { IfErr result.answer (IsHeard (H.was_told setup.now.herald.now)) }
+    ensures flushed { OnOk result.answer (W.flushed output.new) }
+    ensures unwritten { IsErrOf result.answer Unwritten →
+        (report : Report) × LeavesSummary (W.unflushed output.new) setup.now.settings.now report (W.contents output.old) (W.contents output.new) }
 {
     names_are_bytes(setup.settings);
     let outlet = outlet_of(into, setup.alloc);

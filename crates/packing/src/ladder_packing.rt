@@ -5,17 +5,16 @@ ghost use Rattle.ladder_items.specs.Runs.{run_of};
 ghost use Rattle.ladder_items.specs.World.{HaveRoom};
 ghost use Rattle.live_board.specs.Counts.{counts_shown};
 ghost use Rattle.rounds.specs.Shown.{Fits, IsPackedShown};
-ghost use Rattle.packing.specs.LadderPacking.{BeginsSummary, IsHeard, IsNeverHeld, LadderSays, TurnsAway, WritesSummary};
+ghost use Rattle.packing.specs.LadderPacking.{BeginsSummary, IsHeard, IsNeverHeld, LadderSays, LeavesSummary, TurnsAway, WritesSummary};
 ghost use Rattle.commands.specs.declared.packing_fault.LadderPackingFault.TheVariants.{NoMemory, Unwritten};
 
 use crate::setup::LadderSetup;
 use crate::summaries::summary;
-use commands::{LadderPackingFault, Pool, write_all};
+use commands::{LadderPackingFault, Output, Pool, write_all};
 use item_io::{Outlet, READS, Source};
 use live_board::Publisher;
 use pipeline::{Endpoints, Herald, Ran, Report, Settings, Setup, pack_heralded};
 use std::alloc::Global;
-use std::io::Write;
 use std::sync::Wait;
 use std::thread::Threads;
 use work_desk::FreeGate;
@@ -33,7 +32,7 @@ pub struct PackedLadder<S, O> {
 ///
 /// Before the whole ladder is packed nothing is written. What was put before a fault stands. The herald is told of a rendition's
 /// fault as soon as it stands.
-pub fn pack<S: Source + Drop, O: Outlet + Drop, W: Write, R: Threads + Wait + Sync, H: Herald>(
+pub fn pack<S: Source + Drop, O: Outlet + Drop, W: Output, R: Threads + Wait + Sync, H: Herald>(
     setup: &LadderSetup<'_, R, H>,
     sources: Vec<S>,
     publisher: Publisher,
@@ -56,6 +55,9 @@ pub fn pack<S: Source + Drop, O: Outlet + Drop, W: Write, R: Threads + Wait + Sy
         setup.now.settings.now setup.now.pool.workers publisher.list result.publisher.list) }
     ensures never_held { IfErr result.answer IsNeverHeld }
     ensures told { IfErr result.answer (IsHeard (H.was_told setup.now.herald.now)) }
+    ensures flushed { OnOk result.answer (W.flushed output.new) }
+    ensures unwritten { IsErrOf result.answer Unwritten →
+        (report : Report) × LeavesSummary (W.unflushed output.new) setup.now.settings.now report (W.contents output.old) (W.contents output.new) }
 {
     let run = run_setup(setup, &FreeGate);
     let endpoints = Endpoints {
@@ -110,7 +112,7 @@ fn most_closed(pool: Pool) -> usize
 }
 
 /// Writes the summary of a run, and gives the report back.
-fn write_summary<W: Write>(
+fn write_summary<W: Output>(
     alloc: Global,
     settings: &Settings,
     report: Report,
@@ -121,6 +123,9 @@ fn write_summary<W: Write>(
     ensures fault { IfErr result (λ fault. ((fault ≡ Unwritten) ×
         BeginsSummary settings.now report (W.contents output.old) (W.contents output.new)) ⊎
         ((fault ≡ NoMemory) × Keeps (W.contents output.old) (W.contents output.new))) }
+    ensures flushed { OnOk result (W.flushed output.new) }
+    ensures unwritten { IsErrOf result Unwritten →
+        LeavesSummary (W.unflushed output.new) settings.now report (W.contents output.old) (W.contents output.new) }
 
     // The summary of a ladder without renditions wants no memory.
     ensures scarce { IsErrOf result NoMemory → 0 < length settings.now.renditions }

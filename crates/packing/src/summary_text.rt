@@ -4,7 +4,7 @@ ghost use Rattle.std.specs.List.{flat_map};
 ghost use Rattle.std.specs.List.Sorted.{IsPermutation};
 ghost use Rattle.std.specs.String.{string_bytes};
 ghost use Rattle.std.specs.Fmt.{decimal};
-ghost use Rattle.packing.specs.SummaryLines.{told_value, line_of, AreByName, AreLinesOf};
+ghost use Rattle.packing.specs.SummaryLines.{told_value, line_of, AreByName, AreLinesOf, KeepTies};
 
 use playlist_text::{push_decimal, push_seconds};
 use std::alloc::{AllocError, Global};
@@ -44,12 +44,14 @@ fn push_row(out: &mut String, row: SummaryRow<'_>) -> Result<(), AllocError>
     out.push('\n')
 }
 
-/// Puts rows in byte order of their names.
+/// Puts rows in byte order of their names; those of one name stay in their order. Up to 20 rows want no memory.
 fn sort_by_name(rows: &mut Vec<SummaryRow<'_>>) -> Result<(), AllocError>
     ensures same { IsPermutation rows.old.items rows.new.items }
     ensures ascending { OnOk result (AreByName (map told_value rows.new.items)) }
     ensures len { length rows.new.items ≡ length rows.old.items }
-    ensures scarce { OnErr result (0 < length rows.old.items) }
+    ensures stable { KeepTies rows.old.items rows.new.items }
+    ensures err { OnErr result (rows.new.items ≡ rows.old.items) }
+    ensures scarce { OnErr result (20 < length rows.old.items) }
 {
     rows.sort_by_key(|row| row.name)?;
     Ok(())

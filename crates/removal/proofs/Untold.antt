@@ -1,5 +1,5 @@
 -- Retentions that are about to begin were told nothing.
-use Rattle.std.proofs.Common.{arith, ◌≡◌, refl, sym, subst, ◌∙◌, ap, ◌<◌, ◌+◌, ℕ, List, [], ◌∷◌, ◌++◌, length, get_or, append-nil, inl, inr, ◌⊎◌}
+use Rattle.std.proofs.Common.{arith, ◌≡◌, sym, subst, ◌∙◌, ap, ◌<◌, ◌+◌, ℕ, List, [], ◌∷◌, ◌++◌, get_or, append-nil, inl, inr, ◌⊎◌}
 use Rattle.std.proofs.lemmas.Bool.{cases_lt}
 use Rattle.std.proofs.lemmas.List.{get_or_append_left, get_or_push, length-append}
 use Rattle.ladder_items.specs.Ladder.{Ladder, RenditionValue, rendition_at}

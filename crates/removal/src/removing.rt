@@ -1,24 +1,25 @@
 //! A ladder whose old segments go.
 
-ghost use Rattle.std.specs.Prelude.{◌≡◌, [], IfOk, IfErr, OnOk, length};
+ghost use Rattle.std.specs.Prelude.{◌≡◌, [], IfOk, IfErr, IsErrOf, OnOk, length};
 ghost use Rattle.ladder_items.specs.World.{HaveRoom};
 ghost use Rattle.live_board.specs.Counts.{counts_shown};
 ghost use Rattle.rounds.specs.Shown.{Fits, IsPackedShown};
 ghost use Rattle.item_io.specs.FolderMoves.{new_outlet};
 ghost use Rattle.keeping.specs.Keepings.{AreTold, Stay, removed_of};
 ghost use Rattle.keeping.specs.InPlace.{NoneIsListed};
-ghost use Rattle.packing.specs.LadderPacking.{IsHeard, IsNeverHeld, LadderSays, TurnsAway, WritesSummary};
+ghost use Rattle.packing.specs.LadderPacking.{IsHeard, IsNeverHeld, LadderSays, LeavesSummary, TurnsAway, WritesSummary};
+ghost use Rattle.commands.specs.declared.packing_fault.LadderPackingFault.TheVariants.{Unwritten};
 ghost use Rattle.removal.specs.Removing.{AreAllCleared, LeavesKept, kept_run, new_keeping};
 
 use crate::tally::{RemovalHerald, Tallied};
+use commands::Output;
 use folder::{Folder, PruningFolder};
 use item_io::{FolderOutlet, READS, Source};
 use keeping::{Keeping, KeepingOutlet};
 use live_board::Publisher;
 use packing::{Destination, LadderSetup, PackedLadder, pack};
-use pipeline::Herald;
+use pipeline::{Herald, Report};
 use std::alloc::Global;
-use std::io::Write;
 use std::sync::Wait;
 use std::thread::Threads;
 
@@ -33,7 +34,7 @@ use std::thread::Threads;
 pub fn pack_and_remove<
     S: Source + Drop,
     F: Folder + Drop,
-    W: Write,
+    W: Output,
     R: Threads + Wait + Sync,
     H: Herald + RemovalHerald,
 >(
@@ -64,6 +65,9 @@ pub fn pack_and_remove<
     ensures never_held { IfErr result.answer IsNeverHeld }
 
     ensures told { IfErr result.answer (IsHeard (H.was_told setup.now.herald.now)) }
+    ensures flushed { OnOk result.answer (W.flushed output.new) }
+    ensures unwritten { IsErrOf result.answer Unwritten →
+        (report : Report) × LeavesSummary (W.unflushed output.new) setup.now.settings.now report (W.contents output.old) (W.contents output.new) }
 
     // A herald of this kind, of which there is one alone, was told how many segments went by then, also where none did.
     ensures counted { (herald : H) × H.was_removed herald (removed_of result.outlet.renditions) }

@@ -31,3 +31,6 @@ returns-in-Ok-clause-told g c = summary-heard _ _ _ _ c.in-Ok.report c.write_sum
 
 pub returns-in-Err-clause-fault : goal.returns-in-Err-clause-fault
 returns-in-Err-clause-fault g c = (IfErr-at_err _ c.in-Err.is (rw (c.run_setup-run.ensures.settings, c.run_setup-run.ensures.workers) at c.pack_heralded-sources.ensures.fault), Keeps-refl _)
+
+pub returns-in-Ok-clause-unwritten : goal.returns-in-Ok-clause-unwritten
+returns-in-Ok-clause-unwritten g c = λ is. (c.in-Ok.report, c.write_summary.ensures.unwritten is)

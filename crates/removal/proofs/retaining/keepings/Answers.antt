@@ -1,5 +1,5 @@
 use Rattle.std.proofs.Common.{arith, rules, ◌≡◌, ◌∙◌, ap₂, sym, subst, ◌+◌, ◌∷◌, [], ◌++◌, ℕ, List, map, length}
-use Rattle.ladder_items.specs.Ladder.{RenditionValue, rendition_at}
+use Rattle.ladder_items.specs.Ladder.{RenditionValue}
 use Rattle.keeping.specs.Keepings.{KeepingValue}
 use Rattle.removal.specs.Retaining.{AreKeptUpTo, kept_for}
 use Rattle.removal.proofs.Untold.{kept-more, untold}
