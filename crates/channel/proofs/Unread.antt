@@ -19,23 +19,23 @@ not-read folder name now Read.Unread refuses = (refl, refuses refl)
 not-read folder name now Read.NoMemory refuses = refl
 
 -- a segment's file couldn't be
-pub row-not-read : (Refuses Wants : Type 0) (Gives : List ℕ → List ℕ → Type 0) (Lacks : List ℕ → Type 0) (r : ℕ) (rendition : RenditionValue) (row : SegmentRow) (file : List ℕ) (number : ℕ)
-    (fault : ResumingFault) → file ≡ segment_file_name rendition.name row.number → number ≡ row.number → IsReadFault Refuses Wants (Lacks file) r number fault
-    → IsRowFault Refuses Gives Lacks r rendition row fault
-row-not-read Refuses Wants Gives Lacks r rendition row file number Unread named numbered is = is
-row-not-read Refuses Wants Gives Lacks r rendition row file number Outlet named numbered is = is
-row-not-read Refuses Wants Gives Lacks r rendition row file number NoMemory named numbered is = tt
-row-not-read Refuses Wants Gives Lacks r rendition row file number (Not q why) named numbered is = (is.0, is.1 ∙ ap Lost numbered, subst Lacks named is.2)
-row-not-read Refuses Wants Gives Lacks r rendition row file number (OtherKeys q key) named numbered is = absurd is
+pub row-not-read : (Shut : List ℕ → Type 0) (Wants : Type 0) (Gives : List ℕ → List ℕ → Type 0) (Lacks : List ℕ → Type 0) (r : ℕ) (rendition : RenditionValue) (row : SegmentRow) (file : List ℕ) (number : ℕ)
+    (fault : ResumingFault) → file ≡ segment_file_name rendition.name row.number → number ≡ row.number → IsReadFault (Shut file) Wants (Lacks file) r number fault
+    → IsRowFault Shut Gives Lacks r rendition row fault
+row-not-read Shut Wants Gives Lacks r rendition row file number Unread named numbered is = subst Shut named is
+row-not-read Shut Wants Gives Lacks r rendition row file number Outlet named numbered is = is
+row-not-read Shut Wants Gives Lacks r rendition row file number NoMemory named numbered is = tt
+row-not-read Shut Wants Gives Lacks r rendition row file number (Not q why) named numbered is = (is.0, is.1 ∙ ap Lost numbered, subst Lacks named is.2)
+row-not-read Shut Wants Gives Lacks r rendition row file number (OtherKeys q key) named numbered is = absurd is
 
 -- it was, and doesn't open
-pub shut-row : (Refuses : Type 0) (Gives : List ℕ → List ℕ → Type 0) (Lacks : List ℕ → Type 0) (r : ℕ) (rendition : RenditionValue) (row : SegmentRow) (bytes : List ℕ) (fault : ResumingFault)
-    → Gives (segment_file_name rendition.name row.number) bytes → IsShutFault (alone rendition row bytes) r row.key fault → IsRowFault Refuses Gives Lacks r rendition row fault
-shut-row Refuses Gives Lacks r rendition row bytes Unread given is = absurd is
-shut-row Refuses Gives Lacks r rendition row bytes Outlet given is = absurd is
-shut-row Refuses Gives Lacks r rendition row bytes NoMemory given is = tt
-shut-row Refuses Gives Lacks r rendition row bytes (Not q why) given is = absurd is
-shut-row Refuses Gives Lacks r rendition row bytes (OtherKeys q key) given is = (is.0, is.1, record { bytes = bytes; gives = given; closed = is.2 })
+pub shut-row : (Shut : List ℕ → Type 0) (Gives : List ℕ → List ℕ → Type 0) (Lacks : List ℕ → Type 0) (r : ℕ) (rendition : RenditionValue) (row : SegmentRow) (bytes : List ℕ) (fault : ResumingFault)
+    → Gives (segment_file_name rendition.name row.number) bytes → IsShutFault (alone rendition row bytes) r row.key fault → IsRowFault Shut Gives Lacks r rendition row fault
+shut-row Shut Gives Lacks r rendition row bytes Unread given is = absurd is
+shut-row Shut Gives Lacks r rendition row bytes Outlet given is = absurd is
+shut-row Shut Gives Lacks r rendition row bytes NoMemory given is = tt
+shut-row Shut Gives Lacks r rendition row bytes (Not q why) given is = absurd is
+shut-row Shut Gives Lacks r rendition row bytes (OtherKeys q key) given is = (is.0, is.1, record { bytes = bytes; gives = given; closed = is.2 })
 
 pub names-not-read : (Refuses : Type 0) (why : FolderReadFault) → (why ≡ Read.Unread → Refuses) → IsScanFault Refuses (of_reading why)
 names-not-read Refuses Read.Unread refuses = refuses refl

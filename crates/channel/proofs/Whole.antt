@@ -14,6 +14,7 @@ use Rattle.channel_folder.specs.declared.fault.ReopenFault.{ReopenFault}
 use Rattle.channel_folder.specs.declared.fault.ReopenFault.TheVariants as Reopen
 use Rattle.channel_folder.specs.Scans.{IsScan, ScanValue}
 use Rattle.channel_folder.specs.Reopened.{IsOf, ReopenedValue}
+use Rattle.channel_folder.specs.Shut.{CannotRead, IsShutOf}
 use Rattle.channel_folder.specs.Stopped.{IsNotReopened}
 use Rattle.channel.specs.declared.fault.ResumingFault.{ResumingFault}
 use Rattle.channel.specs.declared.fault.ResumingFault.TheVariants.{Unread, Outlet, NoMemory, Not, OtherKeys}
@@ -25,6 +26,12 @@ use Rattle.channel.specs.Resuming.{IsNotResumed}
 use Rattle.channel.specs.Rolling.{IsOnlyRolled, RollingStops, RollsEach}
 use Rattle.channel.specs.Views.{FolderView}
 use Rattle.channel.proofs.Rolls.{rolls-all}
+
+refuses-of : (Refuses : Type 0) (Shuts : List ℕ → Type 0) (Gives : List ℕ → List ℕ → Type 0) (Lacks : List ℕ → Type 0) (a : Asked) →
+    IsShutOf (CannotRead Refuses Shuts) Gives Lacks a → Refuses
+refuses-of Refuses Shuts Gives Lacks a (inl (inl first)) = first.0
+refuses-of Refuses Shuts Gives Lacks a (inl (inr second)) = second.2.0
+refuses-of Refuses Shuts Gives Lacks a (inr listed) = listed.shut.shut.0
 
 pub asks-count : (ladder : Ladder) (asked : List Asked) → AsksFor ladder asked → length asked ≡ length ladder.renditions
 asks-count ladder asked asks =
@@ -55,15 +62,15 @@ module _ {F : Type 0} (folder : FolderView F) (ladder : Ladder) where
 
   -- one isn't reopened
   pub not-reopened : (at : F) (scan : ScanValue) (asked : List Asked) (fault : ReopenFault) → AsksFor ladder asked →
-      IsNotReopened (folder.refuses at) (folder.gives at) (folder.lacks at) scan ladder.kind asked fault → IsReadFault folder at ladder scan (of_reopening fault)
-  not-reopened at scan asked Reopen.Unread asks is = is
+      IsNotReopened (CannotRead (folder.refuses at) (folder.shuts at)) (folder.gives at) (folder.lacks at) scan ladder.kind asked fault → IsReadFault folder at ladder scan (of_reopening fault)
+  not-reopened at scan asked Reopen.Unread asks is = inl (record { asked = asked; asks = asks; is = is })
   not-reopened at scan asked Reopen.NoMemory asks is = tt
   not-reopened at scan asked (Reopen.Of r why) asks is = inl (record { asked = asked; asks = asks; is = is })
 
   -- a key doesn't open
   pub not-opened : (at : F) (scan : ScanValue) (reopened : ReopenedValue) (fault : ResumingFault) → IsReopenedFor folder at ladder scan reopened →
-      IsLookFault (folder.refuses at) (folder.gives at) (folder.lacks at) ladder.renditions reopened.found fault → IsReadFault folder at ladder scan fault
-  not-opened at scan reopened Unread all look = look.is.told
+      IsLookFault (CannotRead (folder.refuses at) (folder.shuts at)) (folder.gives at) (folder.lacks at) ladder.renditions reopened.found fault → IsReadFault folder at ladder scan fault
+  not-opened at scan reopened Unread all look = inr (record { reopened = reopened; all = all; shut = look })
   not-opened at scan reopened Outlet all look = look.is.told
   not-opened at scan reopened NoMemory all look = tt
   not-opened at scan reopened (Not r why) all look = inr (record { reopened = reopened; all = all; shut = look })
@@ -96,10 +103,15 @@ module _ {F : Type 0} (folder : FolderView F) (ladder : Ladder) where
   not-rolled before now (Not r why) s = absurd s.stops
   not-rolled before now (OtherKeys r key) s = absurd s.stops
 
+  -- what can't be read is refused
+  refuses-back : (at : F) (scan : ScanValue) → IsReadFault folder at ladder scan Unread → folder.refuses at
+  refuses-back at scan (inl not) = refuses-of (folder.refuses at) (folder.shuts at) (folder.gives at) (folder.lacks at) not.is.one not.is.shut
+  refuses-back at scan (inr shut) = shut.shut.is.told.0
+
   -- what was left isn't read back
   pub not-back : (before now : F) (scan : ScanValue) (fault : ResumingFault) → IsScan (folder.lists before) (names_of ladder.renditions) scan → RollsEach folder (names_of ladder.renditions) before now →
       IsReadFault folder now ladder scan fault → IsNotResumed folder ladder before now fault
-  not-back before now scan Unread scanned rolls is = (rolls-all folder (names_of ladder.renditions) before now rolls, is)
+  not-back before now scan Unread scanned rolls is = (rolls-all folder (names_of ladder.renditions) before now rolls, refuses-back now scan is)
   not-back before now scan Outlet scanned rolls is = absurd is
   not-back before now scan NoMemory scanned rolls is = rolls-all folder (names_of ladder.renditions) before now rolls
   not-back before now scan (Not r why) scanned rolls is = record { scan = scan; scanned = scanned; rolls = rolls; why = inl is }

@@ -50,14 +50,14 @@ IsShutFault p r key NoMemory = ⊤
 IsShutFault p r key (Not q why) = ⊥
 IsShutFault p r key (OtherKeys q k) = (q ≡ r) × (k ≡ key) × ¬ HasHead p 0
 
--- why a segment of rendition r isn't opened: its file isn't there, or doesn't open
-abbrev pub IsRowFault : Type 0 → (List ℕ → List ℕ → Type 0) → (List ℕ → Type 0) → ℕ → RenditionValue → SegmentRow → ResumingFault → Type 0
-IsRowFault Refuses Gives Lacks r rendition row Unread = Refuses
-IsRowFault Refuses Gives Lacks r rendition row Outlet = ⊥
-IsRowFault Refuses Gives Lacks r rendition row NoMemory = ⊤
-IsRowFault Refuses Gives Lacks r rendition row (Not q why) =
+-- why a segment of rendition r isn't opened: its file can't be read, isn't there, or doesn't open
+abbrev pub IsRowFault : (List ℕ → Type 0) → (List ℕ → List ℕ → Type 0) → (List ℕ → Type 0) → ℕ → RenditionValue → SegmentRow → ResumingFault → Type 0
+IsRowFault Shut Gives Lacks r rendition row Unread = Shut (segment_file_name rendition.name row.number)
+IsRowFault Shut Gives Lacks r rendition row Outlet = ⊥
+IsRowFault Shut Gives Lacks r rendition row NoMemory = ⊤
+IsRowFault Shut Gives Lacks r rendition row (Not q why) =
     (q ≡ r) × (why ≡ Lost row.number) × Lacks (segment_file_name rendition.name row.number)
-IsRowFault Refuses Gives Lacks r rendition row (OtherKeys q key) = (q ≡ r) × (key ≡ row.key) × IsClosed Gives rendition row
+IsRowFault Shut Gives Lacks r rendition row (OtherKeys q key) = (q ≡ r) × (key ≡ row.key) × IsClosed Gives rendition row
 
 -- the row at a place is the last one of its key
 pub record IsLastOfKey (rows : List SegmentRow) (i : ℕ) (row : SegmentRow) : Type 0 where
@@ -69,13 +69,13 @@ abbrev pub KeysOpen : (List ℕ → List ℕ → Type 0) → RenditionValue → 
 KeysOpen Gives rendition rows = (i : ℕ) (row : SegmentRow) → IsLastOfKey rows i row → OpensAsListed Gives rendition row
 
 -- The last segment of a key isn't opened, and those of keys whose last segment comes later are.
-pub record IsKeyFault (Refuses : Type 0) (Gives : List ℕ → List ℕ → Type 0) (Lacks : List ℕ → Type 0) (r : ℕ) (rendition : RenditionValue)
+pub record IsKeyFault (Shut : List ℕ → Type 0) (Gives : List ℕ → List ℕ → Type 0) (Lacks : List ℕ → Type 0) (r : ℕ) (rendition : RenditionValue)
     (rows : List SegmentRow) (fault : ResumingFault) : Type 0 where
   pub place : ℕ
   pub row : SegmentRow
   pub last : IsLastOfKey rows place row
   pub behind : (i : ℕ) (other : SegmentRow) → place < i → IsLastOfKey rows i other → OpensAsListed Gives rendition other
-  pub told : IsRowFault Refuses Gives Lacks r rendition row fault
+  pub told : IsRowFault Shut Gives Lacks r rendition row fault
 
 -- the rows of earlier runs that a rendition goes on behind
 abbrev pub rows_of : Option RestoredValue → List SegmentRow
@@ -92,7 +92,7 @@ AllKeysOpen Gives renditions found = (r : ℕ) (rendition : RenditionValue) (one
     slice_get found r ≡ Some one → KeysOpen Gives rendition (rows_of one)
 
 -- those of one don't, and it is the first of which they don't
-pub record IsLookFault (Refuses : Type 0) (Gives : List ℕ → List ℕ → Type 0) (Lacks : List ℕ → Type 0) (renditions : List RenditionValue)
+pub record IsLookFault (Shut : List ℕ → Type 0) (Gives : List ℕ → List ℕ → Type 0) (Lacks : List ℕ → Type 0) (renditions : List RenditionValue)
     (found : List (Option RestoredValue)) (fault : ResumingFault) : Type 0 where
   pub r : ℕ
   pub rendition : RenditionValue
@@ -101,4 +101,4 @@ pub record IsLookFault (Refuses : Type 0) (Gives : List ℕ → List ℕ → Typ
   pub one_is : slice_get found r ≡ Some one
   pub before : (q : ℕ) (other : RenditionValue) (that : Option RestoredValue) → q < r → slice_get renditions q ≡ Some other →
       slice_get found q ≡ Some that → KeysOpen Gives other (rows_of that)
-  pub is : IsKeyFault Refuses Gives Lacks r rendition (rows_of one) fault
+  pub is : IsKeyFault Shut Gives Lacks r rendition (rows_of one) fault

@@ -4,9 +4,10 @@ use Rattle.ladder_items.specs.Ladder.{RenditionValue, Ladder}
 use Rattle.resume.specs.declared.restored.Wanted.{Wanted}
 use Rattle.channel_folder.specs.declared.asked.Asked.{Asked}
 use Rattle.channel_folder.specs.declared.fault.ReopenFault.{ReopenFault}
-use Rattle.channel_folder.specs.declared.fault.ReopenFault.TheVariants.{Of}
+use Rattle.channel_folder.specs.declared.fault.ReopenFault.TheVariants.{Unread as UnreadThere, Of}
 use Rattle.channel_folder.specs.Scans.{ScanValue}
 use Rattle.channel_folder.specs.Reopened.{ReopenedValue, AreReopened}
+use Rattle.channel_folder.specs.Shut.{CannotRead}
 use Rattle.channel_folder.specs.Stopped.{IsNotReopened}
 use Rattle.channel.specs.Views.{FolderView}
 use Rattle.channel.specs.GoingOn.{IsPastFault}
@@ -49,17 +50,17 @@ pub record IsReadBack {F : Type 0} (folder : FolderView F) (at : F) (ladder : La
 pub record IsNotReopenedFor {F : Type 0} (folder : FolderView F) (at : F) (ladder : Ladder) (scan : ScanValue) (fault : ReopenFault) : Type 0 where
   pub asked : List Asked
   pub asks : AsksFor ladder asked
-  pub is : IsNotReopened (folder.refuses at) (folder.gives at) (folder.lacks at) scan ladder.kind asked fault
+  pub is : IsNotReopened (CannotRead (folder.refuses at) (folder.shuts at)) (folder.gives at) (folder.lacks at) scan ladder.kind asked fault
 
 -- each is reopened, and the last segment of a key isn't opened
 pub record IsShut {F : Type 0} (folder : FolderView F) (at : F) (ladder : Ladder) (scan : ScanValue) (fault : ResumingFault) : Type 0 where
   pub reopened : ReopenedValue
   pub all : IsReopenedFor folder at ladder scan reopened
-  pub shut : IsLookFault (folder.refuses at) (folder.gives at) (folder.lacks at) ladder.renditions reopened.found fault
+  pub shut : IsLookFault (CannotRead (folder.refuses at) (folder.shuts at)) (folder.gives at) (folder.lacks at) ladder.renditions reopened.found fault
 
 -- why it isn't read back
 abbrev pub IsReadFault : {F : Type 0} → FolderView F → F → Ladder → ScanValue → ResumingFault → Type 0
-IsReadFault folder at ladder scan Unread = folder.refuses at
+IsReadFault folder at ladder scan Unread = IsNotReopenedFor folder at ladder scan UnreadThere ⊎ IsShut folder at ladder scan Unread
 IsReadFault folder at ladder scan Outlet = ⊥
 IsReadFault folder at ladder scan NoMemory = ⊤
 IsReadFault folder at ladder scan (Not r why) = IsNotReopenedFor folder at ladder scan (Of r why) ⊎ IsShut folder at ladder scan (Not r why)

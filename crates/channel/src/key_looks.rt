@@ -6,6 +6,7 @@ ghost use Rattle.std.specs.String.{string_bytes};
 ghost use Rattle.item_io.specs.FileNames.{segment_file_name};
 ghost use Rattle.limits.specs.declared.TheConstants.{MOST_KEYS};
 ghost use Rattle.media_playlist.specs.Lines.{entry_of};
+ghost use Rattle.channel_folder.specs.Shut.{CannotRead};
 ghost use Rattle.channel.specs.Looking;
 ghost use Rattle.hls_check.specs.Checks.{AreUnpacked};
 ghost use Rattle.hls_check.specs.Unpacking.{HasHead, packed};
@@ -16,8 +17,7 @@ ghost use Rattle.channel.specs.Looking.{IsKeyFault, IsLookFault, IsPackedFault, 
 
 use crate::fault::ResumingFault;
 use crate::kept::Kept;
-use channel_folder::WhyNot;
-use folder::FolderReader;
+use channel_folder::{FilesByName, WhyNot};
 use hls_check::{UnpackFault, check_listing};
 use item_io::push_segment_file_name;
 use ladder_items::{Rendition, Row};
@@ -27,7 +27,7 @@ use resume::Restored;
 use std::alloc::{AllocError, Global};
 
 /// Looks at the keys of each rendition: of each key that its playlist lists, the last segment has to open.
-pub(crate) fn look_at_keys<F: FolderReader>(
+pub(crate) fn look_at_keys<F: FilesByName>(
     alloc: Global,
     folder: &F,
     renditions: &[Rendition],
@@ -36,7 +36,8 @@ pub(crate) fn look_at_keys<F: FolderReader>(
     requires each { length found.now ≡ length renditions.now }
     requires turns { TakeTurns found.now }
     ensures ok { OnOk result (AllKeysOpen (F.gives folder.now) renditions.now found.now) }
-    ensures err { IfErr result (λ kept. IsLookFault (F.refuses folder.now) (F.gives folder.now) (F.lacks folder.now) renditions.now found.now kept.fault) }
+    ensures err { let shut = CannotRead (F.refuses folder.now) (F.shuts folder.now) in
+        IfErr result (λ kept. IsLookFault shut (F.gives folder.now) (F.lacks folder.now) renditions.now found.now kept.fault) }
     ensures none { IsErr result → 0 < length renditions.now }
 {
     for r in 0..renditions.len() {
@@ -73,7 +74,7 @@ fn rows_of(found: &Option<Restored>) -> &[Row]
 }
 
 /// Looks at the keys of a rendition that goes on behind these rows, from the last row on.
-fn look_at<F: FolderReader>(
+fn look_at<F: FilesByName>(
     alloc: Global,
     folder: &F,
     r: usize,
@@ -82,7 +83,8 @@ fn look_at<F: FolderReader>(
 ) -> Result<(), Kept<ResumingFault>>
     requires { All (λ row. row.key < MOST_KEYS) rows.now }
     ensures ok { OnOk result (KeysOpen (F.gives folder.now) rendition.now rows.now) }
-    ensures err { IfErr result (λ kept. IsKeyFault (F.refuses folder.now) (F.gives folder.now) (F.lacks folder.now) r rendition.now rows.now kept.fault) }
+    ensures err { let shut = CannotRead (F.refuses folder.now) (F.shuts folder.now) in
+        IfErr result (λ kept. IsKeyFault shut (F.gives folder.now) (F.lacks folder.now) r rendition.now rows.now kept.fault) }
     ensures none { IsErr result → 0 < length rows.now }
 {
     let mut seen = [false; MOST_KEYS as usize];
@@ -117,7 +119,7 @@ fn mark(seen: &mut [bool], key: u64) -> bool
 }
 
 /// Opens a segment of a rendition, as its playlist lists it.
-fn open_row<F: FolderReader>(
+fn open_row<F: FilesByName>(
     alloc: Global,
     folder: &F,
     r: usize,
@@ -125,7 +127,8 @@ fn open_row<F: FolderReader>(
     row: &Row,
 ) -> Result<(), Kept<ResumingFault>>
     ensures ok { OnOk result (OpensAsListed (F.gives folder.now) rendition.now row.now) }
-    ensures err { IfErr result (λ kept. IsRowFault (F.refuses folder.now) (F.gives folder.now) (F.lacks folder.now) r rendition.now row.now kept.fault) }
+    ensures err { let shut = CannotRead (F.refuses folder.now) (F.shuts folder.now) in
+        IfErr result (λ kept. IsRowFault shut (F.gives folder.now) (F.lacks folder.now) r rendition.now row.now kept.fault) }
 {
     let file = segment_file(alloc, &rendition.name, row.number)?;
     let bytes = read_row(alloc, folder, r, &file, row.number)?;
@@ -133,7 +136,7 @@ fn open_row<F: FolderReader>(
 }
 
 /// The bytes of a segment's file, which is listed.
-fn read_row<F: FolderReader>(
+fn read_row<F: FilesByName>(
     alloc: Global,
     folder: &F,
     r: usize,
@@ -141,9 +144,10 @@ fn read_row<F: FolderReader>(
     number: u64,
 ) -> Result<Vec<u8>, Kept<ResumingFault>>
     ensures ok { IfOk result (λ bytes. F.gives folder.now file.now bytes.items) }
-    ensures err { IfErr result (λ kept. IsReadFault (F.refuses folder.now) (F.wants folder.now) (F.lacks folder.now file.now) r number kept.fault) }
+    ensures err { let shut = CannotRead (F.refuses folder.now) (F.shuts folder.now) file.now in
+        IfErr result (λ kept. IsReadFault shut (F.wants folder.now) (F.lacks folder.now file.now) r number kept.fault) }
 {
-    match folder.read(alloc, file)? {
+    match folder.read_file(alloc, file)? {
         Some(bytes) => Ok(bytes),
         None => Err(ResumingFault::Not(r, WhyNot::Lost(number)).into()),
     }

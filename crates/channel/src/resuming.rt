@@ -6,14 +6,14 @@ ghost use Rattle.channel.specs.Reading;
 ghost use Rattle.channel.specs.Reading.{AsksFor, IsReadBack, IsReadFault, IsScanFault};
 ghost use Rattle.channel.specs.Resuming;
 ghost use Rattle.channel.specs.Resuming.{IsNotResumed, IsResumed, older_from};
-ghost use Rattle.channel.specs.Views.{folder_view};
+ghost use Rattle.channel.specs.Views.{view_by_name};
 
 use crate::fault::ResumingFault;
 use crate::going_on::ladder_behind;
 use crate::kept::Kept;
 use crate::key_looks::{found_at, look_at_keys};
 use crate::rolling::roll_each;
-use channel_folder::{Asked, Reopened, Scan, let_unfinished_go, reopen, scan_files};
+use channel_folder::{Asked, FilesByName, Reopened, Scan, let_unfinished_go, reopen, scan_files};
 use folder::{Folder, FolderReader};
 use ladder_items::Settings;
 use resume::{Restored, Wanted, lags};
@@ -34,14 +34,14 @@ pub struct Resumed {
 /// again and compared, and the keys are looked at: of each key that is listed the last segment has to open. At last unfinished
 /// files are removed. At a fault nothing was changed but that a block was placed, or, at Outlet, that some unfinished files
 /// were removed.
-pub fn resume<F: Folder + FolderReader>(
+pub fn resume<F: Folder + FilesByName>(
     alloc: Global,
     folder: &mut F,
     settings: Settings,
 ) -> Result<Resumed, ResumingFault>
-    ensures ok { let view = folder_view F.lists F.gives F.lacks F.refuses F.made in
+    ensures ok { let view = view_by_name F.lists F.gives F.lacks F.refuses F.shuts F.made in
         IfOk result (λ it. IsResumed view settings folder.old folder.new it.settings (map (λ n. n.items) it.older.items)) }
-    ensures err { let view = folder_view F.lists F.gives F.lacks F.refuses F.made in
+    ensures err { let view = view_by_name F.lists F.gives F.lacks F.refuses F.shuts F.made in
         IfErr result (IsNotResumed view settings folder.old folder.new) }
 
     // What can't be changed was tried.
@@ -91,15 +91,15 @@ fn names_of(alloc: Global, settings: &Settings) -> Result<Vec<&str>, AllocError>
 }
 
 /// Reads back what an earlier run left of each rendition, and looks at the keys.
-fn read_back<F: Folder + FolderReader>(
+fn read_back<F: Folder + FilesByName>(
     alloc: Global,
     folder: &F,
     settings: &Settings,
     scan: &Scan,
 ) -> Result<Reopened, Kept<ResumingFault>>
-    ensures ok { let view = folder_view F.lists F.gives F.lacks F.refuses F.made in
+    ensures ok { let view = view_by_name F.lists F.gives F.lacks F.refuses F.shuts F.made in
         IfOk result (IsReadBack view folder.now settings.now scan.now) }
-    ensures err { let view = folder_view F.lists F.gives F.lacks F.refuses F.made in
+    ensures err { let view = view_by_name F.lists F.gives F.lacks F.refuses F.shuts F.made in
         IfErr result (λ kept. IsReadFault view folder.now settings.now scan.now kept.fault) }
     ensures none { IsErr result → 0 < length settings.now.renditions }
 {

@@ -3,24 +3,24 @@
 ghost use Rattle.std.specs.Prelude.{◌≡◌, ◌<◌, IfErr, IsErr, OnOk, length};
 ghost use Rattle.channel.specs.Reading;
 ghost use Rattle.channel.specs.Rolling.{IsRollFault, RollingStops, RollsEach, RollsOne};
-ghost use Rattle.channel.specs.Views.{folder_view};
+ghost use Rattle.channel.specs.Views.{view_by_name};
 
 use crate::fault::ResumingFault;
 use crate::kept::Kept;
-use channel_folder::cut_off;
-use folder::{Folder, FolderReader, roll_forward};
+use channel_folder::{FilesByName, cut_off};
+use folder::{Folder, roll_forward};
 use ladder_items::Settings;
 use std::alloc::Global;
 
 /// Places the block of each rendition that a kill cut off, if any.
-pub(crate) fn roll_each<F: Folder + FolderReader>(
+pub(crate) fn roll_each<F: Folder + FilesByName>(
     alloc: Global,
     folder: &mut F,
     settings: &Settings,
 ) -> Result<(), Kept<ResumingFault>>
-    ensures ok { let view = folder_view F.lists F.gives F.lacks F.refuses F.made in
+    ensures ok { let view = view_by_name F.lists F.gives F.lacks F.refuses F.shuts F.made in
         OnOk result (RollsEach view (Reading.names_of settings.now.renditions) folder.old folder.new) }
-    ensures err { let view = folder_view F.lists F.gives F.lacks F.refuses F.made in
+    ensures err { let view = view_by_name F.lists F.gives F.lacks F.refuses F.shuts F.made in
         IfErr result (λ kept. RollingStops view (Reading.names_of settings.now.renditions) folder.old folder.new kept.fault) }
     ensures failed { IfErr result (λ kept. kept.fault ≡ ResumingFault.Outlet → (found : F) × F.fails found folder.new) }
     ensures pruned { F.pruned folder.new ≡ F.pruned folder.old }
@@ -33,14 +33,14 @@ pub(crate) fn roll_each<F: Folder + FolderReader>(
 }
 
 /// Places that of one rendition.
-fn roll_one<F: Folder + FolderReader>(
+fn roll_one<F: Folder + FilesByName>(
     alloc: Global,
     folder: &mut F,
     name: &str,
 ) -> Result<(), Kept<ResumingFault>>
-    ensures ok { let view = folder_view F.lists F.gives F.lacks F.refuses F.made in
+    ensures ok { let view = view_by_name F.lists F.gives F.lacks F.refuses F.shuts F.made in
         OnOk result (RollsOne view name.now folder.old folder.new) }
-    ensures err { let view = folder_view F.lists F.gives F.lacks F.refuses F.made in
+    ensures err { let view = view_by_name F.lists F.gives F.lacks F.refuses F.shuts F.made in
         IfErr result (λ kept. IsRollFault view name.now folder.old folder.new kept.fault) }
     ensures failed { IfErr result (λ kept. kept.fault ≡ ResumingFault.Outlet → (found : F) × F.fails found folder.new) }
     ensures pruned { F.pruned folder.new ≡ F.pruned folder.old }

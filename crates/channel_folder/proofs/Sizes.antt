@@ -8,6 +8,7 @@ use Rattle.channel_folder.specs.Reopened.{AreSizes, HasSize}
 use Rattle.channel_folder.specs.declared.fault.ReopenStop.{ReopenStop}
 use Rattle.channel_folder.specs.declared.fault.ReopenStop.TheVariants as Stopping
 use Rattle.channel_folder.specs.declared.fault.WhyNot.{WhyNot}
+use Rattle.channel_folder.specs.Shut.{HasShutSegment}
 use Rattle.channel_folder.specs.Stopped.{IsLostOf, IsSizeStop, IsUnsized}
 
 one-below : (next x : ℕ) → x < next → All (λ n. n < next) (x ∷ [])
@@ -38,12 +39,26 @@ lost-at Gives Lacks name entries sizes i entry n within is before number lacks =
   lacks = lacks;
 }
 
+-- the first listed segment whose file can't be read
+shut-at : (Shut : List ℕ → Type 0) (Gives : List ℕ → List ℕ → Type 0) (name : List ℕ) (entries : List Entry) (sizes : List ℕ) (i : ℕ) (entry : Entry) →
+    i < length entries → entry ≡ get_or entries i entry → AreSizes Gives name (take i entries) sizes → Shut (segment_file_name name entry.number) → HasShutSegment Shut Gives name entries
+shut-at Shut Gives name entries sizes i entry within is before shut = record {
+  front = take i entries;
+  entry = entry;
+  rest = drop (suc i) entries;
+  listed = sym (take-append-drop i entries) ∙ ap (λ (l : List Entry). take i entries ++ l) (drop-cons entries i entry within ∙ ap (λ (e : Entry). e ∷ drop (suc i) entries) (sym is));
+  sizes = sizes;
+  before = before;
+  shut = shut;
+}
+
 -- why its size isn't told
-pub unsized-at : (Refuses Wants : Type 0) (Gives : List ℕ → List ℕ → Type 0) (Lacks : List ℕ → Type 0) (name : List ℕ) (entries : List Entry) (sizes : List ℕ) (i : ℕ) (entry : Entry) (n : ℕ)
+pub unsized-at : (Shut : List ℕ → Type 0) (Wants : Type 0) (Gives : List ℕ → List ℕ → Type 0) (Lacks : List ℕ → Type 0) (name : List ℕ) (entries : List Entry) (sizes : List ℕ) (i : ℕ) (entry : Entry) (n : ℕ)
     (file : List ℕ) (stop : ReopenStop) → i < length entries → entry ≡ get_or entries i entry → AreSizes Gives name (take i entries) sizes → n ≡ entry.number → file ≡ segment_file_name name n →
-    IsUnsized Refuses Wants (Lacks file) n stop → IsSizeStop Refuses Gives Lacks name entries stop
-unsized-at Refuses Wants Gives Lacks name entries sizes i entry n file Stopping.Unread within is before number named told = told
-unsized-at Refuses Wants Gives Lacks name entries sizes i entry n file Stopping.NoMemory within is before number named told = tt
-unsized-at Refuses Wants Gives Lacks name entries sizes i entry n file (Stopping.Why why) within is before number named told =
-    subst (λ (w : WhyNot). IsSizeStop Refuses Gives Lacks name entries (Stopping.Why w)) (sym told.0)
+    IsUnsized (Shut file) Wants (Lacks file) n stop → IsSizeStop Shut Gives Lacks name entries stop
+unsized-at Shut Wants Gives Lacks name entries sizes i entry n file Stopping.Unread within is before number named told =
+    shut-at Shut Gives name entries sizes i entry within is before (subst (λ (k : ℕ). Shut (segment_file_name name k)) number (subst Shut named told))
+unsized-at Shut Wants Gives Lacks name entries sizes i entry n file Stopping.NoMemory within is before number named told = tt
+unsized-at Shut Wants Gives Lacks name entries sizes i entry n file (Stopping.Why why) within is before number named told =
+    subst (λ (w : WhyNot). IsSizeStop Shut Gives Lacks name entries (Stopping.Why w)) (sym told.0)
     (lost-at Gives Lacks name entries sizes i entry n within is before number (subst Lacks named told.1))

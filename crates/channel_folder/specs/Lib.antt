@@ -4,5 +4,6 @@ pub mod Scans
 pub mod ReadTexts
 pub mod CutOff
 pub mod Reopened
+pub mod Shut
 pub mod Stopped
 pub mod LetGo

@@ -23,6 +23,7 @@ use Rattle.channel_folder.specs.declared.fault.ReopenStop.TheVariants as Stoppin
 use Rattle.channel_folder.specs.Files.{media_file, frames_file}
 use Rattle.channel_folder.specs.Scans.{ScanValue, numbers_at}
 use Rattle.channel_folder.specs.Reopened.{AreSizes, IsListed, IsOf, next_of, StandTo, AllStand}
+use Rattle.channel_folder.specs.Shut.{HasShutSegment, IsFirstShut, IsShutOf}
 
 -- the I-frame playlist is there, and it is UTF-8
 abbrev pub HasFrames : (List ℕ → List ℕ → Type 0) → List ℕ → Type 0
@@ -139,15 +140,15 @@ abbrev pub IsWhy : (List ℕ → List ℕ → Type 0) → (List ℕ → Type 0) 
 IsWhy Gives Lacks numbers a why = IsWhyFrom Gives Lacks a.name.now a.wanted why ⊎ IsAheadBy Gives Lacks numbers a why
 
 -- why one isn't reopened
-abbrev pub IsStopFrom : Type 0 → (List ℕ → List ℕ → Type 0) → (List ℕ → Type 0) → Asked → ReopenStop → Type 0
-IsStopFrom Refuses Gives Lacks a Stopping.Unread = Refuses
-IsStopFrom Refuses Gives Lacks a Stopping.NoMemory = ⊤
-IsStopFrom Refuses Gives Lacks a (Stopping.Why why) = IsWhyFrom Gives Lacks a.name.now a.wanted why
+abbrev pub IsStopFrom : (List ℕ → Type 0) → (List ℕ → List ℕ → Type 0) → (List ℕ → Type 0) → Asked → ReopenStop → Type 0
+IsStopFrom Shut Gives Lacks a Stopping.Unread = IsShutOf Shut Gives Lacks a
+IsStopFrom Shut Gives Lacks a Stopping.NoMemory = ⊤
+IsStopFrom Shut Gives Lacks a (Stopping.Why why) = IsWhyFrom Gives Lacks a.name.now a.wanted why
 
-abbrev pub IsStop : Type 0 → (List ℕ → List ℕ → Type 0) → (List ℕ → Type 0) → List ℕ → Asked → ReopenStop → Type 0
-IsStop Refuses Gives Lacks numbers a Stopping.Unread = Refuses
-IsStop Refuses Gives Lacks numbers a Stopping.NoMemory = ⊤
-IsStop Refuses Gives Lacks numbers a (Stopping.Why why) = IsWhy Gives Lacks numbers a why
+abbrev pub IsStop : (List ℕ → Type 0) → (List ℕ → List ℕ → Type 0) → (List ℕ → Type 0) → List ℕ → Asked → ReopenStop → Type 0
+IsStop Shut Gives Lacks numbers a Stopping.Unread = IsShutOf Shut Gives Lacks a
+IsStop Shut Gives Lacks numbers a Stopping.NoMemory = ⊤
+IsStop Shut Gives Lacks numbers a (Stopping.Why why) = IsWhy Gives Lacks numbers a why
 
 -- .. where the text is none of a media playlist
 abbrev pub IsListStop : List ℕ → ReopenStop → Type 0
@@ -156,11 +157,11 @@ IsListStop text Stopping.NoMemory = MayWantMemory text
 IsListStop text (Stopping.Why why) = (why ≡ Foreign) × ((l : Listing) → IsListing l → text ≢ listing_text l)
 
 -- .. where the files of these segments aren't there
-abbrev pub IsSizeStop : Type 0 → (List ℕ → List ℕ → Type 0) → (List ℕ → Type 0) → List ℕ → List Entry → ReopenStop → Type 0
-IsSizeStop Refuses Gives Lacks name entries Stopping.Unread = Refuses
-IsSizeStop Refuses Gives Lacks name entries Stopping.NoMemory = ⊤
-IsSizeStop Refuses Gives Lacks name entries (Stopping.Why (Lost n)) = IsLostOf Gives Lacks name entries n
-IsSizeStop Refuses Gives Lacks name entries (Stopping.Why why) = ⊥
+abbrev pub IsSizeStop : (List ℕ → Type 0) → (List ℕ → List ℕ → Type 0) → (List ℕ → Type 0) → List ℕ → List Entry → ReopenStop → Type 0
+IsSizeStop Shut Gives Lacks name entries Stopping.Unread = HasShutSegment Shut Gives name entries
+IsSizeStop Shut Gives Lacks name entries Stopping.NoMemory = ⊤
+IsSizeStop Shut Gives Lacks name entries (Stopping.Why (Lost n)) = IsLostOf Gives Lacks name entries n
+IsSizeStop Shut Gives Lacks name entries (Stopping.Why why) = ⊥
 
 -- .. where the size of the file of the segment of this number isn't told: the folder can't be read or wants memory, or there is none
 abbrev pub IsUnsized : Type 0 → Type 0 → Type 0 → ℕ → ReopenStop → Type 0
@@ -193,15 +194,15 @@ pub record IsFirstUneven (Gives : List ℕ → List ℕ → Type 0) (Lacks : Lis
   pub uneven : IsUneven kind found r
 
 -- why one of them doesn't go on by itself
-abbrev pub IsStopped : Type 0 → (List ℕ → List ℕ → Type 0) → (List ℕ → Type 0) → ScanValue → List Asked → ReopenFault → Type 0
-IsStopped Refuses Gives Lacks scan asked Reopen.Unread = Refuses
-IsStopped Refuses Gives Lacks scan asked Reopen.NoMemory = ⊤
-IsStopped Refuses Gives Lacks scan asked (Reopen.Of r why) = IsFirstStopped Gives Lacks scan asked r why
+abbrev pub IsStopped : (List ℕ → Type 0) → (List ℕ → List ℕ → Type 0) → (List ℕ → Type 0) → ScanValue → List Asked → ReopenFault → Type 0
+IsStopped Shut Gives Lacks scan asked Reopen.Unread = IsFirstShut Shut Gives Lacks scan asked
+IsStopped Shut Gives Lacks scan asked Reopen.NoMemory = ⊤
+IsStopped Shut Gives Lacks scan asked (Reopen.Of r why) = IsFirstStopped Gives Lacks scan asked r why
 
--- Why a channel doesn't go on: the folder can't be read; or this rendition is the first that doesn't go on by itself; or all do, and
--- it is the first that doesn't go with one before it.
-abbrev pub IsNotReopened : Type 0 → (List ℕ → List ℕ → Type 0) → (List ℕ → Type 0) → ScanValue → Kind → List Asked → ReopenFault → Type 0
-IsNotReopened Refuses Gives Lacks scan kind asked Reopen.Unread = Refuses
-IsNotReopened Refuses Gives Lacks scan kind asked Reopen.NoMemory = ⊤
-IsNotReopened Refuses Gives Lacks scan kind asked (Reopen.Of r why) =
+-- Why a channel doesn't go on: a file can't be read of a rendition, and those before it stand; or this rendition is the first that
+-- doesn't go on by itself; or all do, and it is the first that doesn't go with one before it.
+abbrev pub IsNotReopened : (List ℕ → Type 0) → (List ℕ → List ℕ → Type 0) → (List ℕ → Type 0) → ScanValue → Kind → List Asked → ReopenFault → Type 0
+IsNotReopened Shut Gives Lacks scan kind asked Reopen.Unread = IsFirstShut Shut Gives Lacks scan asked
+IsNotReopened Shut Gives Lacks scan kind asked Reopen.NoMemory = ⊤
+IsNotReopened Shut Gives Lacks scan kind asked (Reopen.Of r why) =
     IsFirstStopped Gives Lacks scan asked r why ⊎ ((why ≡ Uneven) × IsFirstUneven Gives Lacks scan kind asked r)

@@ -9,11 +9,12 @@ ghost use Rattle.channel_folder.specs.CutOff.{IsCutOff, behind, IsInPlace, due_f
 ghost use Rattle.channel_folder.specs.CutOff;
 ghost use Rattle.channel_folder.specs.ReadTexts.{IsToldBy};
 
+use crate::by_name::FilesByName;
 use crate::file_names::{frames_file, media_file, segment_file, staged};
 use crate::kept::Kept;
 use crate::last_lines::{LastLines, NOTHING, last_lines};
 use crate::texts::{Texts, read_texts};
-use folder::{FolderReadFault, FolderReader, StagedFile};
+use folder::{FolderReadFault, StagedFile};
 use limits::LAST_SEGMENT;
 use playlist_text::push_escaped;
 use std::alloc::{AllocError, Global};
@@ -24,7 +25,7 @@ use std::alloc::{AllocError, Global};
 ///
 /// It is the block of the segment behind those that the I-frame playlist in place lists, where that segment is in place; and
 /// that of the end, where the media playlist has ended and the I-frame playlist hasn't.
-pub fn cut_off<F: FolderReader>(
+pub fn cut_off<F: FilesByName>(
     alloc: Global,
     folder: &F,
     name: &str,
@@ -63,7 +64,7 @@ fn next_segment(frames: &Option<Vec<u8>>, told: LastLines) -> Option<u64>
 }
 
 /// Whether the file of a segment is in place.
-fn is_in_place<F: FolderReader>(
+fn is_in_place<F: FilesByName>(
     alloc: Global,
     folder: &F,
     name: &str,
@@ -81,7 +82,7 @@ fn is_in_place<F: FolderReader>(
 }
 
 /// Whether there is a file of this name. Only the folder wants memory here.
-fn is_there<F: FolderReader>(folder: &F, file: &str) -> Result<bool, Kept<FolderReadFault>>
+fn is_there<F: FilesByName>(folder: &F, file: &str) -> Result<bool, Kept<FolderReadFault>>
     ensures there { IfOk result (λ it. it ≡ true → (bytes : List ℕ) × F.gives folder.now file.now bytes) }
     ensures lacking { IfOk result (λ it. it ≡ false → F.lacks folder.now file.now) }
     ensures unread { IfErr result (λ kept. kept.fault ≡ FolderReadFault.Unread → F.refuses folder.now) }

@@ -2,26 +2,28 @@
 ghost use Rattle.std.specs.Prelude.{◌≡◌, ◌<◌, Some, IfOk, IfErr, IsErr, length, slice_get};
 ghost use Rattle.channel_folder.specs.Reopened.{AllStand};
 ghost use Rattle.channel_folder.specs.StopOf;
+ghost use Rattle.channel_folder.specs.Shut.{CannotRead};
 ghost use Rattle.channel_folder.specs.Stopped.{IsStopped};
 
 use crate::asked::Asked;
+use crate::by_name::FilesByName;
 use crate::fault::{ReopenFault, ReopenStop};
 use crate::kept::Kept;
 use crate::scanned::Scan;
 use crate::standing::stands;
-use folder::FolderReader;
 use resume::Restored;
 use std::alloc::Global;
 
 /// What each goes on behind; none where it has no playlists.
-pub(crate) fn find_each<F: FolderReader>(
+pub(crate) fn find_each<F: FilesByName>(
     alloc: Global,
     folder: &F,
     scan: &Scan,
     asked: &[Asked<'_>],
 ) -> Result<Vec<Option<Restored>>, Kept<ReopenFault>>
     ensures ok { IfOk result (λ found. AllStand (F.gives folder.now) (F.lacks folder.now) scan.now asked.now found.items) }
-    ensures err { IfErr result (λ kept. IsStopped (F.refuses folder.now) (F.gives folder.now) (F.lacks folder.now) scan.now asked.now kept.fault) }
+    ensures err { let shut = CannotRead (F.refuses folder.now) (F.shuts folder.now) in
+        IfErr result (λ kept. IsStopped shut (F.gives folder.now) (F.lacks folder.now) scan.now asked.now kept.fault) }
 
     // Where no rendition is asked for, none is looked for.
     ensures none { IsErr result → 0 < length asked.now }

@@ -7,6 +7,7 @@
 #![tactic(auto)]
 
 mod asked;
+mod by_name;
 mod cutting;
 mod fault;
 mod file_names;
@@ -25,6 +26,7 @@ mod texts;
 mod unfinished;
 
 pub use asked::Asked;
+pub use by_name::FilesByName;
 pub use cutting::cut_off;
 pub use fault::{ReopenFault, WhyNot};
 pub use laws::file_names_are_those_of_items;

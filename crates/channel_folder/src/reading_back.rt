@@ -9,19 +9,20 @@ ghost use Rattle.resume.specs.Restoring.{IsRestored};
 ghost use Rattle.channel_folder.specs.StopOf;
 ghost use Rattle.channel_folder.specs.Files.{media_file, frames_file};
 ghost use Rattle.channel_folder.specs.Reopened.{IsReopened, IsListed, AreSizes};
+ghost use Rattle.channel_folder.specs.Shut.{CannotRead};
 ghost use Rattle.channel_folder.specs.Stopped.{IsStopFrom, IsSizeStop, IsListStop, IsRestoreStop, IsUnsized};
 
 use crate::asked::Asked;
+use crate::by_name::FilesByName;
 use crate::fault::{ReopenStop, WhyNot};
 use crate::file_names::segment_file;
 use crate::kept::Kept;
-use folder::FolderReader;
 use media_reading::{Entry, ListFault, Listing, read_media};
 use resume::{Restored, ResumeFault, look, restore};
 use std::alloc::Global;
 
 /// What a rendition goes on behind, by the bytes of its playlists.
-pub(crate) fn restored_from<F: FolderReader>(
+pub(crate) fn restored_from<F: FilesByName>(
     alloc: Global,
     folder: &F,
     asked: &Asked<'_>,
@@ -30,8 +31,9 @@ pub(crate) fn restored_from<F: FolderReader>(
 ) -> Result<Restored, Kept<ReopenStop>>
     ensures ok { F.gives folder.now (media_file asked.now.name.now) media.now → F.gives folder.now (frames_file asked.now.name.now) frames.now →
         IfOk result (IsReopened (F.gives folder.now) asked.now.name.now asked.now.wanted) }
-    ensures err { F.gives folder.now (media_file asked.now.name.now) media.now → F.gives folder.now (frames_file asked.now.name.now) frames.now →
-        IfErr result (λ kept. IsStopFrom (F.refuses folder.now) (F.gives folder.now) (F.lacks folder.now) asked.now kept.fault) }
+    ensures err { let shut = CannotRead (F.refuses folder.now) (F.shuts folder.now) in
+        F.gives folder.now (media_file asked.now.name.now) media.now → F.gives folder.now (frames_file asked.now.name.now) frames.now →
+        IfErr result (λ kept. IsStopFrom shut (F.gives folder.now) (F.lacks folder.now) asked.now kept.fault) }
     ensures no_text { ¬ (IsUtf8 media.now × IsUtf8 frames.now) → IsErrAnd result (λ kept. kept.fault ≡ ReopenStop.Why WhyNot.Foreign) }
     ensures scarce { IfErr result (λ kept. kept.fault ≡ ReopenStop.NoMemory → MayWantMemory media.now) }
     ensures wants { IfErr result (λ kept. kept.fault ≡ ReopenStop.NoMemory → WantsMemory media.now) }
@@ -60,7 +62,7 @@ fn listing_of(alloc: Global, text: &str) -> Result<Listing, Kept<ReopenStop>>
 }
 
 /// What a rendition goes on behind, by what its media playlist lists.
-fn go_on_from<F: FolderReader>(
+fn go_on_from<F: FilesByName>(
     alloc: Global,
     folder: &F,
     asked: &Asked<'_>,
@@ -71,8 +73,9 @@ fn go_on_from<F: FolderReader>(
     requires text { IsUtf8 frames.now }
     ensures ok { IsListed (F.gives folder.now) asked.now.name.now listing.now → F.gives folder.now (frames_file asked.now.name.now) frames.now →
         IfOk result (IsReopened (F.gives folder.now) asked.now.name.now asked.now.wanted) }
-    ensures err { IsListed (F.gives folder.now) asked.now.name.now listing.now → F.gives folder.now (frames_file asked.now.name.now) frames.now →
-        IfErr result (λ kept. IsStopFrom (F.refuses folder.now) (F.gives folder.now) (F.lacks folder.now) asked.now kept.fault) }
+    ensures err { let shut = CannotRead (F.refuses folder.now) (F.shuts folder.now) in
+        IsListed (F.gives folder.now) asked.now.name.now listing.now → F.gives folder.now (frames_file asked.now.name.now) frames.now →
+        IfErr result (λ kept. IsStopFrom shut (F.gives folder.now) (F.lacks folder.now) asked.now kept.fault) }
 
     // Memory is wanted only once the run goes on from what is listed.
     ensures scarce { IfErr result (λ kept. kept.fault ≡ ReopenStop.NoMemory → IsAsWanted asked.now.wanted listing.now) }
@@ -120,14 +123,15 @@ fn stop_of(fault: ResumeFault) -> ReopenStop
 }
 
 /// The sizes of the files of listed segments.
-fn sizes_of<F: FolderReader>(
+fn sizes_of<F: FilesByName>(
     alloc: Global,
     folder: &F,
     name: &str,
     entries: &[Entry],
 ) -> Result<Vec<u64>, Kept<ReopenStop>>
     ensures ok { IfOk result (λ sizes. AreSizes (F.gives folder.now) name.now entries.now sizes.items) }
-    ensures err { IfErr result (λ kept. IsSizeStop (F.refuses folder.now) (F.gives folder.now) (F.lacks folder.now) name.now entries.now kept.fault) }
+    ensures err { let shut = CannotRead (F.refuses folder.now) (F.shuts folder.now) in
+        IfErr result (λ kept. IsSizeStop shut (F.gives folder.now) (F.lacks folder.now) name.now entries.now kept.fault) }
 
     // Where nothing is listed no file is looked at.
     ensures none { IsErr result → 0 < length entries.now }
@@ -142,11 +146,12 @@ fn sizes_of<F: FolderReader>(
 }
 
 /// The size of the file of a listed segment. Only the folder wants memory here.
-fn size_of<F: FolderReader>(folder: &F, file: &str, number: u64) -> Result<u64, Kept<ReopenStop>>
+fn size_of<F: FilesByName>(folder: &F, file: &str, number: u64) -> Result<u64, Kept<ReopenStop>>
     ensures ok { IfOk result (MayHaveSize (F.gives folder.now) file.now) }
-    ensures err { IfErr result (λ kept. IsUnsized (F.refuses folder.now) (F.wants folder.now) (F.lacks folder.now file.now) number kept.fault) }
+    ensures err { let shut = CannotRead (F.refuses folder.now) (F.shuts folder.now) file.now in
+        IfErr result (λ kept. IsUnsized shut (F.wants folder.now) (F.lacks folder.now file.now) number kept.fault) }
 {
-    match folder.size(file)? {
+    match folder.size_of_file(file)? {
         Some(size) => Ok(size),
         None => Err(WhyNot::Lost(number).into()),
     }

@@ -3,15 +3,16 @@ ghost use Rattle.std.specs.Prelude.{◌≡◌, ◌<◌, ℕ, IfOk, IfErr, IsErr,
 ghost use Rattle.resume.specs.Evening;
 ghost use Rattle.resume.specs.Evening.{AreEven, IsUneven};
 ghost use Rattle.channel_folder.specs.Reopened.{AreReopened};
+ghost use Rattle.channel_folder.specs.Shut.{CannotRead};
 ghost use Rattle.channel_folder.specs.Stopped.{IsNotReopened};
 
 use crate::asked::Asked;
+use crate::by_name::FilesByName;
 use crate::fault::{ReopenFault, WhyNot};
 use crate::finding::find_each;
 use crate::kept::Kept;
 use crate::reopened::Reopened;
 use crate::scanned::Scan;
-use folder::FolderReader;
 use ladder_items::Kind;
 use resume::{Restored, most_breaks};
 use std::alloc::Global;
@@ -23,7 +24,7 @@ use std::alloc::Global;
 /// on from; the file of a listed segment isn't there; the playlists don't fit the files; a file is there of a segment that
 /// comes next or later. Then, of an event, that it had another number of discontinuities than one before it, or one of the two
 /// has no playlists.
-pub fn reopen<F: FolderReader>(
+pub fn reopen<F: FilesByName>(
     alloc: Global,
     folder: &F,
     scan: &Scan,
@@ -31,7 +32,8 @@ pub fn reopen<F: FolderReader>(
     asked: &[Asked<'_>],
 ) -> Result<Reopened, ReopenFault>
     ensures ok { IfOk result (AreReopened (F.gives folder.now) (F.lacks folder.now) scan.now kind asked.now) }
-    ensures err { IfErr result (IsNotReopened (F.refuses folder.now) (F.gives folder.now) (F.lacks folder.now) scan.now kind asked.now) }
+    ensures err { let shut = CannotRead (F.refuses folder.now) (F.shuts folder.now) in
+        IfErr result (IsNotReopened shut (F.gives folder.now) (F.lacks folder.now) scan.now kind asked.now) }
 
     // Where no rendition is asked for none stands in the way.
     ensures none { IsErr result → 0 < length asked.now }

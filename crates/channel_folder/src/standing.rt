@@ -4,26 +4,28 @@ ghost use Rattle.std.specs.Option.{option_map};
 ghost use Rattle.channel_folder.specs.ReadTexts.{IsHalfOf};
 ghost use Rattle.channel_folder.specs.Reopened;
 ghost use Rattle.channel_folder.specs.Reopened.{Stands, IsOf};
+ghost use Rattle.channel_folder.specs.Shut.{CannotRead};
 ghost use Rattle.channel_folder.specs.Stopped.{IsAheadStop, IsFirstFrom, IsStop, IsStopFrom};
 
 use crate::asked::Asked;
+use crate::by_name::FilesByName;
 use crate::fault::{ReopenStop, WhyNot};
 use crate::kept::Kept;
 use crate::reading_back::restored_from;
 use crate::texts::{Texts, read_texts};
-use folder::FolderReader;
 use resume::Restored;
 use std::alloc::Global;
 
 /// What a rendition goes on behind; none where it has no playlists. The numbers are those of its segments that are there.
-pub(crate) fn stands<F: FolderReader>(
+pub(crate) fn stands<F: FilesByName>(
     alloc: Global,
     folder: &F,
     numbers: &[u64],
     asked: &Asked<'_>,
 ) -> Result<Option<Restored>, Kept<ReopenStop>>
     ensures ok { IfOk result (Stands (F.gives folder.now) (F.lacks folder.now) numbers.now asked.now) }
-    ensures err { IfErr result (λ kept. IsStop (F.refuses folder.now) (F.gives folder.now) (F.lacks folder.now) numbers.now asked.now kept.fault) }
+    ensures err { let shut = CannotRead (F.refuses folder.now) (F.shuts folder.now) in
+        IfErr result (λ kept. IsStop shut (F.gives folder.now) (F.lacks folder.now) numbers.now asked.now kept.fault) }
 {
     let found = read_one(alloc, folder, asked)?;
     none_ahead(numbers, next_of(&found))?;
@@ -65,13 +67,14 @@ fn first_from(numbers: &[u64], next: u64) -> Option<u64>
 }
 
 /// The same, whatever numbers are there.
-fn read_one<F: FolderReader>(
+fn read_one<F: FilesByName>(
     alloc: Global,
     folder: &F,
     asked: &Asked<'_>,
 ) -> Result<Option<Restored>, Kept<ReopenStop>>
     ensures ok { IfOk result (IsOf (F.gives folder.now) (F.lacks folder.now) asked.now.name.now asked.now.wanted) }
-    ensures err { IfErr result (λ kept. IsStopFrom (F.refuses folder.now) (F.gives folder.now) (F.lacks folder.now) asked.now kept.fault) }
+    ensures err { let shut = CannotRead (F.refuses folder.now) (F.shuts folder.now) in
+        IfErr result (λ kept. IsStopFrom shut (F.gives folder.now) (F.lacks folder.now) asked.now kept.fault) }
 {
     let texts = read_texts(alloc, folder, asked.name)?;
     let Some(found) = both(texts)? else {

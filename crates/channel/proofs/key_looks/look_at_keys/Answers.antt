@@ -2,6 +2,7 @@ use Rattle.std.proofs.Common.{arith, subst, List}
 use Rattle.std.proofs.lemmas.Option.{slice_get_within}
 use Rattle.std.proofs.lemmas.Result.{err_from_is_err_and}
 use Rattle.media_playlist.specs.Rows.{SegmentRow}
+use Rattle.channel_folder.specs.Shut.{CannotRead}
 use Rattle.channel.specs.Looking.{KeysOpen, IsKeyFault, rows_of}
 use Rattle.channel.proofs.Looks.{keys-more}
 use Rattle.channel.proofs.key_looks.look_at_keys.Goals as goal
@@ -18,7 +19,7 @@ look_at-requires g c = rw c.rows_of.ensures (c.requires.turns c.loop-r.r c.found
 
 pub returns-in_err-look_at-clause-err : goal.returns-in_err-look_at-clause-err
 returns-in_err-look_at-clause-err g c =
-    let Refuses = g.F.FolderReader.refuses c.args.folder.now in
+    let Shut = CannotRead (g.F.FolderReader.refuses c.args.folder.now) (g.F.FilesByName.shuts c.args.folder.now) in
     let Gives = g.F.FolderReader.gives c.args.folder.now in
     let Lacks = g.F.FolderReader.lacks c.args.folder.now in
     let told = err_from_is_err_and c.from_residual.result c.from_residual.ensures.1 in
@@ -30,7 +31,7 @@ returns-in_err-look_at-clause-err g c =
       rendition_is = c.rendition_at.ensures;
       one_is = c.found_at-one.ensures;
       before = c.loop-r.invariant;
-      is = subst (λ (l : List SegmentRow). IsKeyFault Refuses Gives Lacks c.loop-r.r c.rendition_at.result.now l c.in_err-look_at.field-0.0.fault) c.rows_of.ensures c.in_err-look_at.ensures.err;
+      is = subst (λ (l : List SegmentRow). IsKeyFault Shut Gives Lacks c.loop-r.r c.rendition_at.result.now l c.in_err-look_at.field-0.0.fault) c.rows_of.ensures c.in_err-look_at.ensures.err;
     })
 
 pub returns-clause-ok : goal.returns-clause-ok

@@ -3,6 +3,7 @@ use Rattle.std.proofs.lemmas.Result.{IfErr-weaker, err_from_is_err_and, on_ok_we
 use Rattle.item_io.specs.FileNames.{segment_file_name}
 use Rattle.ladder_items.specs.Ladder.{RenditionValue}
 use Rattle.media_playlist.specs.Rows.{SegmentRow}
+use Rattle.channel_folder.specs.Shut.{CannotRead}
 use Rattle.channel.proofs.Unread.{row-not-read, shut-row}
 use Rattle.channel.proofs.key_looks.open_row.Goals as goal
 
@@ -15,7 +16,7 @@ returns-in_err-bytes-clause-err g c =
     ∙ ap (λ (n : List ℕ). segment_file_name n c.row.inside.number) (c.deref.ensures ∙ ap (λ (r : RenditionValue). r.name) c.rendition.view_is)
     ∙ ap (λ (r : SegmentRow). segment_file_name c.args.rendition.now.name r.number) c.row.view_is in
     rw (told.1, told.2)
-    (row-not-read (g.F.FolderReader.refuses folder) (g.F.FolderReader.wants folder) (g.F.FolderReader.gives folder) (g.F.FolderReader.lacks folder) c.args.r c.args.rendition.now c.args.row.now
+    (row-not-read (CannotRead (g.F.FolderReader.refuses folder) (g.F.FilesByName.shuts folder)) (g.F.FolderReader.wants folder) (g.F.FolderReader.gives folder) (g.F.FolderReader.lacks folder) c.args.r c.args.rendition.now c.args.row.now
     c.deref-2.result.now c.row.inside.number c.in_err-bytes.field-0.0.fault file (ap (λ (r : SegmentRow). r.number) c.row.view_is) c.in_err-bytes.ensures.err)
 
 pub returns-clause-err : goal.returns-clause-err
@@ -27,7 +28,7 @@ returns-clause-err g c =
     ∙ ap (λ (n : List ℕ). segment_file_name n c.row.inside.number) (c.deref.ensures ∙ ap (λ (r : RenditionValue). r.name) c.rendition.view_is)
     ∙ ap (λ (r : SegmentRow). segment_file_name c.args.rendition.now.name r.number) c.row.view_is in
     IfErr-weaker c.opens.result _ _
-    (λ kept is. shut-row (g.F.FolderReader.refuses folder) Gives (g.F.FolderReader.lacks folder) c.args.r c.args.rendition.now c.args.row.now c.in_ok-bytes.bytes.items kept.fault
+    (λ kept is. shut-row (CannotRead (g.F.FolderReader.refuses folder) (g.F.FilesByName.shuts folder)) Gives (g.F.FolderReader.lacks folder) c.args.r c.args.rendition.now c.args.row.now c.in_ok-bytes.bytes.items kept.fault
     (subst (λ (n : List ℕ). Gives n c.in_ok-bytes.bytes.items) file c.in_ok-bytes.ensures.ok) is)
     c.opens.ensures.err
 

@@ -5,33 +5,34 @@ use Rattle.ladder_items.specs.Ladder.{Ladder, RenditionValue}
 use Rattle.resume.specs.Restoring.{RestoredValue}
 use Rattle.channel_folder.specs.declared.asked.Asked.{Asked}
 use Rattle.channel_folder.specs.Reopened.{AreReopened, ReopenedValue}
+use Rattle.channel_folder.specs.Shut.{CannotRead}
 use Rattle.channel_folder.specs.Stopped.{IsNotReopened}
 use Rattle.channel.specs.Looking.{AllKeysOpen, IsLookFault, TakeTurns}
 use Rattle.channel.specs.Reading.{IsReopenedFor}
-use Rattle.channel.specs.Views.{folder_view}
+use Rattle.channel.specs.Views.{view_by_name}
 use Rattle.channel.proofs.Whole.{asks-count, not-opened, not-reopened, reopened-count, reopened-turns}
 use Rattle.channel.proofs.resuming.read_back.Goals as goal
 
 pub returns-in_err-reopened-clause-err : goal.returns-in_err-reopened-clause-err
 returns-in_err-reopened-clause-err g c =
-    let view = folder_view g.F.FolderReader.lists g.F.FolderReader.gives g.F.FolderReader.lacks g.F.FolderReader.refuses g.F.Folder.made in
+    let view = view_by_name g.F.FolderReader.lists g.F.FolderReader.gives g.F.FolderReader.lacks g.F.FolderReader.refuses g.F.FilesByName.shuts g.F.Folder.made in
     let ladder = c.args.settings.now in
-    let Refuses = g.F.FolderReader.refuses c.args.folder.now in
+    let Shut = CannotRead (g.F.FolderReader.refuses c.args.folder.now) (g.F.FilesByName.shuts c.args.folder.now) in
     let Gives = g.F.FolderReader.gives c.args.folder.now in
     let Lacks = g.F.FolderReader.lacks c.args.folder.now in
     let fault = c.in_err-reopened.field-0.0 in
     let kind : c.settings.inside.kind ≡ ladder.kind = ap (λ (l : Ladder). l.kind) c.settings.view_is in
-    let is : IsNotReopened Refuses Gives Lacks c.args.scan.now ladder.kind c.in_ok-asked.asked.items fault =
-    subst (λ (k : Kind). IsNotReopened Refuses Gives Lacks c.args.scan.now k c.in_ok-asked.asked.items fault) kind
-    (subst (λ (l : List Asked). IsNotReopened Refuses Gives Lacks c.args.scan.now c.settings.inside.kind l fault) c.deref.ensures.value c.in_err-reopened.ensures.err) in
+    let is : IsNotReopened Shut Gives Lacks c.args.scan.now ladder.kind c.in_ok-asked.asked.items fault =
+    subst (λ (k : Kind). IsNotReopened Shut Gives Lacks c.args.scan.now k c.in_ok-asked.asked.items fault) kind
+    (subst (λ (l : List Asked). IsNotReopened Shut Gives Lacks c.args.scan.now c.settings.inside.kind l fault) c.deref.ensures.value c.in_err-reopened.ensures.err) in
     let told = err_from_is_err_and c.from_residual-in_err-reopened.result c.from_residual-in_err-reopened.ensures.1 in
     rw (told.1, told.2) (not-reopened view ladder c.args.folder.now c.args.scan.now c.in_ok-asked.asked.items fault c.in_ok-asked.ensures.ok is)
 
 pub look_at_keys-requires-clause-each : goal.look_at_keys-requires-clause-each
 look_at_keys-requires-clause-each g c =
-    let view = folder_view g.F.FolderReader.lists g.F.FolderReader.gives g.F.FolderReader.lacks g.F.FolderReader.refuses g.F.Folder.made in
+    let view = view_by_name g.F.FolderReader.lists g.F.FolderReader.gives g.F.FolderReader.lacks g.F.FolderReader.refuses g.F.FilesByName.shuts g.F.Folder.made in
     let ladder = c.args.settings.now in
-    let Refuses = g.F.FolderReader.refuses c.args.folder.now in
+    let Shut = CannotRead (g.F.FolderReader.refuses c.args.folder.now) (g.F.FilesByName.shuts c.args.folder.now) in
     let Gives = g.F.FolderReader.gives c.args.folder.now in
     let Lacks = g.F.FolderReader.lacks c.args.folder.now in
     let reopened = c.in_ok-reopened.reopened in
@@ -47,9 +48,9 @@ look_at_keys-requires-clause-each g c =
 
 pub look_at_keys-requires-clause-turns : goal.look_at_keys-requires-clause-turns
 look_at_keys-requires-clause-turns g c =
-    let view = folder_view g.F.FolderReader.lists g.F.FolderReader.gives g.F.FolderReader.lacks g.F.FolderReader.refuses g.F.Folder.made in
+    let view = view_by_name g.F.FolderReader.lists g.F.FolderReader.gives g.F.FolderReader.lacks g.F.FolderReader.refuses g.F.FilesByName.shuts g.F.Folder.made in
     let ladder = c.args.settings.now in
-    let Refuses = g.F.FolderReader.refuses c.args.folder.now in
+    let Shut = CannotRead (g.F.FolderReader.refuses c.args.folder.now) (g.F.FilesByName.shuts c.args.folder.now) in
     let Gives = g.F.FolderReader.gives c.args.folder.now in
     let Lacks = g.F.FolderReader.lacks c.args.folder.now in
     let reopened = c.in_ok-reopened.reopened in
@@ -64,9 +65,9 @@ look_at_keys-requires-clause-turns g c =
 
 pub returns-in_err-look_at_keys-clause-err : goal.returns-in_err-look_at_keys-clause-err
 returns-in_err-look_at_keys-clause-err g c =
-    let view = folder_view g.F.FolderReader.lists g.F.FolderReader.gives g.F.FolderReader.lacks g.F.FolderReader.refuses g.F.Folder.made in
+    let view = view_by_name g.F.FolderReader.lists g.F.FolderReader.gives g.F.FolderReader.lacks g.F.FolderReader.refuses g.F.FilesByName.shuts g.F.Folder.made in
     let ladder = c.args.settings.now in
-    let Refuses = g.F.FolderReader.refuses c.args.folder.now in
+    let Shut = CannotRead (g.F.FolderReader.refuses c.args.folder.now) (g.F.FilesByName.shuts c.args.folder.now) in
     let Gives = g.F.FolderReader.gives c.args.folder.now in
     let Lacks = g.F.FolderReader.lacks c.args.folder.now in
     let reopened = c.in_ok-reopened.reopened in
@@ -78,17 +79,17 @@ returns-in_err-look_at_keys-clause-err g c =
     let renditions : c.deref-2.result.now ≡ ladder.renditions = c.deref-2.ensures.value ∙ ap (λ (l : Ladder). l.renditions) c.settings.view_is in
     let found : c.deref-3.result.now ≡ reopened.found = c.deref-3.ensures.value ∙ ap (λ (r : ReopenedValue). r.found) c.reopened.view_is in
     let fault = c.in_err-look_at_keys.field-0.0.fault in
-    let look : IsLookFault Refuses Gives Lacks ladder.renditions reopened.found fault =
-    subst (λ (l : List RenditionValue). IsLookFault Refuses Gives Lacks l reopened.found fault) renditions
-    (subst (λ (l : List (Option RestoredValue)). IsLookFault Refuses Gives Lacks c.deref-2.result.now l fault) found c.in_err-look_at_keys.ensures.err) in
+    let look : IsLookFault Shut Gives Lacks ladder.renditions reopened.found fault =
+    subst (λ (l : List RenditionValue). IsLookFault Shut Gives Lacks l reopened.found fault) renditions
+    (subst (λ (l : List (Option RestoredValue)). IsLookFault Shut Gives Lacks c.deref-2.result.now l fault) found c.in_err-look_at_keys.ensures.err) in
     let told = err_from_is_err_and c.from_residual-in_err-look_at_keys.result c.from_residual-in_err-look_at_keys.ensures.1 in
     rw (told.1, told.2) (not-opened view ladder c.args.folder.now c.args.scan.now reopened fault all look)
 
 pub returns-clause-ok : goal.returns-clause-ok
 returns-clause-ok g c =
-    let view = folder_view g.F.FolderReader.lists g.F.FolderReader.gives g.F.FolderReader.lacks g.F.FolderReader.refuses g.F.Folder.made in
+    let view = view_by_name g.F.FolderReader.lists g.F.FolderReader.gives g.F.FolderReader.lacks g.F.FolderReader.refuses g.F.FilesByName.shuts g.F.Folder.made in
     let ladder = c.args.settings.now in
-    let Refuses = g.F.FolderReader.refuses c.args.folder.now in
+    let Shut = CannotRead (g.F.FolderReader.refuses c.args.folder.now) (g.F.FilesByName.shuts c.args.folder.now) in
     let Gives = g.F.FolderReader.gives c.args.folder.now in
     let Lacks = g.F.FolderReader.lacks c.args.folder.now in
     let reopened = c.in_ok-reopened.reopened in

@@ -4,13 +4,13 @@ use Rattle.std.proofs.lemmas.Result.{err_from_is_err_and}
 use Rattle.ladder_items.specs.Ladder.{Ladder, RenditionValue}
 use Rattle.channel.specs.Reading.{names_of}
 use Rattle.channel.specs.Rolling.{IsRollFault, RollsEach, RollsOne}
-use Rattle.channel.specs.Views.{folder_view}
+use Rattle.channel.specs.Views.{view_by_name}
 use Rattle.channel.proofs.Rolls.{names-more, rolls-more, stops-at}
 use Rattle.channel.proofs.rolling.roll_each.Goals as goal
 
 pub loop-rendition-preserved : goal.loop-rendition-preserved
 loop-rendition-preserved g c =
-    let view = folder_view g.F.FolderReader.lists g.F.FolderReader.gives g.F.FolderReader.lacks g.F.FolderReader.refuses g.F.Folder.made in
+    let view = view_by_name g.F.FolderReader.lists g.F.FolderReader.gives g.F.FolderReader.lacks g.F.FolderReader.refuses g.F.FilesByName.shuts g.F.Folder.made in
     let rs = c.args.settings.now.renditions in
     let i = c.loop-rendition.rendition-index in
     let one = c.rendition-item.result in
@@ -28,7 +28,7 @@ loop-rendition-preserved g c =
 
 pub returns-in_err-roll_one-clause-err : goal.returns-in_err-roll_one-clause-err
 returns-in_err-roll_one-clause-err g c =
-    let view = folder_view g.F.FolderReader.lists g.F.FolderReader.gives g.F.FolderReader.lacks g.F.FolderReader.refuses g.F.Folder.made in
+    let view = view_by_name g.F.FolderReader.lists g.F.FolderReader.gives g.F.FolderReader.lacks g.F.FolderReader.refuses g.F.FilesByName.shuts g.F.Folder.made in
     let rs = c.args.settings.now.renditions in
     let i = c.loop-rendition.rendition-index in
     let one = c.rendition-item.result in
@@ -44,7 +44,7 @@ returns-in_err-roll_one-clause-err g c =
 
 pub returns-clause-ok : goal.returns-clause-ok
 returns-clause-ok g c =
-    let view = folder_view g.F.FolderReader.lists g.F.FolderReader.gives g.F.FolderReader.lacks g.F.FolderReader.refuses g.F.Folder.made in
+    let view = view_by_name g.F.FolderReader.lists g.F.FolderReader.gives g.F.FolderReader.lacks g.F.FolderReader.refuses g.F.FilesByName.shuts g.F.Folder.made in
     let rs = c.args.settings.now.renditions in
     let i = c.loop-rendition.rendition-index in
     let same : c.deref-rendition-items.result.now ≡ rs = c.deref-rendition-items.ensures.value ∙ ap (λ (l : Ladder). l.renditions) c.settings.view_is in

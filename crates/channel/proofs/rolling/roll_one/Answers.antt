@@ -3,7 +3,7 @@ use Rattle.std.proofs.lemmas.Result.{err_from_is_err_and}
 use Rattle.folder.specs.Rolling.{IsRolled, IsRolledInPart}
 use Rattle.folder.specs.StagedFiles.{staged_names}
 use Rattle.channel_folder.specs.CutOff.{IsCutOff}
-use Rattle.channel.specs.Views.{folder_view}
+use Rattle.channel.specs.Views.{view_by_name}
 use Rattle.channel.proofs.Unread.{not-outlet, not-read}
 use Rattle.channel.proofs.rolling.roll_one.Goals as goal
 
@@ -11,7 +11,7 @@ pub returns-in_err-block-clause-err : goal.returns-in_err-block-clause-err
 returns-in_err-block-clause-err g c =
     let told = err_from_is_err_and c.from_residual.result c.from_residual.ensures.1 in
     rw (told.1, told.2)
-    (not-read (folder_view g.F.FolderReader.lists g.F.FolderReader.gives g.F.FolderReader.lacks g.F.FolderReader.refuses g.F.Folder.made) c.args.name.now c.args.folder.now c.in_err-block.field-0.0
+    (not-read (view_by_name g.F.FolderReader.lists g.F.FolderReader.gives g.F.FolderReader.lacks g.F.FolderReader.refuses g.F.FilesByName.shuts g.F.Folder.made) c.args.name.now c.args.folder.now c.in_err-block.field-0.0
     (λ e. c.in_err-block.ensures.unread (ap Err e)))
 
 pub returns-in_default-clause-ok : goal.returns-in_default-clause-ok

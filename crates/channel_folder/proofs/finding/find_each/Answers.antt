@@ -2,6 +2,7 @@ use Rattle.std.proofs.Common.{arith, ◌≡◌, ◌+◌, sym, subst, ℕ, List, 
 use Rattle.resume.specs.Restoring.{RestoredValue}
 use Rattle.channel_folder.specs.Scans.{numbers_at}
 use Rattle.channel_folder.specs.Reopened.{StandTo, Stands}
+use Rattle.channel_folder.specs.Shut.{CannotRead}
 use Rattle.channel_folder.specs.Stopped.{IsStop}
 use Rattle.channel_folder.proofs.OneMore.{stand-more}
 use Rattle.channel_folder.proofs.Stopping.{stopped-at}
@@ -35,12 +36,12 @@ returns-clause-ok g c =
 
 pub returns-in-Err-clause-err : goal.returns-in-Err-clause-err
 returns-in-Err-clause-err g c =
-    let Refuses = g.F.FolderReader.refuses c.args.folder.now in
+    let Shut = CannotRead (g.F.FolderReader.refuses c.args.folder.now) (g.F.FilesByName.shuts c.args.folder.now) in
     let Gives = g.F.FolderReader.gives c.args.folder.now in
     let Lacks = g.F.FolderReader.lacks c.args.folder.now in
     let r = c.loop-r.r in
     let a = c.rendition_at-rendition.result.now in
-    let stops : IsStop Refuses Gives Lacks (numbers_at c.args.scan.now r) a c.in-Err.stop.fault =
-    subst (λ (ns : List ℕ). IsStop Refuses Gives Lacks ns a c.in-Err.stop.fault) c.numbers_of.ensures c.in-Err.ensures.err in
+    let stops : IsStop Shut Gives Lacks (numbers_at c.args.scan.now r) a c.in-Err.stop.fault =
+    subst (λ (ns : List ℕ). IsStop Shut Gives Lacks ns a c.in-Err.stop.fault) c.numbers_of.ensures c.in-Err.ensures.err in
     rw (c.into.ensures, c.fault_at.ensures)
-    (stopped-at Refuses Gives Lacks c.args.scan.now c.args.asked.now c.loop-r.found.items r a c.in-Err.stop.fault c.loop-r.invariant.0 c.loop-r.invariant.1 c.rendition_at-rendition.ensures stops)
+    (stopped-at Shut Gives Lacks c.args.scan.now c.args.asked.now c.loop-r.found.items r a c.in-Err.stop.fault c.loop-r.invariant.0 c.loop-r.invariant.1 c.rendition_at-rendition.ensures stops)

@@ -3,6 +3,7 @@ use Rattle.std.proofs.lemmas.List.{take_more}
 use Rattle.std.proofs.lemmas.Result.{err_from_is_err_and}
 use Rattle.playlist_text.specs.MediaLines.{Entry}
 use Rattle.channel_folder.specs.Reopened.{AreSizes, HasSize}
+use Rattle.channel_folder.specs.Shut.{CannotRead}
 use Rattle.channel_folder.proofs.Sizes.{sizes-more, unsized-at}
 use Rattle.channel_folder.proofs.reading_back.sizes_of.Goals as goal
 
@@ -23,6 +24,6 @@ returns-in_err-size-clause-err g c =
     let folder = c.args.folder.now in
     let told = err_from_is_err_and c.from_residual-in_err-size.result c.from_residual-in_err-size.ensures.1 in
     rw (told.1, told.2)
-    (unsized-at (g.F.FolderReader.refuses folder) (g.F.FolderReader.wants folder) (g.F.FolderReader.gives folder) (g.F.FolderReader.lacks folder) c.args.name.now c.args.entries.now
+    (unsized-at (CannotRead (g.F.FolderReader.refuses folder) (g.F.FilesByName.shuts folder)) (g.F.FolderReader.wants folder) (g.F.FolderReader.gives folder) (g.F.FolderReader.lacks folder) c.args.name.now c.args.entries.now
     c.loop-entry.sizes.items c.loop-entry.entry-index c.entry-item.result c.entry.inside.number c.as_str.result.now c.in_err-size.field-0.0.fault c.loop-entry-test.true c.entry-item.is
     c.loop-entry.invariant (search rules) (search rules) c.in_err-size.ensures.err)

@@ -1,5 +1,6 @@
 use Rattle.std.proofs.Common.{inr, refl}
 use Rattle.std.proofs.lemmas.Result.{err_from_is_err_and}
+use Rattle.channel_folder.specs.Shut.{CannotRead}
 use Rattle.channel_folder.proofs.Stopping.{not-by-one}
 use Rattle.channel_folder.proofs.reopening.reopen.Goals as goal
 
@@ -7,7 +8,7 @@ pub returns-in_err-found-clause-err : goal.returns-in_err-found-clause-err
 returns-in_err-found-clause-err g c =
     let p = err_from_is_err_and c.from_residual.result c.from_residual.ensures.1 in
     rw (p.1, p.2)
-    (not-by-one (g.F.FolderReader.refuses c.args.folder.now) (g.F.FolderReader.gives c.args.folder.now) (g.F.FolderReader.lacks c.args.folder.now) c.args.scan.now c.args.kind c.args.asked.now _ c.in_err-found.ensures.err)
+    (not-by-one (CannotRead (g.F.FolderReader.refuses c.args.folder.now) (g.F.FilesByName.shuts c.args.folder.now)) (g.F.FolderReader.gives c.args.folder.now) (g.F.FolderReader.lacks c.args.folder.now) c.args.scan.now c.args.kind c.args.asked.now _ c.in_err-found.ensures.err)
 
 pub returns-in_err-evened-clause-err : goal.returns-in_err-evened-clause-err
 returns-in_err-evened-clause-err g c =
