@@ -41,3 +41,8 @@ tshls_is_simple = refl
 pub tshls_is_free : is_simple_and_free tshls ≡ true
 unfolding clap_on_literals
 tshls_is_free = refl
+
+-- where nothing was matched, no command was
+pub nothing-matched : (matched : Option (Text × List Row)) → None ≡ option_map (λ p. p.1) matched → IsCommand matched → ⊥
+nothing-matched None is command = command
+nothing-matched (Some it) is command = cc

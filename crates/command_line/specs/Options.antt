@@ -129,6 +129,12 @@ pub record GetsCommand (old : Command) (command : Shape) (new : Command) : Type 
   pub app : app_of new ≡ with_subcommand (app_of old) command
   pub globals : (out-Command new).has_globals ≡ (out-Command old).has_globals
 
+-- a program got this version
+pub record GetsVersion (old : Command) (version : Bor (List ℕ)) (new : Command) : Type 0 where
+  pub app : app_of new ≡ record { top = record (app_of old).top { has_version = true }; subs = (app_of old).subs }
+  pub globals : (out-Command new).has_globals ≡ (out-Command old).has_globals
+  pub version_is : (out-Command new).version ≡ Some version
+
 -- the program before it has a version and a command: it shows its help where it is given no word
 abbrev pub unversioned : App
 unversioned = record { top = record (new_app (codes "tshls")).top { subcommand_required = true; arg_required_else_help = true }; subs = [] }

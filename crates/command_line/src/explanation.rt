@@ -67,8 +67,8 @@ pub fn explain<S: AsStr>(
     if matches!(fault, Fault::Usage(_)) {
         return Ok(None);
     }
-    let mut command = program(alloc, "")?;
-    let matches = match command.try_get_matches_from_mut(words) {
+    let mut program = program(alloc, "")?;
+    let matches = match program.matches(words) {
         Ok(matches) => matches,
         Err(error) if error.kind() == ErrorKind::OutOfMemory => return Err(AllocError),
         Err(_) => return Ok(None),

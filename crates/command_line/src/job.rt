@@ -4,24 +4,22 @@ ghost use Rattle.clap.specs.Values.{kind_of};
 ghost use Rattle.clap.specs.Words.{app_of, found_of, subcommand_of, subcommand_rows_of};
 ghost use Rattle.clap.specs.declared.builder.command.Command.TheViews.{out-Command};
 ghost use Rattle.clap.specs.declared.error.Error.{Error};
+ghost use Rattle.clap.specs.declared.error.kind.ErrorKind.TheVariants.{MissingSubcommand};
 ghost use Rattle.command_line.specs.Faults.{IsRefusal, IsRefused};
 ghost use Rattle.command_line.specs.Jobs.{AreCheckOptions, AreCipherOptions, AreSettings, IsCommand, IsJobOf, IsLadderJob, IsNoCall};
 ghost use Rattle.command_line.specs.Refusals.{AreNoKeys, AreNoSettings, IsNoCipher, IsNoJob, IsNoLadder, IsUsage, MayWantMemory, files_view};
 ghost use Rattle.command_line.specs.Options.{tshls};
 
-use crate::bare_commands::bare_program;
 use crate::fault::Fault;
 use crate::matching::matched;
-use crate::offered::{
-    offered_check, offered_one, offered_open, offered_pack, offered_seal, with_command,
-};
+use crate::offered::{offered_check, offered_one, offered_open, offered_pack, offered_seal};
 use crate::options::{check_words, cipher_words, number_words, packing_words};
 use crate::pack_options::{
     entry_words, folder_word, ladder_words, metrics_word, pool_words, remove_word, resume_word,
     sync_word,
 };
-use clap::error::ErrorKind;
-use clap::{ArgMatches, Command};
+use crate::program::Program;
+use clap::ArgMatches;
 use commands::{
     CheckOptions, CipherOptions, FileReader, LadderOptions, read_check_options,
     read_cipher_options, read_ladder_options, read_settings,
@@ -79,16 +77,16 @@ pub fn line<'a, S: AsStr, F: FileReader>(
         (IsNoCall (map S.text words.entry.now)) (subcommand_of tshls (map S.text words.entry.now))) }
     ensures usage { (error : Error) → IsErrOf result (Fault.Usage error) → IsUsage (map S.text words.entry.now) error }
 {
-    let mut command = program(alloc, version)?;
-    let matches = matched(&mut command, version, words)?;
-    job_of(alloc, files, &mut command, &matches)
+    let mut program = program(alloc, version)?;
+    let matches = matched(&mut program, version, words)?;
+    job_of(alloc, files, &mut program, &matches)
 }
 
 /// The job of the command that was matched, by its options.
 fn job_of<'a, F: FileReader>(
     alloc: Global,
     files: &F,
-    command: &mut Command<'a>,
+    program: &mut Program<'_>,
     matches: &ArgMatches<'a>,
 ) -> Result<Job<'a>, Fault>
     ensures job { IfOk result (IsJobOf (F.gives files.now) (subcommand_rows_of matches.now)) }
@@ -96,10 +94,10 @@ fn job_of<'a, F: FileReader>(
         (IsCommand (subcommand_rows_of matches.now) → ⊥) (subcommand_rows_of matches.now)) }
     ensures scarce { IsErrOf result Fault.NoMemory → MayWantMemory (subcommand_rows_of matches.now) }
     ensures usage { (error : Error) → IsErrOf result (Fault.Usage error) →
-        (IsCommand (subcommand_rows_of matches.now) → ⊥) × (kind_of error ≡ ErrorKind.MissingSubcommand) }
+        (IsCommand (subcommand_rows_of matches.now) → ⊥) × (kind_of error ≡ MissingSubcommand) }
 {
     let Some((name, options)) = matches.subcommand() else {
-        return Err(no_command(command));
+        return Err(no_command(program));
     };
     match name {
         "seal" => {
@@ -122,16 +120,16 @@ fn job_of<'a, F: FileReader>(
             let options = check_options(alloc, files, options)?;
             Ok(Job::Stream(StreamJob::Check(options)))
         }
-        _ => Err(no_command(command)),
+        _ => Err(no_command(program)),
     }
 }
 
 /// What a line without a command is told.
-fn no_command(command: &mut Command<'_>) -> Fault
+fn no_command(program: &mut Program<'_>) -> Fault
     ensures refused { IsRefused ⊤ result }
-    ensures told { (error : Error) → result ≡ Fault.Usage error → kind_of error ≡ ErrorKind.MissingSubcommand }
+    ensures told { (error : Error) → result ≡ Fault.Usage error → kind_of error ≡ MissingSubcommand }
 {
-    refusal(command.error(ErrorKind::MissingSubcommand, "a command is wanted"))
+    refusal(program.no_command())
 }
 
 /// What clap refuses, as a fault; want of memory where its refusal couldn't be made.
@@ -206,21 +204,21 @@ fn ladder_job<'a, F: FileReader>(
 }
 
 /// The program, with its commands in the order in which help shows them.
-pub(crate) fn program<'a>(alloc: Global, version: &'a str) -> Result<Command<'a>, AllocError>
-    ensures app { IfOk result (λ made. app_of made ≡ tshls) }
-    ensures globals { IfOk result (λ made. (out-Command made).has_globals ≡ false) }
-    ensures version { IfOk result (λ made. (out-Command made).version ≡ Some version.entry) }
+pub(crate) fn program<'a>(alloc: Global, version: &'a str) -> Result<Program<'a>, AllocError>
+    ensures app { IfOk result (λ made. app_of made.command ≡ tshls) }
+    ensures globals { IfOk result (λ made. (out-Command made.command).has_globals ≡ false) }
+    ensures version { IfOk result (λ made. (out-Command made.command).version ≡ Some version.entry) }
 {
-    let program = bare_program(alloc);
+    let program = Program::new(alloc);
     let command = offered_seal(alloc)?;
-    let program = with_command(program, command)?;
+    let program = program.with_command(command)?;
     let command = offered_open(alloc)?;
-    let program = with_command(program, command)?;
+    let program = program.with_command(command)?;
     let command = offered_one(alloc)?;
-    let program = with_command(program, command)?;
+    let program = program.with_command(command)?;
     let command = offered_pack(alloc)?;
-    let program = with_command(program, command)?;
+    let program = program.with_command(command)?;
     let command = offered_check(alloc)?;
-    let program = with_command(program, command)?;
-    Ok(program.version(version))
+    let program = program.with_command(command)?;
+    Ok(program.with_version(version))
 }

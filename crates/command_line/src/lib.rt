@@ -12,6 +12,7 @@ mod matching;
 mod offered;
 mod options;
 mod pack_options;
+mod program;
 mod reasons;
 mod settings_reason;
 mod shown;

@@ -6,7 +6,8 @@ ghost use Rattle.clap.specs.declared.builder.command.Command.TheViews.{out-Comma
 ghost use Rattle.clap.specs.declared.error.kind.ErrorKind.TheVariants.{OutOfMemory};
 
 use crate::fault::Fault;
-use clap::{ArgMatches, Command};
+use crate::program::Program;
+use clap::ArgMatches;
 use std::convert::AsStr;
 
 /// Why words don't match. It can't be let go: all that can be done with it is to tell it as a fault.
@@ -25,21 +26,21 @@ impl From<Unmatched> for Fault {
     }
 }
 
-/// What words ask for of a command, which tells this version where they ask for it.
+/// What words ask for of the program, which tells this version where they ask for it.
 pub(crate) fn matched<'a, S: AsStr>(
-    command: &mut Command<'a>,
+    program: &mut Program<'a>,
     _version: &'a str,
     words: &'a [S],
 ) -> Result<ArgMatches<'a>, Unmatched>
-    requires version { (out-Command command.old).version ≡ Some _version }
-    ensures ok { IfOk result (HasMatchesOf (app_of command.old) (map S.text words.entry.now)) }
-    ensures passes { IfErr result (λ unmatched. takes (app_of command.old) (map S.text words.entry.now) ≡ true
+    requires version { (out-Command program.old.command).version ≡ Some _version }
+    ensures ok { IfOk result (HasMatchesOf (app_of program.old.command) (map S.text words.entry.now)) }
+    ensures passes { IfErr result (λ unmatched. takes (app_of program.old.command) (map S.text words.entry.now) ≡ true
         → kind_of unmatched.error ≡ OutOfMemory) }
-    ensures kinds { is_simple_and_free (app_of command.old) ≡ true → MatchResult result
-        (λ _. fault_of (app_of command.old) (map S.text words.entry.now) ≡ [])
-        (λ unmatched. HasKind (fault_of (app_of command.old) (map S.text words.entry.now)) unmatched.error) }
+    ensures kinds { is_simple_and_free (app_of program.old.command) ≡ true → MatchResult result
+        (λ _. fault_of (app_of program.old.command) (map S.text words.entry.now) ≡ [])
+        (λ unmatched. HasKind (fault_of (app_of program.old.command) (map S.text words.entry.now)) unmatched.error) }
 {
-    match command.try_get_matches_from_mut(words) {
+    match program.matches(words) {
         Ok(matches) => Ok(matches),
         Err(error) => Err(Unmatched { error }),
     }

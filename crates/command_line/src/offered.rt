@@ -1,7 +1,7 @@
 //! The commands as the program offers them, each with its options. They are made here alone.
-ghost use Rattle.std.specs.Prelude.{IfOk, List, ℕ, codes, map};
-ghost use Rattle.command_line.specs.Offered.{IsOffered, Offered, check_offered, cipher_offered, ladder_offered, stream_offered};
-ghost use Rattle.command_line.specs.Options.{GetsCommand, command_of};
+ghost use Rattle.std.specs.Prelude.{IfOk, codes};
+ghost use Rattle.clap.specs.Words.{AddsArg, AddsInTurn};
+ghost use Rattle.command_line.specs.Offered.{IsOffered, check_offered, cipher_offered, ladder_offered, stream_offered};
 ghost use Rattle.command_line.specs.declared.help.TheConstants.{CHECK, ONE, OPEN, PACK, SEAL};
 
 use crate::bare_commands::{bare_check, bare_one, bare_open, bare_pack, bare_seal};
@@ -15,6 +15,16 @@ use std::alloc::{AllocError, Global};
 pub(crate) struct OfferedCommand<'a> {
     bare: Command<'a>,
     options: Vec<Arg<'a>>,
+}
+
+impl<'a> OfferedCommand<'a> {
+    /// The command with its options.
+    pub(crate) fn into_command(self) -> Result<Command<'a>, AllocError>
+        ensures { IfOk result (AddsInTurn AddsArg self.entry.bare self.entry.options.items) }
+    {
+        let OfferedCommand { bare, options } = self;
+        bare.args(options)
+    }
 }
 
 /// The command `seal`.
@@ -66,16 +76,4 @@ pub(crate) fn offered_check<'a>(alloc: Global) -> Result<OfferedCommand<'a>, All
     let bare = bare_check(alloc);
     let options = with_check_options(alloc, Vec::new(alloc))?;
     Ok(OfferedCommand { bare, options })
-}
-
-/// A program with one command more.
-pub(crate) fn with_command<'a>(
-    program: Command<'a>,
-    command: OfferedCommand<'a>,
-) -> Result<Command<'a>, AllocError>
-    ensures { IfOk result (λ made. (name about faults : List ℕ) (options : List Offered) → IsOffered name about faults options command.entry →
-        GetsCommand program.entry (command_of name (map (λ (o : Offered). o.rule) options)) made) }
-{
-    let OfferedCommand { bare, options } = command;
-    program.subcommand(bare.args(options)?)
 }

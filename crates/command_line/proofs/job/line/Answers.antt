@@ -15,11 +15,11 @@ returns-in_err-matches-clause-fault g c =
     let words = map g.S.AsStr.text c.args.words.now in
     let told = err_from_is_err_and c.from_residual-in_err-matches.result c.from_residual-in_err-matches.ensures.1 in
     let files = files_view (g.F.FileReader.gives c.args.files.now) (g.F.FileReader.refuses c.args.files.now) (g.F.FileReader.wants c.args.files.now) in
-    rw told.1 (no-line files (subcommand_of tshls words) told.0 (λ other taken _. other (c.in_err-matches.ensures.passes (ap (λ a. takes a words) c.in_ok-command.ensures.app ∙ taken))) told.2.early)
+    rw told.1 (no-line files (subcommand_of tshls words) told.0 (λ other taken _. other (c.in_err-matches.ensures.passes (ap (λ a. takes a words) c.in_ok-program.ensures.app ∙ taken))) told.2.early)
 
 pub returns-clause-job : goal.returns-clause-job
 returns-clause-job g c =
-    let app = c.in_ok-command.ensures.app in
+    let app = c.in_ok-program.ensures.app in
     let words = map g.S.AsStr.text c.args.words.now in
     let matched : subcommand_rows_of c.in_ok-matches.matches ≡ subcommand_of tshls words =
     (c.in_ok-matches.ensures.ok (ap is_simple app ∙ tshls_is_simple)).1 ∙ ap (λ a. subcommand_of a words) app in
@@ -27,7 +27,7 @@ returns-clause-job g c =
 
 pub returns-clause-fault : goal.returns-clause-fault
 returns-clause-fault g c =
-    let app = c.in_ok-command.ensures.app in
+    let app = c.in_ok-program.ensures.app in
     let words = map g.S.AsStr.text c.args.words.now in
     let matched : subcommand_rows_of c.in_ok-matches.matches ≡ subcommand_of tshls words =
     (c.in_ok-matches.ensures.ok (ap is_simple app ∙ tshls_is_simple)).1 ∙ ap (λ a. subcommand_of a words) app in
@@ -36,7 +36,7 @@ returns-clause-fault g c =
 
 pub returns-in_err-matches-clause-usage : goal.returns-in_err-matches-clause-usage
 returns-in_err-matches-clause-usage g c error is =
-    let app = c.in_ok-command.ensures.app in
+    let app = c.in_ok-program.ensures.app in
     let words = map g.S.AsStr.text c.args.words.now in
     let told = err_from_is_err_and c.from_residual-in_err-matches.result c.from_residual-in_err-matches.ensures.1 in
     let same = err-same told.0 (Usage error) c.from_residual-in_err-matches.result told.1 is in
@@ -45,7 +45,7 @@ returns-in_err-matches-clause-usage g c error is =
 
 pub returns-clause-usage : goal.returns-clause-usage
 returns-clause-usage g c error is =
-    let app = c.in_ok-command.ensures.app in
+    let app = c.in_ok-program.ensures.app in
     let words = map g.S.AsStr.text c.args.words.now in
     let matched : subcommand_rows_of c.in_ok-matches.matches ≡ subcommand_of tshls words =
     (c.in_ok-matches.ensures.ok (ap is_simple app ∙ tshls_is_simple)).1 ∙ ap (λ a. subcommand_of a words) app in

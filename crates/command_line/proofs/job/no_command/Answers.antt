@@ -18,4 +18,4 @@ missing (Ok why) fault kind told none error is =
 missing (Err why) fault kind told none error is = cc
 
 pub returns-clause-told : goal.returns-clause-told
-returns-clause-told c = missing c.error.result c.refusal.result c.error.ensures.kind c.refusal.ensures.made c.refusal.ensures.scarce
+returns-clause-told c = missing c.no_command.result c.refusal.result c.no_command.ensures.kind c.refusal.ensures.made c.refusal.ensures.scarce

@@ -1,5 +1,4 @@
 use Rattle.std.proofs.Common.{◌≡◌, ◌∙◌, ap, codes, true}
-use Rattle.clap.specs.Simple.{app_of_fields}
 use Rattle.clap.specs.Words.{App, with_subcommand}
 use Rattle.command_line.specs.Options.{check_options, cipher_options, command_of, ladder_options, stream_options}
 use Rattle.command_line.proofs.job.program.Goals as goal
@@ -13,13 +12,13 @@ returns c =
     let five = c.in_ok-program-5.ensures _ _ _ _ c.in_ok-command-5.ensures in
     record {
       app =
-          ap app_of_fields c.version.ensures
+          c.with_version.ensures.app
           ∙ ap (λ (app : App). record { top = record app.top { has_version = true }; subs = app.subs })
           (five.app ∙ ap (λ (a : App). with_subcommand a (command_of (codes "check") check_options)) (four.app
           ∙ ap (λ (a : App). with_subcommand a (command_of (codes "pack") ladder_options)) (three.app
           ∙ ap (λ (a : App). with_subcommand a (command_of (codes "one") stream_options)) (two.app
           ∙ ap (λ (a : App). with_subcommand a (command_of (codes "open") cipher_options)) (one.app
-          ∙ ap (λ (a : App). with_subcommand a (command_of (codes "seal") cipher_options)) c.bare_program-program.ensures.app)))));
-      globals = ap (λ f. f.has_globals) c.version.ensures ∙ five.globals ∙ four.globals ∙ three.globals ∙ two.globals ∙ one.globals ∙ c.bare_program-program.ensures.local;
-      version = ap (λ f. f.version) c.version.ensures;
+          ∙ ap (λ (a : App). with_subcommand a (command_of (codes "seal") cipher_options)) c.new-program.ensures.app)))));
+      globals = c.with_version.ensures.globals ∙ five.globals ∙ four.globals ∙ three.globals ∙ two.globals ∙ one.globals ∙ c.new-program.ensures.local;
+      version = c.with_version.ensures.version_is;
     }
