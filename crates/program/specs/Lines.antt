@@ -18,6 +18,7 @@ use Rattle.program.specs.LadderEnds.{FailsLadder, IsUnbegun}
 use Rattle.program.specs.LadderRuns.{IsPrunedRun, IsWholeRun}
 use Rattle.program.specs.Streaming.{DoesStream, FileView, IsOfStream, Passed}
 use Rattle.program.specs.declared.ladder.LadderRun.{LadderRun}
+use Rattle.program.specs.declared.told.Tellings.{Tellings}
 
 -- the status is 0 where all went well, and else that of the fault
 abbrev pub EndsBy : {V : Type 0} → Result V Fault → ℕ → Type 0
@@ -46,8 +47,9 @@ pub record IsRunFor {R : Type 0} (holds : List ℕ → Option (List ℕ)) (asked
   pub behind : IsJobBehind asked job
   pub first : asked.resumes ≡ false → (job ≡ asked) × (older ≡ [])
   pub resumed : asked.resumes ≡ true → GoesOn R asked job older
-  pub whole : job.removes ≡ false → IsWholeRun (map (λ path. holds path.now) job.options.paths.items) job held held_then run
-  pub pruned : job.removes ≡ true → IsPrunedRun (map (λ path. holds path.now) job.options.paths.items) job older held held_then run
+  pub kept : Tellings
+  pub whole : job.removes ≡ false → IsWholeRun (map (λ path. holds path.now) job.options.paths.items) job kept held held_then run
+  pub pruned : job.removes ≡ true → IsPrunedRun (map (λ path. holds path.now) job.options.paths.items) job kept older held held_then run
   pub written : OnOk run.answer ((report : Report) × WritesSummary job.options.settings report held held_then)
   pub fault : IfErr run.answer (FailsLadder job.options.settings held held_then)
 

@@ -1,9 +1,12 @@
 -- The metrics of a run at one time of it.
-use Rattle.std.specs.Prelude.{◌≡◌, ◌⊎◌, ℕ, ◌-◌, List, [], false, true, IfSome, Option, None, Some, fold, length, map, option_copied, replicate, sum}
+use Rattle.std.specs.Prelude.{◌≡◌, ◌⊎◌, ℕ, ◌-◌, List, [], IfSome, IsSome, Option, None, Some, fold, length, map, option_copied, replicate, sum}
 use Rattle.std.specs.Arc.{arc_value}
 use Rattle.std.specs.List.{range_with_len}
 use Rattle.std.specs.String.{string_bytes}
+use Rattle.ghost_list.specs.Lists.{IsBeginning}
 use Rattle.ladder_items.specs.declared.fault.PackFault.{PackFault}
+use Rattle.live_board.specs.Snapshots.{SnapshotFacts}
+use Rattle.metrics.specs.Glances.{IsOfTheLast}
 use Rattle.metrics.specs.Metrics.{metrics_text}
 use Rattle.metrics.specs.Seens.{again_at, unseen}
 use Rattle.metrics.specs.Told.{told_at}
@@ -20,7 +23,7 @@ use Rattle.program.specs.declared.bulletin.TheConstants.{RENDITIONS}
 use Rattle.program.specs.declared.file_answers.Put.{Put}
 use Rattle.program.specs.declared.told.Tellings.{Tellings}
 use Rattle.program.specs.declared.watching.LastLook.{LastLook}
-use Rattle.program.specs.declared.watching.Writer.{Writer}
+use Rattle.program.specs.declared.metrics_writer.Writer.{Writer}
 
 -- what was seen of each rendition, once they are seen again with these counts
 abbrev pub seen_then : List Sighting → List ℕ → ℕ → List Sighting
@@ -68,21 +71,24 @@ pub record IsFileOf (old new : Writer) (glance : Glance) (last : Option PackFaul
 
 -- it is the writer of the same run
 abbrev pub StaysWriter : Writer → Writer → Type 0
-StaysWriter old new = new ≡ record old { seen = new.seen; has_told = new.has_told }
+StaysWriter old new = new ≡ record old { seen = new.seen; unwritten = new.unwritten }
 
--- what a writer's file holds last is a text of its run by this last fault, of what a board showed at some time
-pub record IsLastFile (begun : Writer) (last : Option PackFault) (put : Put) : Type 0 where
+-- what a writer's file holds last is a text of its run by this last fault, of the last of what a board showed, which begins with this
+pub record IsLastFile (begun : Writer) (shown : List SnapshotFacts) (last : Option PackFault) (put : Put) : Type 0 where
   pub old : Writer
   pub new : Writer
+  pub list : List SnapshotFacts
   pub glance : Glance
   pub stays : StaysWriter begun old
+  pub begins : IsBeginning shown list
+  pub is_last : IsOfTheLast list glance
   pub file : IsFileOf old new glance last put
 
 -- what is left of a writer that looked for the last time: it holds such a file, or told that it can't
-pub record IsLastLook (begun : Writer) (last : Option PackFault) (look : LastLook) : Type 0 where
+pub record IsLastLook (begun : Writer) (shown : List SnapshotFacts) (last : Option PackFault) (look : LastLook) : Type 0 where
   pub stays : StaysWriter begun look.writer
-  pub put : IfSome look.put (IsLastFile begun last)
-  pub untold : look.put ≡ None → look.writer.has_told ≡ true
+  pub put : IfSome look.put (IsLastFile begun shown last)
+  pub untold : look.put ≡ None → IsSome look.writer.unwritten
 
 -- a writer of a run that begins: of renditions of these names, to this path, by this view of its inputs and what it tells of itself
 pub record IsWriterFor (names : List (List ℕ)) (path : List ℕ) (view : Option InputsView) (tellings : Tellings) (writer : Writer) : Type 0 where
@@ -91,4 +97,4 @@ pub record IsWriterFor (names : List (List ℕ)) (path : List ℕ) (view : Optio
   pub path_is : string_bytes writer.path ≡ path
   pub inputs_are : writer.inputs ≡ view
   pub told_is : arc_value writer.told ≡ tellings
-  pub untold : writer.has_told ≡ false
+  pub untold : writer.unwritten ≡ None

@@ -1,5 +1,6 @@
 ghost use Rattle.std.specs.Prelude.{OnErr, ◌≡◌, ◌⊎◌, ◌*◌, ◌<◌, ◌↔◌, [], All, Any, IfErr};
-ghost use Rattle.program.specs.declared.watching.RunWatch.TheVariants.{Runs, Unasked};
+ghost use Rattle.program.specs.declared.watching.RunLook.TheVariants as look;
+ghost use Rattle.program.specs.declared.watching.RunWatch.TheVariants.{Runs, Unasked, Unwritten};
 ghost use Rattle.std.specs.Prelude.{IfOk, IfSome, IsErrOf, IsOk, IsSome, None, OnOk, Some, false, length, map, option_map, replicate, true};
 ghost use Rattle.std.specs.Result.{result_err};
 ghost use Rattle.std.specs.List.{range_with_len};
@@ -17,15 +18,16 @@ ghost use Rattle.read_ahead.specs.Sources.{inputs_of};
 ghost use Rattle.read_ahead.specs.declared.starting.InputFault.TheVariants.{Unread};
 ghost use Rattle.program.specs.Asked.{IsAsAsked};
 ghost use Rattle.program.specs.Channels.{GoesNotOn, GoesOn, IsJobBehind, MayHoldFile};
-ghost use Rattle.program.specs.LadderEnds.{FailsLadder, HearsOf, IsUnbegun};
+ghost use Rattle.program.specs.LadderEnds.{FailsLadder, HearsOf, IsUnbegun, ended_by};
 ghost use Rattle.program.specs.LadderRuns.{IsPrunedRun, IsWholeRun};
 ghost use Rattle.program.specs.Faulted.{last_fault};
 ghost use Rattle.program.specs.Metered.{IsLastLook, IsWriterFor};
+ghost use Rattle.program.specs.declared.watching.LastLook.{LastLook};
 ghost use Rattle.program.specs.declared.watching.Watching.{Watching};
 
 use crate::lock::FolderLock;
 use crate::told::KeepsTellings;
-use crate::watching::{LastLook, RunWatch, Watched};
+use crate::watching::{RunLook, RunWatch, Watched};
 use channel::{Resumed, resume};
 use command_line::{Fault, LadderJob};
 use commands::{LadderOptions, LadderPackingFault, Pool};
@@ -142,11 +144,12 @@ pub enum LadderOutlet<F> {
     Pruned(KeepingOutlet<F>),
 }
 
-/// A ladder that was packed: its inputs and its outlet, and how that ended.
+/// A ladder that was packed: its inputs and its outlet, how that ended, and the last look at it.
 pub struct LadderRun<S, F> {
     pub sources: Vec<S>,
     pub outlet: LadderOutlet<F>,
     pub answer: Result<(), Fault>,
+    pub look: RunLook,
 }
 
 /// Packs a ladder of files into a folder. All paths but those of FIFOs that have no writer are open before anything is
@@ -186,27 +189,23 @@ where
 
     // Each rendition is read from its own path, and its files go to the folder that was asked for.
     ensures whole { channel.now.job.removes ≡ false → IfOk result (IsWholeRun
-        (map (λ path. R.holds rt path.now) channel.now.job.options.paths.items) channel.now.job (W.contents output.old) (W.contents output.new)) }
+        (map (λ path. R.holds rt path.now) channel.now.job.options.paths.items) channel.now.job (H.kept herald.now)
+        (W.contents output.old) (W.contents output.new)) }
 
     // Segments go if that was asked for, and no others do than may by what the run before left.
     ensures pruned { channel.now.job.removes ≡ true → IfOk result (IsPrunedRun
-        (map (λ path. R.holds rt path.now) channel.now.job.options.paths.items) channel.now.job (map (λ n. n.items) channel.now.older.items)
-        (W.contents output.old) (W.contents output.new)) }
+        (map (λ path. R.holds rt path.now) channel.now.job.options.paths.items) channel.now.job (H.kept herald.now)
+        (map (λ n. n.items) channel.now.older.items) (W.contents output.old) (W.contents output.new)) }
 {
-    let Channel {
-        held: _,
-        job,
-        older,
-    } = channel;
-    let settings = &job.options.settings;
+    let (job, older) = (&channel.job, &channel.older);
     let Inputs { sources, view } = open_inputs(rt, alloc, &job.options)?;
     let into = destination(rt, alloc, job)?;
-    let kept = keepings(alloc, settings, older)?;
+    let kept = keepings(alloc, &job.options.settings, older)?;
     let Board { publisher, watch } = open_board(rt, alloc, job, view, herald)?;
     let setup = LadderSetup {
         rt: &rt,
         alloc,
-        settings,
+        settings: &job.options.settings,
         pool: job.options.pool,
         herald,
     };
@@ -217,11 +216,12 @@ where
             outlet,
             answer,
         } = pack_and_remove(&setup, sources, publisher, into, kept, output);
-        let ended = end_run(&rt, alloc, watch, publisher, answer);
+        let RunEnd { answer, look } = end_run(&rt, alloc, watch, publisher, answer);
         return Ok(LadderRun {
             sources,
             outlet: LadderOutlet::Pruned(outlet),
-            answer: ended.answer,
+            answer,
+            look,
         });
     }
     let PackedLadder {
@@ -230,11 +230,12 @@ where
         outlet,
         answer,
     } = pack_into_folder(&setup, sources, publisher, into, output);
-    let ended = end_run(&rt, alloc, watch, publisher, answer);
+    let RunEnd { answer, look } = end_run(&rt, alloc, watch, publisher, answer);
     Ok(LadderRun {
         sources,
         outlet: LadderOutlet::Whole(outlet),
-        answer: ended.answer,
+        answer,
+        look,
     })
 }
 
@@ -269,6 +270,10 @@ where
     ensures watched { IfOk result (λ board. (to : _) (watching : Watching) → job.now.metrics ≡ Some to → board.watch ≡ Runs watching →
         IsWriterFor (map (λ r. r.name) job.now.options.settings.renditions) to.now inputs (H.kept herald.now)
         watching.thread.promise.writer.value) }
+
+    // It looks at this board.
+    ensures board { IfOk result (λ board. (watching : Watching) → board.watch ≡ Runs watching →
+        watching.thread.promise.viewer.value.board ≡ board.publisher.board) }
 {
     let Ok(told) = herald.tellings() else {
         return Err(BoardFault::NoMemory);
@@ -284,11 +289,11 @@ where
     Ok(Board { publisher, watch })
 }
 
-/// How a run ended, and the last look at it, if it was watched.
+/// How a run ended, and the last look at it.
 #[derive(Drop)]
 struct RunEnd {
     answer: Result<(), Fault>,
-    look: Option<LastLook>,
+    look: RunLook,
 }
 
 /// Ends what watches a run, and its board, and tells how the run ended.
@@ -299,20 +304,35 @@ fn end_run<R: Files + Clock + Eprint + Threads + Wait>(
     publisher: Publisher,
     answer: Result<Report, LadderPackingFault>,
 ) -> RunEnd
+    // It was watched through this board.
+    requires board { (watching : Watching) → watch ≡ Runs watching → watching.thread.promise.viewer.value.board ≡ publisher.board }
     ensures well { OnOk answer (IsOk result.answer) }
     ensures fault { IfErr answer (λ why. IsErrOf result.answer (LadderPacking why)) }
+    ensures unasked { watch ≡ Unasked ↔ result.look ≡ look.Unasked }
+    ensures unwritten { (told : _) → watch ≡ Unwritten told → result.look ≡ look.Unwritten told }
 
-    // The last metrics tell of the fault that it ended by.
-    ensures shown { (watching : Watching) → watch ≡ Runs watching → IsSome result.look × IfSome result.look
-        (IsLastLook watching.thread.promise.writer.value (last_fault (result_err answer))) }
+    // The last metrics show all that it published, and tell of the fault that it ended by.
+    ensures shown { (watching : Watching) → watch ≡ Runs watching → (last : LastLook) × (result.look ≡ look.Last last) ×
+        IsLastLook watching.thread.promise.writer.value publisher.list (ended_by result.answer) last }
 {
     let look = watch.end(rt, alloc, &publisher, fault_of(&answer));
     publisher.end(rt);
-    let answer = match answer {
+    RunEnd {
+        answer: told_as(answer),
+        look,
+    }
+}
+
+/// How a run ended, as the program tells it.
+fn told_as(answer: Result<Report, LadderPackingFault>) -> Result<(), Fault>
+    ensures well { OnOk answer (IsOk result) }
+    ensures fault { IfErr answer (λ why. IsErrOf result (LadderPacking why)) }
+    ensures ended { last_fault (result_err answer) ≡ ended_by result }
+{
+    match answer {
         Ok(_) => Ok(()),
         Err(why) => Err(Fault::LadderPacking(why)),
-    };
-    RunEnd { answer, look }
+    }
 }
 
 /// The fault that a run ended by, if it did.

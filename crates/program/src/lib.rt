@@ -11,16 +11,20 @@ ghost use Rattle.command_line.specs.declared.fault.Fault.TheVariants.{NoMemory, 
 ghost use Rattle.program.specs.Lines.{PackEnds};
 
 mod bulletin;
+mod fault_names;
 mod file_answers;
 mod holding;
 mod ladder;
 mod lock;
 mod metrics_file;
+mod metrics_writer;
 mod obeying;
 mod pairs;
+mod run_clock;
 mod streaming;
 mod telling;
 mod told;
+mod told_unwritten;
 mod watching;
 
 use crate::holding::hold;
@@ -108,6 +112,7 @@ where
                 sources: _,
                 outlet: _,
                 answer,
+                look: _,
             },
         ) => end_of(host, words, &teller, answer),
         Err(fault) => end_of(host, words, &teller, Err(fault)),

@@ -22,6 +22,7 @@ returns-in-Ok-pack_ladder g c =
         behind = begun.behind;
         first = λ stays. ((begun.first stays).0, ap (map (λ n. n.items)) (begun.first stays).1);
         resumed = begun.resumed;
+        kept = _;
         whole = e.whole;
         pruned = e.pruned;
         written = e.written;
