@@ -53,6 +53,18 @@ GivesBack sequence segment (Stray back) = (back ≡ segment) × (has_come sequen
 GivesBack sequence segment (Double back) = (back ≡ segment) × (has_come sequence segment.plan.number ≡ true)
 GivesBack sequence segment (NoMemory back) = ⊥
 
+-- a place is free for a segment: a plan is expected at its number, for which no right segment came, and the segment is that of
+-- its own plan under the key and the vector of its number
+pub record HasPlace (sequence : SequenceValue) (segment : SealedSegment) (expected : SegmentPlan) : Type 0 where
+  pub ahead : sequence.next ≤ segment.plan.number
+  pub there : slice_get sequence.slots (segment.plan.number - sequence.next) ≡ Some (record { plan = expected; segment = None })
+  pub sealed : segment ≡ sealed_segment sequence.keys segment.plan
+
+-- the plan that is expected of this one's rendition and number, if any is, is this one
+abbrev pub KnowsPlan : SequenceValue → SegmentPlan → Type 0
+KnowsPlan sequence plan =
+    (slot : Slot) (k : ℕ) → slice_get sequence.slots k ≡ Some slot → slot.plan.rendition ≡ plan.rendition → slot.plan.number ≡ plan.number → slot.plan ≡ plan
+
 -- the sequence that expects one more plan
 abbrev pub with_plan : SequenceValue → SegmentPlan → SequenceValue
 with_plan sequence plan = record sequence { slots = sequence.slots ++ record { plan = plan; segment = None } ∷ [] }

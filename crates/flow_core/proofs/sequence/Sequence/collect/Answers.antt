@@ -1,48 +1,34 @@
-use Rattle.std.proofs.Common.{rules, ◌≡◌, ◌∙◌, length, ◌-◌, ◌<◌, Some, None, refl, sym, ap, subst, arith}
-use Rattle.std.specs.Prelude.{slice_get}
-use Rattle.std.proofs.lemmas.Option.{slice_get_read}
-use Rattle.std.proofs.lemmas.List.{length-set}
-use Rattle.cutter.specs.Plans.{SegmentPlan}
-use Rattle.segment_job.specs.Segments.{sealed_segment}
-use Rattle.flow_core.specs.declared.slot.Slot.{Slot}
+use Rattle.std.proofs.Common.{rules, ◌≡◌, ◌∙◌, ◌<◌, length, get_or, sym, ap, subst}
+use Rattle.cutter.specs.Lent.{lent}
+use Rattle.segment_job.specs.Segments.{SealedSegment}
 use Rattle.flow_core.specs.Sequences.{SequenceValue, IsRight}
-use Rattle.flow_core.proofs.Slotting.{slots-set, none-of}
+use Rattle.flow_core.proofs.Placing.{place-right, none-came, other-wrong, place-inside, place-plan}
 use Rattle.flow_core.proofs.sequence.Sequence.collect.Goals as goal
 
-pub invariant_of-self : goal.invariant_of-self
-invariant_of-self c =
-    let was : Slot = c.index-slot.result.now in
-    let sequence : SequenceValue = record { rendition = c.self.inside.rendition; keys = c.self.inside.keys; start = c.self.inside.start; next = c.self.inside.next; slots = c.self.inside.slots.items } in
-    let at = c.plan-plan.result.number - sequence.next in
-    let lt : at < length sequence.slots = search rules in
-    let there : slice_get sequence.slots at ≡ Some was = slice_get_read sequence.slots _ at was refl lt (search rules) in
-    let plan : c.args.segment.plan ≡ was.plan = search rules in
-    let now : slice_get sequence.slots at ≡ Some c.index_mut.result.now = slice_get_read sequence.slots _ at c.index_mut.result.now refl lt (search rules) in
-    let both : Some c.index_mut.result.now ≡ Some was = sym now ∙ there in
-    let same : c.index_mut.result.now ≡ was = cc both in
-    let own : c.args.segment ≡ sealed_segment sequence.keys was.plan = c.is_by.ensures.0 (search rules) ∙ ap (sealed_segment sequence.keys) plan in
-    let slot : Slot = record { plan = was.plan; segment = Some c.args.segment } in
-    let few = length-set sequence.slots at slot in
-    rw same (record {
-      own = slots-set sequence.rendition sequence.keys sequence.next sequence.slots at slot was c.self.invariant.own there refl own;
-      begun = c.self.invariant.begun;
-      low = omega (arith, few, c.self.invariant.low);
-    })
+pub index-slot-requires : goal.index-slot-requires
+index-slot-requires c =
+    let inside : c.in_ok-at.at < length c.args.self.now.slots = place-inside c.args.self.now c.args.segment c.in_ok-at.ensures.free.0 c.in_ok-at.at c.in_ok-at.ensures.free.1 c.in_ok-at.ensures.place in
+    let here : c.in_ok-at.at < length c.self.inside.slots.items = subst (λ (l : SequenceValue). c.in_ok-at.at < length l.slots) (sym c.self.view_is) inside in
+    search rules
 
-pub returns-clause-right : goal.returns-clause-right
-returns-clause-right c =
-    let was : Slot = c.index-slot.result.now in
-    let sequence : SequenceValue = record { rendition = c.self.inside.rendition; keys = c.self.inside.keys; start = c.self.inside.start; next = c.self.inside.next; slots = c.self.inside.slots.items } in
-    let at = c.plan-plan.result.number - sequence.next in
-    let lt : at < length sequence.slots = search rules in
-    let there : slice_get sequence.slots at ≡ Some was = slice_get_read sequence.slots _ at was refl lt (search rules) in
-    let plan : c.args.segment.plan ≡ was.plan = search rules in
-    let none : was.segment ≡ None = none-of was.segment (search rules) in
-    let same : was ≡ record { plan = c.args.segment.plan; segment = None } = λ i. record { plan = sym plan i; segment = none i } in
-    let number : c.plan-plan.result.number ≡ c.args.segment.plan.number = ap (λ (p : SegmentPlan). p.number) c.plan-plan.ensures in
-    let right : IsRight sequence c.args.segment = record {
-      ahead = omega (arith, c.if-plan-self.false, number);
-      expected = subst (λ n. slice_get sequence.slots (n - sequence.next) ≡ Some (record { plan = c.args.segment.plan; segment = None })) number (there ∙ ap Some same);
-      sealed = c.is_by.ensures.0 (search rules);
-    } in
-    subst (λ l. IsRight l c.args.segment) c.self.view_is right
+pub returns-then-not-is_expected-clause-fault : goal.returns-then-not-is_expected-clause-fault
+returns-then-not-is_expected-clause-fault c =
+    let plan = c.in_ok-at.ensures.free.0 in
+    let place = c.in_ok-at.ensures.free.1 in
+    let read = subst (λ (l : SequenceValue). c.index-slot.result.now ≡ get_or l.slots c.in_ok-at.at c.index-slot.result.now) c.self.view_is c.index-slot.ensures in
+    let there : c.index-slot.result.now.plan ≡ plan = place-plan c.args.self.now c.args.segment plan c.in_ok-at.at c.index-slot.result.now place c.in_ok-at.ensures.place read in
+    let own : lent c.plan-plan.result ≡ c.args.segment.plan = c.plan-plan.ensures ∙ ap (λ (s : SealedSegment). s.plan) c.in_ok-at.ensures.same in
+    let differ : lent c.plan-plan.result ≡ lent c.plan.result → ⊥ = search rules in
+    let wrong : c.args.segment.plan ≡ plan → ⊥ = λ e. differ (own ∙ e ∙ sym there ∙ sym c.plan.ensures) in
+    (c.in_ok-at.ensures.same, none-came c.args.self.now c.args.segment plan place, other-wrong c.args.self.now c.args.segment plan place wrong)
+
+pub put-requires-clause-right : goal.put-requires-clause-right
+put-requires-clause-right c =
+    let plan = c.in_ok-at.ensures.free.0 in
+    let place = c.in_ok-at.ensures.free.1 in
+    let read = subst (λ (l : SequenceValue). c.index-slot.result.now ≡ get_or l.slots c.in_ok-at.at c.index-slot.result.now) c.self.view_is c.index-slot.ensures in
+    let there : c.index-slot.result.now.plan ≡ plan = place-plan c.args.self.now c.args.segment plan c.in_ok-at.at c.index-slot.result.now place c.in_ok-at.ensures.place read in
+    let own : lent c.plan-plan.result ≡ c.args.segment.plan = c.plan-plan.ensures ∙ ap (λ (s : SealedSegment). s.plan) c.in_ok-at.ensures.same in
+    let both : lent c.plan-plan.result ≡ lent c.plan.result = search rules in
+    let right : IsRight c.args.self.now c.args.segment = place-right c.args.self.now c.args.segment plan place (sym there ∙ sym c.plan.ensures ∙ sym both ∙ own) in
+    subst (IsRight c.args.self.now) (sym c.in_ok-at.ensures.same) right
