@@ -16,6 +16,7 @@ use crate::settings::Rendition;
 use item_io::{Item, Outlet};
 use segment_job::Sealed;
 use std::alloc::{AllocError, Global};
+use std::mem;
 
 /// Puts an item.
 fn put<O: Outlet>(outlet: &mut O, item: &Item) -> Result<(), PackFault>
@@ -32,30 +33,36 @@ fn put<O: Outlet>(outlet: &mut O, item: &Item) -> Result<(), PackFault>
     }
 }
 
-/// Puts a sealed segment of rendition `r`.
+/// Puts a sealed segment of rendition `r`. Returns the buffer that it lay in, in which another may be sealed.
 pub fn put_segment<O: Outlet>(
     outlet: &mut O,
     r: usize,
     rendition: &Rendition,
     sealed: Sealed<'_>,
-) -> Result<(), PackFault>
+) -> Result<Vec<u8>, PackFault>
     requires failures { O.output.failures outlet.old < 2 ^ 63 }
     requires number { number_of rendition.now.keys sealed.plan.number < 2 ^ 64 }
     ensures ok { OnOk result (PutAll O.output outlet.old outlet.new (segment_of r rendition.now sealed.entry ∷ [])) }
     ensures err { OnErr result (PutSome O.output outlet.old outlet.new (segment_of r rendition.now sealed.entry ∷ [])) }
     ensures left { OnErr result (PutFewer O.output outlet.old outlet.new (segment_of r rendition.now sealed.entry ∷ [])) }
+    ensures buffer { IfOk result (λ buffer. buffer.items ≡ sealed.entry.bytes) }
     ensures fault { IfErr result (λ fault. SaysFailures fault (O.output.failures outlet.old) (O.output.failures outlet.new)) }
 {
     let name = rendition.name.clone()?;
     let (plan, bytes) = sealed.into_parts();
     let number = rendition.keys.number(plan.number) as u64;
-    let item = Item::Segment {
+    let mut item = Item::Segment {
         rendition: r,
         number,
         name,
         bytes,
     };
-    put(outlet, &item)
+    put(outlet, &item)?;
+    let Item::Segment { bytes, .. } = &mut item else {
+        unreachable!()
+    };
+    let alloc = *bytes.allocator();
+    Ok(mem::replace(bytes, Vec::new(alloc)))
 }
 
 /// The media playlist of rendition `r`, ended or not.

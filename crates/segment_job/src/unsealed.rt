@@ -39,9 +39,21 @@ impl<'s> Unsealed<'s> {
     pub fn of(alloc: Global, plan: PlanRef<'s>, keys: &Keys) -> Result<Unsealed<'s>, AllocError>
         ensures { IfOk result (λ made. made ≡ unsealed_segment keys.now (lent plan.entry)) }
     {
+        Unsealed::within(alloc, plan, keys, Vec::new(alloc))
+    }
+
+    /// The same, in a buffer: what that held is gone, and more memory is taken only where it has less room than the sealed segment needs.
+    pub fn within(
+        alloc: Global,
+        plan: PlanRef<'s>,
+        keys: &Keys,
+        buffer: Vec<u8>,
+    ) -> Result<Unsealed<'s>, AllocError>
+        ensures { IfOk result (λ made. made ≡ unsealed_segment keys.now (lent plan.entry)) }
+    {
         let key = keys.key(plan.number);
         let vector = keys.vector(plan.number);
-        let text = Text::new(key, vector, plain_text(alloc, plan)?);
+        let text = Text::new(key, vector, plain_text(alloc, plan, buffer)?);
         Ok(Unsealed { plan, text })
     }
 
