@@ -9,7 +9,7 @@ use std::marker::Brand;
 use std::sync::Wait;
 use std::sync::ledger::{Blank, Ledger, Share};
 use std::thread::{self, JoinHandle, Threads};
-use work_desk::{Delivery, Desk, FreeGate, Opened, Outcome, Pass, Tally, work};
+use work_desk::{Delivery, Desk, FreeGate, Opened, Outcome, Pass, Shelf, Tally, work};
 
 const WORKERS: usize = 2;
 
@@ -192,12 +192,13 @@ fn run_with<L: Ledger + Send + Sync, M: Ledger + Send + Sync, R: Threads + Wait 
     requires claims { (claims.name ≡ L.name) × (claims.parts ≡ L.parts) × (L.parts ≡ 2) }
     requires takes { (takes.name ≡ M.name) × (takes.parts ≡ M.parts) × (M.parts ≡ 1) }
 {
+    let shelf = Shelf::new(alloc, WORKERS);
     let Opened {
         desk,
         workers,
         taker,
         rest,
-    } = Desk::<'_, L, M, Brand>::new(alloc, PLANS, WORKERS, claims, takes).ok()?;
+    } = Desk::<'_, L, M, Brand>::new(alloc, PLANS, WORKERS, claims, takes, &shelf).ok()?;
     let crew = Crew {
         workers,
         taker,

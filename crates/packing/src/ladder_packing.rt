@@ -17,7 +17,7 @@ use pipeline::{Endpoints, Herald, Ran, Report, Settings, Setup, pack_heralded};
 use std::alloc::Global;
 use std::sync::Wait;
 use std::thread::Threads;
-use work_desk::FreeGate;
+use work_desk::{FreeGate, Shelf};
 
 /// What a run of `pack` gives back, whatever its answer.
 pub struct PackedLadder<S, O> {
@@ -101,6 +101,7 @@ fn run_setup<'a, R, H>(setup: &LadderSetup<'a, R, H>, gate: &'a FreeGate) -> Set
         workers: setup.pool.workers as usize,
         gate,
         batch: most_closed(setup.pool),
+        shelf: Shelf::new(setup.alloc, setup.pool.workers as usize),
     }
 }
 

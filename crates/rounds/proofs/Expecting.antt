@@ -36,14 +36,17 @@ expects-gathered g h r plan below is =
     let same = segments-more (sequence_at g r).slots plan in
     ap (λ (x : Gathering). gathered x.sequences) is ∙ omega (arith, moved, same)
 
+-- what lies from a plan of a spool on
+pub drop-at : (spool : List SegmentPlan) (i : ℕ) (plan : SegmentPlan) → slice_get spool i ≡ Some plan → drop i spool ≡ plan ∷ drop (i + 1) spool
+drop-at spool i plan at =
+    let more : suc i ≡ i + 1 = omega arith in
+    drop-cons spool i plan (slice_get_within spool i plan at)
+    ∙ (ap (λ (p : SegmentPlan). p ∷ drop (suc i) spool) (get_or_from_slice_get spool i plan plan at) ∙ ap (λ (n : ℕ). plan ∷ drop n spool) more)
+
 -- the next plan of a spool that is being fed
 pub next-unfed : (unfed : List (List SegmentPlan)) (r i : ℕ) (spool : List SegmentPlan) (plan : SegmentPlan) → r < length unfed → slice_get spool i ≡ Some plan
     → unfed_of (slice_set unfed r (drop i spool)) r ≡ plan ∷ drop (i + 1) spool
-next-unfed unfed r i spool plan below at =
-    let more : suc i ≡ i + 1 = omega arith in
-    get_or-set_same unfed r (drop i spool) [] below
-    ∙ (drop-cons spool i plan (slice_get_within spool i plan at)
-    ∙ (ap (λ (p : SegmentPlan). p ∷ drop (suc i) spool) (get_or_from_slice_get spool i plan plan at) ∙ ap (λ (n : ℕ). plan ∷ drop n spool) more))
+next-unfed unfed r i spool plan below at = get_or-set_same unfed r (drop i spool) [] below ∙ drop-at spool i plan at
 
 -- the spools of the renditions before r were fed
 pub fed-before : (left : List (List SegmentPlan)) (r : ℕ) → r < length left → ((k : ℕ) → k < r → unfed_of left k ≡ []) → (k : ℕ) → k < r + 1 → unfed_of (slice_set left r []) k ≡ []

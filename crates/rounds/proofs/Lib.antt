@@ -15,4 +15,6 @@ pub mod Ending
 pub mod Pacing
 pub mod Soon
 pub mod Telling
+pub mod Holding
 pub mod Permitting
+pub mod Planned

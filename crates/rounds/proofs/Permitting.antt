@@ -1,16 +1,15 @@
 -- What a round holds and shows may be sealed.
-use Rattle.std.proofs.Common.{◌≡◌, ◌∙◌, ◌⊎◌, inl, inr, ℕ, zero, suc, ◌+◌, ◌<◌, ◌≤◌, List, [], ◌∷◌, ◌++◌, All, Option, Some, None, IfSome, OnErr, OnOk, Result, Ok, Err, Bool, map, length, drop, refl, ap, sym, subst, arith, length-append}
+use Rattle.std.proofs.Common.{◌≡◌, ◌∙◌, ◌⊎◌, inl, inr, ℕ, ◌+◌, ◌<◌, List, [], ◌∷◌, ◌++◌, Option, Some, None, IfSome, OnErr, OnOk, Result, Ok, Err, Bool, map, length, ap, sym, subst, arith, length-append}
 use Rattle.std.specs.List.{slice_get, slice_index_or}
 use Rattle.std.proofs.Math.ListN.{set, get_or}
 use Rattle.std.proofs.lemmas.Bool.{cases_eq, cases_lt}
 use Rattle.std.proofs.lemmas.List.{get_or-map, length-map, get_or-set_same, get_or-set_other, map-set}
-use Rattle.std.proofs.lemmas.List.Elements.{All-append, All-cons, All-drop, All-set}
 use Rattle.cutter.specs.Plans.{SegmentPlan}
 use Rattle.segment_job.specs.Rotation.{KeyRotation}
 use Rattle.segment_job.specs.Segments.{SealedSegment}
 use Rattle.flow_core.specs.declared.slot.Slot.{Slot}
-use Rattle.flow_core.specs.Gatherings.{Gathering, no_sequence, sequence_at, sequences_from, with_sequence}
-use Rattle.flow_core.specs.Sequences.{SequenceValue, passed, with_plan, with_segment}
+use Rattle.flow_core.specs.Gatherings.{Gathering, sequence_at, sequences_from, with_sequence}
+use Rattle.flow_core.specs.Sequences.{passed, with_plan, with_segment}
 use Rattle.live_board.specs.Counts.{counts_shown}
 use Rattle.live_board.specs.Snapshots.{Known, SnapshotFacts}
 use Rattle.item_io.specs.Views.{OutletView, SourceView}
@@ -21,12 +20,13 @@ use Rattle.ladder_items.specs.Items.{Part, no_part, part_at, count, shown_all}
 use Rattle.ladder_items.specs.Shown.{Shown}
 use Rattle.ladder_items.specs.Weave.{Row, after, grown}
 use Rattle.ladder_items.proofs.Blocks.{after-each}
-use Rattle.rounds.specs.Permitted.{ArePermittedIn, HoldsPermitted, MayBeSealed, ShowsLetThrough, ShowsPermitted, or_shown, shown_at}
+use Rattle.rounds.specs.Permitted.{HoldsPermitted, MayBeSealed, ShowsLetThrough, ShowsPermitted, or_shown, shown_at}
 use Rattle.rounds.specs.declared.giving.broadcast.Broadcast.{Broadcast}
 use Rattle.rounds.specs.declared.run.course.Course.{Course}
 use Rattle.rounds.specs.Courses.{GivesNext, GivesNextInPart, IsNextOf, Start}
 use Rattle.rounds.specs.Rounds.{InRound}
 use Rattle.rounds.specs.Showing.{counts_of, facts_of, snapshot_of}
+use Rattle.rounds.proofs.Holding.{held-at, held-none, held-passed, held-plan, held-segment, held-slot}
 use Rattle.rounds.proofs.Running.{counts-last}
 use Rattle.rounds.proofs.Steps.{counts-are}
 
@@ -49,43 +49,24 @@ module _ (permits : ℕ → ℕ → Type 0) where
   abbrev may : Slot → Type 0
   may slot = MayBeSealed permits slot.segment
 
-  -- a rendition of a collector that holds what may be sealed
-  pub permitted-at : (sequences : List SequenceValue) (r : ℕ) → HoldsPermitted permits sequences → ArePermittedIn permits (slice_index_or sequences r no_sequence)
-  permitted-at [] r all = λ k d below. absurd (omega (arith, below))
-  permitted-at (s ∷ sequences) zero all = all 0 no_sequence (omega arith)
-  permitted-at (s ∷ sequences) (suc r) all = permitted-at sequences r (λ k d below. all (suc k) d (omega (arith, below)))
-
-  -- it holds one more
+  -- a collector holds one more that may be sealed
   pub holds-segment : (g : Gathering) (r : ℕ) (segment : SealedSegment) → permits segment.plan.rendition segment.plan.number
       → HoldsPermitted permits g.sequences → HoldsPermitted permits (with_sequence g r (with_segment (sequence_at g r) segment)).sequences
-  holds-segment g r segment one all =
-      All-set (ArePermittedIn permits) g.sequences r (with_segment (sequence_at g r) segment)
-      (All-set may (sequence_at g r).slots _ (record { plan = segment.plan; segment = Some segment }) one (permitted-at g.sequences r all)) all
+  holds-segment g r segment one all = held-segment may g r segment one all
 
   -- it expects one more
   pub holds-plan : (g : Gathering) (r : ℕ) (plan : SegmentPlan)
       → HoldsPermitted permits g.sequences → HoldsPermitted permits (with_sequence g r (with_plan (sequence_at g r) plan)).sequences
-  holds-plan g r plan all =
-      All-set (ArePermittedIn permits) g.sequences r (with_plan (sequence_at g r) plan)
-      (All-append may (sequence_at g r).slots (record { plan = plan; segment = None } ∷ []) (permitted-at g.sequences r all)
-      (All-cons may (record { plan = plan; segment = None }) [] tt (λ k d below. absurd (omega (arith, below))))) all
+  holds-plan g r plan all = held-plan may g r plan tt all
 
   -- it handed one out
   pub holds-passed : (g : Gathering) (r : ℕ) → HoldsPermitted permits g.sequences → HoldsPermitted permits (with_sequence g r (passed (sequence_at g r))).sequences
-  holds-passed g r all =
-      All-set (ArePermittedIn permits) g.sequences r (passed (sequence_at g r)) (All-drop may 1 (sequence_at g r).slots (permitted-at g.sequences r all)) all
+  holds-passed g r all = held-passed may g r all
 
   -- what stands in front may be sealed
-  front-may : (slots : List Slot) (segment : SealedSegment) → slice_get slots 0 ≡ Some (record { plan = segment.plan; segment = Some segment })
-      → All may slots → permits segment.plan.rendition segment.plan.number
-  front-may [] segment at all = cc
-  front-may (s ∷ slots) segment at all =
-      let is : s ≡ record { plan = segment.plan; segment = Some segment } = cc in
-      subst may is (all 0 s (omega arith))
-
   pub next-may : (g : Gathering) (r : ℕ) (segment : SealedSegment) → slice_get (sequence_at g r).slots 0 ≡ Some (record { plan = segment.plan; segment = Some segment })
       → HoldsPermitted permits g.sequences → permits segment.plan.rendition segment.plan.number
-  next-may g r segment at all = front-may (sequence_at g r).slots segment at (permitted-at g.sequences r all)
+  next-may g r segment at all = held-slot may (sequence_at g r).slots 0 (record { plan = segment.plan; segment = Some segment }) at (held-at may g.sequences r all)
 
   pub next-some : (g : Gathering) (r : ℕ) (taken : Option SealedSegment)
       → IfSome taken (λ segment. slice_get (sequence_at g r).slots 0 ≡ Some (record { plan = segment.plan; segment = Some segment }))
@@ -95,9 +76,7 @@ module _ (permits : ℕ → ℕ → Type 0) where
 
   -- a new collector holds nothing
   pub holds-none : (r : ℕ) (keys : List KeyRotation) (starts : List ℕ) → HoldsPermitted permits (sequences_from r keys starts)
-  holds-none r [] starts = λ k d below. absurd (omega (arith, below))
-  holds-none r (key ∷ keys) starts =
-      All-cons (ArePermittedIn permits) _ (sequences_from (r + 1) keys starts) (λ k d below. absurd (omega (arith, below))) (holds-none (r + 1) keys starts)
+  holds-none r keys starts = held-none may r keys starts
 
   -- a segment more is shown, which may be
   pub shows-row : (ladder : Ladder) (parts : List Part) (r : ℕ) (plan : SegmentPlan) (shown now : List Shown) (list list_now : List SnapshotFacts)
@@ -156,7 +135,7 @@ pub through-unshown : (lets : ℕ → ℕ → Type 0) (a b : List SnapshotFacts)
 through-unshown lets a b same = subst (ShowsLetThrough lets a) (sym same) (through-none lets a)
 
 -- a segment that may be was given, or in part
-pub shows-given : {X Y R : Type 0} (permits : ℕ → ℕ → Type 0) (out : OutletView Y) (ladder : Ladder) (r : ℕ) (plan : SegmentPlan) (old new : Broadcast X Y R) (answer : Result (Unit {0}) PackFault)
+pub shows-given : {X Y R A : Type 0} (permits : ℕ → ℕ → Type 0) (out : OutletView Y) (ladder : Ladder) (r : ℕ) (plan : SegmentPlan) (old new : Broadcast X Y R) (answer : Result A PackFault)
     → IsNextOf ladder r plan old.course → counts_shown old.held.publisher.list ≡ counts_of old.course.playlists.items → permits plan.rendition plan.number
     → OnOk answer (GivesNext out ladder r plan old new) → OnErr answer (GivesNextInPart out ladder r plan old new)
     → ShowsPermitted permits old.held.publisher.list → ShowsPermitted permits new.held.publisher.list

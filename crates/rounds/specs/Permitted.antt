@@ -1,5 +1,6 @@
 -- What a round holds and shows was let through.
-use Rattle.std.specs.Prelude.{ℕ, ◌<◌, ◌≤◌, ◌⊎◌, List, All, Option, None, Some, slice_index_or}
+use Rattle.std.specs.Prelude.{◌≡◌, ℕ, ◌<◌, ◌≤◌, ◌⊎◌, List, [], All, Option, None, Some, slice_get, slice_index_or}
+use Rattle.cutter.specs.Plans.{SegmentPlan}
 use Rattle.segment_job.specs.Segments.{SealedSegment}
 use Rattle.flow_core.specs.declared.slot.Slot.{Slot}
 use Rattle.flow_core.specs.Sequences.{SequenceValue}
@@ -18,6 +19,22 @@ ArePermittedIn permits sequence = All (λ (slot : Slot). MayBeSealed permits slo
 -- so may each that a collector holds
 abbrev pub HoldsPermitted : (ℕ → ℕ → Type 0) → List SequenceValue → Type 0
 HoldsPermitted permits sequences = All (ArePermittedIn permits) sequences
+
+-- each plan that a collector expects may be fed
+abbrev pub HoldsPlanned : (SegmentPlan → Type 0) → List SequenceValue → Type 0
+HoldsPlanned plans sequences = All (λ (sequence : SequenceValue). All (λ (slot : Slot). plans slot.plan) sequence.slots) sequences
+
+-- a plan stands in the spool of its rendition
+abbrev pub IsSpooled : List (List SegmentPlan) → SegmentPlan → Type 0
+IsSpooled spools plan = (i : ℕ) × (slice_get (slice_index_or spools plan.rendition []) i ≡ Some plan)
+
+-- each of these plans may be fed
+abbrev pub AreAllPlanned : (SegmentPlan → Type 0) → List SegmentPlan → Type 0
+AreAllPlanned plans spool = (i : ℕ) (plan : SegmentPlan) → slice_get spool i ≡ Some plan → plans plan
+
+-- so may those of each spool
+abbrev pub AreSpoolsPlanned : (SegmentPlan → Type 0) → List (List SegmentPlan) → Type 0
+AreSpoolsPlanned plans spools = (r : ℕ) → AreAllPlanned plans (slice_index_or spools r [])
 
 -- how many segments of rendition r are shown
 abbrev pub shown_at : List SnapshotFacts → ℕ → ℕ

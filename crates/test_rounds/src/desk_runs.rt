@@ -11,7 +11,7 @@ use std::sync::Wait;
 use std::sync::ledger::{Blank, Ledger, Share};
 use std::test::Fail;
 use std::thread::{self, JoinHandle, Threads};
-use work_desk::{Delivery, Desk, Gate, Obstacle, Opened, Outcome, Pass, Tally, work};
+use work_desk::{Delivery, Desk, Gate, Obstacle, Opened, Outcome, Pass, Shelf, Tally, work};
 
 /// What is run: so many plans by so many workers, over a desk on which so many may be outstanding.
 #[derive(Drop)]
@@ -279,12 +279,13 @@ fn run_with<
     requires takes { (takes.name ≡ M.name) × (takes.parts ≡ M.parts) × (M.parts ≡ 1) }
 {
     let taken = Taken::new(alloc, job.plans)?;
+    let shelf = Shelf::new(alloc, job.workers);
     let Opened {
         desk,
         workers,
         taker,
         rest,
-    } = Desk::<'_, L, M, Brand>::new(alloc, job.queue, job.workers, claims, takes)?;
+    } = Desk::<'_, L, M, Brand>::new(alloc, job.queue, job.workers, claims, takes, &shelf)?;
     let crew = Crew {
         workers,
         taker,

@@ -11,7 +11,7 @@ use std::sync::Wait;
 use std::sync::ledger::{Blank, Ledger};
 use std::test::Fail;
 use std::thread::Threads;
-use work_desk::{Desk, FreeGate, Gate, Obstacle, Opened, Outcome, Pass};
+use work_desk::{Desk, FreeGate, Gate, Obstacle, Opened, Outcome, Pass, Shelf};
 
 /// How often each run is made, so that threads meet in many orders.
 const TIMES: u64 = 200;
@@ -273,12 +273,13 @@ fn fed_with<'s, L: Ledger, M: Ledger, R: Wait>(
     requires claims { (claims.name ≡ L.name) × (claims.parts ≡ L.parts) × (L.parts ≡ 1) }
     requires takes { (takes.name ≡ M.name) × (takes.parts ≡ M.parts) × (M.parts ≡ 1) }
 {
+    let shelf = Shelf::new(alloc, 1);
     let Opened {
         desk,
         mut workers,
         mut taker,
         ..
-    } = Desk::<'s, L, M, Brand>::new(alloc, queue, 1, claims, takes)?;
+    } = Desk::<'_, L, M, Brand>::new(alloc, queue, 1, claims, takes, &shelf)?;
     let Some(mut pass) = workers.pop() else {
         return Err(Fail::from("no pass"));
     };

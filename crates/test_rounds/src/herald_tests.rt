@@ -14,7 +14,7 @@ use std::alloc::{AllocError, Global};
 use std::sync::{Mutex, Wait};
 use std::test::Fail;
 use std::thread::Threads;
-use work_desk::FreeGate;
+use work_desk::{FreeGate, Shelf};
 
 /// What was told, in its order.
 #[derive(Drop)]
@@ -101,6 +101,7 @@ fn run<R: Threads + Wait + Sync, H: Herald>(
         workers: 1,
         gate: &FreeGate,
         batch: 1,
+        shelf: Shelf::new(alloc, 1),
     };
     let endpoints = Endpoints {
         sources,

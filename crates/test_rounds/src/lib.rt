@@ -29,6 +29,8 @@ mod run_jobs;
 #[cfg(test)]
 mod run_tests;
 #[cfg(test)]
+mod shelf_tests;
+#[cfg(test)]
 mod stop_tests;
 #[cfg(test)]
 mod viewer_tests;

@@ -12,7 +12,7 @@ use std::alloc::{AllocError, Global};
 use std::sync::Wait;
 use std::test::Fail;
 use std::thread::Threads;
-use work_desk::Gate;
+use work_desk::{Gate, Shelf};
 
 /// A key frame at 540,000 ticks, with continuity_counter 1.
 const SECOND_KEY_FRAME: &[u8] =
@@ -175,6 +175,7 @@ fn run<G: Gate + Sync, R: Threads + Wait + Sync>(
         workers: job.workers,
         gate,
         batch,
+        shelf: Shelf::new(alloc, job.workers),
     };
     pack_heralded(&setup, endpoints, &Nobody)
 }

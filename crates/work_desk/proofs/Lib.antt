@@ -1,2 +1,4 @@
+pub mod Planning
 pub mod Pushing
 pub mod Permitting
+pub mod Shelving

@@ -1,6 +1,5 @@
 -- What is done at a desk may be sealed.
-use Rattle.std.proofs.Common.{◌≡◌, ℕ, suc, ◌<◌, List, [], Option, Some, None, IfSome, IfNone, sym, subst, arith}
-use Rattle.flow_core.specs.declared.outcome.Finished.{Finished}
+use Rattle.std.proofs.Common.{◌≡◌, ℕ, suc, [], Option, Some, None, IfSome, IfNone, sym, subst, arith}
 use Rattle.flow_core.specs.Queues.{QueueValue}
 use Rattle.flow_core.specs.Steps.{Delivered, IsFirst}
 use Rattle.work_desk.specs.Permits.{ArePermitted}

@@ -1,4 +1,5 @@
 pub mod Batches
 pub mod Permits
+pub mod Shelves
 pub mod Waiting
 pub mod Works

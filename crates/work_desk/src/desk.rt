@@ -3,15 +3,17 @@
 ghost use Rattle.std.specs.Prelude.{OnErr, ◌≡◌, ◌+◌, ◌<◌, ℕ, Some, IfOk, OnOk, IfErr, IfSome, IfNone, true, vec_len, slice_get};
 ghost use Rattle.cutter.specs.Lent.{lent};
 ghost use Rattle.flow_core.specs.Queues.{IsOwnOutcome, first_queue};
-ghost use Rattle.work_desk.specs.Permits.{IsPermitted};
+ghost use Rattle.work_desk.specs.Permits.{IsPermitted, IsPlanned};
 ghost use Rattle.work_desk.specs.Waiting.{GivesBack};
 
 use crate::gate::Permit;
 use crate::pass::Pass;
 use crate::permitted::PermittedQueue;
 use crate::sealing::{Job, Worked};
+use crate::shelf::Shelf;
 use crate::steps::{
-    Seen, claim, claim_more, close, deliver, stop, take, take_awaited, taker_waits, workers_wait,
+    Seen, claim, claim_more, close, deliver, feed, stop, take, take_awaited, taker_waits,
+    workers_wait,
 };
 use crate::waking::{Closed, wake_closed, wake_stopped};
 use cutter::PlanRef;
@@ -34,6 +36,8 @@ pub struct Desk<'s, L: Ledger, M: Ledger, P: Permit> {
     done: Condvar,
     /// How many workers have no plan, those that haven't begun among them. It only guides [`Desk::claim_more`].
     idle: AtomicUsize,
+    /// The buffers that workers seal in.
+    shelf: &'s Shelf,
 }
 
 /// A desk that was opened, and who may use it.
@@ -68,13 +72,14 @@ fn new_passes<L: Ledger>(
 
 impl<'s, L: Ledger, M: Ledger, P: Permit> Desk<'s, L, M, P> {
     /// Opens a desk at which at most `queue` plans are outstanding, with two ledgers: of claims, with a part for each
-    /// worker, and of what is taken, with one part.
+    /// worker, and of what is taken, with one part. Workers seal in buffers from the shelf.
     pub fn new(
         alloc: Global,
         queue: usize,
         workers: usize,
         claims: Blank,
         takes: Blank,
+        shelf: &'s Shelf,
     ) -> Result<Opened<'s, L, M, P>, AllocError>
         requires claims { (claims.name ≡ L.name) × (claims.parts ≡ L.parts) × (L.parts ≡ workers) }
         requires takes { (takes.name ≡ M.name) × (takes.parts ≡ M.parts) × (M.parts ≡ 1) }
@@ -91,7 +96,12 @@ impl<'s, L: Ledger, M: Ledger, P: Permit> Desk<'s, L, M, P> {
         let (takes, share) = takes.open::<M>();
         let workers_passes = new_passes(alloc, workers, &mut rest)?;
         Ok(Opened {
-            desk: Desk::over(Queue::new(alloc, queue, claims, takes), queue, workers),
+            desk: Desk::over(
+                Queue::new(alloc, queue, claims, takes),
+                queue,
+                workers,
+                shelf,
+            ),
             workers: workers_passes,
             taker: Pass::new(workers, share),
             rest,
@@ -99,7 +109,12 @@ impl<'s, L: Ledger, M: Ledger, P: Permit> Desk<'s, L, M, P> {
     }
 
     /// A desk over a queue that nothing happened to, of at most so many plans.
-    fn over(queue: Queue<'s, L, M>, most: usize, workers: usize) -> Desk<'s, L, M, P>
+    fn over(
+        queue: Queue<'s, L, M>,
+        most: usize,
+        workers: usize,
+        shelf: &'s Shelf,
+    ) -> Desk<'s, L, M, P>
         requires { queue ≡ first_queue most }
         ensures { result.most ≡ most }
     {
@@ -109,15 +124,22 @@ impl<'s, L: Ledger, M: Ledger, P: Permit> Desk<'s, L, M, P> {
             fed: Condvar::new(),
             done: Condvar::new(),
             idle: AtomicUsize::new(workers),
+            shelf,
         }
+    }
+
+    /// The buffers that workers seal in.
+    pub fn shelf(&self) -> &'s Shelf {
+        self.shelf
     }
 
     /// A plan waits for a worker from now on, and its receipt is returned. Where it may not, the plan comes back.
     pub fn feed<R: Wait>(&self, rt: &R, plan: PlanRef<'s>) -> Result<Fed<'s>, FeedFault<'s>>
+        requires { P.plans (lent plan) }
         ensures fed { IfOk result (λ fed. fed ≡ lent plan.entry) }
         ensures back { IfErr result (GivesBack (lent plan.entry)) }
     {
-        let answer = self.queue.lock(rt).inner.feed(plan);
+        let answer = feed(&mut self.queue.lock(rt), plan);
         self.fed.notify_one();
         answer
     }
@@ -221,6 +243,7 @@ impl<'s, L: Ledger, M: Ledger, P: Permit> Desk<'s, L, M, P> {
     /// Takes what has been done the longest; none where nothing is done. It waits for the lock alone.
     pub fn take_done<R: Wait>(&self, rt: &R, pass: &mut Pass<M>) -> Option<Delivery<'s>>
         ensures permitted { IfSome result (λ delivery. IsPermitted P.permits delivery.outcome) }
+        ensures planned { IfSome result (λ delivery. IsPlanned P.plans delivery.outcome) }
         ensures counted { IfSome result (λ _. pass.new.count ≡ pass.old.count + 1) }
         ensures uncounted { IfNone result (pass.new.count ≡ pass.old.count) }
         ensures number { pass.new.number ≡ pass.old.number }
@@ -231,6 +254,7 @@ impl<'s, L: Ledger, M: Ledger, P: Permit> Desk<'s, L, M, P> {
     /// The same, with what was seen where there is none.
     pub fn look_done<R: Wait>(&self, rt: &R, pass: &mut Pass<M>) -> Result<Delivery<'s>, Seen>
         ensures permitted { IfOk result (λ delivery. IsPermitted P.permits delivery.outcome) }
+        ensures planned { IfOk result (λ delivery. IsPlanned P.plans delivery.outcome) }
         ensures none { IfErr result (λ seen. seen.done ≡ 0) }
         ensures counted { OnOk result (pass.new.count ≡ pass.old.count + 1) }
         ensures uncounted { OnErr result (pass.new.count ≡ pass.old.count) }
@@ -242,6 +266,7 @@ impl<'s, L: Ledger, M: Ledger, P: Permit> Desk<'s, L, M, P> {
     /// Waits until something is done, and takes what has been done the longest. None where nothing is outstanding.
     pub fn wait_done<R: Wait>(&self, rt: &R, pass: &mut Pass<M>) -> Option<Delivery<'s>>
         ensures permitted { IfSome result (λ delivery. IsPermitted P.permits delivery.outcome) }
+        ensures planned { IfSome result (λ delivery. IsPlanned P.plans delivery.outcome) }
         ensures counted { IfSome result (λ _. pass.new.count ≡ pass.old.count + 1) }
         ensures uncounted { IfNone result (pass.new.count ≡ pass.old.count) }
         ensures number { pass.new.number ≡ pass.old.number }
@@ -252,6 +277,7 @@ impl<'s, L: Ledger, M: Ledger, P: Permit> Desk<'s, L, M, P> {
     /// The same, with what was seen where there is none.
     pub fn await_done<R: Wait>(&self, rt: &R, pass: &mut Pass<M>) -> Result<Delivery<'s>, Seen>
         ensures permitted { IfOk result (λ delivery. IsPermitted P.permits delivery.outcome) }
+        ensures planned { IfOk result (λ delivery. IsPlanned P.plans delivery.outcome) }
         ensures counted { OnOk result (pass.new.count ≡ pass.old.count + 1) }
         ensures uncounted { OnErr result (pass.new.count ≡ pass.old.count) }
         ensures number { pass.new.number ≡ pass.old.number }

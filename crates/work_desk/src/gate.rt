@@ -1,6 +1,7 @@
 //! What is asked before a segment is sealed.
 
 ghost use Rattle.std.specs.Prelude.{◌≡◌, ℕ, List, true, false};
+ghost use Rattle.cutter.specs.Plans.{SegmentPlan};
 ghost use Rattle.segment_job.specs.Rotation.{KeyRotation};
 
 use std::marker::Brand;
@@ -33,17 +34,23 @@ impl Gate for FreeGate {
     }
 }
 
-/// Which segments may be sealed, by their rendition and their number, and under which keys. A type stands for it, which a run picks by
-/// its gate and its settings: so what a desk of that type hands out is known to have been let through, and its workers have those keys.
+/// Which plans may be fed, which segments may be sealed, by their rendition and their number, and under which keys. A type stands for it,
+/// which a run picks by its spools, its gate and its settings: so what a desk of that type hands out is known to be of one of those plans
+/// and to have been let through, and its workers have those keys.
 pub trait Permit {
     ghost permits: { ℕ → ℕ → Type 0 };
 
     /// Whether these are the keys of each rendition, by its number.
     ghost keys: { List KeyRotation → Type 0 };
+
+    /// Whether this is one of the plans that may be fed.
+    ghost plans: { SegmentPlan → Type 0 };
 }
 
 impl Permit for Brand {
     ghost permits = { λ _ _. Unit {0} };
 
     ghost keys = { λ _. Unit {0} };
+
+    ghost plans = { λ _. Unit {0} };
 }

@@ -11,11 +11,13 @@ ghost use Rattle.work_desk.specs.Works.{IsBegun, IsTurnedAway, outcome_of};
 
 use crate::gate::{Gate, Permit};
 use crate::permitted::PermittedQueue;
+use crate::shelf::Shelf;
 use crate::steps::deliver;
 use flow_core::{Claim, Outcome};
 use segment_job::{Keys, Sealed, Unsealed, seal_four, seal_two};
 use std::alloc::Global;
 use std::marker::PhantomData;
+use std::sync::Wait;
 use std::sync::ledger::Ledger;
 
 /// A plan that a worker claimed, and has to begin. All that can be done with it is [`Means::begin`].
@@ -142,8 +144,14 @@ impl<'k, G: Gate, P: Permit> Means<'k, G, P> {
         }
     }
 
-    /// Asks the gate about a claimed plan, and makes its segment ready to be sealed. Where that can't be, says why.
-    pub(crate) fn begin<'s>(&self, job: Job<'s>) -> Result<Begun<'s>, TurnedAway<'s>>
+    /// Asks the gate about a claimed plan, and makes its segment ready to be sealed, in a buffer from the shelf. Where that can't be,
+    /// says why.
+    pub(crate) fn begin<'s, R: Wait>(
+        &self,
+        rt: &R,
+        shelf: &Shelf,
+        job: Job<'s>,
+    ) -> Result<Begun<'s>, TurnedAway<'s>>
         ensures claim { IfOk result (λ begun. begun.claim ≡ job.entry.claim) }
         ensures begun { IfOk result (λ begun. IsBegun (G.lets self.now.gate.now) self.now.keys.now job.entry.claim.plan begun.segment) }
         ensures same { IfErr result (λ away. away.claim ≡ job.entry.claim) }
@@ -164,7 +172,8 @@ impl<'k, G: Gate, P: Permit> Means<'k, G, P> {
                 why: Why::NoKeys,
             });
         };
-        match Unsealed::of(self.alloc, plan, own) {
+        let buffer = shelf.take(rt, plan.body.len());
+        match Unsealed::within(self.alloc, plan, own, buffer) {
             Ok(segment) => Ok(Begun { claim, segment }),
             Err(_) => Err(TurnedAway {
                 claim,

@@ -1,16 +1,18 @@
 //! What the calls of a desk do to its queue, under the lock.
 
 ghost use Rattle.std.specs.Prelude.{◌≡◌, ◌+◌, ◌<◌, ◌≤◌, ◌∷◌, [], IfOk, IfErr, OnOk, OnErr, true, length, Decides};
+ghost use Rattle.cutter.specs.Lent.{lent};
 ghost use Rattle.flow_core.specs.Lists.{In};
 ghost use Rattle.flow_core.specs.Queues.{outstanding, IsOwnOutcome};
-ghost use Rattle.flow_core.specs.Steps.{Claims, Delivers, Gives, IsFirst, closed_queue, stopped_queue};
-ghost use Rattle.work_desk.specs.Permits.{IsPermitted};
+ghost use Rattle.flow_core.specs.Steps.{Claims, Delivers, Feeds, Gives, IsFirst, Refuses, closed_queue, stopped_queue};
+ghost use Rattle.work_desk.specs.Permits.{IsPermitted, IsPlanned};
 ghost use Rattle.work_desk.specs.Waiting.{WorkersWait, TakerWaits, seen_in};
 
 use crate::gate::Permit;
 use crate::pass::Pass;
 use crate::permitted::PermittedQueue;
-use flow_core::{Claim, Delivery, Outcome};
+use cutter::PlanRef;
+use flow_core::{Claim, Delivery, Fed, FeedFault, Outcome};
 use std::marker::Model;
 use std::sync::ledger::Ledger;
 
@@ -62,6 +64,20 @@ pub fn taker_waits<L: Ledger, M: Ledger, P: Permit>(queue: &PermittedQueue<'_, L
         return false;
     }
     queue.inner.outstanding() > 0
+}
+
+/// A plan that may be fed waits from now on, and its receipt is returned. Where the queue doesn't take it, the plan comes back.
+pub fn feed<'s, L: Ledger, M: Ledger, P: Permit>(
+    queue: &mut PermittedQueue<'s, L, M, P>,
+    plan: PlanRef<'s>,
+) -> Result<Fed<'s>, FeedFault<'s>>
+    requires planned { P.plans (lent plan) }
+    ensures ok { OnOk result (Feeds queue.old (lent plan.entry) queue.new) }
+    ensures fed { IfOk result (λ fed. fed ≡ lent plan.entry) }
+    ensures err { OnErr result (queue.new ≡ queue.old) }
+    ensures fault { IfErr result (Refuses queue.old (lent plan.entry)) }
+{
+    queue.inner.feed(plan)
 }
 
 /// Claims the plan that waits the longest; none where no more plans are fed and none waits.
@@ -143,6 +159,7 @@ pub fn take<'s, L: Ledger, M: Ledger, P: Permit>(
     ensures some { IfOk result (λ delivery. Gives queue.old delivery queue.new) }
     ensures first { IfOk result (λ delivery. IsFirst delivery queue.old.done queue.new.done) }
     ensures permitted { IfOk result (λ delivery. IsPermitted P.permits delivery.outcome) }
+    ensures planned { IfOk result (λ delivery. IsPlanned P.plans delivery.outcome) }
     ensures none { OnErr result ((queue.new ≡ queue.old) × (queue.old.done ≡ [])) }
     ensures seen { IfErr result (λ seen. seen ≡ seen_in queue.old) }
     ensures counted { OnOk result (pass.new.count ≡ pass.old.count + 1) }
@@ -166,6 +183,7 @@ pub fn take_awaited<'s, L: Ledger, M: Ledger, P: Permit>(
     ensures some { IfOk result (λ delivery. Gives queue.old delivery queue.new) }
     ensures first { IfOk result (λ delivery. IsFirst delivery queue.old.done queue.new.done) }
     ensures permitted { IfOk result (λ delivery. IsPermitted P.permits delivery.outcome) }
+    ensures planned { IfOk result (λ delivery. IsPlanned P.plans delivery.outcome) }
     ensures none { OnErr result ((queue.new ≡ queue.old) × (outstanding queue.old ≡ 0)) }
     ensures seen { IfErr result (λ seen. seen ≡ seen_in queue.old) }
     ensures counted { OnOk result (pass.new.count ≡ pass.old.count + 1) }

@@ -154,7 +154,7 @@ fn begin<'s, L: Ledger, M: Ledger, P: Permit, G: Gate, R: Wait>(
     ensures begun { IfSome result (λ begun. IsBegun (G.lets means.now.gate.now) means.now.keys.now job.entry.claim.plan begun.segment) }
     ensures permitted { IsLetThrough P.permits result }
 {
-    match means.begin(job) {
+    match means.begin(rt, desk.shelf(), job) {
         Ok(begun) => Some(begun),
         Err(away) => {
             desk.hand_in(rt, away.into_worked());

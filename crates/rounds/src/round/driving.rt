@@ -10,7 +10,8 @@ ghost use Rattle.rounds.specs.Paces.{HasEnough, ReadsEnough, ReadsForNext, wante
 ghost use Rattle.rounds.specs.Rounds.{Breaks, IsBehind, IsBroken, IsDriven, IsExact, IsSomeFull, IsSomewhere, Moves, NoneReady, StopsInTime};
 ghost use Rattle.rounds.specs.Rounds.{ShowsFewer, StopsShort, due_in};
 ghost use Rattle.rounds.specs.Showing.{counts_of};
-ghost use Rattle.work_desk.specs.Permits.{LetsOnly};
+ghost use Rattle.rounds.specs.Permitted.{AreSpoolsPlanned};
+ghost use Rattle.work_desk.specs.Permits.{AreKnownByNumber, LetsOnly};
 ghost use Rattle.item_io.specs.declared.limits.TheConstants.{PIECE};
 
 use crate::giving::snapshots::counts;
@@ -34,6 +35,7 @@ pub fn collector_behind<'s, P: Permit>(
     settings: &Settings,
     playlists: &[Playlists],
 ) -> Result<PermittedCollector<'s, P>, AllocError>
+    requires { AreKnownByNumber P.plans }
     ensures ok { IfOk result (λ collector. collector ≡ record {
       most = settings.now.queue;
       sequences = sequences_from 0 (map (λ (r : RenditionValue). r.keys) settings.now.renditions) (counts_of playlists.now);
@@ -67,6 +69,7 @@ impl<'d, 's, 'r, S: Source, O: Outlet, L: Ledger, M: Ledger, P: Permit, R: Wait>
         spools: &'s [Spool],
     ) -> Result<(), PackFault>
         requires only { LetsOnly (G.lets sealer.now.gate.now) P.permits }
+        requires planned { AreSpoolsPlanned P.plans spools.now }
         requires each { length spools.now ≡ length settings.now.renditions }
         requires on { IsSomeFull S.input O.output settings.now spools.now self.old.broadcast }
         requires behind { IsBehind settings.now self.old }

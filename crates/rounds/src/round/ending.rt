@@ -3,9 +3,9 @@
 ghost use Rattle.std.specs.Prelude.{◌≡◌, ◌+◌, ◌<◌, ◌^◌, ℕ, IfErr, OnOk, length, slice_index_or, sum};
 ghost use Rattle.rounds.specs.Gated.{IsGatesWord};
 ghost use Rattle.rounds.specs.Paces.{ReadsForNext, pace_in};
-ghost use Rattle.rounds.specs.Permitted.{ShowsPermitted};
+ghost use Rattle.rounds.specs.Permitted.{AreSpoolsPlanned, ShowsPermitted};
 ghost use Rattle.rounds.specs.Rounds.{IsBroken, IsDriven, IsSomeFull};
-ghost use Rattle.work_desk.specs.Permits.{LetsOnly};
+ghost use Rattle.work_desk.specs.Permits.{AreKnownByNumber, LetsOnly};
 
 use crate::round::driving::collector_behind;
 use crate::round::machine::Round;
@@ -38,6 +38,8 @@ pub fn driven<'s, 'r, S: Source, O: Outlet, G: Gate, L: Ledger, M: Ledger, P: Pe
     between: BetweenRounds<'r, S, O, R>,
 ) -> EndedRound<'r, S, O, M, R>
     requires only { LetsOnly (G.lets setup.now.gate.now) P.permits }
+    requires planned { AreSpoolsPlanned P.plans spools.now }
+    requires known { AreKnownByNumber P.plans }
     requires shown { ShowsPermitted P.permits between.broadcast.held.publisher.list }
     requires each { length spools.now ≡ length setup.now.settings.now.renditions }
     requires unused { pass.count ≡ 0 }

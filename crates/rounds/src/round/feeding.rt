@@ -7,6 +7,7 @@ ghost use Rattle.flow_core.specs.Sequences.{following, with_plan};
 ghost use Rattle.ladder_items.specs.declared.fault.PackFault.TheVariants.{NoMemory};
 ghost use Rattle.rounds.specs.Rounds.{Breaks, BreaksAll, BreaksSpool, FeedsAll, FeedsPlan, FeedsSpool, HasAllUnfed, IsFirstUnfed, IsUnfed, unfed_of};
 ghost use Rattle.rounds.specs.Gated.{IsGatesWord, IsHandedOn, IsUnsealed};
+ghost use Rattle.rounds.specs.Permitted.{AreAllPlanned, AreSpoolsPlanned};
 ghost use Rattle.rounds.specs.Rounds.{HasKeys, IsFair, Keeps, ReadsNoneIn, ShowsFewer, due_in, gathered, plans_in};
 ghost use Rattle.work_desk.specs.Permits.{LetsOnly};
 ghost use Rattle.limits.specs.declared.TheConstants.{LAST_SEGMENT};
@@ -41,6 +42,7 @@ impl<'d, 's, 'r, S: Source, O: Outlet, L: Ledger, M: Ledger, P: Permit, R: Wait>
         spools: &'s [Spool],
     ) -> Result<(), PackFault>
         requires only { LetsOnly (G.lets sealer.now.gate.now) P.permits }
+        requires planned { AreSpoolsPlanned P.plans spools.now }
         requires somewhere { HasAllUnfed S.input O.output settings.now spools.now self.old }
         ensures ok { OnOk result (FeedsAll S.input O.output settings.now spools.now self.old self.new) }
         ensures err { IfErr result (BreaksAll S.input O.output settings.now spools.now self.old self.new) }
@@ -67,6 +69,7 @@ impl<'d, 's, 'r, S: Source, O: Outlet, L: Ledger, M: Ledger, P: Permit, R: Wait>
     ) -> Result<(), PackFault>
         requires within { r < length settings.now.renditions }
         requires only { LetsOnly (G.lets sealer.now.gate.now) P.permits }
+        requires planned { AreAllPlanned P.plans spool.now }
         requires somewhere { IsUnfed S.input O.output settings.now r spool.now self.old }
         ensures ok { OnOk result (FeedsSpool S.input O.output settings.now r spool.now self.old self.new) }
         ensures err { IfErr result (BreaksSpool S.input O.output settings.now r spool.now self.old self.new) }
@@ -97,6 +100,7 @@ impl<'d, 's, 'r, S: Source, O: Outlet, L: Ledger, M: Ledger, P: Permit, R: Wait>
     ) -> Result<Result<Fed<'s>, FeedFault<'s>>, PackFault>
         requires within { r < length settings.now.renditions }
         requires only { LetsOnly (G.lets sealer.now.gate.now) P.permits }
+        requires planned { P.plans (lent plan) }
         requires somewhere { IsFirstUnfed S.input O.output settings.now r (lent plan) self.old }
         ensures ok { OnOk result (FeedsPlan S.input O.output settings.now r (lent plan.entry) self.old self.new) }
         ensures handed { IfOk result (IsHandedOn (G.lets sealer.now.gate.now) (lent plan.entry) self.new.collector) }
@@ -126,6 +130,7 @@ fn expect<'s, P: Permit>(
     collector: &mut PermittedCollector<'s, P>,
     plan: PlanRef<'s>,
 ) -> Result<(), PackFault>
+    requires planned { P.plans (lent plan) }
     requires room { awaited collector.old.sequences < collector.old.most }
     requires rendition { plan.rendition < length collector.old.sequences }
     requires number { plan.number ≡ following (sequence_at collector.old plan.rendition) }
@@ -150,6 +155,7 @@ fn offer<'s, G: Gate, L: Ledger, M: Ledger, P: Permit, R: Wait>(
     collector: &mut PermittedCollector<'s, P>,
 ) -> Result<Result<Fed<'s>, FeedFault<'s>>, PackFault>
     requires only { LetsOnly (G.lets sealer.now.gate.now) P.permits }
+    requires planned { P.plans (lent plan) }
     requires keys { HasKeys settings.now collector.old }
     ensures keeps { Keeps collector.old collector.new }
     ensures more { gathered collector.old.sequences ≤ gathered collector.new.sequences }

@@ -72,7 +72,7 @@ impl<'d, 's, 'r, S: Source, O: Outlet, L: Ledger, M: Ledger, P: Permit, R: Wait>
         Ok(())
     }
 
-    /// Gives the next segment of rendition `r` if it has come sealed, and returns whether it had.
+    /// Gives the next segment of rendition `r` if it has come sealed, and returns whether it had. Others are sealed in its buffer.
     fn give_next(&mut self, alloc: Global, settings: &Settings, r: usize) -> Result<bool, PackFault>
         requires somewhere { IsSomewhere S.input O.output settings.now self.old }
         ensures ok { OnOk result (Moves S.input O.output settings.now self.old self.new) }
@@ -93,7 +93,8 @@ impl<'d, 's, 'r, S: Source, O: Outlet, L: Ledger, M: Ledger, P: Permit, R: Wait>
         let Some(sealed) = self.collector.next(r) else {
             return Ok(false);
         };
-        self.broadcast.give_segment(alloc, settings, r, sealed)?;
+        let buffer = self.broadcast.give_segment(alloc, settings, r, sealed)?;
+        self.desk.shelf().put(self.broadcast.rt(), buffer);
         Ok(true)
     }
 }

@@ -4,9 +4,9 @@ ghost use Rattle.std.specs.Prelude.{◌≡◌, ◌+◌, ◌<◌, ◌≤◌, ◌^
 ghost use Rattle.ladder_items.specs.declared.fault.PackFault.TheVariants.{NoMemory};
 ghost use Rattle.rounds.specs.Gated.{IsGatesWord};
 ghost use Rattle.rounds.specs.Paces.{pace_in};
-ghost use Rattle.rounds.specs.Permitted.{ShowsPermitted};
+ghost use Rattle.rounds.specs.Permitted.{AreSpoolsPlanned, ShowsPermitted};
 ghost use Rattle.rounds.specs.Rounds.{IsBroken, IsRound, IsSomeFull};
-ghost use Rattle.work_desk.specs.Permits.{LetsOnly};
+ghost use Rattle.work_desk.specs.Permits.{AreKnownByNumber, LetsOnly};
 
 use crate::round::crew::{Balance, Crew};
 use crate::round::ending::driven;
@@ -44,6 +44,8 @@ pub fn in_scope<
     requires only { LetsOnly (G.lets setup.now.gate.now) P.permits }
     requires shown { ShowsPermitted P.permits between.broadcast.held.publisher.list }
     requires keys { P.keys keys.now }
+    requires planned { AreSpoolsPlanned P.plans spools.now }
+    requires known { AreKnownByNumber P.plans }
     requires queue { desk.now.most ≡ setup.now.settings.now.queue }
     requires each { length spools.now ≡ length setup.now.settings.now.renditions }
     requires on { IsSomeFull S.input O.output setup.now.settings.now spools.now between.broadcast }
@@ -70,6 +72,7 @@ pub fn in_scope<
                 × (length crew.balance.claims.items ≡ length between.books.workers.items) × (between.books.rounds < 2 ^ 46) }
             requires only { LetsOnly (G.lets setup.now.gate.now) P.permits }
             requires asked { LetsOnly (G.lets gate.now) P.permits × P.keys keys.now }
+            requires planned { AreSpoolsPlanned P.plans spools.now × AreKnownByNumber P.plans }
             requires shown { ShowsPermitted P.permits between.broadcast.held.publisher.list }
             ensures ok { OnOk result.1 (IsRound S.input O.output setup.entry.now.settings.now spools.entry.now (pace_in setup.entry.now)
                 between.entry result.0) }
@@ -120,6 +123,8 @@ fn with_workers<
 ) -> (BetweenRounds<'r, S, O, R>, Result<(), PackFault>)
     requires only { LetsOnly (G.lets setup.now.gate.now) P.permits }
     requires shown { ShowsPermitted P.permits between.broadcast.held.publisher.list }
+    requires planned { AreSpoolsPlanned P.plans spools.now }
+    requires known { AreKnownByNumber P.plans }
     requires each { length spools.now ≡ length setup.now.settings.now.renditions }
     requires on { IsSomeFull S.input O.output setup.now.settings.now spools.now between.broadcast }
     requires unused { balance.taker.count ≡ 0 }

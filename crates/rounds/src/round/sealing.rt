@@ -9,7 +9,7 @@ ghost use Rattle.ladder_items.specs.declared.fault.PackFault.TheVariants.{Held, 
 ghost use Rattle.rounds.specs.Collected.{Collects, TakesIn};
 ghost use Rattle.rounds.specs.Gated.{Follows, IsLeft, IsUnsealed, SealsOwn};
 ghost use Rattle.rounds.specs.Rounds.{HasKeys, Keeps, gathered};
-ghost use Rattle.work_desk.specs.Permits.{IsPermitted, LetsOnly};
+ghost use Rattle.work_desk.specs.Permits.{IsPermitted, IsPlanned, LetsOnly};
 
 use crate::round::permitted_collector::PermittedCollector;
 use crate::round::sealer::Sealer;
@@ -23,6 +23,7 @@ use work_desk::{Gate, Permit, Seen};
 #[tactic(auto, using(crate::proofs::Collecting::keeps_same))]
 fn collect<'s, P: Permit>(collector: &mut PermittedCollector<'s, P>, sealed: Sealed<'s>) -> bool
     requires permitted { P.permits sealed.plan.rendition sealed.plan.number }
+    requires planned { P.plans sealed.plan }
     ensures keeps { Keeps collector.old collector.new }
     ensures right { result ≡ true → gathered collector.new.sequences ≡ gathered collector.old.sequences + 1 }
     ensures wrong { result ≡ false → collector.new ≡ collector.old }
@@ -54,6 +55,7 @@ pub fn take_in<'s, G: Gate, P: Permit>(
     thrown: &mut u64,
 ) -> Result<TakenIn, PackFault>
     requires permitted { IsPermitted P.permits done.outcome }
+    requires planned { IsPlanned P.plans done.outcome }
     requires few { right.old + thrown.old + 1 < 2 ^ 64 }
     ensures keeps { Keeps collector.old collector.new }
     ensures counted { right.new + thrown.new ≡ right.old + thrown.old + 1 }
@@ -100,6 +102,7 @@ impl<'g, G: Gate> Sealer<'g, G> {
         collector: &mut PermittedCollector<'s, P>,
     ) -> Result<(), PackFault>
         requires only { LetsOnly (G.lets self.now.gate.now) P.permits }
+        requires planned { P.plans (lent plan) }
         requires keys { HasKeys settings.now collector.old }
         ensures keeps { Keeps collector.old collector.new }
         ensures more { gathered collector.old.sequences ≤ gathered collector.new.sequences }
@@ -130,6 +133,7 @@ impl<'g, G: Gate> Sealer<'g, G> {
         collector: &mut PermittedCollector<'s, P>,
     ) -> Result<Result<Fed<'s>, FeedFault<'s>>, PackFault>
         requires only { LetsOnly (G.lets self.now.gate.now) P.permits }
+        requires planned { P.plans (lent plan) }
         requires keys { HasKeys settings.now collector.old }
         ensures keeps { Keeps collector.old collector.new }
         ensures more { gathered collector.old.sequences ≤ gathered collector.new.sequences }

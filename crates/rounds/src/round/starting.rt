@@ -5,9 +5,9 @@ ghost use Rattle.rounds.specs.Begun.{keys_of};
 ghost use Rattle.rounds.specs.Gated.{IsGatesWord};
 ghost use Rattle.rounds.specs.Heralds.{complete_in};
 ghost use Rattle.rounds.specs.Paces.{pace_in};
-ghost use Rattle.rounds.specs.Permitted.{ShowsLetThrough, ShowsPermitted};
+ghost use Rattle.rounds.specs.Permitted.{AreSpoolsPlanned, ShowsLetThrough, ShowsPermitted};
 ghost use Rattle.rounds.specs.Rounds.{HasDueEnds, IsBroken, IsRound, IsSomeFull};
-ghost use Rattle.work_desk.specs.Permits.{LetsOnly};
+ghost use Rattle.work_desk.specs.Permits.{AreKnownByNumber, LetsOnly};
 
 use crate::round::crew::{Balance, Crew};
 use crate::round::scoped::in_scope;
@@ -79,6 +79,8 @@ fn round_with<
     requires only { LetsOnly (G.lets setup.now.gate.now) P.permits }
     requires shown { ShowsPermitted P.permits between.broadcast.held.publisher.list }
     requires keys { P.keys keys.now }
+    requires planned { AreSpoolsPlanned P.plans spools.now }
+    requires known { AreKnownByNumber P.plans }
     requires each { length spools.now ≡ length setup.now.settings.now.renditions }
     requires on { IsSomeFull S.input O.output setup.now.settings.now spools.now between.broadcast }
     requires workers { length between.books.workers.items ≡ setup.now.workers }
@@ -95,7 +97,15 @@ fn round_with<
     };
     let settings = setup.settings;
     let queue = settings.queue as usize;
-    let Ok(opened) = Desk::<L, M, P>::new(setup.alloc, queue, setup.workers, claims, takes) else {
+    let opened = Desk::<L, M, P>::new(
+        setup.alloc,
+        queue,
+        setup.workers,
+        claims,
+        takes,
+        &setup.shelf,
+    );
+    let Ok(opened) = opened else {
         return (between, Err(PackFault::NoMemory));
     };
     let Opened {

@@ -5,7 +5,7 @@ ghost use Rattle.flow_core.specs.Gatherings.{awaited, missing_in};
 ghost use Rattle.rounds.specs.Gated.{IsGatesWord, IsHeldBack, IsLeft, IsOwnFault, IsUnheld};
 ghost use Rattle.rounds.specs.Rounds.{Breaks, HasKeys, IsExact, IsFair, IsSomewhere, Keeps, LosesNone, Moves, NoneReady, ReadsNoneIn, gathered};
 ghost use Rattle.rounds.specs.Rounds.{ShowsFewer, due_in};
-ghost use Rattle.work_desk.specs.Permits.{IsPermitted, LetsOnly};
+ghost use Rattle.work_desk.specs.Permits.{IsPermitted, IsPlanned, LetsOnly};
 
 use crate::round::machine::Round;
 use crate::round::permitted_collector::PermittedCollector;
@@ -161,6 +161,7 @@ fn hand_out<'s, L: Ledger, M: Ledger, P: Permit, R: Wait>(
     ensures counted { OnOk result (pass.new.count ≡ pass.old.count + 1) }
     ensures uncounted { OnErr result (pass.new.count ≡ pass.old.count) }
     ensures permitted { IfOk result (λ delivery. IsPermitted P.permits delivery.outcome) }
+    ensures planned { IfOk result (λ delivery. IsPlanned P.plans delivery.outcome) }
     ensures none { IfErr result (λ seen. seen.done ≡ 0) }
     ensures over { IfErr result (λ seen. wait ≡ true → seen.outstanding ≡ 0) }
 {

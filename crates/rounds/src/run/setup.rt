@@ -7,6 +7,7 @@ use crate::run::pace::Pace;
 use ladder_items::Settings;
 use live_board::Publisher;
 use std::alloc::Global;
+use work_desk::Shelf;
 
 /// What stays the same from a run's first round to its last.
 #[derive(Drop)]
@@ -25,6 +26,8 @@ pub struct Setup<'a, G, R> {
     /// fewer than there are workers, some workers are idle in most rounds; with more, workers wait less often for each other, and more
     /// segments are held at a time. What is given doesn't depend on it.
     pub batch: usize,
+    /// The buffers that segments are sealed in, one for each worker: those of a round are used again in the next.
+    pub shelf: Shelf,
 }
 
 impl<'a, G, R> Setup<'a, G, R> {
@@ -48,6 +51,7 @@ impl<'a, G, R> Setup<'a, G, R> {
             workers,
             gate,
             batch: workers.min(settings.queue as usize),
+            shelf: Shelf::new(alloc, workers),
         }
     }
 

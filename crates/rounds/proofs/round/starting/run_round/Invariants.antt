@@ -1,6 +1,6 @@
 use Rattle.std.proofs.Common.{◌≡◌}
 use Rattle.rounds.specs.Begun.{keys_of}
-use Rattle.rounds.specs.Permitted.{or_shown}
+use Rattle.rounds.specs.Permitted.{IsSpooled, or_shown}
 use Rattle.rounds.proofs.round.starting.run_round.Given as goal
 
 abbrev pub ghosts-round_with-L-Ledger : goal.ghosts-round_with-L-Ledger
@@ -13,4 +13,5 @@ abbrev pub ghosts-round_with-P-Permit : goal.ghosts-round_with-P-Permit
 ghosts-round_with-P-Permit g a = record {
   permits = or_shown (λ r n. g.G.Gate.lets a.setup.now.gate.now r n) a.between.broadcast.held.publisher.list;
   keys = λ keys. keys ≡ keys_of a.setup.now.settings.now;
+  plans = IsSpooled a.spools.now;
 }

@@ -14,7 +14,7 @@ use Rattle.rounds.proofs.round.machine.Round.drive.Goals as goal
 pub feed_all-requires : goal.feed_all-requires
 feed_all-requires g c =
     let some = c.requires.on in
-    record { only = c.requires.only; somewhere = (some.0, in-first _ _ _ _ _ some.0 c.args.spools.now _ _ _ c.requires.each c.requires.behind some.1) }
+    record { only = c.requires.only; planned = c.requires.planned; somewhere = (some.0, in-first _ _ _ _ _ some.0 c.args.spools.now _ _ _ c.requires.each c.requires.behind some.1) }
 
 pub returns-in_err-feed_all-clause-err : goal.returns-in_err-feed_all-clause-err
 returns-in_err-feed_all-clause-err g c =

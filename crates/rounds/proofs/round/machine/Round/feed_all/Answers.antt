@@ -1,7 +1,8 @@
-use Rattle.std.proofs.Common.{◌∙◌, ◌+◌, ◌<◌, ◌≤◌, ap, sym, arith, rules, [], length}
+use Rattle.std.proofs.Common.{◌∙◌, ◌+◌, ◌<◌, ◌≤◌, ap, sym, subst, arith, rules, [], length}
 use Rattle.std.specs.List.{slice_set}
 use Rattle.std.proofs.lemmas.List.{get_or_default}
 use Rattle.std.proofs.lemmas.Result.{err_from_is_err_and}
+use Rattle.rounds.specs.Permitted.{AreAllPlanned}
 use Rattle.rounds.proofs.Dues.{plans-all, plans-front, plans-more}
 use Rattle.rounds.proofs.Running.{reads-then}
 use Rattle.rounds.proofs.Expecting.{fed-before, unfed-behind, all-fed}
@@ -12,6 +13,10 @@ feed_spool-requires-clause-somewhere g c =
     let some = c.requires.somewhere in
     let now = c.loop-r.invariant.ok some.0 some.1 in
     (some.0, now.0, now.1, now.3 c.loop-r.r (omega arith) ∙ (get_or_default c.args.spools.now c.loop-r.r [] c.index-spools-r.result (search rules) ∙ sym c.index-spools-r.is))
+
+pub feed_spool-requires-clause-planned : goal.feed_spool-requires-clause-planned
+feed_spool-requires-clause-planned g c =
+    subst (AreAllPlanned g.P.Permit.plans) (get_or_default c.args.spools.now c.loop-r.r [] c.index-spools-r.result (search rules) ∙ sym c.index-spools-r.is) (c.requires.planned c.loop-r.r)
 
 pub returns-in_err-feed_spool-clause-err : goal.returns-in_err-feed_spool-clause-err
 returns-in_err-feed_spool-clause-err g c =

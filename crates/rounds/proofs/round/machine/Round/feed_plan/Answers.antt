@@ -57,7 +57,7 @@ offer-requires g c =
     let p = plan-follows _ _ _ _ _ some.0 some.1 _ _ _ now c.args.r c.requires.within (lent c.args.plan) some.2 some.4 order in
     let made = subst (λ k. c.expect.new.collector ≡ with_sequence c.make_room.new.self.collector k (with_plan (sequence_at c.make_room.new.self.collector k) (lent c.args.plan))) p.rendition c.in_ok-expect.ensures.ok in
     let there = in-expect _ _ _ _ _ some.0 some.1 _ _ _ now c.args.r c.requires.within (lent c.args.plan) some.2 some.4 _ made in
-    record { only = c.requires.only; keys = record { each = there.each; keys = there.keys } }
+    record { only = c.requires.only; planned = c.requires.planned; keys = record { each = there.each; keys = there.keys } }
 
 pub returns-in_err-fed-clause-err : goal.returns-in_err-fed-clause-err
 returns-in_err-fed-clause-err g c =

@@ -20,23 +20,23 @@ give_segment-requires-clause-sealed g c =
     let order : InOrder c.args.settings.now = λ stop r. made_of-at stop r c.args.settings.now.cut in
     in-sealed _ _ _ _ _ some.0 some.1 _ _ _ some.2 order c.args.r c.in-Some.sealed c.in-Some.ensures.first c.in-Some.ensures.sealed
 
-pub returns-in_err-give_segment-clause-err : goal.returns-in_err-give_segment-clause-err
-returns-in_err-give_segment-clause-err g c =
+pub returns-in_err-buffer-clause-err : goal.returns-in_err-buffer-clause-err
+returns-in_err-buffer-clause-err g c =
     let order : InOrder c.args.settings.now = λ stop r. made_of-at stop r c.args.settings.now.cut in
     let told = err_from_is_err_and c.from_residual.result c.from_residual.ensures.1 in
     rw (told.1, told.2) (λ start unfed now.
     let at = c.in-Some.ensures.first in
     let next = in-next _ _ _ _ _ start unfed _ _ _ now order c.args.r c.in-Some.sealed at in
-    in-ungiven _ _ _ _ _ start unfed _ _ _ now order c.args.r c.in-Some.sealed at _ _ _ (c.in_err-give_segment.ensures.err (parts-of c.args.settings.now now.on.world.events) next)
-    c.in_err-give_segment.ensures.none_read c.in_err-give_segment.ensures.board c.in_err-give_segment.ensures.fault)
+    in-ungiven _ _ _ _ _ start unfed _ _ _ now order c.args.r c.in-Some.sealed at _ _ _ (c.in_err-buffer.ensures.err (parts-of c.args.settings.now now.on.world.events) next)
+    c.in_err-buffer.ensures.none_read c.in_err-buffer.ensures.board c.in_err-buffer.ensures.fault)
 
 pub returns-clause-ok : goal.returns-clause-ok
 returns-clause-ok g c start unfed now =
     let order : InOrder c.args.settings.now = λ stop r. made_of-at stop r c.args.settings.now.cut in
     let at = c.in-Some.ensures.first in
     let next = in-next _ _ _ _ _ start unfed _ _ _ now order c.args.r c.in-Some.sealed at in
-    in-gave _ _ _ _ _ start unfed _ _ _ now order c.args.r c.in-Some.sealed at _ _ _ (c.in_ok-give_segment.ensures.ok (parts-of c.args.settings.now now.on.world.events) next now.on.ends)
-    c.in_ok-give_segment.ensures.none_read c.in_ok-give_segment.ensures.board c.in-Some.ensures.some
+    in-gave _ _ _ _ _ start unfed _ _ _ now order c.args.r c.in-Some.sealed at _ _ _ (c.in_ok-buffer.ensures.ok (parts-of c.args.settings.now now.on.world.events) next now.on.ends)
+    c.in_ok-buffer.ensures.none_read c.in_ok-buffer.ensures.board c.in-Some.ensures.some
 
 pub returns-clause-counts : goal.returns-clause-counts
 returns-clause-counts g c = (
@@ -51,21 +51,21 @@ returns-clause-fewer g c any =
     let less = passed-fewer c.args.self.now.collector c.args.r c.in-Some.sealed.plan c.in-Some.sealed c.in-Some.ensures.first in
     omega (arith, now, less)
 
-pub returns-in_err-give_segment-clause-unheld : goal.returns-in_err-give_segment-clause-unheld
-returns-in_err-give_segment-clause-unheld g c =
+pub returns-in_err-buffer-clause-unheld : goal.returns-in_err-buffer-clause-unheld
+returns-in_err-buffer-clause-unheld g c =
     let told = err_from_is_err_and c.from_residual.result c.from_residual.ensures.1 in
-    rw (told.1, told.2) (λ q n is. sudden-unheld _ _ _ q n c.in_err-give_segment.ensures.fault is)
+    rw (told.1, told.2) (λ q n is. sudden-unheld _ _ _ q n c.in_err-buffer.ensures.fault is)
 
-pub returns-in_err-give_segment-clause-none : goal.returns-in_err-give_segment-clause-none
-returns-in_err-give_segment-clause-none g c =
+pub returns-in_err-buffer-clause-none : goal.returns-in_err-buffer-clause-none
+returns-in_err-buffer-clause-none g c =
     let told = err_from_is_err_and c.from_residual.result c.from_residual.ensures.1 in
     rw told.1 (front-ready _ _ _ c.in-Some.ensures.first)
 
 pub returns-clause-stood : goal.returns-clause-stood
 returns-clause-stood g c any dry = front-ready _ _ _ c.in-Some.ensures.first dry
 
-pub returns-in_err-give_segment-clause-fell : goal.returns-in_err-give_segment-clause-fell
-returns-in_err-give_segment-clause-fell g c =
+pub returns-in_err-buffer-clause-fell : goal.returns-in_err-buffer-clause-fell
+returns-in_err-buffer-clause-fell g c =
     let told = err_from_is_err_and c.from_residual.result c.from_residual.ensures.1 in
     let now = ap (λ (x : Gathering). awaited x.sequences) c.in-Some.ensures.some in
     let less = passed-fewer c.args.self.now.collector c.args.r c.in-Some.sealed.plan c.in-Some.sealed c.in-Some.ensures.first in
@@ -76,58 +76,58 @@ returns-clause-due g c =
     let some = c.requires.somewhere in
     let order : InOrder c.args.settings.now = λ stop r. made_of-at stop r c.args.settings.now.cut in
     let next = in-next _ _ _ _ _ some.0 some.1 _ _ _ some.2 order c.args.r c.in-Some.sealed c.in-Some.ensures.first in
-    let gave = c.in_ok-give_segment.ensures.ok (parts-of c.args.settings.now some.2.on.world.events) next some.2.on.ends in
+    let gave = c.in_ok-buffer.ensures.ok (parts-of c.args.settings.now some.2.on.world.events) next some.2.on.ends in
     let now = ap (λ (x : Gathering). awaited x.sequences) c.in-Some.ensures.some in
     let less = passed-fewer c.args.self.now.collector c.args.r c.in-Some.sealed.plan c.in-Some.sealed c.in-Some.ensures.first in
     let more = ap length gave.shows ∙ length-append c.args.self.now.broadcast.held.publisher.list _ in
     omega (arith, now, less, more)
 
-pub returns-in_err-give_segment-clause-short : goal.returns-in_err-give_segment-clause-short
-returns-in_err-give_segment-clause-short g c =
+pub returns-in_err-buffer-clause-short : goal.returns-in_err-buffer-clause-short
+returns-in_err-buffer-clause-short g c =
     let told = err_from_is_err_and c.from_residual.result c.from_residual.ensures.1 in
     let some = c.requires.somewhere in
     let order : InOrder c.args.settings.now = λ stop r. made_of-at stop r c.args.settings.now.cut in
     let next = in-next _ _ _ _ _ some.0 some.1 _ _ _ some.2 order c.args.r c.in-Some.sealed c.in-Some.ensures.first in
-    let gave = c.in_err-give_segment.ensures.err (parts-of c.args.settings.now some.2.on.world.events) next in
+    let gave = c.in_err-buffer.ensures.err (parts-of c.args.settings.now some.2.on.world.events) next in
     let less = passed-fewer c.args.self.now.collector c.args.r c.in-Some.sealed.plan c.in-Some.sealed c.in-Some.ensures.first in
     rw told.1 (omega (arith, less, ap length gave.unshown))
 
-pub returns-in_err-give_segment-clause-ok : goal.returns-in_err-give_segment-clause-ok
-returns-in_err-give_segment-clause-ok g c =
+pub returns-in_err-buffer-clause-ok : goal.returns-in_err-buffer-clause-ok
+returns-in_err-buffer-clause-ok g c =
     let told = err_from_is_err_and c.from_residual.result c.from_residual.ensures.1 in
     rw told.1 tt
 
-pub returns-in_err-give_segment-clause-due : goal.returns-in_err-give_segment-clause-due
-returns-in_err-give_segment-clause-due g c =
+pub returns-in_err-buffer-clause-due : goal.returns-in_err-buffer-clause-due
+returns-in_err-buffer-clause-due g c =
     let told = err_from_is_err_and c.from_residual.result c.from_residual.ensures.1 in
     rw told.1 tt
 
-pub returns-in_err-give_segment-clause-counts : goal.returns-in_err-give_segment-clause-counts
-returns-in_err-give_segment-clause-counts g c =
+pub returns-in_err-buffer-clause-counts : goal.returns-in_err-buffer-clause-counts
+returns-in_err-buffer-clause-counts g c =
     let told = err_from_is_err_and c.from_residual.result c.from_residual.ensures.1 in
     rw told.1 tt
 
-pub returns-in_err-give_segment-clause-fewer : goal.returns-in_err-give_segment-clause-fewer
-returns-in_err-give_segment-clause-fewer g c =
+pub returns-in_err-buffer-clause-fewer : goal.returns-in_err-buffer-clause-fewer
+returns-in_err-buffer-clause-fewer g c =
     let told = err_from_is_err_and c.from_residual.result c.from_residual.ensures.1 in
     rw told.1 tt
 
-pub returns-in_err-give_segment-clause-dry : goal.returns-in_err-give_segment-clause-dry
-returns-in_err-give_segment-clause-dry g c =
+pub returns-in_err-buffer-clause-dry : goal.returns-in_err-buffer-clause-dry
+returns-in_err-buffer-clause-dry g c =
     let told = err_from_is_err_and c.from_residual.result c.from_residual.ensures.1 in
     rw told.1 tt
 
-pub returns-in_err-give_segment-clause-stood : goal.returns-in_err-give_segment-clause-stood
-returns-in_err-give_segment-clause-stood g c =
+pub returns-in_err-buffer-clause-stood : goal.returns-in_err-buffer-clause-stood
+returns-in_err-buffer-clause-stood g c =
     let told = err_from_is_err_and c.from_residual.result c.from_residual.ensures.1 in
     rw told.1 tt
 
-pub returns-in_err-give_segment-clause-idle : goal.returns-in_err-give_segment-clause-idle
-returns-in_err-give_segment-clause-idle g c =
+pub returns-in_err-buffer-clause-idle : goal.returns-in_err-buffer-clause-idle
+returns-in_err-buffer-clause-idle g c =
     let told = err_from_is_err_and c.from_residual.result c.from_residual.ensures.1 in
     rw told.1 tt
 
-pub returns-in_err-give_segment-clause-others : goal.returns-in_err-give_segment-clause-others
-returns-in_err-give_segment-clause-others g c =
+pub returns-in_err-buffer-clause-others : goal.returns-in_err-buffer-clause-others
+returns-in_err-buffer-clause-others g c =
     let told = err_from_is_err_and c.from_residual.result c.from_residual.ensures.1 in
     rw told.1 tt
