@@ -1,6 +1,7 @@
 //! Buffers that segments are sealed in again.
 
-ghost use Rattle.std.specs.Prelude.{◌≡◌, ◌+◌, ◌++◌, ◌<◌, ◌≤◌, ◌∷◌, [], ℕ, IfNone, IfSome, Decides, OnErr, OnOk, length, map, slice_index_or, vec_capacity, vec_len};
+ghost use Rattle.std.specs.Prelude.{◌≡◌, ◌+◌, ◌++◌, ◌<◌, ◌≤◌, ◌∷◌, [], ℕ, IfNone, IfSome, Decides, OnErr, OnOk, length, map};
+ghost use Rattle.std.specs.Prelude.{slice_index_or, vec_capacity, vec_len};
 ghost use Rattle.work_desk.specs.Shelves.{IsBestAt, misfit};
 
 use std::alloc::{AllocError, Global};
