@@ -1,10 +1,11 @@
 //! A desk: a queue under a lock.
 
-ghost use Rattle.std.specs.Prelude.{OnErr, ◌≡◌, ◌+◌, ◌<◌, ℕ, Some, IfOk, OnOk, IfErr, IfSome, IfNone, true, vec_len, slice_get};
+ghost use Rattle.std.specs.Prelude.{OnErr, ◌≡◌, ◌+◌, ◌<◌, ℕ, Some, IfOk, OnOk, IfErr, IfSome, IfNone, true, false, vec_len, slice_get};
 ghost use Rattle.cutter.specs.Lent.{lent};
 ghost use Rattle.flow_core.specs.Queues.{IsOwnOutcome, first_queue};
 ghost use Rattle.work_desk.specs.Permits.{IsPermitted, IsPlanned};
 ghost use Rattle.work_desk.specs.Waiting.{GivesBack};
+ghost use Rattle.work_desk.specs.declared.desk.Leaves.TheVariants.{Nothing};
 
 use crate::gate::Permit;
 use crate::pass::Pass;
@@ -36,8 +37,19 @@ pub struct Desk<'s, L: Ledger, M: Ledger, P: Permit> {
     done: Condvar,
     /// How many workers have no plan, those that haven't begun among them. It only guides [`Desk::claim_more`].
     idle: AtomicUsize,
+    /// Whether a worker takes a second plan wherever one waits.
+    pairs: bool,
     /// The buffers that workers seal in.
     shelf: &'s Shelf,
+}
+
+/// What a worker that has a plan leaves waiting for others when it claims one more.
+#[derive(Clone, Copy, Debug, PartialEq, Eq)]
+pub(crate) enum Leaves {
+    /// Nothing, where two segments side by side take about the time of one.
+    Nothing,
+    /// A plan for each idle worker: four take longer than two.
+    OneEach,
 }
 
 /// A desk that was opened, and who may use it.
@@ -71,7 +83,7 @@ fn new_passes<L: Ledger>(
 }
 
 impl<'s, L: Ledger, M: Ledger, P: Permit> Desk<'s, L, M, P> {
-    /// Opens a desk at which at most `queue` plans are outstanding, with two ledgers: of claims, with a part for each
+    /// Opens a desk without pairs at which at most `queue` plans are outstanding, with two ledgers: of claims, with a part for each
     /// worker, and of what is taken, with one part. Workers seal in buffers from the shelf.
     pub fn new(
         alloc: Global,
@@ -90,6 +102,7 @@ impl<'s, L: Ledger, M: Ledger, P: Permit> Desk<'s, L, M, P> {
             (pass.number ≡ i) × (pass.count ≡ 0)) }
         ensures taker { IfOk result (λ opened. opened.taker.number ≡ workers) }
         ensures most { IfOk result (λ opened. opened.desk.most ≡ queue) }
+        ensures pairs { IfOk result (λ opened. opened.desk.pairs ≡ false) }
         ensures scarce { OnErr result (0 < workers) }
     {
         let (claims, mut rest) = claims.open::<L>();
@@ -116,7 +129,8 @@ impl<'s, L: Ledger, M: Ledger, P: Permit> Desk<'s, L, M, P> {
         shelf: &'s Shelf,
     ) -> Desk<'s, L, M, P>
         requires { queue ≡ first_queue most }
-        ensures { result.most ≡ most }
+        ensures most { result.most ≡ most }
+        ensures pairs { result.pairs ≡ false }
     {
         Desk {
             queue: Mutex::new(PermittedQueue::first(queue)),
@@ -124,8 +138,26 @@ impl<'s, L: Ledger, M: Ledger, P: Permit> Desk<'s, L, M, P> {
             fed: Condvar::new(),
             done: Condvar::new(),
             idle: AtomicUsize::new(workers),
+            pairs: false,
             shelf,
         }
+    }
+
+    /// The same desk, at which a worker takes a second plan wherever one waits, before it asks about the first; or only where more wait
+    /// than workers are idle, as at a new one. With AVX2 two segments are sealed side by side in about the time of one, and elsewhere in
+    /// nearly twice that. A gate mustn't hold one plan until another was asked about, as one worker may have both.
+    pub fn with_pairs(self, pairs: bool) -> Desk<'s, L, M, P>
+        ensures pairs { result.pairs ≡ pairs }
+        ensures most { result.most ≡ self.entry.most }
+    {
+        Desk { pairs, ..self }
+    }
+
+    /// Whether a worker takes a second plan wherever one waits.
+    pub(crate) fn has_pairs(&self) -> bool
+        ensures { result ≡ self.now.pairs }
+    {
+        self.pairs
     }
 
     /// The buffers that workers seal in.
@@ -193,32 +225,48 @@ impl<'s, L: Ledger, M: Ledger, P: Permit> Desk<'s, L, M, P> {
         ensures uncounted { IfNone result (pass.new.count ≡ pass.old.count) }
         ensures number { pass.new.number ≡ pass.old.number }
     {
-        self.spare_claim(rt, pass).ok()
+        self.more_claim(rt, pass, Leaves::OneEach).ok()
     }
 
-    /// The same, as a job that a worker has to begin.
-    pub(crate) fn spare_job<R: Wait>(&self, rt: &R, pass: &mut Pass<L>) -> Result<Job<'s>, Seen>
+    /// Claims one more plan, the one that waits the longest, if more wait than are left to others, as a job that a worker has to
+    /// begin. Waits for the lock alone.
+    pub(crate) fn more_job<R: Wait>(
+        &self,
+        rt: &R,
+        pass: &mut Pass<L>,
+        leaves: Leaves,
+    ) -> Result<Job<'s>, Seen>
         ensures worker { IfOk result (λ job. job.claim.worker ≡ pass.old.number) }
         ensures counted { OnOk result (pass.new.count ≡ pass.old.count + 1) }
         ensures uncounted { OnErr result (pass.new.count ≡ pass.old.count) }
         ensures number { pass.new.number ≡ pass.old.number }
+        ensures none { leaves ≡ Nothing → IfErr result (λ seen. seen.waiting ≡ 0) }
     {
-        match self.spare_claim(rt, pass) {
+        match self.more_claim(rt, pass, leaves) {
             Ok(claim) => Ok(Job::of(claim)),
             Err(seen) => Err(seen),
         }
     }
 
-    /// The same, with what was seen where there is none.
-    fn spare_claim<R: Wait>(&self, rt: &R, pass: &mut Pass<L>) -> Result<Claim<'s>, Seen>
+    /// The same, as a claim.
+    fn more_claim<R: Wait>(
+        &self,
+        rt: &R,
+        pass: &mut Pass<L>,
+        leaves: Leaves,
+    ) -> Result<Claim<'s>, Seen>
         ensures worker { IfOk result (λ claim. claim.worker ≡ pass.old.number) }
         ensures counted { OnOk result (pass.new.count ≡ pass.old.count + 1) }
         ensures uncounted { OnErr result (pass.new.count ≡ pass.old.count) }
         ensures number { pass.new.number ≡ pass.old.number }
+        ensures none { leaves ≡ Nothing → IfErr result (λ seen. seen.waiting ≡ 0) }
     {
         let mut queue = self.queue.lock(rt);
-        let idle = self.idle.load(Ordering::SeqCst);
-        claim_more(&mut queue, idle, pass)
+        let left = match leaves {
+            Leaves::Nothing => 0,
+            Leaves::OneEach => self.idle.load(Ordering::SeqCst),
+        };
+        claim_more(&mut queue, left, pass)
     }
 
     /// Something became of a claimed plan, which was sealed if it is a segment of its own. Where nobody has that claim at

@@ -106,22 +106,22 @@ pub fn claim<'s, L: Ledger, M: Ledger, P: Permit>(
     Ok(claim)
 }
 
-/// Claims the plan that waits the longest where more wait than so many workers are idle; none elsewhere.
+/// Claims the plan that waits the longest where more wait than are left to others; none elsewhere.
 pub fn claim_more<'s, L: Ledger, M: Ledger, P: Permit>(
     queue: &mut PermittedQueue<'s, L, M, P>,
-    idle: usize,
+    left: usize,
     pass: &mut Pass<L>,
 ) -> Result<Claim<'s>, Seen>
     ensures some { IfOk result (λ claim. Claims queue.old claim queue.new) }
     ensures first { IfOk result (λ claim. (claim.worker ≡ pass.old.number) × (queue.old.waiting ≡ claim.plan ∷ queue.new.waiting)) }
-    ensures more { OnOk result (idle < length queue.old.waiting) }
-    ensures none { OnErr result ((queue.new ≡ queue.old) × (length queue.old.waiting ≤ idle)) }
+    ensures more { OnOk result (left < length queue.old.waiting) }
+    ensures none { OnErr result ((queue.new ≡ queue.old) × (length queue.old.waiting ≤ left)) }
     ensures seen { IfErr result (λ seen. seen ≡ seen_in queue.old) }
     ensures counted { OnOk result (pass.new.count ≡ pass.old.count + 1) }
     ensures uncounted { OnErr result (pass.new.count ≡ pass.old.count) }
     ensures number { pass.new.number ≡ pass.old.number }
 {
-    if queue.inner.waiting() <= idle {
+    if queue.inner.waiting() <= left {
         return Err(look(queue));
     }
     claim(queue, pass)

@@ -1,11 +1,11 @@
 //! A worker's run.
 
-ghost use Rattle.std.specs.Prelude.{◌≡◌, ◌+◌, IfErr, IfNone, IfOk, IfSome, None, OnErr, Some, true};
+ghost use Rattle.std.specs.Prelude.{◌≡◌, ◌⊎◌, ◌+◌, IfErr, IfNone, IfOk, IfSome, None, OnErr, OnOk, Some, true};
 ghost use Rattle.work_desk.specs.Batches.{AreLetThrough, IsLetThrough};
 ghost use Rattle.work_desk.specs.Permits.{LetsOnly};
 ghost use Rattle.work_desk.specs.Works.{IsBegun};
 
-use crate::desk::Desk;
+use crate::desk::{Desk, Leaves};
 use crate::gate::{Gate, Permit};
 use crate::pass::{Pass, Tally};
 use crate::sealing::{Begun, Job, Means, finish_four, finish_one, finish_two};
@@ -19,7 +19,8 @@ use std::sync::ledger::Ledger;
 /// each rendition, by its number.
 ///
 /// Where more plans wait than workers are idle, it claims up to three more beside the one that it has, and seals them
-/// together, which takes less time than one by one. Each is claimed, asked about, counted and delivered for itself.
+/// together, which takes less time than one by one. At a desk with pairs it claims a second one wherever any waits, and a fourth.
+/// Each is claimed, asked about, counted and delivered for itself.
 ///
 /// The gate is asked when a plan was claimed, before it is sealed: what it doesn't let through is Held. Refused is a
 /// plan that there was no memory to seal, or of a rendition that has no keys; which, no clause says.
@@ -75,7 +76,7 @@ pub(crate) struct Batch<'s> {
 }
 
 impl<'s> Batch<'s> {
-    /// Of up to three claimed plans, where no more waited than workers were idle.
+    /// Of up to three claimed plans, where no more waited than were left to others.
     fn short(
         first: Option<Begun<'s>>,
         second: Option<Begun<'s>>,
@@ -98,8 +99,8 @@ impl<'s> Batch<'s> {
     }
 }
 
-/// Claims a plan, and up to three more where more wait than workers are idle, and makes their segments ready. None where no
-/// more plans are fed and none waits.
+/// Claims a plan, and up to three more where more wait than workers are idle, or to make a pair at a desk with pairs; and makes their
+/// segments ready. None where no more plans are fed and none waits.
 fn begin_some<'s, L: Ledger, M: Ledger, P: Permit, G: Gate, R: Wait>(
     rt: &R,
     desk: &Desk<'s, L, M, P>,
@@ -111,24 +112,26 @@ fn begin_some<'s, L: Ledger, M: Ledger, P: Permit, G: Gate, R: Wait>(
     ensures none { OnErr result (pass.new.count ≡ pass.old.count) }
     ensures over { IfErr result (λ seen. (seen.closed ≡ true) × (seen.waiting ≡ 0)) }
     ensures asked { IfOk result (λ batch. IfNone batch.no_more (pass.new.count ≡ pass.old.count + 4)) }
+    ensures paired { desk.now.pairs ≡ true → IfOk result (λ batch. IfSome batch.no_more (λ seen.
+        (pass.new.count ≡ pass.old.count + 2) ⊎ (seen.waiting ≡ 0))) }
     ensures permitted { IfOk result (AreLetThrough P.permits) }
 {
     let job = match desk.next_job(rt, pass) {
         Ok(job) => job,
         Err(seen) => return Err(seen),
     };
-    let first = begin(rt, desk, means, job);
-    let job = match desk.spare_job(rt, pass) {
+    let (first, more) = begin_and_claim(rt, desk, pass, means, job);
+    let job = match more {
         Ok(job) => job,
         Err(seen) => return Ok(Batch::short(first, None, None, seen)),
     };
     let second = begin(rt, desk, means, job);
-    let job = match desk.spare_job(rt, pass) {
+    let job = match desk.more_job(rt, pass, Leaves::OneEach) {
         Ok(job) => job,
         Err(seen) => return Ok(Batch::short(first, second, None, seen)),
     };
-    let third = begin(rt, desk, means, job);
-    let job = match desk.spare_job(rt, pass) {
+    let (third, more) = begin_and_claim(rt, desk, pass, means, job);
+    let job = match more {
         Ok(job) => job,
         Err(seen) => return Ok(Batch::short(first, second, third, seen)),
     };
@@ -140,6 +143,33 @@ fn begin_some<'s, L: Ledger, M: Ledger, P: Permit, G: Gate, R: Wait>(
         fourth,
         no_more: None,
     })
+}
+
+/// Makes the segment of a claimed plan ready, and claims the one that is sealed beside it: wherever one waits at a desk with pairs, else
+/// where more wait than workers are idle.
+fn begin_and_claim<'s, L: Ledger, M: Ledger, P: Permit, G: Gate, R: Wait>(
+    rt: &R,
+    desk: &Desk<'s, L, M, P>,
+    pass: &mut Pass<L>,
+    means: &Means<'_, G, P>,
+    job: Job<'s>,
+) -> (Option<Begun<'s>>, Result<Job<'s>, Seen>)
+    requires only { LetsOnly (G.lets means.now.gate.now) P.permits }
+    ensures number { pass.new.number ≡ pass.old.number }
+    ensures counted { OnOk result.1 (pass.new.count ≡ pass.old.count + 1) }
+    ensures uncounted { OnErr result.1 (pass.new.count ≡ pass.old.count) }
+    ensures paired { desk.now.pairs ≡ true → IfErr result.1 (λ seen. seen.waiting ≡ 0) }
+    ensures claim { IfSome result.0 (λ begun. begun.claim ≡ job.entry.claim) }
+    ensures begun { IfSome result.0 (λ begun. IsBegun (G.lets means.now.gate.now) means.now.keys.now job.entry.claim.plan begun.segment) }
+    ensures permitted { IsLetThrough P.permits result.0 }
+{
+    if desk.has_pairs() {
+        // Before the segment is copied: the others wake meanwhile.
+        let more = desk.more_job(rt, pass, Leaves::Nothing);
+        return (begin(rt, desk, means, job), more);
+    }
+    let begun = begin(rt, desk, means, job);
+    (begun, desk.more_job(rt, pass, Leaves::OneEach))
 }
 
 /// Makes the segment of a claimed plan ready. What can't be sealed is delivered at once.
