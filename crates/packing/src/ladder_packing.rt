@@ -93,6 +93,7 @@ fn run_setup<'a, R, H>(setup: &LadderSetup<'a, R, H>, gate: &'a FreeGate) -> Set
     ensures settings { result.settings ≡ setup.now.settings }
     ensures workers { result.workers ≡ setup.now.pool.workers }
     ensures batch { result.batch ≡ unwrap_or setup.now.pool.batch setup.now.pool.queue }
+    ensures pairs { result.pairs ≡ setup.now.pairs }
 {
     Setup {
         rt: setup.rt,
@@ -101,7 +102,8 @@ fn run_setup<'a, R, H>(setup: &LadderSetup<'a, R, H>, gate: &'a FreeGate) -> Set
         workers: setup.pool.workers as usize,
         gate,
         batch: most_closed(setup.pool),
-        shelf: Shelf::new(setup.alloc, setup.pool.workers as usize),
+        pairs: setup.pairs,
+        shelf: Shelf::new(setup.alloc, most_closed(setup.pool)),
     }
 }
 

@@ -10,6 +10,8 @@ pub struct LadderSetup<'a, R, H> {
     pub settings: &'a Settings,
     /// How many threads seal, and how many segments wait for them.
     pub pool: Pool,
+    /// Whether two segments are sealed side by side in about the time of one, as with AVX2.
+    pub pairs: bool,
     /// It is told of a rendition's fault as soon as it stands.
     pub herald: &'a H,
 }

@@ -163,6 +163,7 @@ pub fn pack_ladder<
     rt: R,
     alloc: Global,
     channel: &Channel<'_>,
+    pairs: bool,
     output: &mut W,
     herald: &H,
 ) -> Result<LadderRun<Ahead<R, InputAt<R>>, FileFolder<R>>, Fault>
@@ -207,6 +208,7 @@ where
         alloc,
         settings: &job.options.settings,
         pool: job.options.pool,
+        pairs,
         herald,
     };
     if job.removes {

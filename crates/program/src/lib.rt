@@ -20,6 +20,7 @@ mod metrics_file;
 mod metrics_writer;
 mod obeying;
 mod pairs;
+mod processor;
 mod run_clock;
 mod streaming;
 mod telling;
@@ -30,6 +31,7 @@ mod watching;
 use crate::holding::hold;
 use crate::ladder::{LadderRun, begin_channel, pack_ladder};
 use crate::obeying::{Line, obey};
+pub use crate::processor::Processor;
 use crate::telling::{Teller, tell};
 pub use crate::told::each_has_a_place;
 use command_line::{Fault, LadderJob, line, version};
@@ -72,7 +74,8 @@ fn words_of(alloc: Global, args: io::Result<Args>) -> Result<Vec<String>, Fault>
     }
 }
 
-/// Packs a ladder, and tells how that ends. A fault that was told as it stood isn't told once more.
+/// Packs a ladder, with a worker that has a segment taking a second one wherever one waits or not, and tells how that ends. A fault that
+/// was told as it stood isn't told once more.
 fn pack<
     R: Threads
         + Wait
@@ -88,7 +91,14 @@ fn pack<
         + Drop
         + 'static,
     W: Write,
->(rt: R, host: &HostRuntime, words: &[String], job: LadderJob<'_>, output: &mut W) -> ExitCode
+>(
+    rt: R,
+    host: &HostRuntime,
+    words: &[String],
+    job: LadderJob<'_>,
+    pairs: bool,
+    output: &mut W,
+) -> ExitCode
 where
     R::Reader: Send + 'static,
     R::File: Send + 'static,
@@ -106,7 +116,7 @@ where
     let Ok(teller) = Teller::new(rt, *host, words, &channel.job.options.settings) else {
         return ended(host, words, Err(Fault::NoMemory));
     };
-    match pack_ladder(rt, host.alloc(), &channel, output, &teller) {
+    match pack_ladder(rt, host.alloc(), &channel, pairs, output, &teller) {
         Ok(
             LadderRun {
                 sources: _,
@@ -177,7 +187,7 @@ pub fn run<
         + Sync
         + Drop
         + 'static,
->(rt: R, host: HostRuntime, processor: &str) -> ExitCode
+>(rt: R, host: HostRuntime, processor: Processor) -> ExitCode
 where
     R::Reader: Send + 'static,
     R::File: Send + 'static,
@@ -187,13 +197,14 @@ where
         Ok(words) => words,
         Err(fault) => return ended(&host, &[], Err(fault)),
     };
-    let version = match version_of(host.alloc(), processor) {
+    let version = match version_of(host.alloc(), processor.level()) {
         Ok(version) => version,
         Err(fault) => return ended(&host, words.as_slice(), Err(fault)),
     };
     let asked = Line {
         words: words.as_slice(),
         job: line(host.alloc(), &host, words.as_slice(), version.as_str()),
+        pairs: processor.seals_pairs(),
     };
     obey(rt, &host, &host, asked, host.stdin(), host.stdout()).status
 }

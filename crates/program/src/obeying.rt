@@ -22,6 +22,8 @@ use std::time::Clock;
 pub struct Line<'a> {
     pub words: &'a [String],
     pub job: Result<Job<'a>, Fault>,
+    /// Whether two segments are sealed side by side in about the time of one.
+    pub pairs: bool,
 }
 
 /// What a line read from and wrote to, and the status that it ended with.
@@ -66,12 +68,12 @@ where
         } in
         LineEnds R (R.holds rt) files_are asked.entry.job passed (exit_status result.status) }
 {
-    let Line { words, job } = asked;
+    let Line { words, job, pairs } = asked;
     match job {
         Ok(Job::Stream(job)) => obey_stream(host, words, files, input, output, job),
         Ok(Job::Ladder(job)) => {
             let mut output = output;
-            let status = pack(rt, host, words, job, &mut output);
+            let status = pack(rt, host, words, job, pairs, &mut output);
             Obeyed {
                 source: ReaderSource::new(input),
                 output,

@@ -43,6 +43,7 @@ fn packed<R: Threads + Wait + Sync>(
             stall: None,
             ahead: None,
         },
+        pairs: false,
         herald: &Nobody,
     };
     let (publisher, _viewers) = opening_board(rt, alloc, 1, 1)?;

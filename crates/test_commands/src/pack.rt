@@ -38,6 +38,7 @@ fn packed<W: Write, R: Threads + Wait + Sync>(
             stall: None,
             ahead: None,
         },
+        pairs: true,
         herald: &Nobody,
     };
     let (publisher, _viewers) = opening_board(rt, alloc, 1, 1)?;

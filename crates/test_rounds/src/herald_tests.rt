@@ -101,6 +101,7 @@ fn run<R: Threads + Wait + Sync, H: Herald>(
         workers: 1,
         gate: &FreeGate,
         batch: 1,
+        pairs: false,
         shelf: Shelf::new(alloc, 1),
     };
     let endpoints = Endpoints {

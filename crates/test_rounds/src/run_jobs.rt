@@ -175,6 +175,7 @@ fn run<G: Gate + Sync, R: Threads + Wait + Sync>(
         workers: job.workers,
         gate,
         batch,
+        pairs: true,
         shelf: Shelf::new(alloc, job.workers),
     };
     pack_heralded(&setup, endpoints, &Nobody)

@@ -47,6 +47,7 @@ pub fn in_scope<
     requires planned { AreSpoolsPlanned P.plans spools.now }
     requires known { AreKnownByNumber P.plans }
     requires queue { desk.now.most ≡ setup.now.settings.now.queue }
+    requires paired { desk.now.pairs ≡ setup.now.pairs }
     requires each { length spools.now ≡ length setup.now.settings.now.renditions }
     requires on { IsSomeFull S.input O.output setup.now.settings.now spools.now between.broadcast }
     requires unused { crew.balance.taker.count ≡ 0 }

@@ -120,5 +120,6 @@ fn round_with<
         claims: counts,
     };
     let crew = Crew { workers, balance };
+    let desk = desk.with_pairs(setup.pairs);
     in_scope(setup, keys, spools, &desk, crew, between)
 }

@@ -1,6 +1,6 @@
 //! What a run is given: the setup that stays the same, and the endpoints that come back.
 
-ghost use Rattle.std.specs.Prelude.{◌≡◌, min};
+ghost use Rattle.std.specs.Prelude.{◌≡◌, false, min};
 ghost use Rattle.rounds.specs.Paces.{pace_in};
 
 use crate::run::pace::Pace;
@@ -26,12 +26,15 @@ pub struct Setup<'a, G, R> {
     /// fewer than there are workers, some workers are idle in most rounds; with more, workers wait less often for each other, and more
     /// segments are held at a time. What is given doesn't depend on it.
     pub batch: usize,
-    /// The buffers that segments are sealed in, one for each worker: those of a round are used again in the next.
+    /// Whether a worker takes a second segment wherever one waits, since two side by side take about the time of one, as with AVX2; or
+    /// only where more wait than workers are idle.
+    pub pairs: bool,
+    /// The buffers that segments are sealed in: those of a round are used again in the next. As many as are held at a time are enough.
     pub shelf: Shelf,
 }
 
 impl<'a, G, R> Setup<'a, G, R> {
-    /// A setup with a batch of one segment for each worker, or of as many as the queue holds where that is fewer.
+    /// A setup without pairs, with a batch of one segment for each worker, or of as many as the queue holds where that is fewer.
     pub fn new(
         rt: &'a R,
         alloc: Global,
@@ -43,6 +46,7 @@ impl<'a, G, R> Setup<'a, G, R> {
         ensures gate { result.gate.now ≡ gate.now }
         ensures workers { result.workers ≡ workers }
         ensures batch { result.batch ≡ min workers settings.now.queue }
+        ensures pairs { result.pairs ≡ false }
     {
         Setup {
             rt,
@@ -51,6 +55,7 @@ impl<'a, G, R> Setup<'a, G, R> {
             workers,
             gate,
             batch: workers.min(settings.queue as usize),
+            pairs: false,
             shelf: Shelf::new(alloc, workers),
         }
     }
