@@ -1,7 +1,7 @@
 //! Buffers that segments are sealed in again.
 
 ghost use Rattle.std.specs.Prelude.{◌≡◌, ◌+◌, ◌++◌, ◌<◌, ◌≤◌, ◌∷◌, [], ℕ, IfNone, IfSome, Decides, OnErr, OnOk, length, map};
-ghost use Rattle.std.specs.Prelude.{slice_index_or, vec_capacity, vec_len};
+ghost use Rattle.std.specs.Prelude.{slice_index_or, take, vec_capacity, vec_len};
 ghost use Rattle.work_desk.specs.Shelves.{IsBestAt, misfit};
 
 use std::alloc::{AllocError, Global};
@@ -36,6 +36,12 @@ impl Shelf {
     /// Keeps a buffer, if there is a place for it.
     pub fn put<R: Wait>(&self, rt: &R, buffer: Vec<u8>) {
         let _ = self.buffers.lock(rt).put(buffer);
+    }
+
+    /// Lets go of all buffers but so many: a round of fewer segments than the one before needs no more. So what a backlog took is given
+    /// back once the run has caught up.
+    pub fn keep<R: Wait>(&self, rt: &R, most: u128) {
+        self.buffers.lock(rt).keep(most);
     }
 }
 
@@ -83,6 +89,17 @@ impl Buffers {
         }
         self.all.push(buffer)?;
         Ok(())
+    }
+
+    /// Lets go of all but so many. There may be fewer.
+    fn keep(&mut self, most: u128)
+        ensures kept { self.new.all.items ≡ take most self.old.all.items }
+        ensures most { self.new.most ≡ self.old.most }
+    {
+        if (self.all.len() as u128) < most {
+            return;
+        }
+        self.all.truncate(most as usize);
     }
 }
 

@@ -13,6 +13,7 @@ use crate::round::crew::{Balance, Crew};
 use crate::round::scoped::in_scope;
 use crate::run::between::BetweenRounds;
 use crate::run::books::no_counts;
+use crate::run::complete::closed_of;
 use crate::run::herald::Herald;
 use crate::run::setup::Setup;
 use cutter::Spool;
@@ -26,7 +27,8 @@ use std::thread::Threads;
 use work_desk::{Desk, Gate, Opened, Permit};
 
 /// Runs a round: the workers seal the plans of the full spools, which are given in sequence, and meanwhile what is ready is read
-/// for the next round. The ends that were due have been given, and the herald was told how many segments are complete.
+/// for the next round. The ends that were due have been given, and the herald was told how many segments are complete. No more
+/// buffers stay on the shelf than the round has segments.
 pub fn run_round<
     'r,
     S: Source + Drop,
@@ -53,6 +55,7 @@ pub fn run_round<
     ensures held { IfErr result.1 (IsGatesWord (G.stops setup.now.gate.now)) }
     ensures let_through { ShowsLetThrough (G.lets setup.now.gate.now) between.entry.broadcast.held.publisher.list result.0.broadcast.held.publisher.list }
 {
+    setup.shelf.keep(setup.rt, closed_of(spools));
     let claims = Blank::new(setup.workers as u64);
     let takes = Blank::new(1);
     round_with::<S, O, G, Brand, Brand, Brand, R>(setup, keys, spools, claims, takes, between)

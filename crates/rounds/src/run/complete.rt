@@ -26,7 +26,7 @@ fn given_of(playlists: &[Playlists]) -> u128
 }
 
 /// How many plans these spools hold.
-fn closed_of(full: &[Spool]) -> u128
+pub fn closed_of(full: &[Spool]) -> u128
     ensures is { result ≡ sum_by (λ plans. length plans) full.now }
     ensures small { result < 2 ^ 127 }
 {
