@@ -1,20 +1,20 @@
 //! A desk: a queue under a lock.
 
-ghost use Rattle.std.specs.Prelude.{OnErr, ◌≡◌, ◌+◌, ◌<◌, ℕ, Some, IfOk, OnOk, IfErr, IfSome, IfNone, true, false, vec_len, slice_get};
+ghost use Rattle.std.specs.Prelude.{OnErr, ◌≡◌, ◌+◌, ◌<◌, ℕ, None, Some, IfOk, OnOk, IfErr, IfSome, IfNone, true, false, vec_len, slice_get};
 ghost use Rattle.cutter.specs.Lent.{lent};
 ghost use Rattle.flow_core.specs.Queues.{IsOwnOutcome, first_queue};
+ghost use Rattle.work_desk.specs.Batches.{IsPair, claims_in};
 ghost use Rattle.work_desk.specs.Permits.{IsPermitted, IsPlanned};
 ghost use Rattle.work_desk.specs.Waiting.{GivesBack};
-ghost use Rattle.work_desk.specs.declared.desk.Leaves.TheVariants.{Nothing};
 
 use crate::gate::Permit;
 use crate::pass::Pass;
 use crate::permitted::PermittedQueue;
-use crate::sealing::{Job, Worked};
+use crate::sealing::{Job, Jobs, Worked};
 use crate::shelf::Shelf;
 use crate::steps::{
-    Seen, claim, claim_more, close, deliver, feed, stop, take, take_awaited, taker_waits,
-    workers_wait,
+    Seen, claim, claim_beside, claim_more, close, deliver, feed, stop, take, take_awaited,
+    taker_waits, workers_wait,
 };
 use crate::waking::{Closed, wake_closed, wake_stopped};
 use cutter::PlanRef;
@@ -41,15 +41,6 @@ pub struct Desk<'s, L: Ledger, M: Ledger, P: Permit> {
     pairs: bool,
     /// The buffers that workers seal in.
     shelf: &'s Shelf,
-}
-
-/// What a worker that has a plan leaves waiting for others when it claims one more.
-#[derive(Clone, Copy, Debug, PartialEq, Eq)]
-pub(crate) enum Leaves {
-    /// Nothing, where two segments side by side take about the time of one.
-    Nothing,
-    /// A plan for each idle worker: four take longer than two.
-    OneEach,
 }
 
 /// A desk that was opened, and who may use it.
@@ -153,13 +144,6 @@ impl<'s, L: Ledger, M: Ledger, P: Permit> Desk<'s, L, M, P> {
         Desk { pairs, ..self }
     }
 
-    /// Whether a worker takes a second plan wherever one waits.
-    pub(crate) fn has_pairs(&self) -> bool
-        ensures { result ≡ self.now.pairs }
-    {
-        self.pairs
-    }
-
     /// The buffers that workers seal in.
     pub fn shelf(&self) -> &'s Shelf {
         self.shelf
@@ -183,38 +167,36 @@ impl<'s, L: Ledger, M: Ledger, P: Permit> Desk<'s, L, M, P> {
         ensures uncounted { IfNone result (pass.new.count ≡ pass.old.count) }
         ensures number { pass.new.number ≡ pass.old.number }
     {
-        self.next_claim(rt, pass).ok()
-    }
-
-    /// The same, as a job that a worker has to begin.
-    pub(crate) fn next_job<R: Wait>(&self, rt: &R, pass: &mut Pass<L>) -> Result<Job<'s>, Seen>
-        ensures worker { IfOk result (λ job. job.claim.worker ≡ pass.old.number) }
-        ensures counted { OnOk result (pass.new.count ≡ pass.old.count + 1) }
-        ensures uncounted { OnErr result (pass.new.count ≡ pass.old.count) }
-        ensures number { pass.new.number ≡ pass.old.number }
-        ensures over { IfErr result (λ seen. (seen.closed ≡ true) × (seen.waiting ≡ 0)) }
-    {
-        match self.next_claim(rt, pass) {
-            Ok(claim) => Ok(Job::of(claim)),
-            Err(seen) => Err(seen),
-        }
-    }
-
-    /// The same, with what was seen where there is none.
-    fn next_claim<R: Wait>(&self, rt: &R, pass: &mut Pass<L>) -> Result<Claim<'s>, Seen>
-        ensures worker { IfOk result (λ claim. claim.worker ≡ pass.old.number) }
-        ensures counted { OnOk result (pass.new.count ≡ pass.old.count + 1) }
-        ensures uncounted { OnErr result (pass.new.count ≡ pass.old.count) }
-        ensures number { pass.new.number ≡ pass.old.number }
-        ensures over { IfErr result (λ seen. (seen.closed ≡ true) × (seen.waiting ≡ 0)) }
-    {
-        if pass.count > 0 {
-            self.idle.fetch_add(1, Ordering::SeqCst);
-        }
+        self.begin_to_wait(pass);
         let locked = self.queue.lock(rt);
         let mut queue = self.fed.wait_while(rt, locked, |queue| workers_wait(queue));
         self.idle.fetch_sub(1, Ordering::SeqCst);
-        claim(&mut queue, pass)
+        claim(&mut queue, pass).ok()
+    }
+
+    /// The same, as a job that a worker has to begin; at a desk with pairs with the plan behind it, if one waits, under the same lock.
+    pub(crate) fn next_jobs<R: Wait>(&self, rt: &R, pass: &mut Pass<L>) -> Result<Jobs<'s>, Seen>
+        ensures worker { IfOk result (λ jobs. jobs.job.claim.worker ≡ pass.old.number) }
+        ensures counted { IfOk result (λ jobs. pass.new.count ≡ pass.old.count + 1 + claims_in jobs.beside) }
+        ensures uncounted { OnErr result (pass.new.count ≡ pass.old.count) }
+        ensures number { pass.new.number ≡ pass.old.number }
+        ensures over { IfErr result (λ seen. (seen.closed ≡ true) × (seen.waiting ≡ 0)) }
+        ensures paired { self.now.pairs ≡ true → IfOk result (λ jobs. IsPair pass.old.number jobs.beside) }
+        ensures alone { self.now.pairs ≡ false → IfOk result (λ jobs. jobs.beside ≡ None) }
+    {
+        self.begin_to_wait(pass);
+        let locked = self.queue.lock(rt);
+        let mut queue = self.fed.wait_while(rt, locked, |queue| workers_wait(queue));
+        self.idle.fetch_sub(1, Ordering::SeqCst);
+        let first = claim(&mut queue, pass)?;
+        Ok(Jobs::of(first, claim_beside(&mut queue, self.pairs, pass)))
+    }
+
+    /// A worker has no plan from now on. One that has made no claim yet was counted when the desk was opened.
+    fn begin_to_wait(&self, pass: &Pass<L>) {
+        if pass.count > 0 {
+            self.idle.fetch_add(1, Ordering::SeqCst);
+        }
     }
 
     /// Claims one more plan, the one that waits the longest, if more plans wait than workers are idle. It waits for the lock
@@ -225,48 +207,45 @@ impl<'s, L: Ledger, M: Ledger, P: Permit> Desk<'s, L, M, P> {
         ensures uncounted { IfNone result (pass.new.count ≡ pass.old.count) }
         ensures number { pass.new.number ≡ pass.old.number }
     {
-        self.more_claim(rt, pass, Leaves::OneEach).ok()
+        self.more_claim(rt, pass).ok()
     }
 
-    /// Claims one more plan, the one that waits the longest, if more wait than are left to others, as a job that a worker has to
-    /// begin. Waits for the lock alone.
-    pub(crate) fn more_job<R: Wait>(
-        &self,
-        rt: &R,
-        pass: &mut Pass<L>,
-        leaves: Leaves,
-    ) -> Result<Job<'s>, Seen>
+    /// The same, as a job that a worker has to begin.
+    pub(crate) fn more_job<R: Wait>(&self, rt: &R, pass: &mut Pass<L>) -> Result<Job<'s>, Seen>
         ensures worker { IfOk result (λ job. job.claim.worker ≡ pass.old.number) }
         ensures counted { OnOk result (pass.new.count ≡ pass.old.count + 1) }
         ensures uncounted { OnErr result (pass.new.count ≡ pass.old.count) }
         ensures number { pass.new.number ≡ pass.old.number }
-        ensures none { leaves ≡ Nothing → IfErr result (λ seen. seen.waiting ≡ 0) }
     {
-        match self.more_claim(rt, pass, leaves) {
+        match self.more_claim(rt, pass) {
             Ok(claim) => Ok(Job::of(claim)),
             Err(seen) => Err(seen),
         }
     }
 
-    /// The same, as a claim.
-    fn more_claim<R: Wait>(
-        &self,
-        rt: &R,
-        pass: &mut Pass<L>,
-        leaves: Leaves,
-    ) -> Result<Claim<'s>, Seen>
+    /// The same, with what was seen where there is none.
+    fn more_claim<R: Wait>(&self, rt: &R, pass: &mut Pass<L>) -> Result<Claim<'s>, Seen>
         ensures worker { IfOk result (λ claim. claim.worker ≡ pass.old.number) }
         ensures counted { OnOk result (pass.new.count ≡ pass.old.count + 1) }
         ensures uncounted { OnErr result (pass.new.count ≡ pass.old.count) }
         ensures number { pass.new.number ≡ pass.old.number }
-        ensures none { leaves ≡ Nothing → IfErr result (λ seen. seen.waiting ≡ 0) }
     {
         let mut queue = self.queue.lock(rt);
-        let left = match leaves {
-            Leaves::Nothing => 0,
-            Leaves::OneEach => self.idle.load(Ordering::SeqCst),
-        };
-        claim_more(&mut queue, left, pass)
+        claim_more(&mut queue, self.idle.load(Ordering::SeqCst), pass)
+    }
+
+    /// The same; at a desk with pairs with the plan behind it, if one waits, under the same lock.
+    pub(crate) fn more_jobs<R: Wait>(&self, rt: &R, pass: &mut Pass<L>) -> Result<Jobs<'s>, Seen>
+        ensures worker { IfOk result (λ jobs. jobs.job.claim.worker ≡ pass.old.number) }
+        ensures counted { IfOk result (λ jobs. pass.new.count ≡ pass.old.count + 1 + claims_in jobs.beside) }
+        ensures uncounted { OnErr result (pass.new.count ≡ pass.old.count) }
+        ensures number { pass.new.number ≡ pass.old.number }
+        ensures paired { self.now.pairs ≡ true → IfOk result (λ jobs. IsPair pass.old.number jobs.beside) }
+        ensures alone { self.now.pairs ≡ false → IfOk result (λ jobs. jobs.beside ≡ None) }
+    {
+        let mut queue = self.queue.lock(rt);
+        let first = claim_more(&mut queue, self.idle.load(Ordering::SeqCst), pass)?;
+        Ok(Jobs::of(first, claim_beside(&mut queue, self.pairs, pass)))
     }
 
     /// Something became of a claimed plan, which was sealed if it is a segment of its own. Where nobody has that claim at

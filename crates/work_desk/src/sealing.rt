@@ -1,6 +1,6 @@
 //! What becomes of the plans that a worker claimed.
 
-ghost use Rattle.std.specs.Prelude.{◌≡◌, IfOk, IfErr};
+ghost use Rattle.std.specs.Prelude.{◌≡◌, Err, IfErr, IfNone, IfOk, IfSome, IsOk, IsSome, None, OnOk, Some};
 ghost use Rattle.segment_job.specs.Segments.{sealed_from};
 ghost use Rattle.flow_core.specs.declared.outcome.Outcome.TheVariants.{Sealed as IsSealed};
 ghost use Rattle.flow_core.specs.Lists.{In};
@@ -12,7 +12,7 @@ ghost use Rattle.work_desk.specs.Works.{IsBegun, IsTurnedAway, outcome_of};
 use crate::gate::{Gate, Permit};
 use crate::permitted::PermittedQueue;
 use crate::shelf::Shelf;
-use crate::steps::deliver;
+use crate::steps::{Seen, deliver};
 use flow_core::{Claim, Outcome};
 use segment_job::{Keys, Sealed, Unsealed, seal_four, seal_two};
 use std::alloc::Global;
@@ -31,6 +31,35 @@ impl<'s> Job<'s> {
         ensures { result.claim ≡ claim.entry }
     {
         Job { claim }
+    }
+}
+
+/// A job that a worker has to begin and, at a desk with pairs, the one that it seals beside it.
+pub(crate) struct Jobs<'s> {
+    pub job: Job<'s>,
+    /// None at a desk without pairs. Where no more plans waited, what was seen there.
+    pub beside: Option<Result<Job<'s>, Seen>>,
+}
+
+impl<'s> Jobs<'s> {
+    /// The jobs of a claim, and of one beside it.
+    pub(crate) fn of(claim: Claim<'s>, beside: Option<Result<Claim<'s>, Seen>>) -> Jobs<'s>
+        ensures job { result.job.claim ≡ claim.entry }
+        ensures none { IfNone beside.entry (result.beside ≡ None) }
+        ensures some { IfSome beside.entry (λ it. IfOk it (λ claim. IfSome result.beside (λ made. IfOk made (λ job. job.claim ≡ claim)))) }
+        ensures seen { IfSome beside.entry (λ it. IfErr it (λ seen. result.beside ≡ Some (Err seen))) }
+        ensures ok { IfSome beside.entry (λ it. OnOk it (IfSome result.beside IsOk)) }
+        ensures there { IfSome beside.entry (λ _. IsSome result.beside) }
+    {
+        let beside = match beside {
+            Some(Ok(claim)) => Some(Ok(Job::of(claim))),
+            Some(Err(seen)) => Some(Err(seen)),
+            None => None,
+        };
+        Jobs {
+            job: Job::of(claim),
+            beside,
+        }
     }
 }
 

@@ -1,6 +1,6 @@
 //! What the calls of a desk do to its queue, under the lock.
 
-ghost use Rattle.std.specs.Prelude.{◌≡◌, ◌+◌, ◌<◌, ◌≤◌, ◌∷◌, [], IfOk, IfErr, OnOk, OnErr, true, length, Decides};
+ghost use Rattle.std.specs.Prelude.{◌≡◌, ◌+◌, ◌<◌, ◌≤◌, ◌∷◌, [], IfErr, IfOk, IfSome, IsSome, None, OnErr, OnOk, false, true, length, Decides};
 ghost use Rattle.cutter.specs.Lent.{lent};
 ghost use Rattle.flow_core.specs.Lists.{In};
 ghost use Rattle.flow_core.specs.Queues.{outstanding, IsOwnOutcome};
@@ -125,6 +125,28 @@ pub fn claim_more<'s, L: Ledger, M: Ledger, P: Permit>(
         return Err(look(queue));
     }
     claim(queue, pass)
+}
+
+/// Where claims are made in pairs, claims the plan behind one that was claimed, if any waits, or says what was seen.
+pub fn claim_beside<'s, L: Ledger, M: Ledger, P: Permit>(
+    queue: &mut PermittedQueue<'s, L, M, P>,
+    pairs: bool,
+    pass: &mut Pass<L>,
+) -> Option<Result<Claim<'s>, Seen>>
+    ensures some { IfSome result (λ beside. IfOk beside (λ claim. Claims queue.old claim queue.new)) }
+    ensures first { IfSome result (λ beside. IfOk beside (λ claim.
+        (claim.worker ≡ pass.old.number) × (queue.old.waiting ≡ claim.plan ∷ queue.new.waiting))) }
+    ensures none { IfSome result (λ beside. IfErr beside (λ seen. (queue.new ≡ queue.old) × (queue.old.waiting ≡ []) × (seen.waiting ≡ 0))) }
+    ensures counted { IfSome result (λ beside. OnOk beside (pass.new.count ≡ pass.old.count + 1)) }
+    ensures uncounted { IfSome result (λ beside. OnErr beside (pass.new.count ≡ pass.old.count)) }
+    ensures alone { pairs ≡ false → (result ≡ None) × (queue.new ≡ queue.old) × (pass.new.count ≡ pass.old.count) }
+    ensures paired { pairs ≡ true → IsSome result }
+    ensures number { pass.new.number ≡ pass.old.number }
+{
+    if !pairs {
+        return None;
+    }
+    Some(claim_more(queue, 0, pass))
 }
 
 /// Something became of a claimed plan. Nothing changes where nobody has that claim.

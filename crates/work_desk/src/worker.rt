@@ -5,10 +5,10 @@ ghost use Rattle.work_desk.specs.Batches.{AreLetThrough, IsLetThrough};
 ghost use Rattle.work_desk.specs.Permits.{LetsOnly};
 ghost use Rattle.work_desk.specs.Works.{IsBegun};
 
-use crate::desk::{Desk, Leaves};
+use crate::desk::Desk;
 use crate::gate::{Gate, Permit};
 use crate::pass::{Pass, Tally};
-use crate::sealing::{Begun, Job, Means, finish_four, finish_one, finish_two};
+use crate::sealing::{Begun, Job, Jobs, Means, finish_four, finish_one, finish_two};
 use crate::steps::Seen;
 use segment_job::Keys;
 use std::alloc::Global;
@@ -116,21 +116,21 @@ fn begin_some<'s, L: Ledger, M: Ledger, P: Permit, G: Gate, R: Wait>(
         (pass.new.count ≡ pass.old.count + 2) ⊎ (seen.waiting ≡ 0))) }
     ensures permitted { IfOk result (AreLetThrough P.permits) }
 {
-    let job = match desk.next_job(rt, pass) {
-        Ok(job) => job,
+    let jobs = match desk.next_jobs(rt, pass) {
+        Ok(jobs) => jobs,
         Err(seen) => return Err(seen),
     };
-    let (first, more) = begin_and_claim(rt, desk, pass, means, job);
+    let (first, more) = begin_and_claim(rt, desk, pass, means, jobs);
     let job = match more {
         Ok(job) => job,
         Err(seen) => return Ok(Batch::short(first, None, None, seen)),
     };
     let second = begin(rt, desk, means, job);
-    let job = match desk.more_job(rt, pass, Leaves::OneEach) {
-        Ok(job) => job,
+    let jobs = match desk.more_jobs(rt, pass) {
+        Ok(jobs) => jobs,
         Err(seen) => return Ok(Batch::short(first, second, None, seen)),
     };
-    let (third, more) = begin_and_claim(rt, desk, pass, means, job);
+    let (third, more) = begin_and_claim(rt, desk, pass, means, jobs);
     let job = match more {
         Ok(job) => job,
         Err(seen) => return Ok(Batch::short(first, second, third, seen)),
@@ -145,31 +145,30 @@ fn begin_some<'s, L: Ledger, M: Ledger, P: Permit, G: Gate, R: Wait>(
     })
 }
 
-/// Makes the segment of a claimed plan ready, and claims the one that is sealed beside it: wherever one waits at a desk with pairs, else
-/// where more wait than workers are idle.
+/// Makes the segment of a claimed plan ready, and answers the job that is sealed beside it: the one that was claimed with it at a desk
+/// with pairs, else one that is claimed now if more wait than workers are idle.
 fn begin_and_claim<'s, L: Ledger, M: Ledger, P: Permit, G: Gate, R: Wait>(
     rt: &R,
     desk: &Desk<'s, L, M, P>,
     pass: &mut Pass<L>,
     means: &Means<'_, G, P>,
-    job: Job<'s>,
+    jobs: Jobs<'s>,
 ) -> (Option<Begun<'s>>, Result<Job<'s>, Seen>)
     requires only { LetsOnly (G.lets means.now.gate.now) P.permits }
     ensures number { pass.new.number ≡ pass.old.number }
-    ensures counted { OnOk result.1 (pass.new.count ≡ pass.old.count + 1) }
+    ensures beside { IfSome jobs.entry.beside (λ beside. (result.1 ≡ beside) × (pass.new.count ≡ pass.old.count)) }
+    ensures counted { IfNone jobs.entry.beside (OnOk result.1 (pass.new.count ≡ pass.old.count + 1)) }
     ensures uncounted { OnErr result.1 (pass.new.count ≡ pass.old.count) }
-    ensures paired { desk.now.pairs ≡ true → IfErr result.1 (λ seen. seen.waiting ≡ 0) }
-    ensures claim { IfSome result.0 (λ begun. begun.claim ≡ job.entry.claim) }
-    ensures begun { IfSome result.0 (λ begun. IsBegun (G.lets means.now.gate.now) means.now.keys.now job.entry.claim.plan begun.segment) }
+    ensures claim { IfSome result.0 (λ begun. begun.claim ≡ jobs.entry.job.claim) }
+    ensures begun { IfSome result.0 (λ begun. IsBegun (G.lets means.now.gate.now) means.now.keys.now jobs.entry.job.claim.plan begun.segment) }
     ensures permitted { IsLetThrough P.permits result.0 }
 {
-    if desk.has_pairs() {
-        // Before the segment is copied: the others wake meanwhile.
-        let more = desk.more_job(rt, pass, Leaves::Nothing);
-        return (begin(rt, desk, means, job), more);
-    }
+    let Jobs { job, beside } = jobs;
     let begun = begin(rt, desk, means, job);
-    (begun, desk.more_job(rt, pass, Leaves::OneEach))
+    match beside {
+        Some(beside) => (begun, beside),
+        None => (begun, desk.more_job(rt, pass)),
+    }
 }
 
 /// Makes the segment of a claimed plan ready. What can't be sealed is delivered at once.

@@ -27,7 +27,8 @@ pub struct Setup<'a, G, R> {
     /// segments are held at a time. What is given doesn't depend on it.
     pub batch: usize,
     /// Whether a worker takes a second segment wherever one waits, since two side by side take about the time of one, as with AVX2; or
-    /// only where more wait than workers are idle.
+    /// only where more wait than workers are idle. With pairs, the gate mustn't hold one segment until it was asked about another, as one
+    /// worker may have both.
     pub pairs: bool,
     /// The buffers that segments are sealed in: those of a round are used again in the next. As many as are held at a time are enough.
     pub shelf: Shelf,
