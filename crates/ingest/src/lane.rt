@@ -101,14 +101,13 @@ impl Lane {
         ensures ended { OnOk result (self.new.stop ≢ None → self.new.intake.ended ≡ true) }
         ensures unleft { S.input.is_left source.new ≡ false }
     {
-        match source.read(buffer) {
+        match source.lend(buffer) {
             Err(_) => {
                 self.intake.end();
                 self.stop = Some(Stop::Read);
             }
-            Ok(0) => self.close()?,
-            Ok(count) => {
-                let piece = &buffer[..count];
+            Ok(piece) if piece.is_empty() => self.close()?,
+            Ok(piece) => {
                 pieces_are_bytes(piece);
                 self.feed(piece)?;
             }

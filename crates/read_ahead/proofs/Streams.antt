@@ -1,5 +1,5 @@
 -- Bytes that are left, where they are known, and what was taken of them.
-use Rattle.std.proofs.Common.{◌≡◌, ◌+◌, ◌≤◌, ◌<◌, ◌++◌, [], ℕ, List, length, take, drop, Option, None, Some, arith, sym, ap, ◌∙◌, append_assoc, append-nil, refl, ap₂, IfSome}
+use Rattle.std.proofs.Common.{◌≡◌, ◌+◌, ◌-◌, ◌≤◌, ◌<◌, ◌++◌, [], ℕ, List, length, take, drop, Option, None, Some, arith, sym, ap, ◌∙◌, append_assoc, append-nil, refl, ap₂, subst, IfSome}
 use Rattle.std.proofs.lemmas.List.{take-append-drop, drop-drop, length-take-le}
 use Rattle.std.proofs.Math.Seq.{take-append_seam, drop-append_seam}
 use Rattle.std.specs.Io.KnownBytes.{Consumes, IsAtEnd, Keeps, prepend_known}
@@ -60,6 +60,12 @@ gives n at block (Some ys) =
     ap (λ (l : List ℕ). l ++ ys) (sym (take-append-drop n (drop at block)))
     ∙ append_assoc (take n (drop at block)) (drop n (drop at block)) ys
     ∙ ap (λ (l : List ℕ). take n (drop at block) ++ (l ++ ys)) (drop-drop n at block)
+
+-- which then are the last that it has passed
+pub passes : (n at : ℕ) (block : List ℕ) (rest : Option (List ℕ)) → Consumes (prepend_known (drop at block) rest) (prepend_known (drop (at + n) block) rest) (take n (drop (at + n - n) block))
+passes n at block rest =
+    let back : at ≡ at + n - n = omega arith in
+    subst (λ (k : ℕ). Consumes (prepend_known (drop at block) rest) (prepend_known (drop (at + n) block) rest) (take n (drop k block))) back (gives n at block rest)
 
 pub prepend_nil : (rest : Option (List ℕ)) → prepend_known [] rest ≡ rest
 prepend_nil None = refl

@@ -1,5 +1,5 @@
 -- Sources that read ahead.
-use Rattle.std.specs.Prelude.{◌≡◌, ◌≢◌, ◌⊎◌, ℕ, zero, suc, ◌+◌, ◌-◌, ◌<◌, ◌≤◌, Bool, true, false, ◌&&◌, List, [], ◌∷◌, ◌++◌, length, drop, max, Option, Some, None, slice_index_or}
+use Rattle.std.specs.Prelude.{◌≡◌, ◌≢◌, ◌⊎◌, ℕ, zero, suc, ◌+◌, ◌-◌, ◌<◌, ◌≤◌, Bool, true, false, ◌&&◌, List, [], ◌∷◌, ◌++◌, length, take, drop, max, if◌then◌else◌, Option, Some, None, slice_index_or}
 use Rattle.std.specs.Time.{instant_nanos}
 use Rattle.std.specs.declared.time.Duration.{Duration}
 use Rattle.std.specs.declared.time.Instant.{Instant}
@@ -14,6 +14,7 @@ use Rattle.read_ahead.specs.declared.backlogs.Backlogs.{Backlogs}
 use Rattle.read_ahead.specs.declared.view.InputsView.{InputsView}
 use Rattle.read_ahead.specs.declared.incoming.Incoming.{Incoming}
 use Rattle.read_ahead.specs.declared.incoming.Phase.{Phase}
+use Rattle.read_ahead.specs.declared.incoming.Piece.{Piece}
 use Rattle.read_ahead.specs.declared.incoming.Phase.TheVariants.{Opening, Going, Ended, Failed}
 use Rattle.read_ahead.specs.declared.message.Message.{Message}
 use Rattle.read_ahead.specs.declared.message.Message.TheVariants as Told
@@ -21,6 +22,14 @@ use Rattle.read_ahead.specs.declared.message.Message.TheVariants as Told
 -- the bytes that weren't given yet, where the input tells them: those of the front block, and those that weren't told
 abbrev pub rest_of : {I : Type 0} → (I → Option (List ℕ)) → Incoming I → Option (List ℕ)
 rest_of holds i = prepend_known (drop i.at i.front.items) (untold holds (received i.consumer))
+
+-- the bytes of the front block that were passed last, so many of them
+abbrev pub passed_of : {I : Type 0} → ℕ → Incoming I → List ℕ
+passed_of count i = take count (drop (i.at - count) i.front.items)
+
+-- the bytes that a read gave: those that the front block has passed, where they are lent, or those at the buffer's front
+abbrev pub bytes_of_piece : {I : Type 0} → Piece → Incoming I → List ℕ → List ℕ
+bytes_of_piece piece i buffer = if piece.is_lent then passed_of piece.given.count i else take piece.given.count buffer
 
 -- the input was asked for; while it's being opened nothing else was told, and its end was told only where no byte is left
 pub record IsSound {I : Type 0} (holds : I → Option (List ℕ)) (i : Incoming I) : Type 0 where

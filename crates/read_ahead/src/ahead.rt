@@ -1,4 +1,4 @@
-ghost use Rattle.std.specs.Prelude.{◌≡◌, ◌<◌, Decides, IfOk, false, length, true};
+ghost use Rattle.std.specs.Prelude.{◌≡◌, ◌+◌, ◌<◌, ◌^◌, Decides, IfOk, false, length, true};
 ghost use Rattle.std.specs.Arc.{arc_value};
 ghost use Rattle.read_ahead.specs.Sources.{IsSound, MayBegin, ahead_input, inputs_of, seen_first};
 
@@ -111,16 +111,31 @@ impl<R: Wait + Clock + Copy, I: Contents> Source for Ahead<R, I> {
         self.is_left = false;
         match self.incoming.read(&self.rt, buffer) {
             Ok(given) => {
-                if given.count() > 0 {
-                    self.reads += 1;
-                }
+                count_read(&mut self.reads, given.count());
                 Ok(given.count())
             }
             Err(fault) => {
-                self.failures += 1;
+                count_failure(&mut self.failures);
                 Err(fault)
             }
         }
+    }
+
+    fn lend<'a>(&'a mut self, buffer: &'a mut [u8]) -> Result<&'a [u8], ReadFault> {
+        self.is_left = false;
+        let piece = match self.incoming.lend(&self.rt, buffer) {
+            Ok(piece) => piece,
+            Err(fault) => {
+                count_failure(&mut self.failures);
+                return Err(fault);
+            }
+        };
+        let count = piece.given.count();
+        count_read(&mut self.reads, count);
+        if !piece.is_lent {
+            return Ok(&buffer[..count]);
+        }
+        Ok(self.incoming.passed(count))
     }
 
     /// What the input still gives is thrown away, so that its writer isn't held up. A read behind this fails, once the bytes of
@@ -165,4 +180,23 @@ impl<R: Wait + Drop, I: Contents> Drop for Ahead<R, I> {
         } = self;
         unclosed.close(incoming.backlogs.leave(&rt, incoming.number));
     }
+}
+
+/// Counts a read that gave so many bytes, if they are some.
+fn count_read(reads: &mut u64, count: usize)
+    requires { reads.old < 2 ^ 63 }
+    ensures some { 0 < count → reads.new ≡ reads.old + 1 }
+    ensures none { count ≡ 0 → reads.new ≡ reads.old }
+{
+    if count > 0 {
+        *reads += 1;
+    }
+}
+
+/// Counts a read that failed.
+fn count_failure(failures: &mut u64)
+    requires { failures.old < 2 ^ 63 }
+    ensures { failures.new ≡ failures.old + 1 }
+{
+    *failures += 1;
 }

@@ -1,11 +1,11 @@
 //! What comes of an input: the bytes that its thread told, in the order in which it told them.
 ghost use Rattle.std.specs.Prelude.{◌≡◌, ◌≢◌, ◌+◌, ◌-◌, ◌^◌, ◌≤◌, ◌<◌, [], ◌∷◌, ◌++◌, ◌⊎◌, ◌&&◌, if◌then◌else◌, true, false};
-ghost use Rattle.std.specs.Prelude.{length, take, drop, min, Some, None, IfErr, IfOk, IsOk, OnErr};
+ghost use Rattle.std.specs.Prelude.{length, take, drop, min, Some, None, IfErr, IfNone, IfOk, IfSome, IsOk, IsSome, OnErr};
 ghost use Rattle.std.specs.Arc.{arc_value};
 ghost use Rattle.std.specs.Io.KnownBytes.{Consumes, IsAtEnd, Keeps};
 ghost use Rattle.rtrb.specs.Ring.{known_items, received};
 ghost use Rattle.read_ahead.specs.Messages.{MayFollow};
-ghost use Rattle.read_ahead.specs.Sources.{IsDry, IsSound, LiesReady, StandsBy, StandsByLast, TakesNext, Waits, going_by, opened_by, rest_of};
+ghost use Rattle.read_ahead.specs.Sources.{IsDry, IsSound, LiesReady, StandsBy, StandsByLast, TakesNext, Waits, bytes_of_piece, going_by, opened_by, passed_of, rest_of};
 ghost use Rattle.read_ahead.specs.declared.incoming.Phase.TheVariants.{Opening, Going, Ended, Failed};
 
 use crate::backlogs::Backlogs;
@@ -45,6 +45,13 @@ pub struct Incoming<I: Contents> {
     /// Whether its opening may wait for a writer.
     pub may_wait: bool,
     pub phase: Phase,
+}
+
+/// What a read gave: bytes of the front block, which has passed them, where they are lent, and else bytes at a buffer's front.
+#[derive(Drop)]
+pub struct Piece {
+    pub given: Given,
+    pub is_lent: bool,
 }
 
 impl<I: Contents> Incoming<I> {
@@ -309,10 +316,100 @@ impl<I: Contents> Incoming<I> {
         ensures patient { (arc_value self.old.backlogs).stall ≡ None → self.new.phase ≡ Failed →
             (self.old.phase ≡ Failed) ⊎ (length (received self.old.consumer) < length (received self.new.consumer)) }
     {
-        self.go_on(rt);
-        let share = self.backlogs.share(rt, self.number);
+        let share = self.next_share(rt);
         let count = self.give_share(rt, share, buffer)?;
         Ok(self.backlogs.give(rt, self.number, count))
+    }
+
+    /// Waits and gives as `read` does, but where the front block has all that is given, it is lent: nothing is copied, and the block
+    /// stays as long as no more is read.
+    pub fn lend<R: Wait + Clock>(&mut self, rt: &R, buffer: &mut [u8]) -> Result<Piece, ReadFault>
+        requires { IsSound I.holds self.old }
+        ensures sound { IsSound I.holds self.new }
+        ensures number { self.new.number ≡ self.old.number }
+        ensures backlogs { self.new.backlogs ≡ self.old.backlogs }
+        ensures of { IfOk result (λ piece. piece.given.number ≡ self.old.number) }
+        ensures within { IfOk result (λ piece. piece.given.count ≤ length buffer.new) }
+        ensures passed { IfOk result (λ piece. piece.is_lent ≡ true → piece.given.count ≤ self.new.at) }
+        ensures gave { IfOk result (λ piece. Consumes (rest_of I.holds self.old) (rest_of I.holds self.new) (bytes_of_piece piece self.new buffer.new)) }
+        ensures end { IfOk result (λ piece. piece.given.count ≡ 0 → 0 < length buffer.new → IsAtEnd (rest_of I.holds self.new)) }
+        ensures kept { OnErr result (Keeps (rest_of I.holds self.old) (rest_of I.holds self.new)) }
+        ensures failed { OnErr result (self.new.phase ≡ Failed) }
+        ensures drained { OnErr result (self.new.at ≡ length self.new.front.items) }
+        ensures ended { self.old.phase ≡ Ended → IsOk result }
+        ensures patient { (arc_value self.old.backlogs).stall ≡ None → self.new.phase ≡ Failed →
+            (self.old.phase ≡ Failed) ⊎ (length (received self.old.consumer) < length (received self.new.consumer)) }
+    {
+        let share = self.next_share(rt);
+        if let Some(passed) = self.pass_share(&share, buffer.len()) {
+            return Ok(Piece {
+                given: self.backlogs.give(rt, self.number, passed),
+                is_lent: true,
+            });
+        }
+        let copied = self.give_share(rt, share, buffer)?;
+        Ok(Piece {
+            given: self.backlogs.give(rt, self.number, copied),
+            is_lent: false,
+        })
+    }
+
+    /// Waits until a byte can be given, or none comes any more, and tells how many may be given.
+    fn next_share<R: Wait + Clock>(&mut self, rt: &R) -> Share
+        requires { IsSound I.holds self.old }
+        ensures of { result.number ≡ self.old.number }
+        ensures bytes { 0 < result.bytes }
+        ensures sound { IsSound I.holds self.new }
+        ensures number { self.new.number ≡ self.old.number }
+        ensures backlogs { self.new.backlogs ≡ self.old.backlogs }
+        ensures same { rest_of I.holds self.new ≡ rest_of I.holds self.old }
+        ensures some { (self.new.at < length self.new.front.items) ⊎ (self.new.phase ≢ Going) }
+        ensures phase { self.new.phase ≢ Opening }
+        ensures ended { self.old.phase ≡ Ended → self.new.phase ≡ Ended }
+        ensures patient { (arc_value self.old.backlogs).stall ≡ None → self.new.phase ≡ Failed →
+            (self.old.phase ≡ Failed) ⊎ (length (received self.old.consumer) < length (received self.new.consumer)) }
+        ensures grows { length (received self.old.consumer) ≤ length (received self.new.consumer) }
+    {
+        self.go_on(rt);
+        self.backlogs.share(rt, self.number)
+    }
+
+    /// Passes as many bytes of the front block as the share and a room for so many allow, where it has them all, and answers how
+    /// many; else none.
+    fn pass_share(&mut self, share: &Share, room: usize) -> Option<usize>
+        requires of { share.now.number ≡ self.old.number }
+        requires bytes { 0 < share.now.bytes }
+        requires sound { IsSound I.holds self.old }
+        requires phase { self.old.phase ≢ Opening }
+        ensures sound { IsSound I.holds self.new }
+        ensures number { self.new.number ≡ self.old.number }
+        ensures backlogs { self.new.backlogs ≡ self.old.backlogs }
+        ensures phase { self.new.phase ≡ self.old.phase }
+        ensures told { received self.new.consumer ≡ received self.old.consumer }
+        ensures most { IfSome result (λ count. count ≡ min share.now.bytes room) }
+        ensures passed { IfSome result (λ count. count ≤ self.new.at) }
+        ensures gave { IfSome result (λ count. Consumes (rest_of I.holds self.old) (rest_of I.holds self.new) (passed_of count self.new)) }
+        ensures some { self.old.at < length self.old.front.items → min share.now.bytes room ≤ length self.old.front.items - self.old.at → IsSome result }
+        ensures none { IfNone result (self.new ≡ self.old) }
+    {
+        let most = share.bytes().min(room);
+        let ready = self.front.len() - self.at;
+        if ready == 0 || ready < most {
+            return None;
+        }
+        self.at += most;
+        Some(most)
+    }
+
+    /// The bytes of the front block that were passed last, so many of them.
+    pub fn passed(&self, count: usize) -> &[u8]
+        requires sound { IsSound I.holds self.now }
+        requires behind { count ≤ self.now.at }
+        ensures value { result.now ≡ passed_of count self.now }
+        ensures many { length result.now ≡ count }
+    {
+        let (_, rest) = self.front.split_at(self.at - count);
+        &rest[..count]
     }
 
     /// Fills a buffer as far as bytes lie ready, but not with more than the share, and answers how many they are; where none do, the

@@ -1,4 +1,4 @@
-ghost use Rattle.std.specs.Prelude.{◌≡◌, All, IfOk, IfSome};
+ghost use Rattle.std.specs.Prelude.{◌≡◌, ◌+◌, ◌<◌, ◌≤◌, ◌^◌, All, IfOk, IfSome};
 
 use item_io::Source;
 use read_ahead::{Ahead, Contents, Limits, OpenInput, open_all};
@@ -220,6 +220,51 @@ pub fn drain<S: Source>(alloc: Global, source: &mut S, size: usize) -> Result<Gi
         }
     }
     Ok(given)
+}
+
+/// Takes what a source lends to its end, so many bytes at a time at most, and counts as `drain` does.
+pub fn drain_lent<S: Source>(
+    alloc: Global,
+    source: &mut S,
+    size: usize,
+) -> Result<Given, AllocError>
+    requires reads { S.input.reads source.old ≡ 0 }
+    requires failures { S.input.failures source.old ≡ 0 }
+{
+    let mut buffer = vec![in alloc; 0; size]?;
+    let mut given = Given {
+        count: 0,
+        wrong: 0,
+        failed: false,
+    };
+    for _ in 0..1_000_000u64 {
+        match lent_by(source, &mut buffer, given.count) {
+            Some((0, _)) => break,
+            Some((count, wrong)) => {
+                given.wrong = given.wrong.saturating_add(wrong);
+                given.count = given.count.saturating_add(count);
+                continue;
+            }
+            None => {
+                given.failed = true;
+                break;
+            }
+        }
+    }
+    Ok(given)
+}
+
+/// How many bytes a source lends at once, and how many of them aren't those of the pattern from `at` on. None where it fails.
+pub fn lent_by<S: Source>(source: &mut S, buffer: &mut [u8], at: usize) -> Option<(usize, usize)>
+    requires reads { S.input.reads source.old < 2 ^ 63 }
+    requires failures { S.input.failures source.old < 2 ^ 63 }
+    ensures reads { S.input.reads source.new ≤ S.input.reads source.old + 1 }
+    ensures failures { S.input.failures source.new ≤ S.input.failures source.old + 1 }
+{
+    match source.lend(buffer) {
+        Ok(piece) => Some((piece.len(), differing(piece, at))),
+        Err(_) => None,
+    }
 }
 
 /// How many bytes aren't those of the pattern from `at` on.
