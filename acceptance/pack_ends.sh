@@ -176,7 +176,7 @@ throws_away_without_memory() {
     rm -rf "$work/ladder" "$work/scarce.fifo" "$work/other.fifo" "$work/was_refused" && mkdir "$work/ladder" && mkfifo "$work/scarce.fifo" "$work/other.fifo" || return
     exec 8<>"$work/scarce.fifo"
     head -c 65536 /dev/zero >&8
-    LARGE=65536 MARK=$work/was_refused LD_PRELOAD=$work/refuse_memory.so timeout 60 "$program" pack --out "$work/ladder" \
+    LARGE=56400 MARK=$work/was_refused LD_PRELOAD=$work/refuse_memory.so timeout 60 "$program" pack --out "$work/ladder" \
         "w:c:1x1:$key:$work/scarce.fifo" "$ladder_of_one:$work/other.fifo" >"$work/out" 2>"$work/err" 8>&- &
     packing=$!
     for ((tries = 0; tries < 100; tries++)); do

@@ -1,6 +1,7 @@
 -- Fair turns: sources that are read in turn and are behind by very different numbers of bytes catch up together.
 use Rattle.std.specs.Prelude.{ℕ, ◌+◌, ◌-◌, ◌*◌, ◌/◌, ◌^◌, List, [], ◌∷◌, Option, None, Some, min, max, nat_lt, nat_le, ◌==◌, ◌&&◌, ◌||◌, not, Bool, true, if◌then◌else◌, slice_index_or}
 use Rattle.read_ahead.specs.declared.backlog.Backlog.{Backlog}
+use Rattle.ts_packet.specs.declared.lengths.TheConstants.{PACKET}
 use Rattle.item_io.specs.declared.limits.TheConstants.{PIECE}
 use Rattle.read_ahead.specs.declared.limits.TheConstants.{BLOCK, ROOM}
 
@@ -17,9 +18,9 @@ abbrev pub turns : List Backlog → ℕ
 turns [] = 1
 turns (backlog ∷ backlogs) = max (if backlog.left then 1 else parts backlog.bytes PIECE) (turns backlogs)
 
--- how many of its bytes a source gives in one of so many turns, 1 at least
+-- how many of its bytes a source gives in one of so many turns: whole packets, one at least
 abbrev pub share : ℕ → ℕ → ℕ
-share bytes turns = max 1 (parts bytes turns)
+share bytes turns = min (max 1 (parts (parts bytes turns) PACKET) * PACKET) (2 ^ 64 - 1)
 
 -- a block has to wait: some bytes lie ready, and with it they would be more than the room, or there are too many blocks
 abbrev pub is_full : ℕ → ℕ → ℕ → Backlog → Bool

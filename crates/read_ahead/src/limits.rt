@@ -1,8 +1,9 @@
 //! How much is read ahead at the most, and how long an input is waited for.
 ghost use Rattle.std.specs.Prelude.{◌≡◌, ◌+◌, ◌*◌, ◌^◌};
 ghost use Rattle.read_ahead.specs.Shares.{room_for};
-ghost use Rattle.read_ahead.specs.declared.limits.TheConstants.{BLOCK, BLOCKS, LEAST_WAIT, MOMENT, ROOM, SLOTS, WASTE};
+ghost use Rattle.read_ahead.specs.declared.limits.TheConstants.{BLOCK, BLOCKS, LEAST_WAIT, MOMENT, READ, ROOM, SLOTS, WASTE};
 
+use item_io::PIECE;
 use std::time::Duration;
 
 /// The most bytes of an input that lie ready where no other bound is asked for, but for a block that was put where none did.
@@ -14,7 +15,10 @@ pub const BLOCKS: usize = 32 << 10;
 /// The most messages of an input that lie ready: its blocks, that it's open, and its end.
 pub const SLOTS: usize = BLOCKS + 8;
 
-/// The most bytes that an input is asked for at once.
+/// The most bytes that an input is asked for at once: three pieces, which a source can give without joining blocks.
+pub const READ: usize = 3 * PIECE;
+
+/// The least room of an input. A block needs no more.
 pub const BLOCK: usize = 64 << 10;
 
 /// The most bytes that an input is asked for at once where they are thrown away.
@@ -29,6 +33,7 @@ pub const LEAST_WAIT: u64 = 1;
 /// What the bounds are.
 pub fn bounds_are_these()
     ensures room { ROOM ≡ 32 * 2 ^ 20 }
+    ensures read { READ ≡ 56_400 }
     ensures block { BLOCK ≡ 2 ^ 16 }
     ensures blocks { BLOCKS ≡ 2 ^ 15 }
     ensures slots { SLOTS ≡ 2 ^ 15 + 8 }

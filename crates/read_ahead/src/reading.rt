@@ -7,7 +7,7 @@ ghost use Rattle.read_ahead.specs.declared.message.Message.TheVariants.{End, Fai
 ghost use Rattle.read_ahead.specs.declared.reading.ReadingEnd.TheVariants.{AtEnd, Left, NoMemory};
 
 use crate::input::Input;
-use crate::limits::BLOCK;
+use crate::limits::READ;
 use crate::message::Message;
 use crate::opening::open;
 use crate::sender::Sender;
@@ -70,7 +70,7 @@ fn read_ahead<R: Wait + Clock, I: Input>(
     ensures was_left { result ≡ Ok Left → sender.new.is_left ≡ true }
     ensures left { result ≡ Ok Left → LeavesOut I.holds (sent sender.new.producer) (I.Reader.remaining reader.new) }
 {
-    let Ok(mut buffer) = vec![in alloc; 0; BLOCK] else {
+    let Ok(mut buffer) = vec![in alloc; 0; READ] else {
         tell_failure(rt, sender);
         return Ok(ReadingEnd::NoMemory);
     };

@@ -4,6 +4,7 @@ ghost use Rattle.read_ahead.specs.Shares.{parts, share, turns};
 
 use crate::backlog::Backlog;
 use item_io::PIECE;
+use ts_packet::PACKET;
 
 /// So many things in parts of this size: how many parts.
 pub fn parts_of(count: usize, size: usize) -> usize
@@ -28,10 +29,13 @@ pub fn turns_of(backlogs: &[Backlog]) -> usize
     most
 }
 
-/// How many of so many bytes a source gives in one of so many turns.
+/// How many of so many bytes a source gives in one of so many turns: whole packets, so that a stream which begins with one is given
+/// from packet to packet.
 pub fn share_of(bytes: usize, turns: usize) -> usize
     requires { 0 < turns }
-    ensures { result ≡ share bytes turns }
+    ensures is { result ≡ share bytes turns }
+    ensures some { 0 < result }
 {
-    parts_of(bytes, turns).max(1)
+    let packets = parts_of(parts_of(bytes, turns), PACKET).max(1);
+    packets.saturating_mul(PACKET)
 }

@@ -35,7 +35,7 @@ impl<R: Wait> Read for Counting<R> {
     }
 }
 
-/// How many MiB may be read ahead, of how many inputs, and how many bytes that leaves to each, which reads 65,536 at once.
+/// How many MiB may be read ahead, of how many inputs, and how many bytes that leaves to each, which reads 56,400 at once.
 const ROOMS: [(u64, usize, usize); 3] = [(1, 1, 1 << 20), (2, 4, 512 << 10), (1, 64, 64 << 10)];
 
 #[test]
@@ -58,7 +58,7 @@ fn what_is_read_ahead_is_bounded(rt: HostRuntime) -> Result<(), Fail> {
         };
         if let Ok(_sources) = open_all(rt, rt.alloc(), inputs, limits) {
             thread::sleep(&rt, Duration::from_millis(300));
-            let most = count.saturating_mul(room.saturating_add(64 << 10));
+            let most = count.saturating_mul(room.saturating_add(56_400));
             let bytes = *given.lock(&rt);
             assert_same(
                 &rt,
@@ -121,10 +121,10 @@ fn ready_now<R: Wait + Clock>(
     Ok(view.look(rt, alloc)?.first().map(|state| state.bytes))
 }
 
-/// Blocks of so many bytes, and how many of these lie ready: as many as there is room for in 1 MiB, and 32,768 blocks at most.
+/// Reads that give so many bytes, of which a block has 56,400 at most, and how many of these lie ready: as many as there is room for in 1 MiB, and 32,768 blocks at most.
 const BLOCKS: [(usize, usize); 4] = [
-    (65_536, 1 << 20),
-    (61_681, 16 * 61_681),
+    (65_536, 18 * 56_400),
+    (52_428, 20 * 52_428),
     (33, 31_775 * 33),
     (1, 32_768),
 ];

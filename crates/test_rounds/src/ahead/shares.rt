@@ -1,6 +1,6 @@
 ghost use Rattle.std.specs.Prelude.{◌≡◌, ◌+◌, ◌<◌, ◌≤◌, ◌^◌, IfOk, IfSome};
 
-use crate::ahead::fixtures::{Event, Held, pattern_of, sources_of};
+use crate::ahead::fixtures::{Event, Held, lent_by, pattern_of, sources_of};
 use crate::asserts::assert_same;
 use item_io::{PIECE, Source};
 use read_ahead::{Ahead, OpenInput};
@@ -84,8 +84,8 @@ fn given_in_turns<S: Source>(
 const BACKLOGS: [([usize; 2], [usize; 2], u32); 7] = [
     ([10, 20], [10, 20], 1),
     ([18_800, 188], [18_800, 188], 1),
-    ([18_801, 100], [9401, 100], 2),
-    ([1_880_000, 18_800], [18_800, 190], 100),
+    ([18_801, 100], [9588, 100], 2),
+    ([1_880_000, 18_800], [18_800, 376], 100),
     ([18_800, 1_880_000], [188, 18_800], 100),
     ([1_880_000, 0], [18_800, 0], 100),
     ([0, 60], [0, 60], 1),
@@ -107,7 +107,7 @@ fn backlogs_shrink_together(rt: HostRuntime) -> Result<(), Fail> {
 #[test]
 fn one_that_is_read_no_more_holds_up_none(rt: HostRuntime) -> Result<(), Fail> {
     let mut buffer = vec![in rt.alloc(); 0; PIECE]?;
-    for (is_left, share) in [(false, 10), (true, 1000)] {
+    for (is_left, share) in [(false, 188), (true, 1000)] {
         let mut told = None;
         if let Some((mut one, mut other)) = ready(rt, rt.alloc(), [1000, 1_880_000])? {
             if is_left {
@@ -117,6 +117,40 @@ fn one_that_is_read_no_more_holds_up_none(rt: HostRuntime) -> Result<(), Fail> {
             told = Some((count, one.is_ready(), other.is_ready()));
         }
         assert_same(&rt, ("left", is_left), told, Some((share, true, !is_left)));
+    }
+    Ok(())
+}
+
+/// The pieces that a source gives of an input that lies ready: how many bytes it lends at once, and how many of them are wrong.
+const PIECES: [(usize, [(usize, usize); 3]); 5] = [
+    (10, [(10, 0), (0, 0), (0, 0)]),
+    (18_800, [(18_800, 0), (0, 0), (0, 0)]),
+    (18_801, [(9588, 0), (9213, 0), (0, 0)]),
+    (51_000, [(17_108, 0), (17_108, 0), (16_784, 0)]),
+    (56_400, [(18_800, 0), (18_800, 0), (18_800, 0)]),
+];
+
+/// The first three pieces that a source lends.
+fn pieces_of<S: Source>(source: &mut S, buffer: &mut [u8]) -> [(usize, usize); 3]
+    requires reads { S.input.reads source.old ≡ 0 }
+    requires failures { S.input.failures source.old ≡ 0 }
+{
+    let first = lent_by(source, buffer, 0).unwrap_or((0, 1));
+    let second = lent_by(source, buffer, first.0).unwrap_or((0, 1));
+    let at = first.0.saturating_add(second.0);
+    let third = lent_by(source, buffer, at).unwrap_or((0, 1));
+    [first, second, third]
+}
+
+#[test]
+fn pieces_are_lent_as_they_are_read(rt: HostRuntime) -> Result<(), Fail> {
+    let mut buffer = vec![in rt.alloc(); 0; PIECE]?;
+    for (len, want) in PIECES {
+        let mut given = [(0, 0); 3];
+        if let Some((mut one, _other)) = ready(rt, rt.alloc(), [len, 0])? {
+            given = pieces_of(&mut one, &mut buffer);
+        }
+        assert_same(&rt, ("lent", len), given, want);
     }
     Ok(())
 }
