@@ -5,7 +5,8 @@ ghost use Rattle.std.specs.Arc.{arc_value};
 ghost use Rattle.std.specs.Io.KnownBytes.{Consumes, IsAtEnd, Keeps};
 ghost use Rattle.rtrb.specs.Ring.{known_items, received};
 ghost use Rattle.read_ahead.specs.Messages.{MayFollow};
-ghost use Rattle.read_ahead.specs.Sources.{IsDry, IsSound, LiesReady, StandsBy, StandsByLast, TakesNext, Waits, bytes_of_piece, going_by, opened_by, passed_of, rest_of};
+ghost use Rattle.read_ahead.specs.Sources.{IsDry, IsSound, LiesReady, StandsBy, StandsByLast, TakesNext, Waits};
+ghost use Rattle.read_ahead.specs.Sources.{bytes_of_piece, going_by, opened_by, passed_of, rest_of};
 ghost use Rattle.read_ahead.specs.declared.incoming.Phase.TheVariants.{Opening, Going, Ended, Failed};
 
 use crate::backlogs::Backlogs;

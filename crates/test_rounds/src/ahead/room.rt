@@ -121,7 +121,8 @@ fn ready_now<R: Wait + Clock>(
     Ok(view.look(rt, alloc)?.first().map(|state| state.bytes))
 }
 
-/// Reads that give so many bytes, of which a block has 56,400 at most, and how many of these lie ready: as many as there is room for in 1 MiB, and 32,768 blocks at most.
+/// Reads that give so many bytes, of which a block has 56,400 at most, and how many of these lie ready: as many as there is room for
+/// in 1 MiB, and 32,768 blocks at most.
 const BLOCKS: [(usize, usize); 4] = [
     (65_536, 18 * 56_400),
     (52_428, 20 * 52_428),
