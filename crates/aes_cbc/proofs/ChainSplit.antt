@@ -12,7 +12,7 @@ use Rattle.aes_cbc.specs.Opening.{last_block}
 use Rattle.aes_cbc.proofs.ChainInverse.{cbc-EachBlock}
 use Rattle.aes_cbc.proofs.BlockLists.{blocks-EachBlock, blocks-concat}
 
-cbc-append : (k v : List ℕ) (xs ys : List (List ℕ)) → cbc k v (xs ++ ys) ≡ cbc k v xs ++ cbc k (last_block v (cbc k v xs)) ys
+pub cbc-append : (k v : List ℕ) (xs ys : List (List ℕ)) → cbc k v (xs ++ ys) ≡ cbc k v xs ++ cbc k (last_block v (cbc k v xs)) ys
 unfolding cbc
 cbc-append k v [] ys = refl
 cbc-append k v (b ∷ xs) ys = ap (λ r. aes k (xor_bytes b v) ∷ r) (cbc-append k (aes k (xor_bytes b v)) xs ys)
@@ -25,13 +25,13 @@ chunks-append (suc n) j (suc t) x y e h =
     ap₂ (λ c r. c ∷ r) (take-append-le 16 x y (omega arith))
     (ap (first_chunks 16 t) (drop-append-le 16 x y (omega arith)) ∙ chunks-append n j t (drop 16 x) y (omega arith) (omega (arith, length-drop 16 x)))
 
-blocks-append : (x y : List ℕ) → length x % 16 ≡ 0 → blocks (x ++ y) ≡ blocks x ++ blocks y
+pub blocks-append : (x y : List ℕ) → length x % 16 ≡ 0 → blocks (x ++ y) ≡ blocks x ++ blocks y
 blocks-append x y whole =
     let count : length (x ++ y) / 16 ≡ length y / 16 + length x / 16 = omega (arith, length-append x y) in
     chunks-append (length x / 16) (length y / 16) (length (x ++ y) / 16) x y count (omega arith)
 
 -- the blocks of a chain's text are its cipher blocks
-blocks_of_chain : (k v x : List ℕ) → IsBlock k → IsBlock v → AreBytes x → blocks (concat (cbc k v (blocks x))) ≡ cbc k v (blocks x)
+pub blocks_of_chain : (k v x : List ℕ) → IsBlock k → IsBlock v → AreBytes x → blocks (concat (cbc k v (blocks x))) ≡ cbc k v (blocks x)
 blocks_of_chain k v x hk hv hx = blocks-concat (cbc k v (blocks x)) (cbc-EachBlock k v (blocks x) hk hv (blocks-EachBlock x hx))
 
 -- a text in two parts, of which the second goes on from the last block of the first

@@ -2,11 +2,14 @@
 //!
 //! A [`Key`] encrypts and decrypts single blocks of 16 bytes (FIPS 197). [`seal`] pads a text (RFC 5652, 6.3) and
 //! encrypts it as a chain of blocks from a vector on (SP 800-38A, 6.2), [`seal_in_place`] does so where the text lies,
-//! [`seal_two_in_place`] and [`seal_four_in_place`] do so to several texts at once, and [`open`] gives the text back. The
-//! ciphers look nothing up at a place that a byte of a key or a text tells: tables of 16 bytes are shuffled as a whole.
+//! [`seal_two_in_place`] and [`seal_four_in_place`] do so to several texts at once, and [`open`] gives the text back.
+//! [`seal_behind`], [`seal_two_behind`] and [`seal_four_behind`] append the rest of a text while they seal it. The ciphers look
+//! nothing up at a place that a byte of a key or a text tells: tables of 16 bytes are shuffled as a whole.
 //! The functions of [`laws`] do nothing: their contracts are theorems about the definitions in `specs/`.
 #![tactic(auto)]
 
+mod behind;
+mod behind_side_by_side;
 mod blocks;
 mod cbc;
 mod chains;
@@ -31,6 +34,8 @@ mod schedule;
 mod side_by_side;
 mod tower;
 
+pub use behind::seal_behind;
+pub use behind_side_by_side::{seal_four_behind, seal_two_behind};
 pub use blocks::{block_before, xor_blocks};
 pub use cbc::{seal, seal_in_place};
 pub use fault::OpenFault;

@@ -14,7 +14,7 @@ use crate::padding::{pad_four, pad_two};
 use std::alloc::AllocError;
 
 /// The block that a chain goes on from behind its front, which is encrypted.
-fn last_block(key: &Key, vector: [u8; 16], front: &[u8]) -> [u8; 16]
+pub(crate) fn last_block(key: &Key, vector: [u8; 16], front: &[u8]) -> [u8; 16]
     ensures value { result ≡ last_block vector (blocks front.now) }
     ensures vector { IsBlock vector }
     ensures key { IsBlock key.now }
@@ -25,7 +25,12 @@ fn last_block(key: &Key, vector: [u8; 16], front: &[u8]) -> [u8; 16]
 }
 
 /// Encrypts two texts of whole blocks where they lie: side by side as far as both go.
-fn encrypt_two(keys: (&Key, &Key), vectors: &[[u8; 16]; 2], first: &mut [u8], second: &mut [u8])
+pub(crate) fn encrypt_two(
+    keys: (&Key, &Key),
+    vectors: &[[u8; 16]; 2],
+    first: &mut [u8],
+    second: &mut [u8],
+)
     requires first { length first.old % 16 ≡ 0 }
     requires second { length second.old % 16 ≡ 0 }
     ensures first { first.new ≡ concat (cbc keys.entry.0.now (slice_index_or vectors.now 0 []) (blocks first.old)) }
@@ -43,7 +48,7 @@ fn encrypt_two(keys: (&Key, &Key), vectors: &[[u8; 16]; 2], first: &mut [u8], se
 }
 
 /// Encrypts four texts of whole blocks where they lie: side by side as far as all go, and then two and two.
-fn encrypt_four(
+pub(crate) fn encrypt_four(
     keys: (&Key, &Key, &Key, &Key),
     vectors: &[[u8; 16]; 4],
     first: &mut [u8],

@@ -1,14 +1,14 @@
--- Texts that are sealed where they lie.
-use Rattle.std.specs.Prelude.{◌≡◌, ◌≤◌, ◌+◌, ◌*◌, ◌/◌, vec_len, vec_capacity}
+-- Texts that are sealed with a body behind them.
+use Rattle.std.specs.Prelude.{◌≡◌, ◌≤◌, ◌+◌, ◌*◌, ◌/◌, ◌++◌, ℕ, List, length, vec_len, vec_capacity}
 use Rattle.aes_cbc.specs.Chain.{sealed_text}
 use Rattle.segment_job.specs.declared.text.Text.{Text}
 
--- where the text lies there is room for its padding too
-abbrev pub HasRoom : Text → Type 0
-HasRoom text = 16 * (vec_len text.bytes / 16 + 1) ≤ vec_capacity text.bytes
+-- where the text lies there is room for the body and the padding too
+abbrev pub HasRoom : Text → List ℕ → Type 0
+HasRoom text body = 16 * ((vec_len text.bytes + length body) / 16 + 1) ≤ vec_capacity text.bytes
 
--- the text was sealed under its own key and vector, which stay
-pub record IsSealedText (plain sealed : Text) : Type 0 where
-  pub key : sealed.key ≡ plain.key
-  pub vector : sealed.vector ≡ plain.vector
-  pub bytes : sealed.bytes.items ≡ sealed_text plain.key plain.vector plain.bytes.items
+-- the text and the body behind it were sealed under the text's own key and vector, which stay
+pub record IsSealedText (text : Text) (body : List ℕ) (sealed : Text) : Type 0 where
+  pub key : sealed.key ≡ text.key
+  pub vector : sealed.vector ≡ text.vector
+  pub bytes : sealed.bytes.items ≡ sealed_text text.key text.vector (text.bytes.items ++ body)

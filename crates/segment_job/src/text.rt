@@ -5,7 +5,7 @@ ghost use Rattle.ghost_list.specs.Bytes.{AreBytes};
 ghost use Rattle.aes_cbc.specs.Block.{IsBlock};
 ghost use Rattle.segment_job.specs.Texts.{IsSealedText, HasRoom};
 
-use aes_cbc::{Key, seal_four_in_place, seal_in_place, seal_two_in_place};
+use aes_cbc::{Key, seal_behind, seal_four_behind, seal_two_behind};
 
 /// A text, plain or sealed, with its key and its vector.
 #[derive(Drop)]
@@ -27,47 +27,49 @@ impl Text {
     }
 }
 
-/// Seals a text where it lies.
-pub(crate) fn seal_text(text: &mut Text)
-    requires { HasRoom text.old }
-    ensures { IsSealedText text.old text.new }
+/// Appends a body to a text and seals both.
+pub(crate) fn seal_text(text: &mut Text, body: &[u8])
+    requires { HasRoom text.old body.now }
+    ensures { IsSealedText text.old body.now text.new }
 {
-    seal_in_place(&Key::new(text.key), &text.vector, &mut text.bytes).unwrap();
+    seal_behind(&Key::new(text.key), &text.vector, &mut text.bytes, body).unwrap();
 }
 
-/// Seals two texts side by side, each where it lies.
-pub(crate) fn seal_two_texts(first: &mut Text, second: &mut Text)
-    requires first { HasRoom first.old }
-    requires second { HasRoom second.old }
-    ensures first { IsSealedText first.old first.new }
-    ensures second { IsSealedText second.old second.new }
+/// Appends a body to each of two texts and seals them side by side.
+pub(crate) fn seal_two_texts(first: &mut Text, second: &mut Text, bodies: (&[u8], &[u8]))
+    requires first { HasRoom first.old bodies.0.now }
+    requires second { HasRoom second.old bodies.1.now }
+    ensures first { IsSealedText first.old bodies.entry.0.now first.new }
+    ensures second { IsSealedText second.old bodies.entry.1.now second.new }
 {
-    seal_two_in_place(
+    seal_two_behind(
         (&Key::new(first.key), &Key::new(second.key)),
         &[first.vector, second.vector],
         &mut first.bytes,
         &mut second.bytes,
+        bodies,
     )
     .unwrap();
 }
 
-/// Seals four texts side by side, each where it lies.
+/// Appends a body to each of four texts and seals them side by side.
 pub(crate) fn seal_four_texts(
     first: &mut Text,
     second: &mut Text,
     third: &mut Text,
     fourth: &mut Text,
+    bodies: (&[u8], &[u8], &[u8], &[u8]),
 )
-    requires first { HasRoom first.old }
-    requires second { HasRoom second.old }
-    requires third { HasRoom third.old }
-    requires fourth { HasRoom fourth.old }
-    ensures first { IsSealedText first.old first.new }
-    ensures second { IsSealedText second.old second.new }
-    ensures third { IsSealedText third.old third.new }
-    ensures fourth { IsSealedText fourth.old fourth.new }
+    requires first { HasRoom first.old bodies.0.now }
+    requires second { HasRoom second.old bodies.1.now }
+    requires third { HasRoom third.old bodies.2.now }
+    requires fourth { HasRoom fourth.old bodies.3.now }
+    ensures first { IsSealedText first.old bodies.entry.0.now first.new }
+    ensures second { IsSealedText second.old bodies.entry.1.now second.new }
+    ensures third { IsSealedText third.old bodies.entry.2.now third.new }
+    ensures fourth { IsSealedText fourth.old bodies.entry.3.now fourth.new }
 {
-    seal_four_in_place(
+    seal_four_behind(
         (
             &Key::new(first.key),
             &Key::new(second.key),
@@ -79,6 +81,7 @@ pub(crate) fn seal_four_texts(
         &mut second.bytes,
         &mut third.bytes,
         &mut fourth.bytes,
+        bodies,
     )
     .unwrap();
 }

@@ -5,14 +5,15 @@ ghost use Rattle.cutter.specs.Lent.{lent};
 ghost use Rattle.segment_job.specs.Segments.{sealed_from, unsealed_segment};
 
 use crate::keys::Keys;
-use crate::plain::plain_text;
+use crate::plain::head_text;
 use crate::sealed::Sealed;
 use crate::text::{Text, seal_four_texts, seal_text, seal_two_texts};
 use cutter::PlanRef;
 use std::alloc::{AllocError, Global};
 use std::marker::Model;
 
-/// The plain segment of a plan, with the key and the vector of its number, and with all the memory that sealing it takes.
+/// The segment of a plan before it is sealed, with the key and the vector of its number, and with all the memory that sealing it takes.
+/// What it holds is the head alone: sealing copies the body.
 ///
 /// Clauses see its plan, its key and its vector.
 #[derive(Drop)]
@@ -35,7 +36,7 @@ impl<'s> Model for Unsealed<'s> {
 }
 
 impl<'s> Unsealed<'s> {
-    /// Copies a plan's segment, and takes the memory in which it is sealed. The plan is borrowed as long as the segment is there.
+    /// Copies the head of a plan's segment, and takes the memory in which the segment is sealed. The plan is borrowed as long as the segment is there.
     pub fn of(alloc: Global, plan: PlanRef<'s>, keys: &Keys) -> Result<Unsealed<'s>, AllocError>
         ensures { IfOk result (λ made. made ≡ unsealed_segment keys.now (lent plan.entry)) }
     {
@@ -53,16 +54,16 @@ impl<'s> Unsealed<'s> {
     {
         let key = keys.key(plan.number);
         let vector = keys.vector(plan.number);
-        let text = Text::new(key, vector, plain_text(alloc, plan, buffer)?);
+        let text = Text::new(key, vector, head_text(alloc, plan, buffer)?);
         Ok(Unsealed { plan, text })
     }
 
-    /// Seals it where it lies.
+    /// Seals it: a piece of the body is copied at a time, and encrypted where it lies.
     pub fn seal(self) -> Sealed<'s>
         ensures { result ≡ sealed_from self.entry }
     {
         let Unsealed { plan, mut text } = self;
-        seal_text(&mut text);
+        seal_text(&mut text, plan.body);
         Sealed::of(plan, text)
     }
 }
@@ -80,7 +81,11 @@ pub fn seal_two<'s>(first: Unsealed<'s>, second: Unsealed<'s>) -> (Sealed<'s>, S
         plan: second_plan,
         text: mut second_text,
     } = second;
-    seal_two_texts(&mut first_text, &mut second_text);
+    seal_two_texts(
+        &mut first_text,
+        &mut second_text,
+        (first_plan.body, second_plan.body),
+    );
     (
         Sealed::of(first_plan, first_text),
         Sealed::of(second_plan, second_text),
@@ -120,6 +125,12 @@ pub fn seal_four<'s>(
         &mut second_text,
         &mut third_text,
         &mut fourth_text,
+        (
+            first_plan.body,
+            second_plan.body,
+            third_plan.body,
+            fourth_plan.body,
+        ),
     );
     (
         Sealed::of(first_plan, first_text),

@@ -4,6 +4,8 @@
 #[cfg(test)]
 mod asserts;
 #[cfg(test)]
+mod behind;
+#[cfg(test)]
 mod cipher;
 #[cfg(test)]
 mod collector;

@@ -16,7 +16,7 @@ const LENGTHS: [[usize; 4]; 6] = [
 ];
 
 /// A text of so many bytes, another one for each number.
-fn text(alloc: Global, length: usize, number: u8) -> Result<Vec<u8>, AllocError> {
+pub(crate) fn text(alloc: Global, length: usize, number: u8) -> Result<Vec<u8>, AllocError> {
     let mut bytes = Vec::new(alloc);
     for place in 0..length {
         bytes.push(((place % 256) as u8).wrapping_mul(7).wrapping_add(number))?;
@@ -25,7 +25,7 @@ fn text(alloc: Global, length: usize, number: u8) -> Result<Vec<u8>, AllocError>
 }
 
 /// A key and a vector of a number.
-fn lane(number: u8) -> (Key, [u8; 16]) {
+pub(crate) fn lane(number: u8) -> (Key, [u8; 16]) {
     (Key::new([number; 16]), [number.wrapping_add(100); 16])
 }
 

@@ -1,0 +1,62 @@
+-- A sealed text in parts, of which each goes on from the last block of the one before.
+use Rattle.std.proofs.Common.{◌≡◌, ℕ, ◌%◌, ◌≤◌, List, ◌++◌, length, take, drop, sym, ap, ap₂, ◌∙◌, arith, append_assoc, length-append, length-drop}
+use Rattle.std.proofs.lemmas.List.{take-append-le, drop-append-le, take_all, drop_all}
+use Rattle.std.proofs.lemmas.List.Folds.{concat-append}
+use Rattle.std.specs.List.{concat}
+use Rattle.aes_cbc.specs.Padding.{padding, padded_text}
+use Rattle.aes_cbc.specs.Chain.{cbc, blocks, sealed_text}
+use Rattle.aes_cbc.specs.Opening.{last_block}
+use Rattle.aes_cbc.proofs.ChainSplit.{cbc-append, blocks-append}
+use Rattle.aes_cbc.proofs.PaddingFacts.{padding-mod}
+
+-- padding goes behind the last part
+padded-append : (y next : List ℕ) → length y % 16 ≡ 0 → padded_text (y ++ next) ≡ y ++ padded_text next
+unfolding padded_text
+padded-append y next whole =
+    let same : length (y ++ next) % 16 ≡ length next % 16 = omega (arith, length-append y next) in
+    append_assoc y next (padding (length (y ++ next))) ∙ ap (λ p. y ++ (next ++ p)) (padding-mod (length (y ++ next)) (length next) same)
+
+-- whole blocks, and what comes behind them
+pub sealed-append : (k v y next : List ℕ) → length y % 16 ≡ 0
+    → sealed_text k v (y ++ next) ≡ concat (cbc k v (blocks y)) ++ sealed_text k (last_block v (cbc k v (blocks y))) next
+unfolding sealed_text
+sealed-append k v y next whole =
+    ap (λ m. concat (cbc k v (blocks m))) (padded-append y next whole)
+    ∙ ap (λ bs. concat (cbc k v bs)) (blocks-append y (padded_text next) whole)
+    ∙ ap concat (cbc-append k v (blocks y) (blocks (padded_text next)))
+    ∙ concat-append (cbc k v (blocks y)) (cbc k (last_block v (cbc k v (blocks y))) (blocks (padded_text next)))
+
+-- a piece was appended and encrypted: the same text is made of what is left
+pub piece_sealed : (k v text rest next t1 t2 w : List ℕ) (n done len : ℕ) → done % 16 ≡ 0 → done ≤ length text → length t1 % 16 ≡ 0
+    → take n rest ++ next ≡ rest → t1 ≡ text ++ take n rest → t2 ≡ take done t1 ++ concat (cbc k v (blocks (drop done t1)))
+    → w ≡ last_block v (cbc k v (blocks (drop done t1))) → length t2 ≤ len
+    → take len t2 ++ sealed_text k w (drop len t2 ++ next) ≡ take done text ++ sealed_text k v (drop done text ++ rest)
+piece_sealed k v text rest next t1 t2 w n done len whole inside of_t1 parts appended encrypted last all =
+    let piece = take n rest in
+    let y = drop done t1 in
+    let of_y : length y % 16 ≡ 0 = omega (arith, length-drop done t1, ap length appended, length-append text piece) in
+    let front : take done t1 ≡ take done text = ap (take done) appended ∙ take-append-le done text piece inside in
+    let back : y ≡ drop done text ++ piece = ap (drop done) appended ∙ drop-append-le done text piece inside in
+    ap₂ (λ a b. a ++ sealed_text k w (b ++ next)) (take_all len t2 all) (drop_all len t2 all)
+    ∙ ap₂ (λ a u. a ++ sealed_text k u next) encrypted last
+    ∙ append_assoc (take done t1) (concat (cbc k v (blocks y))) (sealed_text k (last_block v (cbc k v (blocks y))) next)
+    ∙ ap₂ (λ a b. a ++ b) front (sym (sealed-append k v y next of_y)
+    ∙ ap (λ x. sealed_text k v (x ++ next)) back
+    ∙ ap (sealed_text k v) (append_assoc (drop done text) piece next ∙ ap (λ x. drop done text ++ x) parts))
+
+-- the rest was appended, padded and encrypted
+pub end_sealed : (k v text rest t1 t2 : List ℕ) (done : ℕ) → done % 16 ≡ 0 → done ≤ length text
+    → t1 ≡ padded_text (text ++ rest) → t2 ≡ take done t1 ++ concat (cbc k v (blocks (drop done t1)))
+    → t2 ≡ take done text ++ sealed_text k v (drop done text ++ rest)
+unfolding sealed_text padded_text
+end_sealed k v text rest t1 t2 done whole inside padded encrypted =
+    let pads = padding (length (text ++ rest)) in
+    let flat : t1 ≡ text ++ (rest ++ pads) = padded ∙ append_assoc text rest pads in
+    let same : length (text ++ rest) % 16 ≡ length (drop done text ++ rest) % 16
+    = omega (arith, length-append text rest, length-append (drop done text) rest, length-drop done text) in
+    let front : take done t1 ≡ take done text = ap (take done) flat ∙ take-append-le done text (rest ++ pads) inside in
+    let back : drop done t1 ≡ padded_text (drop done text ++ rest)
+    = ap (drop done) flat ∙ drop-append-le done text (rest ++ pads) inside
+    ∙ sym (append_assoc (drop done text) rest pads)
+    ∙ ap (λ p. (drop done text ++ rest) ++ p) (padding-mod (length (text ++ rest)) (length (drop done text ++ rest)) same) in
+    encrypted ∙ ap₂ (λ a y. a ++ concat (cbc k v (blocks y))) front back
