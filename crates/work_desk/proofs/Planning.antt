@@ -1,14 +1,15 @@
 -- Each plan at a desk may be fed.
 use Rattle.std.proofs.Common.{◌≡◌, ℕ, Bool, true, false, List, [], ◌∷◌, ◌++◌, Option, Some, None, IfSome, IfNone, refl, sym, subst}
 use Rattle.std.specs.List.{All}
+use Rattle.std.proofs.lemmas.Option.{get_or_from_slice_get, slice_get_within}
 use Rattle.std.proofs.lemmas.List.Elements.{All-append, All-cons, All-head, All-nil, All-push, All-tail}
 use Rattle.cutter.specs.Plans.{SegmentPlan}
 use Rattle.flow_core.specs.declared.outcome.Outcome.{Outcome}
 use Rattle.flow_core.specs.declared.outcome.Outcome.TheVariants.{Sealed, Refused, Held}
 use Rattle.flow_core.specs.declared.outcome.Finished.{Finished}
-use Rattle.flow_core.specs.Queues.{Claimed, IsOwnOutcome, QueueValue}
+use Rattle.flow_core.specs.Queues.{Claimed, IsOwnOutcome, KnowsClaimed, QueueValue}
 use Rattle.flow_core.specs.Steps.{Claims, Delivered, Delivers, Feeds, Gives}
-use Rattle.work_desk.specs.Permits.{ArePermitted, ArePlanned, IsPermitted, IsPlanned}
+use Rattle.work_desk.specs.Permits.{AreKnownByNumber, ArePermitted, ArePlanned, IsPermitted, IsPlanned}
 
 module _ {A : Type 0} (P : A → Type 0) where
   all-front : (front back : List A) → All P (front ++ back) → All P front
@@ -48,6 +49,19 @@ module _ (plans : SegmentPlan → Type 0) where
         claimed = All-push of-claim q.claimed claim all.claimed (one-of plans claims.front claim.plan claims.back waits);
         done = all.done;
       })
+
+  -- which is one of those that may be fed
+  pub claimed-planned : (taken : Option Claimed) (old new : QueueValue) → IfSome taken (λ claim. Claims old claim new) → ArePlanned plans old
+      → IfSome taken (λ claim. plans claim.plan)
+  claimed-planned (Some claim) old new claims all = one-of plans claims.front claim.plan claims.back (subst (All plans) claims.waits all.waiting)
+  claimed-planned None old new claims all = tt
+
+  -- a plan that may be fed is the one that a worker has of its rendition and number, if any has one
+  pub knows-claimed : (q : QueueValue) (plan : SegmentPlan) → AreKnownByNumber plans → ArePlanned plans q → plans plan → KnowsClaimed q.claimed plan
+  knows-claimed q plan known all one claim k at rendition number =
+      let there = slice_get_within q.claimed k claim at in
+      let own = subst of-claim (get_or_from_slice_get q.claimed k claim claim at) (all.claimed k claim there) in
+      known claim.plan plan own one rendition number
 
   -- something became of one
   pub planned-delivered : (q after : QueueValue) (claim : Claimed) (outcome : Outcome) → Delivers q claim outcome after → ArePlanned plans q → ArePlanned plans after

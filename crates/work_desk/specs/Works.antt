@@ -1,10 +1,11 @@
 -- What a worker makes of a plan.
-use Rattle.std.specs.Prelude.{◌≡◌, ℕ, ◌<◌, ◌≤◌, List, Some, length, slice_get}
+use Rattle.std.specs.Prelude.{◌≡◌, ℕ, ◌<◌, ◌≤◌, List, Some, false, length, slice_get, true}
 use Rattle.cutter.specs.Plans.{SegmentPlan}
 use Rattle.segment_job.specs.Rotation.{KeyRotation}
 use Rattle.segment_job.specs.Segments.{unsealed_segment, UnsealedSegment}
 use Rattle.flow_core.specs.declared.outcome.Outcome.{Outcome}
 use Rattle.flow_core.specs.declared.outcome.Outcome.TheVariants as TheOutcome
+use Rattle.work_desk.specs.declared.sealing.Asked.{Asked}
 use Rattle.work_desk.specs.declared.sealing.Why.{Why}
 use Rattle.work_desk.specs.declared.sealing.Why.TheVariants.{Held, NoKeys, NoMemory}
 
@@ -14,6 +15,11 @@ pub record IsBegun (lets : ℕ → ℕ → Type 0) (keys : List KeyRotation) (pl
   pub own_keys : KeyRotation
   pub stand : slice_get keys plan.rendition ≡ Some own_keys
   pub segment : made ≡ unsealed_segment own_keys plan
+
+-- what a gate answered about a plan: it lets its segment through, or stops it
+pub record IsAnswer (lets stops : ℕ → ℕ → Type 0) (plan : SegmentPlan) (asked : Asked) : Type 0 where
+  pub lets_through : asked.passes ≡ true → lets plan.rendition plan.number
+  pub stops_it : asked.passes ≡ false → stops plan.rendition plan.number
 
 -- Nothing was sealed: what is held was stopped, and all else had been let through. There are no keys of its rendition, or there are.
 abbrev pub IsTurnedAway : (lets stops : ℕ → ℕ → Type 0) → List KeyRotation → SegmentPlan → Why → Type 0

@@ -1,16 +1,17 @@
 //! A desk: a queue under a lock.
 
-ghost use Rattle.std.specs.Prelude.{OnErr, ◌≡◌, ◌+◌, ◌<◌, ℕ, None, Some, IfOk, OnOk, IfErr, IfSome, IfNone, true, false, vec_len, slice_get};
+ghost use Rattle.std.specs.Prelude.{OnErr, ◌≡◌, ◌+◌, ◌<◌, ℕ, Err, None, Some, IfOk, IsOk, IsSome, OnOk, IfErr, IfSome, IfNone, true, false, vec_len, slice_get};
 ghost use Rattle.cutter.specs.Lent.{lent};
 ghost use Rattle.flow_core.specs.Queues.{IsOwnOutcome, first_queue};
-ghost use Rattle.work_desk.specs.Batches.{IsPair, claims_in};
-ghost use Rattle.work_desk.specs.Permits.{IsPermitted, IsPlanned};
+ghost use Rattle.work_desk.specs.Batches.{AreJobsPlanned, IsPair, claims_in};
+ghost use Rattle.work_desk.specs.Permits.{AreKnownByNumber, IsPermitted, IsPlanned};
 ghost use Rattle.work_desk.specs.Waiting.{GivesBack};
 
 use crate::gate::Permit;
+use crate::known::KnownPlans;
 use crate::pass::Pass;
 use crate::permitted::PermittedQueue;
-use crate::sealing::{Job, Jobs, Worked};
+use crate::sealing::{Asked, Worked};
 use crate::shelf::Shelf;
 use crate::steps::{
     Seen, claim, claim_beside, claim_more, close, deliver, feed, stop, take, take_awaited,
@@ -35,12 +36,66 @@ pub struct Desk<'s, L: Ledger, M: Ledger, P: Permit> {
     fed: Condvar,
     /// Something is done, or given up.
     done: Condvar,
-    /// How many workers have no plan, those that haven't begun among them. It only guides [`Desk::claim_more`].
+    /// How many workers have no plan, those that haven't begun among them. It only guides whether one claims more.
     idle: AtomicUsize,
     /// Whether a worker takes a second plan wherever one waits.
     pairs: bool,
+    /// Whether a claim is known by its plan's rendition and number.
+    known: KnownPlans<P>,
     /// The buffers that workers seal in.
     shelf: &'s Shelf,
+}
+
+/// A plan that a worker claimed, and has to begin. Only a desk makes one, and all that can be done with it is
+/// `Means::begin`.
+pub(crate) struct Job<'s> {
+    claim: Claim<'s>,
+}
+
+impl<'s> Job<'s> {
+    /// The job of a claim.
+    fn of(claim: Claim<'s>) -> Job<'s>
+        ensures { result.claim ≡ claim.entry }
+    {
+        Job { claim }
+    }
+
+    /// The claim, to be begun.
+    pub(crate) fn into_claim(self) -> Claim<'s>
+        ensures { result ≡ self.entry.claim }
+    {
+        let Job { claim } = self;
+        claim
+    }
+}
+
+/// A job that a worker has to begin and, at a desk with pairs, the one that it seals beside it.
+pub(crate) struct Jobs<'s> {
+    pub job: Job<'s>,
+    /// None at a desk without pairs. Where no more plans waited, what was seen there.
+    pub beside: Option<Result<Job<'s>, Seen>>,
+}
+
+impl<'s> Jobs<'s> {
+    /// The jobs of a claim, and of one beside it.
+    fn of(claim: Claim<'s>, beside: Option<Result<Claim<'s>, Seen>>) -> Jobs<'s>
+        ensures job { result.job.claim ≡ claim.entry }
+        ensures none { IfNone beside.entry (result.beside ≡ None) }
+        ensures some { IfSome beside.entry (λ it. IfOk it (λ claim. IfSome result.beside (λ made. IfOk made (λ job. job.claim ≡ claim)))) }
+        ensures seen { IfSome beside.entry (λ it. IfErr it (λ seen. result.beside ≡ Some (Err seen))) }
+        ensures ok { IfSome beside.entry (λ it. OnOk it (IfSome result.beside IsOk)) }
+        ensures there { IfSome beside.entry (λ _. IsSome result.beside) }
+    {
+        let beside = match beside {
+            Some(Ok(claim)) => Some(Ok(Job::of(claim))),
+            Some(Err(seen)) => Some(Err(seen)),
+            None => None,
+        };
+        Jobs {
+            job: Job::of(claim),
+            beside,
+        }
+    }
 }
 
 /// A desk that was opened, and who may use it.
@@ -94,6 +149,7 @@ impl<'s, L: Ledger, M: Ledger, P: Permit> Desk<'s, L, M, P> {
         ensures taker { IfOk result (λ opened. opened.taker.number ≡ workers) }
         ensures most { IfOk result (λ opened. opened.desk.most ≡ queue) }
         ensures pairs { IfOk result (λ opened. opened.desk.pairs ≡ false) }
+        ensures known { IfOk result (λ opened. opened.desk.known ≡ false) }
         ensures scarce { OnErr result (0 < workers) }
     {
         let (claims, mut rest) = claims.open::<L>();
@@ -122,6 +178,7 @@ impl<'s, L: Ledger, M: Ledger, P: Permit> Desk<'s, L, M, P> {
         requires { queue ≡ first_queue most }
         ensures most { result.most ≡ most }
         ensures pairs { result.pairs ≡ false }
+        ensures known { result.known ≡ false }
     {
         Desk {
             queue: Mutex::new(PermittedQueue::first(queue)),
@@ -130,6 +187,7 @@ impl<'s, L: Ledger, M: Ledger, P: Permit> Desk<'s, L, M, P> {
             done: Condvar::new(),
             idle: AtomicUsize::new(workers),
             pairs: false,
+            known: KnownPlans::by_all(),
             shelf,
         }
     }
@@ -139,9 +197,59 @@ impl<'s, L: Ledger, M: Ledger, P: Permit> Desk<'s, L, M, P> {
     /// nearly twice that. A gate mustn't hold one plan until another was asked about, as one worker may have both.
     pub fn with_pairs(self, pairs: bool) -> Desk<'s, L, M, P>
         ensures pairs { result.pairs ≡ pairs }
+        ensures known { result.known ≡ self.entry.known }
         ensures most { result.most ≡ self.entry.most }
     {
-        Desk { pairs, ..self }
+        let Desk {
+            queue,
+            most,
+            fed,
+            done,
+            idle,
+            pairs: _,
+            known,
+            shelf,
+        } = self;
+        Desk {
+            queue,
+            most,
+            fed,
+            done,
+            idle,
+            pairs,
+            known,
+            shelf,
+        }
+    }
+
+    /// The same desk, where no two plans that may be fed have the same rendition and number: so what comes of a claim is known to be its
+    /// own by those, and not by comparing the plan byte by byte under the lock.
+    pub fn with_known_plans(self) -> Desk<'s, L, M, P>
+        requires { AreKnownByNumber P.plans }
+        ensures known { result.known ≡ true }
+        ensures pairs { result.pairs ≡ self.entry.pairs }
+        ensures most { result.most ≡ self.entry.most }
+    {
+        let Desk {
+            queue,
+            most,
+            fed,
+            done,
+            idle,
+            pairs,
+            known: _,
+            shelf,
+        } = self;
+        Desk {
+            queue,
+            most,
+            fed,
+            done,
+            idle,
+            pairs,
+            known: KnownPlans::by_number(),
+            shelf,
+        }
     }
 
     /// The buffers that workers seal in.
@@ -180,6 +288,7 @@ impl<'s, L: Ledger, M: Ledger, P: Permit> Desk<'s, L, M, P> {
         ensures counted { IfOk result (λ jobs. pass.new.count ≡ pass.old.count + 1 + claims_in jobs.beside) }
         ensures uncounted { OnErr result (pass.new.count ≡ pass.old.count) }
         ensures number { pass.new.number ≡ pass.old.number }
+        ensures planned { IfOk result (AreJobsPlanned P.plans) }
         ensures over { IfErr result (λ seen. (seen.closed ≡ true) × (seen.waiting ≡ 0)) }
         ensures paired { self.now.pairs ≡ true → IfOk result (λ jobs. IsPair pass.old.number jobs.beside) }
         ensures alone { self.now.pairs ≡ false → IfOk result (λ jobs. jobs.beside ≡ None) }
@@ -199,47 +308,38 @@ impl<'s, L: Ledger, M: Ledger, P: Permit> Desk<'s, L, M, P> {
         }
     }
 
-    /// Claims one more plan, the one that waits the longest, if more plans wait than workers are idle. It waits for the lock
-    /// alone. So a worker that has a plan takes another beside it only where nobody else is free to.
-    pub fn claim_more<R: Wait>(&self, rt: &R, pass: &mut Pass<L>) -> Option<Claim<'s>>
-        ensures worker { IfSome result (λ claim. claim.worker ≡ pass.old.number) }
-        ensures counted { IfSome result (λ _. pass.new.count ≡ pass.old.count + 1) }
-        ensures uncounted { IfNone result (pass.new.count ≡ pass.old.count) }
-        ensures number { pass.new.number ≡ pass.old.number }
-    {
-        self.more_claim(rt, pass).ok()
-    }
-
-    /// The same, as a job that a worker has to begin.
-    pub(crate) fn more_job<R: Wait>(&self, rt: &R, pass: &mut Pass<L>) -> Result<Job<'s>, Seen>
+    /// Claims one more plan, the one that waits the longest, if more plans wait than workers are idle, as a job that a worker has to
+    /// begin. It waits for the lock alone. So a worker that has a plan takes another beside it only where nobody else is free to, and
+    /// only once it has asked the gate about the one that it has.
+    pub(crate) fn more_job<R: Wait>(
+        &self,
+        rt: &R,
+        pass: &mut Pass<L>,
+        _asked: Asked,
+    ) -> Result<Job<'s>, Seen>
         ensures worker { IfOk result (λ job. job.claim.worker ≡ pass.old.number) }
         ensures counted { OnOk result (pass.new.count ≡ pass.old.count + 1) }
         ensures uncounted { OnErr result (pass.new.count ≡ pass.old.count) }
         ensures number { pass.new.number ≡ pass.old.number }
-    {
-        match self.more_claim(rt, pass) {
-            Ok(claim) => Ok(Job::of(claim)),
-            Err(seen) => Err(seen),
-        }
-    }
-
-    /// The same, with what was seen where there is none.
-    fn more_claim<R: Wait>(&self, rt: &R, pass: &mut Pass<L>) -> Result<Claim<'s>, Seen>
-        ensures worker { IfOk result (λ claim. claim.worker ≡ pass.old.number) }
-        ensures counted { OnOk result (pass.new.count ≡ pass.old.count + 1) }
-        ensures uncounted { OnErr result (pass.new.count ≡ pass.old.count) }
-        ensures number { pass.new.number ≡ pass.old.number }
+        ensures planned { IfOk result (λ job. P.plans job.claim.plan) }
     {
         let mut queue = self.queue.lock(rt);
-        claim_more(&mut queue, self.idle.load(Ordering::SeqCst), pass)
+        let claim = claim_more(&mut queue, self.idle.load(Ordering::SeqCst), pass)?;
+        Ok(Job::of(claim))
     }
 
     /// The same; at a desk with pairs with the plan behind it, if one waits, under the same lock.
-    pub(crate) fn more_jobs<R: Wait>(&self, rt: &R, pass: &mut Pass<L>) -> Result<Jobs<'s>, Seen>
+    pub(crate) fn more_jobs<R: Wait>(
+        &self,
+        rt: &R,
+        pass: &mut Pass<L>,
+        _asked: Asked,
+    ) -> Result<Jobs<'s>, Seen>
         ensures worker { IfOk result (λ jobs. jobs.job.claim.worker ≡ pass.old.number) }
         ensures counted { IfOk result (λ jobs. pass.new.count ≡ pass.old.count + 1 + claims_in jobs.beside) }
         ensures uncounted { OnErr result (pass.new.count ≡ pass.old.count) }
         ensures number { pass.new.number ≡ pass.old.number }
+        ensures planned { IfOk result (AreJobsPlanned P.plans) }
         ensures paired { self.now.pairs ≡ true → IfOk result (λ jobs. IsPair pass.old.number jobs.beside) }
         ensures alone { self.now.pairs ≡ false → IfOk result (λ jobs. jobs.beside ≡ None) }
     {
@@ -254,7 +354,7 @@ impl<'s, L: Ledger, M: Ledger, P: Permit> Desk<'s, L, M, P> {
         requires own { IsOwnOutcome claim.plan outcome }
         requires permitted { IsPermitted P.permits outcome }
     {
-        deliver(&mut self.queue.lock(rt), claim, outcome);
+        deliver(&mut self.queue.lock(rt), claim, outcome, false);
         self.done.notify_one();
     }
 
@@ -262,8 +362,9 @@ impl<'s, L: Ledger, M: Ledger, P: Permit> Desk<'s, L, M, P> {
     pub(crate) fn hand_in<R: Wait>(&self, rt: &R, worked: Worked<'s>)
         requires own { IsOwnOutcome worked.claim.plan worked.outcome }
         requires permitted { IsPermitted P.permits worked.outcome }
+        requires planned { P.plans worked.claim.plan }
     {
-        worked.deliver_to(&mut self.queue.lock(rt));
+        worked.deliver_to(&mut self.queue.lock(rt), self.known.are_known());
         self.done.notify_one();
     }
 

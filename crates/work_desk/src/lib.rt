@@ -9,6 +9,7 @@
 
 mod desk;
 mod gate;
+mod known;
 mod pass;
 mod permitted;
 mod sealing;

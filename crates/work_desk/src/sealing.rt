@@ -1,67 +1,27 @@
 //! What becomes of the plans that a worker claimed.
 
-ghost use Rattle.std.specs.Prelude.{◌≡◌, Err, IfErr, IfNone, IfOk, IfSome, IsOk, IsSome, None, OnOk, Some};
+ghost use Rattle.std.specs.Prelude.{◌≡◌, IfErr, IfOk, true};
+ghost use Rattle.cutter.specs.Lent.{lent};
 ghost use Rattle.segment_job.specs.Segments.{sealed_from};
 ghost use Rattle.flow_core.specs.declared.outcome.Outcome.TheVariants.{Sealed as IsSealed};
 ghost use Rattle.flow_core.specs.Lists.{In};
 ghost use Rattle.flow_core.specs.Queues.{IsOwnOutcome};
 ghost use Rattle.flow_core.specs.Steps.{Delivers};
-ghost use Rattle.work_desk.specs.Permits.{IsPermitted, LetsOnly};
-ghost use Rattle.work_desk.specs.Works.{IsBegun, IsTurnedAway, outcome_of};
+ghost use Rattle.work_desk.specs.Permits.{AreKnownByNumber, IsPermitted, LetsOnly};
+ghost use Rattle.work_desk.specs.Works.{IsAnswer, IsBegun, IsTurnedAway, outcome_of};
 
+use crate::desk::Job;
 use crate::gate::{Gate, Permit};
 use crate::permitted::PermittedQueue;
 use crate::shelf::Shelf;
-use crate::steps::{Seen, deliver};
+use crate::steps::deliver;
+use cutter::PlanRef;
 use flow_core::{Claim, Outcome};
 use segment_job::{Keys, Sealed, Unsealed, seal_four, seal_two};
 use std::alloc::Global;
 use std::marker::PhantomData;
 use std::sync::Wait;
 use std::sync::ledger::Ledger;
-
-/// A plan that a worker claimed, and has to begin. All that can be done with it is [`Means::begin`].
-pub(crate) struct Job<'s> {
-    claim: Claim<'s>,
-}
-
-impl<'s> Job<'s> {
-    /// The job of a claim.
-    pub(crate) fn of(claim: Claim<'s>) -> Job<'s>
-        ensures { result.claim ≡ claim.entry }
-    {
-        Job { claim }
-    }
-}
-
-/// A job that a worker has to begin and, at a desk with pairs, the one that it seals beside it.
-pub(crate) struct Jobs<'s> {
-    pub job: Job<'s>,
-    /// None at a desk without pairs. Where no more plans waited, what was seen there.
-    pub beside: Option<Result<Job<'s>, Seen>>,
-}
-
-impl<'s> Jobs<'s> {
-    /// The jobs of a claim, and of one beside it.
-    pub(crate) fn of(claim: Claim<'s>, beside: Option<Result<Claim<'s>, Seen>>) -> Jobs<'s>
-        ensures job { result.job.claim ≡ claim.entry }
-        ensures none { IfNone beside.entry (result.beside ≡ None) }
-        ensures some { IfSome beside.entry (λ it. IfOk it (λ claim. IfSome result.beside (λ made. IfOk made (λ job. job.claim ≡ claim)))) }
-        ensures seen { IfSome beside.entry (λ it. IfErr it (λ seen. result.beside ≡ Some (Err seen))) }
-        ensures ok { IfSome beside.entry (λ it. OnOk it (IfSome result.beside IsOk)) }
-        ensures there { IfSome beside.entry (λ _. IsSome result.beside) }
-    {
-        let beside = match beside {
-            Some(Ok(claim)) => Some(Ok(Job::of(claim))),
-            Some(Err(seen)) => Some(Err(seen)),
-            None => None,
-        };
-        Jobs {
-            job: Job::of(claim),
-            beside,
-        }
-    }
-}
 
 /// A claimed plan whose segment is to be sealed.
 pub(crate) struct Begun<'s> {
@@ -100,18 +60,20 @@ impl<'s> Worked<'s> {
         }
     }
 
-    /// Delivers it. Nothing changes where nobody has that claim at this queue.
+    /// Delivers it. Nothing changes where nobody has that claim at this queue, which may be known by its plan's rendition and number.
     pub(crate) fn deliver_to<L: Ledger, M: Ledger, P: Permit>(
         self,
         queue: &mut PermittedQueue<'s, L, M, P>,
+        known: bool,
     )
         requires own { IsOwnOutcome self.claim.plan self.outcome }
         requires permitted { IsPermitted P.permits self.outcome }
+        requires known { known ≡ true → AreKnownByNumber P.plans × P.plans self.claim.plan }
         ensures yes { In self.entry.claim queue.old.claimed → Delivers queue.old self.entry.claim self.entry.outcome queue.new }
         ensures no { (In self.entry.claim queue.old.claimed → ⊥) → queue.new ≡ queue.old }
     {
         let Worked { claim, outcome } = self;
-        deliver(queue, claim, outcome);
+        deliver(queue, claim, outcome, known);
     }
 }
 
@@ -148,6 +110,23 @@ impl<'s> TurnedAway<'s> {
     }
 }
 
+/// What the gate answered about a claimed plan. Nobody makes one without asking, and a worker needs one to claim another plan.
+#[derive(Drop)]
+pub(crate) struct Asked {
+    passes: bool,
+}
+
+impl Asked {
+    /// Asks a gate whether the segment of a plan may be sealed.
+    fn about<G: Gate>(gate: &G, plan: PlanRef<'_>) -> Asked
+        ensures { IsAnswer (G.lets gate.now) (G.stops gate.now) (lent plan.entry) result }
+    {
+        Asked {
+            passes: gate.pass(plan.rendition, plan.number),
+        }
+    }
+}
+
 /// What a worker has to seal with: the keys of each rendition, by its number, and the gate that it asks.
 #[derive(Drop)]
 pub(crate) struct Means<'k, G, P: Permit> {
@@ -174,40 +153,51 @@ impl<'k, G: Gate, P: Permit> Means<'k, G, P> {
     }
 
     /// Asks the gate about a claimed plan, and makes its segment ready to be sealed, in a buffer from the shelf. Where that can't be,
-    /// says why.
+    /// says why. Either way with the gate's answer.
     pub(crate) fn begin<'s, R: Wait>(
         &self,
         rt: &R,
         shelf: &Shelf,
         job: Job<'s>,
-    ) -> Result<Begun<'s>, TurnedAway<'s>>
-        ensures claim { IfOk result (λ begun. begun.claim ≡ job.entry.claim) }
-        ensures begun { IfOk result (λ begun. IsBegun (G.lets self.now.gate.now) self.now.keys.now job.entry.claim.plan begun.segment) }
-        ensures same { IfErr result (λ away. away.claim ≡ job.entry.claim) }
-        ensures away { IfErr result (λ away. IsTurnedAway (G.lets self.now.gate.now) (G.stops self.now.gate.now) self.now.keys.now
+    ) -> (Asked, Result<Begun<'s>, TurnedAway<'s>>)
+        ensures asked { IsAnswer (G.lets self.now.gate.now) (G.stops self.now.gate.now) job.entry.claim.plan result.0 }
+        ensures claim { IfOk result.1 (λ begun. begun.claim ≡ job.entry.claim) }
+        ensures begun { IfOk result.1 (λ begun. IsBegun (G.lets self.now.gate.now) self.now.keys.now job.entry.claim.plan begun.segment) }
+        ensures same { IfErr result.1 (λ away. away.claim ≡ job.entry.claim) }
+        ensures away { IfErr result.1 (λ away. IsTurnedAway (G.lets self.now.gate.now) (G.stops self.now.gate.now) self.now.keys.now
             job.entry.claim.plan away.why) }
     {
-        let Job { claim } = job;
-        let plan = claim.plan();
-        if !self.gate.pass(plan.rendition, plan.number) {
-            return Err(TurnedAway {
-                claim,
-                why: Why::Held,
-            });
+        let claim = job.into_claim();
+        let asked = Asked::about(self.gate, claim.plan());
+        let made = match self.unsealed(rt, shelf, claim.plan(), &asked) {
+            Ok(segment) => Ok(Begun { claim, segment }),
+            Err(why) => Err(TurnedAway { claim, why }),
+        };
+        (asked, made)
+    }
+
+    /// The segment of a plan about which the gate was asked, ready to be sealed; or why it can't be.
+    fn unsealed<'s, R: Wait>(
+        &self,
+        rt: &R,
+        shelf: &Shelf,
+        plan: PlanRef<'s>,
+        asked: &Asked,
+    ) -> Result<Unsealed<'s>, Why>
+        requires { IsAnswer (G.lets self.now.gate.now) (G.stops self.now.gate.now) (lent plan) asked.now }
+        ensures ok { IfOk result (IsBegun (G.lets self.now.gate.now) self.now.keys.now (lent plan.entry)) }
+        ensures err { IfErr result (IsTurnedAway (G.lets self.now.gate.now) (G.stops self.now.gate.now) self.now.keys.now (lent plan.entry)) }
+    {
+        if !asked.passes {
+            return Err(Why::Held);
         }
         let Some(own) = self.keys.get(plan.rendition) else {
-            return Err(TurnedAway {
-                claim,
-                why: Why::NoKeys,
-            });
+            return Err(Why::NoKeys);
         };
         let buffer = shelf.take(rt, plan.body.len());
         match Unsealed::within(self.alloc, plan, own, buffer) {
-            Ok(segment) => Ok(Begun { claim, segment }),
-            Err(_) => Err(TurnedAway {
-                claim,
-                why: Why::NoMemory,
-            }),
+            Ok(segment) => Ok(segment),
+            Err(_) => Err(Why::NoMemory),
         }
     }
 }

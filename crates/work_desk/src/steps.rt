@@ -3,16 +3,18 @@
 ghost use Rattle.std.specs.Prelude.{◌≡◌, ◌+◌, ◌<◌, ◌≤◌, ◌∷◌, [], IfErr, IfOk, IfSome, IsSome, None, OnErr, OnOk, false, true, length, Decides};
 ghost use Rattle.cutter.specs.Lent.{lent};
 ghost use Rattle.flow_core.specs.Lists.{In};
-ghost use Rattle.flow_core.specs.Queues.{outstanding, IsOwnOutcome};
+ghost use Rattle.flow_core.specs.Queues.{KnowsClaimed, outstanding, IsOwnOutcome};
+ghost use Rattle.flow_core.specs.declared.outcome.Outcome.TheVariants.{Sealed as IsSealed};
 ghost use Rattle.flow_core.specs.Steps.{Claims, Delivers, Feeds, Gives, IsFirst, Refuses, closed_queue, stopped_queue};
-ghost use Rattle.work_desk.specs.Permits.{IsPermitted, IsPlanned};
+ghost use Rattle.work_desk.specs.Permits.{AreKnownByNumber, IsPermitted, IsPlanned};
 ghost use Rattle.work_desk.specs.Waiting.{WorkersWait, TakerWaits, seen_in};
 
 use crate::gate::Permit;
 use crate::pass::Pass;
 use crate::permitted::PermittedQueue;
 use cutter::PlanRef;
-use flow_core::{Claim, Delivery, Fed, FeedFault, Outcome};
+use flow_core::{Claim, Delivery, Fed, FeedFault, Outcome, Queue};
+use segment_job::Sealed;
 use std::marker::Model;
 use std::sync::ledger::Ledger;
 
@@ -88,6 +90,7 @@ pub fn claim<'s, L: Ledger, M: Ledger, P: Permit>(
     requires { WorkersWait queue.old → ⊥ }
     ensures some { IfOk result (λ claim. Claims queue.old claim queue.new) }
     ensures first { IfOk result (λ claim. (claim.worker ≡ pass.old.number) × (queue.old.waiting ≡ claim.plan ∷ queue.new.waiting)) }
+    ensures planned { IfOk result (λ claim. P.plans claim.plan) }
     ensures none { OnErr result ((queue.new ≡ queue.old) × (queue.old.closed ≡ true) × (queue.old.waiting ≡ [])) }
     ensures seen { IfErr result (λ seen. seen ≡ seen_in queue.old) }
     ensures counted { OnOk result (pass.new.count ≡ pass.old.count + 1) }
@@ -114,6 +117,7 @@ pub fn claim_more<'s, L: Ledger, M: Ledger, P: Permit>(
 ) -> Result<Claim<'s>, Seen>
     ensures some { IfOk result (λ claim. Claims queue.old claim queue.new) }
     ensures first { IfOk result (λ claim. (claim.worker ≡ pass.old.number) × (queue.old.waiting ≡ claim.plan ∷ queue.new.waiting)) }
+    ensures planned { IfOk result (λ claim. P.plans claim.plan) }
     ensures more { OnOk result (left < length queue.old.waiting) }
     ensures none { OnErr result ((queue.new ≡ queue.old) × (length queue.old.waiting ≤ left)) }
     ensures seen { IfErr result (λ seen. seen ≡ seen_in queue.old) }
@@ -136,6 +140,7 @@ pub fn claim_beside<'s, L: Ledger, M: Ledger, P: Permit>(
     ensures some { IfSome result (λ beside. IfOk beside (λ claim. Claims queue.old claim queue.new)) }
     ensures first { IfSome result (λ beside. IfOk beside (λ claim.
         (claim.worker ≡ pass.old.number) × (queue.old.waiting ≡ claim.plan ∷ queue.new.waiting))) }
+    ensures planned { IfSome result (λ beside. IfOk beside (λ claim. P.plans claim.plan)) }
     ensures none { IfSome result (λ beside. IfErr beside (λ seen. (queue.new ≡ queue.old) × (queue.old.waiting ≡ []) × (seen.waiting ≡ 0))) }
     ensures counted { IfSome result (λ beside. OnOk beside (pass.new.count ≡ pass.old.count + 1)) }
     ensures uncounted { IfSome result (λ beside. OnErr beside (pass.new.count ≡ pass.old.count)) }
@@ -149,20 +154,22 @@ pub fn claim_beside<'s, L: Ledger, M: Ledger, P: Permit>(
     Some(claim_more(queue, 0, pass))
 }
 
-/// Something became of a claimed plan. Nothing changes where nobody has that claim.
+/// Something became of a claimed plan. Nothing changes where nobody has that claim, which may be known by its plan's rendition and number.
 pub fn deliver<'s, L: Ledger, M: Ledger, P: Permit>(
     queue: &mut PermittedQueue<'s, L, M, P>,
     claim: Claim<'s>,
     outcome: Outcome<'s>,
+    known: bool,
 )
     requires own { IsOwnOutcome claim.plan outcome }
     requires permitted { IsPermitted P.permits outcome }
+    requires known { known ≡ true → AreKnownByNumber P.plans × P.plans claim.plan }
     ensures yes { In claim.entry queue.old.claimed → Delivers queue.old claim.entry outcome.entry queue.new }
     ensures no { (In claim.entry queue.old.claimed → ⊥) → queue.new ≡ queue.old }
 {
     match outcome {
         Outcome::Sealed(segment) => {
-            let _ = queue.inner.deliver(claim, segment);
+            let _ = deliver_segment(&mut queue.inner, claim, segment, known);
         }
         Outcome::Refused => {
             let _ = queue.inner.refuse(claim);
@@ -171,6 +178,25 @@ pub fn deliver<'s, L: Ledger, M: Ledger, P: Permit>(
             let _ = queue.inner.hold(claim);
         }
     }
+}
+
+/// The segment of a claimed plan is done. False where nobody has that claim, which may be known by its plan's rendition and number.
+fn deliver_segment<'s, L: Ledger, M: Ledger>(
+    queue: &mut Queue<'s, L, M>,
+    claim: Claim<'s>,
+    segment: Sealed<'s>,
+    known: bool,
+) -> bool
+    requires own { segment.plan ≡ claim.plan }
+    requires known { known ≡ true → KnowsClaimed queue.old.claimed claim.plan }
+    ensures claimed { Decides result (In claim.entry queue.old.claimed) }
+    ensures yes { result ≡ true → Delivers queue.old claim.entry (IsSealed segment.entry) queue.new }
+    ensures no { result ≡ false → queue.new ≡ queue.old }
+{
+    if known {
+        return queue.deliver_known(claim, segment);
+    }
+    queue.deliver(claim, segment)
 }
 
 /// Takes what has been done the longest; none where nothing is done.

@@ -1,14 +1,14 @@
 //! A worker's run.
 
 ghost use Rattle.std.specs.Prelude.{◌≡◌, ◌⊎◌, ◌+◌, IfErr, IfNone, IfOk, IfSome, None, OnErr, OnOk, Some, true};
-ghost use Rattle.work_desk.specs.Batches.{AreLetThrough, IsLetThrough};
+ghost use Rattle.work_desk.specs.Batches.{AreJobsPlanned, AreLetThrough, IsLetThrough};
 ghost use Rattle.work_desk.specs.Permits.{LetsOnly};
 ghost use Rattle.work_desk.specs.Works.{IsBegun};
 
-use crate::desk::Desk;
+use crate::desk::{Desk, Job, Jobs};
 use crate::gate::{Gate, Permit};
 use crate::pass::{Pass, Tally};
-use crate::sealing::{Begun, Job, Jobs, Means, finish_four, finish_one, finish_two};
+use crate::sealing::{Asked, Begun, Means, finish_four, finish_one, finish_two};
 use crate::steps::Seen;
 use segment_job::Keys;
 use std::alloc::Global;
@@ -114,7 +114,7 @@ fn begin_some<'s, L: Ledger, M: Ledger, P: Permit, G: Gate, R: Wait>(
     ensures asked { IfOk result (λ batch. IfNone batch.no_more (pass.new.count ≡ pass.old.count + 4)) }
     ensures paired { desk.now.pairs ≡ true → IfOk result (λ batch. IfSome batch.no_more (λ seen.
         (pass.new.count ≡ pass.old.count + 2) ⊎ (seen.waiting ≡ 0))) }
-    ensures permitted { IfOk result (AreLetThrough P.permits) }
+    ensures permitted { IfOk result (AreLetThrough P.permits P.plans) }
 {
     let jobs = match desk.next_jobs(rt, pass) {
         Ok(jobs) => jobs,
@@ -125,8 +125,8 @@ fn begin_some<'s, L: Ledger, M: Ledger, P: Permit, G: Gate, R: Wait>(
         Ok(job) => job,
         Err(seen) => return Ok(Batch::short(first, None, None, seen)),
     };
-    let second = begin(rt, desk, means, job);
-    let jobs = match desk.more_jobs(rt, pass) {
+    let (asked, second) = begin(rt, desk, means, job);
+    let jobs = match desk.more_jobs(rt, pass, asked) {
         Ok(jobs) => jobs,
         Err(seen) => return Ok(Batch::short(first, second, None, seen)),
     };
@@ -135,7 +135,7 @@ fn begin_some<'s, L: Ledger, M: Ledger, P: Permit, G: Gate, R: Wait>(
         Ok(job) => job,
         Err(seen) => return Ok(Batch::short(first, second, third, seen)),
     };
-    let fourth = begin(rt, desk, means, job);
+    let (_, fourth) = begin(rt, desk, means, job);
     Ok(Batch {
         first,
         second,
@@ -155,39 +155,43 @@ fn begin_and_claim<'s, L: Ledger, M: Ledger, P: Permit, G: Gate, R: Wait>(
     jobs: Jobs<'s>,
 ) -> (Option<Begun<'s>>, Result<Job<'s>, Seen>)
     requires only { LetsOnly (G.lets means.now.gate.now) P.permits }
+    requires planned { AreJobsPlanned P.plans jobs }
     ensures number { pass.new.number ≡ pass.old.number }
     ensures beside { IfSome jobs.entry.beside (λ beside. (result.1 ≡ beside) × (pass.new.count ≡ pass.old.count)) }
     ensures counted { IfNone jobs.entry.beside (OnOk result.1 (pass.new.count ≡ pass.old.count + 1)) }
     ensures uncounted { OnErr result.1 (pass.new.count ≡ pass.old.count) }
+    ensures planned { IfOk result.1 (λ job. P.plans job.claim.plan) }
     ensures claim { IfSome result.0 (λ begun. begun.claim ≡ jobs.entry.job.claim) }
     ensures begun { IfSome result.0 (λ begun. IsBegun (G.lets means.now.gate.now) means.now.keys.now jobs.entry.job.claim.plan begun.segment) }
-    ensures permitted { IsLetThrough P.permits result.0 }
+    ensures permitted { IsLetThrough P.permits P.plans result.0 }
 {
     let Jobs { job, beside } = jobs;
-    let begun = begin(rt, desk, means, job);
+    let (asked, begun) = begin(rt, desk, means, job);
     match beside {
         Some(beside) => (begun, beside),
-        None => (begun, desk.more_job(rt, pass)),
+        None => (begun, desk.more_job(rt, pass, asked)),
     }
 }
 
-/// Makes the segment of a claimed plan ready. What can't be sealed is delivered at once.
+/// Makes the segment of a claimed plan ready, and answers what the gate said of it. What can't be sealed is delivered at once.
 fn begin<'s, L: Ledger, M: Ledger, P: Permit, G: Gate, R: Wait>(
     rt: &R,
     desk: &Desk<'s, L, M, P>,
     means: &Means<'_, G, P>,
     job: Job<'s>,
-) -> Option<Begun<'s>>
+) -> (Asked, Option<Begun<'s>>)
     requires only { LetsOnly (G.lets means.now.gate.now) P.permits }
-    ensures claim { IfSome result (λ begun. begun.claim ≡ job.entry.claim) }
-    ensures begun { IfSome result (λ begun. IsBegun (G.lets means.now.gate.now) means.now.keys.now job.entry.claim.plan begun.segment) }
-    ensures permitted { IsLetThrough P.permits result }
+    requires planned { P.plans job.claim.plan }
+    ensures claim { IfSome result.1 (λ begun. begun.claim ≡ job.entry.claim) }
+    ensures begun { IfSome result.1 (λ begun. IsBegun (G.lets means.now.gate.now) means.now.keys.now job.entry.claim.plan begun.segment) }
+    ensures permitted { IsLetThrough P.permits P.plans result.1 }
 {
-    match means.begin(rt, desk.shelf(), job) {
-        Ok(begun) => Some(begun),
+    let (asked, made) = means.begin(rt, desk.shelf(), job);
+    match made {
+        Ok(begun) => (asked, Some(begun)),
         Err(away) => {
             desk.hand_in(rt, away.into_worked());
-            None
+            (asked, None)
         }
     }
 }
@@ -198,7 +202,7 @@ fn finish_all<'s, L: Ledger, M: Ledger, P: Permit, R: Wait>(
     desk: &Desk<'s, L, M, P>,
     batch: Batch<'s>,
 )
-    requires { AreLetThrough P.permits batch }
+    requires { AreLetThrough P.permits P.plans batch }
 {
     let Batch {
         first,
@@ -229,8 +233,8 @@ fn finish_pair<'s, L: Ledger, M: Ledger, P: Permit, R: Wait>(
     first: Option<Begun<'s>>,
     second: Option<Begun<'s>>,
 )
-    requires first { IsLetThrough P.permits first }
-    requires second { IsLetThrough P.permits second }
+    requires first { IsLetThrough P.permits P.plans first }
+    requires second { IsLetThrough P.permits P.plans second }
 {
     match (first, second) {
         (Some(first), Some(second)) => {

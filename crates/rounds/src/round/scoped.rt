@@ -1,6 +1,6 @@
 //! A round in a scope of threads: the workers seal at the desk, and the calling thread drives.
 
-ghost use Rattle.std.specs.Prelude.{◌≡◌, ◌+◌, ◌<◌, ◌≤◌, ◌^◌, Err, IfErr, OnOk, length, sum, vec_len};
+ghost use Rattle.std.specs.Prelude.{◌≡◌, ◌+◌, ◌<◌, ◌≤◌, ◌^◌, Err, IfErr, OnOk, length, sum, true, vec_len};
 ghost use Rattle.ladder_items.specs.declared.fault.PackFault.TheVariants.{NoMemory};
 ghost use Rattle.rounds.specs.Gated.{IsGatesWord};
 ghost use Rattle.rounds.specs.Paces.{pace_in};
@@ -48,6 +48,7 @@ pub fn in_scope<
     requires known { AreKnownByNumber P.plans }
     requires queue { desk.now.most ≡ setup.now.settings.now.queue }
     requires paired { desk.now.pairs ≡ setup.now.pairs }
+    requires by_number { desk.now.known ≡ true }
     requires each { length spools.now ≡ length setup.now.settings.now.renditions }
     requires on { IsSomeFull S.input O.output setup.now.settings.now spools.now between.broadcast }
     requires unused { crew.balance.taker.count ≡ 0 }

@@ -123,6 +123,6 @@ fn round_with<
         claims: counts,
     };
     let crew = Crew { workers, balance };
-    let desk = desk.with_pairs(setup.pairs);
+    let desk = desk.with_pairs(setup.pairs).with_known_plans();
     in_scope(setup, keys, spools, &desk, crew, between)
 }
