@@ -98,7 +98,7 @@ pool_texts =
     ∷ record {
       name = codes "ahead";
       value = codes "MIB";
-      help = codes "How much is read ahead of all streams together, 1 to 65536 [default: 32 for each]";
+      help = codes "How much is read ahead of all streams together, 1 to 65536 [default: 32 for each, 8 for a plain file]";
       default = None;
     }
     ∷ []

@@ -101,7 +101,7 @@ const POOL: [NumberOption; 5] = [
     (
         "ahead",
         "MIB",
-        "How much is read ahead of all streams together, 1 to 65536 [default: 32 for each]",
+        "How much is read ahead of all streams together, 1 to 65536 [default: 32 for each, 8 for a plain file]",
         None,
     ),
 ];

@@ -38,7 +38,7 @@ pub struct Pool {
     pub batch: Option<u64>,
     /// An input that gives nothing for so many seconds, 1 to 86,400, fails. Where it isn't told, none does.
     pub stall: Option<u64>,
-    /// The most MiB that are read ahead of all inputs together, 1 to 65,536. Where it isn't told, 32 of each.
+    /// The most MiB that are read ahead of all inputs together, 1 to 65,536. Where it isn't told, 32 of each, or 8 of a plain file.
     pub ahead: Option<u64>,
 }
 

@@ -41,7 +41,7 @@ use Rattle.program.specs.declared.watching.RunLook.TheVariants as look
 pub record AreOpened (job : LadderJob) (left : List (Option (List ℕ))) (inputs : List Seen) : Type 0 where
   pub left_is : map (λ (s : Seen). s.left) inputs ≡ left
   pub unread : All (λ (s : Seen). (s.reads ≡ 0) × (s.failures ≡ 0)) inputs
-  pub limits : All (λ (s : Seen). IsAsAsked job.options.pool.stall job.options.pool.ahead (length job.options.paths.items) s.stall s.room) inputs
+  pub limits : All (λ (s : Seen). IsAsAsked job.options.pool.stall job.options.pool.ahead (length job.options.paths.items) s.stall s.is_file s.room) inputs
 
 -- a view is of all of so many inputs; there is none where there is no input
 abbrev pub ShowsAll : ℕ → Option InputsView → Type 0

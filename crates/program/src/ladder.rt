@@ -365,7 +365,8 @@ where
     ensures unread { IfOk result (λ inputs. All (λ source. (source.reads ≡ 0) × (source.failures ≡ 0)) inputs.sources.items) }
     ensures numbers { IfOk result (λ inputs. map (λ source. source.number) inputs.sources.items ≡ range_with_len 0 (length options.now.paths.items)) }
     ensures limits { IfOk result (λ inputs. All (λ source.
-        IsAsAsked options.now.pool.stall options.now.pool.ahead (length options.now.paths.items) source.stall source.room) inputs.sources.items) }
+        IsAsAsked options.now.pool.stall options.now.pool.ahead (length options.now.paths.items) source.stall source.is_file source.room)
+        inputs.sources.items) }
     ensures view { IfOk result (λ inputs. IsSome inputs.view ↔ 0 < length options.now.paths.items) }
 
     // The view is of all of them.

@@ -1,6 +1,6 @@
 -- Sources of inputs that were just opened.
-use Rattle.std.proofs.Common.{All, arith, ◌≡◌, refl, ◌∙◌, ap, ap₂, sym, ℕ, suc, ◌+◌, List, [], ◌∷◌, ◌++◌, append_assoc, length, map, Option}
-use Rattle.std.proofs.lemmas.List.{map-append, length-map}
+use Rattle.std.proofs.Common.{All, arith, ◌≡◌, refl, ◌∙◌, ap, ap₂, sym, ℕ, suc, ◌+◌, List, [], ◌∷◌, ◌++◌, append_assoc, length, map, Option, Bool, false, get_or}
+use Rattle.std.proofs.lemmas.List.{map-append, length-append, length-map, get_or_at}
 use Rattle.std.proofs.lemmas.List.Elements.{All-cons, All-nil}
 use Rattle.std.specs.Arc.{arc_value}
 use Rattle.std.specs.List.{range_with_len}
@@ -28,6 +28,21 @@ pub all_numbers : (backlogs : Backlogs) (number : ℕ) (lefts : List (Option (Li
     map (λ (s : Seen). s.number) (all_seen backlogs number lefts) ≡ range_with_len number (length lefts)
 all_numbers backlogs number [] = refl
 all_numbers backlogs number (l ∷ lefts) = ap (λ rest. number ∷ rest) (all_numbers backlogs (number + 1) lefts)
+
+-- from the number on behind `before`, the answers whether inputs are plain files are these
+files_from : (backlogs : Backlogs) (number : ℕ) (lefts : List (Option (List ℕ))) (before files : List Bool) → backlogs.files.items ≡ before ++ files → length before ≡ number →
+    length lefts ≡ length files → map (λ (s : Seen). s.is_file) (all_seen backlogs number lefts) ≡ files
+files_from backlogs number [] before [] are at many = refl
+files_from backlogs number [] before (f ∷ files) are at many = absurd (omega (arith, many))
+files_from backlogs number (l ∷ lefts) before [] are at many = absurd (omega (arith, many))
+files_from backlogs number (l ∷ lefts) before (f ∷ files) are at many =
+    ap₂ (λ (b : Bool) (bs : List Bool). b ∷ bs)
+    (ap (λ (bs : List Bool). get_or bs number false) are ∙ get_or_at before f files false number at)
+    (files_from backlogs (number + 1) lefts (before ++ f ∷ []) files (are ∙ sym (append_assoc before (f ∷ []) files)) (omega (arith, at, length-append before (f ∷ []))) (omega (arith, many)))
+
+pub all_files : (backlogs : Backlogs) (lefts : List (Option (List ℕ))) → length lefts ≡ length backlogs.files.items →
+    map (λ (s : Seen). s.is_file) (all_seen backlogs 0 lefts) ≡ backlogs.files.items
+all_files backlogs lefts many = files_from backlogs 0 lefts [] backlogs.files.items refl refl many
 
 -- what holds of each new one holds of all
 pub each_new : (P : Seen → Type 0) (backlogs : Backlogs) (number : ℕ) (lefts : List (Option (List ℕ))) → ((n : ℕ) (l : Option (List ℕ)) → P (new_seen backlogs n l)) →

@@ -3,7 +3,7 @@ use Rattle.std.specs.Prelude.{ℕ, ◌+◌, ◌-◌, ◌*◌, ◌/◌, ◌^◌, 
 use Rattle.read_ahead.specs.declared.backlog.Backlog.{Backlog}
 use Rattle.ts_packet.specs.declared.lengths.TheConstants.{PACKET}
 use Rattle.item_io.specs.declared.limits.TheConstants.{PIECE}
-use Rattle.read_ahead.specs.declared.limits.TheConstants.{BLOCK, ROOM}
+use Rattle.read_ahead.specs.declared.limits.TheConstants.{BLOCK, FILE_ROOM, ROOM}
 
 -- so many things in parts of this size: how many parts they are, the last of which may be smaller
 abbrev pub parts : ℕ → ℕ → ℕ
@@ -27,11 +27,11 @@ abbrev pub is_full : ℕ → ℕ → ℕ → Backlog → Bool
 is_full room blocks count backlog =
     (not backlog.left) && (not (backlog.bytes == 0)) && (nat_le blocks backlog.blocks || nat_lt room (backlog.bytes + count))
 
--- the room of each of so many inputs: their part of the MiB that all may take together, and a block at least; 32 MiB where no bound
--- is asked for
-abbrev pub room_for : Option ℕ → ℕ → ℕ
-room_for None inputs = ROOM
-room_for (Some ahead) inputs = max BLOCK (min (ahead * 2 ^ 20) (2 ^ 64 - 1) / max inputs 1)
+-- the room of each of so many inputs: their part of the MiB that all may take together, and a block at least; where no bound is asked
+-- for, 8 MiB of a plain file, and 32 MiB of another input
+abbrev pub room_for : Option ℕ → ℕ → Bool → ℕ
+room_for None inputs is_file = if is_file then FILE_ROOM else ROOM
+room_for (Some ahead) inputs is_file = max BLOCK (min (ahead * 2 ^ 20) (2 ^ 64 - 1) / max inputs 1)
 
 -- a sixteenth of the room is free again, so that a thread may go on that waits for room
 abbrev pub is_low : ℕ → Backlog → Bool

@@ -8,7 +8,7 @@ use Rattle.item_io.specs.Views.{SourceView, source_view}
 use Rattle.rtrb.specs.Ring.{known_items, received}
 use Rattle.std.specs.Arc.{arc_value}
 use Rattle.read_ahead.specs.Messages.{untold}
-use Rattle.read_ahead.specs.Shares.{backlog_of}
+use Rattle.read_ahead.specs.Shares.{backlog_of, room_for}
 use Rattle.read_ahead.specs.declared.backlog.Backlog.{Backlog}
 use Rattle.read_ahead.specs.declared.backlogs.Backlogs.{Backlogs}
 use Rattle.read_ahead.specs.declared.view.InputsView.{InputsView}
@@ -60,14 +60,15 @@ pub record Waits {I : Type 0} (i : Incoming I) : Type 0 where
   pub none : known_items i.consumer ≡ []
 
 -- a source, as its callers see it: the bytes that are left, where the input tells them, how many reads gave a byte, how many
--- failed, and whether it was left and not read since; its input's number, for how long that may be silent, and how many bytes of it may lie ready; how many inputs were opened
--- together
+-- failed, and whether it was left and not read since; its input's number, whether that is a plain file, for how long it may be silent,
+-- and how many bytes of it may lie ready; how many inputs were opened together
 pub record Seen : Type 0 where
   pub left : Option (List ℕ)
   pub reads : ℕ
   pub failures : ℕ
   pub is_left : Bool
   pub number : ℕ
+  pub is_file : Bool
   pub stall : Option Duration
   pub room : ℕ
   pub inputs : ℕ
@@ -75,6 +76,14 @@ pub record Seen : Type 0 where
 -- an input that is read ahead, as a run sees it
 abbrev pub ahead_input : SourceView Seen
 ahead_input = source_view (λ s. s.left) (λ s. s.reads) (λ s. s.failures) (λ s. s.is_left)
+
+-- whether the input of this number is a plain file
+abbrev pub is_file_of : Backlogs → ℕ → Bool
+is_file_of backlogs number = slice_index_or backlogs.files.items number false
+
+-- how many bytes of it may lie ready, but for a block that was put where none did
+abbrev pub room_of : Backlogs → ℕ → ℕ
+room_of backlogs number = room_for backlogs.limits.ahead (length backlogs.taken.items) (is_file_of backlogs number)
 
 -- what callers see of a source that wasn't read yet: of an input of this number that has these bytes
 abbrev pub new_seen : Backlogs → ℕ → Option (List ℕ) → Seen
@@ -84,8 +93,9 @@ new_seen backlogs number left = record {
   failures = 0;
   is_left = false;
   number = number;
-  stall = backlogs.stall;
-  room = backlogs.room;
+  is_file = is_file_of backlogs number;
+  stall = backlogs.limits.stall;
+  room = room_of backlogs number;
   inputs = length backlogs.taken.items;
 }
 

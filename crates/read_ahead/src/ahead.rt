@@ -32,7 +32,7 @@ pub struct Ahead<R: Wait, I: Contents> {
 impl<R: Wait, I: Contents> Model for Ahead<R, I> {
     ghost use Rattle.std.specs.Prelude.{◌≡◌, length, true};
     ghost use Rattle.std.specs.Arc.{arc_value};
-    ghost use Rattle.read_ahead.specs.Sources.{IsSound, Seen, StopsIfLeft, rest_of};
+    ghost use Rattle.read_ahead.specs.Sources.{IsSound, Seen, StopsIfLeft, is_file_of, rest_of, room_of};
 
     ghost Value = { Seen };
 
@@ -42,8 +42,9 @@ impl<R: Wait, I: Contents> Model for Ahead<R, I> {
       failures = s.failures;
       is_left = s.is_left;
       number = s.incoming.number;
-      stall = (arc_value s.incoming.backlogs).stall;
-      room = (arc_value s.incoming.backlogs).room;
+      is_file = is_file_of (arc_value s.incoming.backlogs) s.incoming.number;
+      stall = (arc_value s.incoming.backlogs).limits.stall;
+      room = room_of (arc_value s.incoming.backlogs) s.incoming.number;
       inputs = length (arc_value s.incoming.backlogs).taken.items;
     } };
 

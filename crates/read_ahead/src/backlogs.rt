@@ -1,12 +1,14 @@
 //! The backlogs of all inputs under one lock, and who waits for them. No claim on bytes rests on it.
 ghost use Rattle.std.specs.Prelude.{◌≡◌, ◌≢◌, ◌<◌, None, Decides, IfOk, OnErr, false, length, true};
 ghost use Rattle.std.specs.Arc.{arc_value};
+ghost use Rattle.std.specs.List.{AllZip};
 ghost use Rattle.read_ahead.specs.Counts.{Begin};
-ghost use Rattle.read_ahead.specs.Shares.{room_for};
+ghost use Rattle.read_ahead.specs.Sources.{room_of};
 ghost use Rattle.read_ahead.specs.declared.clock_reading.ClockReading.{ClockReading};
 
 use crate::clock_reading::ClockReading;
 use crate::counts::{Awaited, Begun, Counts, Given, Leaving, News, Room, Share, Silence, Waited};
+use crate::input::Input;
 use crate::limits::Limits;
 use crate::patience::Patience;
 use crate::pushing::Pushed;
@@ -25,69 +27,80 @@ pub struct Backlogs {
     came: Condvar,
     /// Of an input bytes were taken, or no more are given.
     taken: Vec<Condvar>,
-    /// The most bytes of an input that lie ready, but for a block that was put where none did.
-    pub room: usize,
-    /// An input that gives nothing for so long is silent. If absent, none ever is.
-    pub stall: Option<Duration>,
+    /// Whether each input is a plain file.
+    pub files: Vec<bool>,
+    /// How much of them lies ready at the most, and behind which stall each is silent.
+    pub limits: Limits,
 }
 
 impl Backlogs {
-    /// So many inputs, of which none gave anything yet. Their threads begin to wait for them.
-    pub fn new<R: Clock>(
+    /// Those of inputs of which none gave anything yet. Their threads begin to wait for them.
+    pub fn new<R: Clock, I: Input>(
         rt: &R,
         alloc: Global,
-        count: usize,
+        inputs: &[I],
         limits: Limits,
     ) -> Result<Arc<Backlogs, Global>, AllocError>
-        ensures stall { IfOk result (λ backlogs. (arc_value backlogs).stall ≡ limits.stall) }
-        ensures room { IfOk result (λ backlogs. (arc_value backlogs).room ≡ room_for limits.ahead count) }
-        ensures taken { IfOk result (λ backlogs. length (arc_value backlogs).taken.items ≡ count) }
+        ensures limits { IfOk result (λ backlogs. (arc_value backlogs).limits ≡ limits) }
+        ensures files { IfOk result (λ backlogs. AllZip I.plain inputs.now (arc_value backlogs).files.items) }
+        ensures taken { IfOk result (λ backlogs. length (arc_value backlogs).taken.items ≡ length inputs.now) }
     {
+        let count = inputs.len();
         let mut taken = Vec::with_capacity(alloc, count)?;
         for _ in 0..count {
             taken.push(Condvar::new())?;
         }
+        let files = files_of(alloc, inputs)?;
         let counts = Counts::new(alloc, count, ClockReading::now(rt))?;
-        Backlogs::under_lock(alloc, counts, taken, limits)
+        Backlogs::under_lock(alloc, counts, taken, files, limits)
     }
 
-    /// Those of inputs of which none gave anything yet: their counts, and what their threads wait for.
+    /// Those of inputs of which none gave anything yet: their counts, what their threads wait for, and which are plain files.
     fn under_lock(
         alloc: Global,
         counts: Counts,
         taken: Vec<Condvar>,
+        files: Vec<bool>,
         limits: Limits,
     ) -> Result<Arc<Backlogs, Global>, AllocError>
         requires { (since : ClockReading) × Begin counts (length taken.items) since.at }
-        ensures stall { IfOk result (λ backlogs. (arc_value backlogs).stall ≡ limits.stall) }
-        ensures room { IfOk result (λ backlogs. (arc_value backlogs).room ≡ room_for limits.ahead (length taken.items)) }
+        ensures limits { IfOk result (λ backlogs. (arc_value backlogs).limits ≡ limits) }
+        ensures files { IfOk result (λ backlogs. (arc_value backlogs).files ≡ files) }
         ensures taken { IfOk result (λ backlogs. (arc_value backlogs).taken ≡ taken) }
     {
-        let room = limits.room(taken.len());
         Ok(Arc::new(
             alloc,
             Backlogs {
                 counts: Mutex::new(counts),
                 came: Condvar::new(),
                 taken,
-                room,
-                stall: limits.stall,
+                files,
+                limits,
             },
         )?)
+    }
+
+    /// How many bytes of an input may lie ready.
+    fn room_of(&self, number: usize) -> usize
+        ensures { result ≡ room_of self.now number }
+    {
+        let is_file = self.files.get(number).copied().unwrap_or(false);
+        self.limits.room(self.taken.len(), is_file)
     }
 
     /// Waits until there is room for a block, and counts it, or until no more is given.
     pub fn put<R: Wait>(&self, rt: &R, number: usize, count: usize) -> Room
         ensures of { result.number ≡ number }
         ensures counted { result.is_given ≡ true → result.count ≡ count }
-        ensures bound { result.is_given ≡ true → result.room ≡ self.now.room }
+        ensures bound { result.is_given ≡ true → result.room ≡ room_of self.now number }
     {
         let Some(taken) = self.taken.get(number) else {
             return Room::of_none(&self.taken, number);
         };
+        let most = self.room_of(number);
         let mut counts = self.counts.lock(rt);
         for _ in rt.forever() {
-            if let Some(room) = counts.put(number, self.room, count) {
+            if let Some(room) = counts.put(number, most, count) {
                 return room;
             }
             counts = taken.wait(rt, counts);
@@ -111,7 +124,7 @@ impl Backlogs {
     pub fn wait_past<R: Wait + Clock>(&self, rt: &R, seen: News, _unready: Unready) -> WaitEnd
         requires { 0 < _unready.count }
         ensures over { Decides result.is_over (result.news ≡ seen.count) }
-        ensures patient { self.now.stall ≡ None → result.news ≢ seen.count }
+        ensures patient { self.now.limits.stall ≡ None → result.news ≢ seen.count }
     {
         let counts = self.counts.lock(rt);
         match self.patience(rt, &counts).most() {
@@ -162,9 +175,9 @@ impl Backlogs {
 
     /// How long no input falls silent that is given.
     fn patience<R: Clock>(&self, rt: &R, counts: &Counts) -> Patience
-        ensures { self.now.stall ≡ None → result.most ≡ None }
+        ensures { self.now.limits.stall ≡ None → result.most ≡ None }
     {
-        Patience::new(self.stall, ClockReading::now(rt), counts)
+        Patience::new(self.limits.stall, ClockReading::now(rt), counts)
     }
 
     /// The thread of an input begins to wait for its next bytes, or still waits for its first ones.
@@ -185,11 +198,11 @@ impl Backlogs {
     /// Whether an input gave nothing for too long.
     pub fn silence<R: Wait + Clock>(&self, rt: &R, number: usize) -> Silence
         ensures of { result.number ≡ number }
-        ensures limit { result.stall ≡ self.now.stall }
-        ensures never { self.now.stall ≡ None → result.is_over ≡ false }
+        ensures limit { result.stall ≡ self.now.limits.stall }
+        ensures never { self.now.limits.stall ≡ None → result.is_over ≡ false }
     {
-        let Some(stall) = self.stall else {
-            return Silence::without(self.stall, number);
+        let Some(stall) = self.limits.stall else {
+            return Silence::without(self.limits.stall, number);
         };
         let now = ClockReading::now(rt);
         self.counts.lock(rt).silence(number, stall, now)
@@ -229,8 +242,10 @@ impl Backlogs {
     pub fn give<R: Wait>(&self, rt: &R, number: usize, count: usize) -> Given
         ensures of { result.number ≡ number }
         ensures counted { result.count ≡ count }
+        ensures bound { result.room ≡ room_of self.now number }
     {
-        let (given, is_low) = self.counts.lock(rt).give(number, count, self.room);
+        let most = self.room_of(number);
+        let (given, is_low) = self.counts.lock(rt).give(number, count, most);
         if is_low {
             self.wake(number);
         }
@@ -252,4 +267,16 @@ impl Backlogs {
             taken.notify_one();
         }
     }
+}
+
+/// Whether each input is a plain file.
+fn files_of<I: Input>(alloc: Global, inputs: &[I]) -> Result<Vec<bool>, AllocError>
+    ensures ok { IfOk result (λ files. AllZip I.plain inputs.now files.items) }
+    ensures scarce { OnErr result (0 < length inputs.now) }
+{
+    let mut files = Vec::with_capacity(alloc, inputs.len())?;
+    for input in inputs {
+        files.push(input.is_file())?;
+    }
+    Ok(files)
 }

@@ -87,11 +87,13 @@ impl Begun {
     }
 }
 
-/// A read of an input was answered with so many bytes. Only that they were counted under the lock makes one.
+/// A read of an input was answered with so many bytes, and its thread is to go on where it waits for this room and enough of it is
+/// free. Only that they were counted under the lock makes one.
 #[derive(Drop)]
 pub struct Given {
     number: usize,
     count: usize,
+    room: usize,
 }
 
 impl Given {
@@ -330,18 +332,23 @@ impl Counts {
 
     /// A read of an input was answered with so many bytes. Answers also whether a thread may go on that waits for room.
     pub fn give(&mut self, number: usize, count: usize, room: usize) -> (Given, bool)
-        ensures of { (result.0.number ≡ number) × (result.0.count ≡ count) }
+        ensures of { (result.0.number ≡ number) × (result.0.count ≡ count) × (result.0.room ≡ room) }
         ensures given { number < length self.old.backlogs.items → self.new.backlogs.items ≡ slice_set self.old.backlogs.items number
             (record (backlog_of self.old.backlogs.items number) { bytes = (backlog_of self.old.backlogs.items number).bytes - count }) }
         ensures low { number < length self.old.backlogs.items → result.1 ≡ is_low room (backlog_of self.new.backlogs.items number) }
         ensures same { self.new ≡ record self.old { backlogs = self.new.backlogs } }
     {
+        let given = Given {
+            number,
+            count,
+            room,
+        };
         if number >= self.backlogs.len() {
-            return (Given { number, count }, false);
+            return (given, false);
         }
         self.backlogs[number].give(count);
         let is_low = self.backlogs[number].is_low(room);
-        (Given { number, count }, is_low)
+        (given, is_low)
     }
 
     /// No more of an input is given.

@@ -97,7 +97,7 @@ impl<I: Contents> Incoming<I> {
         ensures of { result.number ≡ self.old.number }
         ensures left { was_left ≡ true → result.is_ready ≡ false }
         ensures waits { was_left ≡ false → result.is_ready ≡ false → Waits self.new }
-        ensures patient { (arc_value self.old.backlogs).stall ≡ None → result.is_ready ≡ true → LiesReady self.new }
+        ensures patient { (arc_value self.old.backlogs).limits.stall ≡ None → result.is_ready ≡ true → LiesReady self.new }
     {
         let _ = self.is_open(rt, true);
         if was_left {
@@ -125,7 +125,7 @@ impl<I: Contents> Incoming<I> {
         ensures waits { self.new.phase ≡ Opening → result ≡ (if was_awaited && self.old.may_wait then Some true else None) }
         ensures empty { self.new.phase ≡ Opening → known_items self.new.consumer ≡ [] }
         ensures open { self.new.phase ≢ Opening → self.new.phase ≢ Failed → result ≡ Some true }
-        ensures patient { (arc_value self.old.backlogs).stall ≡ None → self.new.phase ≡ Failed →
+        ensures patient { (arc_value self.old.backlogs).limits.stall ≡ None → self.new.phase ≡ Failed →
             (self.old.phase ≡ Failed) ⊎ (length (received self.old.consumer) < length (received self.new.consumer)) }
     {
         if matches!(self.phase, Phase::Opening) {
@@ -182,7 +182,7 @@ impl<I: Contents> Incoming<I> {
         ensures same { rest_of I.holds self.new ≡ rest_of I.holds self.old }
         ensures phase { self.new.phase ≢ Opening }
         ensures stands { StandsBy opened_by (received self.old.consumer) (received self.new.consumer) self.new.phase }
-        ensures patient { (arc_value self.old.backlogs).stall ≡ None →
+        ensures patient { (arc_value self.old.backlogs).limits.stall ≡ None →
             TakesNext opened_by (received self.old.consumer) (received self.new.consumer) self.new.phase }
     {
         let message = match wait_message(rt, &self.backlogs, self.number, &mut self.consumer) {
@@ -211,7 +211,7 @@ impl<I: Contents> Incoming<I> {
         ensures some { (self.new.at < length self.new.front.items) ⊎ (self.new.phase ≢ Going) }
         ensures phase { self.new.phase ≢ Opening }
         ensures stands { StandsBy going_by (received self.old.consumer) (received self.new.consumer) self.new.phase }
-        ensures patient { (arc_value self.old.backlogs).stall ≡ None →
+        ensures patient { (arc_value self.old.backlogs).limits.stall ≡ None →
             TakesNext going_by (received self.old.consumer) (received self.new.consumer) self.new.phase }
         ensures ready { 0 < length (known_items self.old.consumer) →
             TakesNext going_by (received self.old.consumer) (received self.new.consumer) self.new.phase }
@@ -246,7 +246,7 @@ impl<I: Contents> Incoming<I> {
         ensures ended { self.old.phase ≡ Ended → self.new.phase ≡ Ended }
         ensures stands { self.old.phase ≡ Going → ((received self.new.consumer ≡ received self.old.consumer) × (self.new.phase ≡ Going))
             ⊎ StandsBy going_by (received self.old.consumer) (received self.new.consumer) self.new.phase }
-        ensures patient { (arc_value self.old.backlogs).stall ≡ None → self.new.phase ≡ Failed →
+        ensures patient { (arc_value self.old.backlogs).limits.stall ≡ None → self.new.phase ≡ Failed →
             (self.old.phase ≡ Failed) ⊎ (length (received self.old.consumer) < length (received self.new.consumer)) }
         ensures grows { length (received self.old.consumer) ≤ length (received self.new.consumer) }
     {
@@ -314,7 +314,7 @@ impl<I: Contents> Incoming<I> {
         ensures failed { OnErr result (self.new.phase ≡ Failed) }
         ensures drained { OnErr result (self.new.at ≡ length self.new.front.items) }
         ensures ended { self.old.phase ≡ Ended → IsOk result }
-        ensures patient { (arc_value self.old.backlogs).stall ≡ None → self.new.phase ≡ Failed →
+        ensures patient { (arc_value self.old.backlogs).limits.stall ≡ None → self.new.phase ≡ Failed →
             (self.old.phase ≡ Failed) ⊎ (length (received self.old.consumer) < length (received self.new.consumer)) }
     {
         let share = self.next_share(rt);
@@ -338,7 +338,7 @@ impl<I: Contents> Incoming<I> {
         ensures failed { OnErr result (self.new.phase ≡ Failed) }
         ensures drained { OnErr result (self.new.at ≡ length self.new.front.items) }
         ensures ended { self.old.phase ≡ Ended → IsOk result }
-        ensures patient { (arc_value self.old.backlogs).stall ≡ None → self.new.phase ≡ Failed →
+        ensures patient { (arc_value self.old.backlogs).limits.stall ≡ None → self.new.phase ≡ Failed →
             (self.old.phase ≡ Failed) ⊎ (length (received self.old.consumer) < length (received self.new.consumer)) }
     {
         let share = self.next_share(rt);
@@ -367,7 +367,7 @@ impl<I: Contents> Incoming<I> {
         ensures some { (self.new.at < length self.new.front.items) ⊎ (self.new.phase ≢ Going) }
         ensures phase { self.new.phase ≢ Opening }
         ensures ended { self.old.phase ≡ Ended → self.new.phase ≡ Ended }
-        ensures patient { (arc_value self.old.backlogs).stall ≡ None → self.new.phase ≡ Failed →
+        ensures patient { (arc_value self.old.backlogs).limits.stall ≡ None → self.new.phase ≡ Failed →
             (self.old.phase ≡ Failed) ⊎ (length (received self.old.consumer) < length (received self.new.consumer)) }
         ensures grows { length (received self.old.consumer) ≤ length (received self.new.consumer) }
     {
@@ -517,7 +517,7 @@ fn wait_message<R: Wait + Clock, I: Contents>(
     ensures ready { 0 < length (known_items consumer.old) → IsOk result }
     ensures of { IfErr result (λ silence. silence.number ≡ number) }
     ensures silent { IfErr result (λ silence. silence.is_over ≡ true) }
-    ensures patient { OnErr result (backlogs.now.stall ≢ None) }
+    ensures patient { OnErr result (backlogs.now.limits.stall ≢ None) }
 {
     for _ in rt.forever() {
         let seen = backlogs.news(rt);

@@ -24,6 +24,13 @@ pub trait Input: Contents {
     fn may_wait(&self) -> bool
         ensures { waits self.now result };
 
+    /// What it may answer whether it is a plain file.
+    ghost plain: { Self → Bool → Type 0 } = { λ _ _. ⊤ };
+
+    /// Whether it is a plain file, of which little has to be read ahead.
+    fn is_file(&self) -> bool
+        ensures { plain self.now result };
+
     /// Opens it; None where it can't be opened. Of a FIFO it waits for a writer.
     fn open(self) -> Option<Self::Reader>
         ensures ok { IfSome result (λ reader. Self.Reader.remaining reader ≡ Self.holds self) }
@@ -48,6 +55,12 @@ impl<I: Read + Drop> Input for OpenInput<I> {
     ghost waits = { λ _ may_wait. may_wait ≡ false };
 
     fn may_wait(&self) -> bool {
+        false
+    }
+
+    ghost plain = { λ _ is_file. is_file ≡ false };
+
+    fn is_file(&self) -> bool {
         false
     }
 

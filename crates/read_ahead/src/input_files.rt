@@ -1,5 +1,6 @@
 //! Inputs by their paths.
 ghost use Rattle.std.specs.Prelude.{◌≡◌, ◌<◌, ⊤, ℕ, Bool, List, Option, None, IfNone, IfSome, IfOk, OnErr, length, map};
+ghost use Rattle.std.specs.List.{AllZip};
 ghost use Rattle.std.specs.String.{string_bytes};
 
 use crate::input::{Contents, Input};
@@ -27,6 +28,13 @@ pub trait InputFiles {
     fn is_fifo(&self, path: &str) -> bool
         ensures { waits self.now path.now result };
 
+    /// What may be answered whether the input at a path is a plain file.
+    ghost plain: { Self → List ℕ → Bool → Type 0 } = { λ _ _ _. ⊤ };
+
+    /// Whether the input at a path is a plain file; not where it can't be looked at.
+    fn is_file(&self, path: &str) -> bool
+        ensures { plain self.now path.now result };
+
     /// Opens the input at a path; None where it can't be opened. Of a FIFO it waits for a writer.
     fn open(&self, path: &str) -> Option<Self::Reader>
         ensures ok { IfSome result (λ reader. Self.Reader.remaining reader ≡ holds self.now path.now) }
@@ -44,6 +52,13 @@ impl InputFiles for HostRuntime {
     fn is_fifo(&self, path: &str) -> bool {
         match fs::metadata(self, path) {
             Ok(metadata) => metadata.file_type().is_fifo(),
+            Err(_) => false,
+        }
+    }
+
+    fn is_file(&self, path: &str) -> bool {
+        match fs::metadata(self, path) {
+            Ok(metadata) => metadata.is_file(),
             Err(_) => false,
         }
     }
@@ -79,6 +94,12 @@ impl<F: InputFiles + Drop> Input for InputAt<F> {
         self.files.is_fifo(self.path.as_str())
     }
 
+    ghost plain = { λ input is_file. F.plain input.files (string_bytes input.path) is_file };
+
+    fn is_file(&self) -> bool {
+        self.files.is_file(self.path.as_str())
+    }
+
     fn open(self) -> Option<F::Reader> {
         let InputAt { files, path } = self;
         files.open(path.as_str())
@@ -93,6 +114,8 @@ pub fn inputs_at<F: InputFiles + Copy>(
 ) -> Result<Vec<InputAt<F>>, AllocError>
     ensures ok { IfOk result (λ inputs. map (λ input. F.holds input.files (string_bytes input.path)) inputs.items ≡ map
         (λ path. F.holds files path.now) paths.now) }
+    ensures each { IfOk result (λ inputs.
+        AllZip (λ path input. (input.files ≡ files) × (string_bytes input.path ≡ path.now)) paths.now inputs.items) }
     ensures scarce { OnErr result (0 < length paths.now) }
 {
     let mut inputs = Vec::with_capacity(alloc, paths.len())?;

@@ -1,13 +1,17 @@
 //! How much is read ahead at the most, and how long an input is waited for.
 ghost use Rattle.std.specs.Prelude.{◌≡◌, ◌+◌, ◌*◌, ◌^◌};
 ghost use Rattle.read_ahead.specs.Shares.{room_for};
-ghost use Rattle.read_ahead.specs.declared.limits.TheConstants.{BLOCK, BLOCKS, LEAST_WAIT, MOMENT, READ, ROOM, SLOTS, WASTE};
+ghost use Rattle.read_ahead.specs.declared.limits.TheConstants.{BLOCK, BLOCKS, FILE_ROOM, LEAST_WAIT, MOMENT, READ, ROOM, SLOTS, WASTE};
 
 use item_io::PIECE;
 use std::time::Duration;
 
 /// The most bytes of an input that lie ready where no other bound is asked for, but for a block that was put where none did.
 pub const ROOM: usize = 32 << 20;
+
+/// The most bytes of a plain file that lie ready where no other bound is asked for, in the same way: few enough to be in the
+/// processor's cache when they are looked at.
+pub const FILE_ROOM: usize = 8 << 20;
 
 /// The most blocks of an input that lie ready.
 pub const BLOCKS: usize = 32 << 10;
@@ -33,6 +37,7 @@ pub const LEAST_WAIT: u64 = 1;
 /// What the bounds are.
 pub fn bounds_are_these()
     ensures room { ROOM ≡ 32 * 2 ^ 20 }
+    ensures file_room { FILE_ROOM ≡ 8 * 2 ^ 20 }
     ensures read { READ ≡ 56_400 }
     ensures block { BLOCK ≡ 2 ^ 16 }
     ensures blocks { BLOCKS ≡ 2 ^ 15 }
@@ -47,17 +52,18 @@ pub fn bounds_are_these()
 pub struct Limits {
     /// An input that gives nothing for so long fails. If absent, it is waited for as long as it takes.
     pub stall: Option<Duration>,
-    /// The most MiB that lie ready of all inputs together. If absent, 32 of each.
+    /// The most MiB that lie ready of all inputs together. If absent, 32 of each, or 8 of a plain file.
     pub ahead: Option<u64>,
 }
 
 impl Limits {
-    /// The most bytes that lie ready of each of so many inputs, but for a block that was put where none did.
-    pub fn room(self, inputs: usize) -> usize
-        ensures { result ≡ room_for self.ahead inputs }
+    /// The most bytes that lie ready of each of so many inputs, or of each that is a plain file, but for a block that was put where
+    /// none did.
+    pub fn room(self, inputs: usize, is_file: bool) -> usize
+        ensures { result ≡ room_for self.ahead inputs is_file }
     {
         let Some(ahead) = self.ahead else {
-            return ROOM;
+            return if is_file { FILE_ROOM } else { ROOM };
         };
         let bytes = ahead.saturating_mul(1 << 20) as usize;
         (bytes / inputs.max(1)).max(BLOCK)

@@ -1,6 +1,8 @@
 ghost use Rattle.std.specs.Prelude.{◌≡◌, ◌⊎◌, [], ◌∷◌, ◌++◌, false, length, not, true, IfNone, IfSome};
+ghost use Rattle.std.specs.Arc.{arc_value};
 ghost use Rattle.rtrb.specs.Ring.{sent};
 ghost use Rattle.read_ahead.specs.Messages.{LeavesOut, MayFollow, MayTell, bytes_of, goes_on};
+ghost use Rattle.read_ahead.specs.Sources.{room_of};
 ghost use Rattle.read_ahead.specs.declared.message.Message.TheVariants.{Bytes};
 
 use crate::backlogs::Backlogs;
@@ -60,6 +62,7 @@ impl<I: Contents> Sender<I> {
         requires of { _room.number ≡ self.old.number }
         requires counted { _room.count ≡ length block.items }
         requires given { _room.is_given ≡ true }
+        requires bound { _room.room ≡ room_of (arc_value self.old.backlogs) self.old.number }
         ensures ok { sent self.new.producer ≡ sent self.old.producer ++ Bytes block ∷ [] }
         ensures number { self.new.number ≡ self.old.number }
         ensures left { self.new.is_left ≡ self.old.is_left }
@@ -97,8 +100,10 @@ impl<I: Contents> Sender<I> {
         requires { _waited.number ≡ self.old.number }
         ensures of { result.number ≡ self.old.number }
         ensures counted { result.is_given ≡ true → result.count ≡ count }
+        ensures bound { result.is_given ≡ true → result.room ≡ room_of (arc_value self.old.backlogs) self.old.number }
         ensures told { sent self.new.producer ≡ sent self.old.producer }
         ensures number { self.new.number ≡ self.old.number }
+        ensures backlogs { self.new.backlogs ≡ self.old.backlogs }
         ensures left { self.new.is_left ≡ not result.is_given }
     {
         let room = self.backlogs.put(rt, self.number, count);

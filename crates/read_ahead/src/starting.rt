@@ -1,7 +1,7 @@
 //! A thread for each input, and the sources of what they read.
 ghost use Rattle.std.specs.Prelude.{◌≡◌, ◌+◌, ◌<◌, ◌≤◌, [], All, false, map, length, IfOk, IsErrOf, IsOk, OnErr};
 ghost use Rattle.std.specs.Arc.{arc_value};
-ghost use Rattle.std.specs.List.{range_with_len};
+ghost use Rattle.std.specs.List.{AllZip, range_with_len};
 ghost use Rattle.std.specs.String.{string_bytes};
 ghost use Rattle.std.specs.Vec.{vec_capacity, vec_len};
 ghost use Rattle.rtrb.specs.Ring.{received, sent};
@@ -77,7 +77,11 @@ where
     ensures unleft { IfOk result (λ sources. All (λ source. source.is_left ≡ false) sources.items) }
     ensures numbers { IfOk result (λ sources. map (λ source. source.number) sources.items ≡ range_with_len 0 (length paths.now)) }
     ensures limits { IfOk result (λ sources.
-        All (λ source. (source.stall ≡ limits.stall) × (source.room ≡ room_for limits.ahead (length paths.now))) sources.items) }
+        All (λ source. (source.stall ≡ limits.stall) × (source.room ≡ room_for limits.ahead (length paths.now) source.is_file)) sources.items) }
+
+    // Each is of a plain file if its path is told to be one.
+    ensures files { IfOk result (λ sources.
+        AllZip (λ path. F.plain files path.now) paths.now (map (λ source. source.is_file) sources.items)) }
     ensures inputs { IfOk result (λ sources. All (λ source. source.inputs ≡ length paths.now) sources.items) }
     ensures none { IsErrOf result InputFault.Unread → 0 < length paths.now }
 {
@@ -96,11 +100,14 @@ where
     ensures unleft { IfOk result (λ sources. All (λ source. source.is_left ≡ false) sources.items) }
     ensures numbers { IfOk result (λ sources. map (λ source. source.number) sources.items ≡ range_with_len 0 (length inputs.items)) }
     ensures limits { IfOk result (λ sources.
-        All (λ source. (source.stall ≡ limits.stall) × (source.room ≡ room_for limits.ahead (length inputs.items))) sources.items) }
+        All (λ source. (source.stall ≡ limits.stall) × (source.room ≡ room_for limits.ahead (length inputs.items) source.is_file)) sources.items) }
+
+    // Each is of a plain file if its input says that it is one.
+    ensures files { IfOk result (λ sources. AllZip I.plain inputs.items (map (λ source. source.is_file) sources.items)) }
     ensures inputs { IfOk result (λ sources. All (λ source. source.inputs ≡ length inputs.items) sources.items) }
     ensures none { IsErrOf result InputFault.Unread → 0 < length inputs.items }
 {
-    let backlogs = Backlogs::new(&rt, alloc, inputs.len(), limits)?;
+    let backlogs = Backlogs::new(&rt, alloc, &inputs, limits)?;
     let room = Vec::with_capacity(alloc, inputs.len())?;
     let incoming = start_all(rt, alloc, &backlogs, inputs)?;
     Ok(begin(rt, &backlogs, room, incoming)?)

@@ -1,9 +1,7 @@
-//! Tests of what a run on many threads is made of: `read_ahead` before it, a `work_desk` with up to sixteen workers, `rounds` with
-//! its gates, stops and viewers, a `live_board` beside a publisher in another thread, and the `metrics` that are read off it.
+//! Tests of what a run on many threads is made of: a `work_desk` with up to sixteen workers, `rounds` with its gates, stops and viewers,
+//! a `live_board` beside a publisher in another thread, and the `metrics` that are read off it.
 #![tactic(auto)]
 
-#[cfg(test)]
-mod ahead;
 #[cfg(test)]
 mod asserts;
 #[cfg(test)]

@@ -1,6 +1,6 @@
-use crate::ahead::fixtures::{UNBOUNDED, drain};
 use crate::asserts::assert_same;
-use read_ahead::{InputFault, open_paths};
+use crate::fixtures::{UNBOUNDED, drain};
+use read_ahead::{InputFault, InputFiles, open_paths};
 use std::fs;
 use std::test::Fail;
 
@@ -32,6 +32,20 @@ fn a_folder_fails_and_a_file_goes_on(rt: HostRuntime) -> Result<(), Fail> {
         (counts.as_slice(), failures.as_slice()),
         ([0, 4].as_slice(), [true, false].as_slice()),
     );
+    Ok(())
+}
+
+#[test]
+fn a_plain_file_is_told_from_others(rt: HostRuntime) -> Result<(), Fail> {
+    fs::write(&rt, "plain", b"\x00".as_slice())?;
+    for (path, is_file) in [
+        ("plain", true),
+        (".", false),
+        ("/dev/null", false),
+        ("missing", false),
+    ] {
+        assert_same(&rt, path, InputFiles::is_file(&rt, path), is_file);
+    }
     Ok(())
 }
 

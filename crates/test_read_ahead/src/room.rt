@@ -1,13 +1,13 @@
-use crate::ahead::fixtures::{Pattern, pattern_of};
 use crate::asserts::assert_same;
-use read_ahead::{InputsView, Limits, OpenInput, open_all};
+use crate::fixtures::{Pattern, UNBOUNDED, pattern_of};
+use read_ahead::{Contents, Input, InputsView, Limits, OpenInput, open_all, open_paths};
 use std::alloc::{AllocError, Global};
 use std::io::Read;
 use std::sync::{Arc, Mutex, Wait};
 use std::test::Fail;
 use std::thread::Threads;
 use std::time::{Clock, Duration};
-use std::{io, thread};
+use std::{fs, io, thread};
 
 /// A reader that counts the bytes that it gave.
 struct Counting<R: Wait> {
@@ -71,21 +71,66 @@ fn what_is_read_ahead_is_bounded(rt: HostRuntime) -> Result<(), Fail> {
     Ok(())
 }
 
-/// How many bytes of an input lie ready that 1 MiB is read ahead of, once so many do, and a moment later; in reads of so many.
-fn ready_of<R: Threads + Wait + Clock + Copy + Send + Drop + 'static>(
+/// A reader of so many bytes, whatever they are.
+#[derive(Drop)]
+struct Bytes {
+    left: usize,
+}
+
+impl Read for Bytes {
+    fn read(&mut self, buf: &mut [u8]) -> io::Result<usize> {
+        let count = self.left.min(buf.len());
+        self.left = self.left.saturating_sub(count);
+        Ok(count)
+    }
+}
+
+/// An input of so many bytes that is a plain file, or not.
+#[derive(Drop)]
+struct Kept {
+    bytes: usize,
+    is_file: bool,
+}
+
+impl Contents for Kept {
+    ghost use Rattle.std.specs.Prelude.{None};
+
+    ghost holds = { λ _. None };
+}
+
+impl Input for Kept {
+    type Reader = Bytes;
+
+    fn may_wait(&self) -> bool {
+        false
+    }
+
+    fn is_file(&self) -> bool {
+        self.is_file
+    }
+
+    fn open(self) -> Option<Bytes> {
+        Some(Bytes { left: self.bytes })
+    }
+}
+
+/// How many bytes of an input lie ready where so many MiB are read ahead, once so many do, and a moment later.
+fn ready_of<
+    R: Threads + Wait + Clock + Copy + Send + Drop + 'static,
+    I: Input + Drop + Send + 'static,
+>(
     rt: R,
     alloc: Global,
-    piece: usize,
+    input: I,
+    ahead: Option<u64>,
     most: usize,
-) -> Result<Option<usize>, AllocError> {
+) -> Result<Option<usize>, AllocError>
+where
+    I::Reader: Send + 'static,
+{
     let mut inputs = Vec::new(alloc);
-    inputs.push(OpenInput {
-        reader: pattern_of(2 << 20, piece),
-    })?;
-    let limits = Limits {
-        stall: None,
-        ahead: Some(1),
-    };
+    inputs.push(input)?;
+    let limits = Limits { stall: None, ahead };
     let Ok(sources) = open_all(rt, alloc, inputs, limits) else {
         return Err(AllocError);
     };
@@ -133,26 +178,67 @@ const BLOCKS: [(usize, usize); 4] = [
 #[test]
 fn a_block_waits_for_room(rt: HostRuntime) -> Result<(), Fail> {
     for (piece, most) in BLOCKS {
-        let bytes = ready_of(rt, rt.alloc(), piece, most)?;
+        let input = OpenInput {
+            reader: pattern_of(2 << 20, piece),
+        };
+        let bytes = ready_of(rt, rt.alloc(), input, Some(1), most)?;
         assert_same(&rt, ("blocks of", piece), bytes, Some(most));
     }
     Ok(())
 }
 
+/// How many MiB may be read ahead, whether the input is a plain file, and how many bytes of it lie ready, in blocks of 56,400: as many
+/// as there is room for in 8 MiB, in 32, or in those.
+const KINDS: [(Option<u64>, bool, usize); 4] = [
+    (None, true, 148 * 56_400),
+    (None, false, 594 * 56_400),
+    (Some(2), true, 37 * 56_400),
+    (Some(2), false, 37 * 56_400),
+];
+
+#[test]
+fn a_plain_file_has_less_room(rt: HostRuntime) -> Result<(), Fail> {
+    for (ahead, is_file, most) in KINDS {
+        let input = Kept {
+            bytes: 34 << 20,
+            is_file,
+        };
+        let bytes = ready_of(rt, rt.alloc(), input, ahead, most)?;
+        assert_same(&rt, (ahead, "and a file", is_file), bytes, Some(most));
+    }
+    Ok(())
+}
+
+#[test]
+fn a_file_of_the_system_is_a_plain_one(rt: HostRuntime) -> Result<(), Fail> {
+    let bytes = vec![in rt.alloc(); 0; 9 << 20]?;
+    fs::write(&rt, "long", bytes.as_slice())?;
+    let most = 148 * 56_400;
+    let mut ready = None;
+    if let Ok(sources) = open_paths(rt, rt.alloc(), rt, &["long"], UNBOUNDED)
+        && let Some(source) = sources.first()
+    {
+        ready = ready_at_last(&rt, rt.alloc(), &source.view()?, most)?;
+    }
+    assert_same(&rt, "long", ready, Some(most));
+    Ok(())
+}
+
 #[test]
 fn inputs_share_what_is_read_ahead(rt: HostRuntime) -> Result<(), Fail> {
-    for (ahead, inputs, room) in [
-        (None, 1, 32 << 20),
-        (None, 32, 32 << 20),
-        (Some(1), 1, 1 << 20),
-        (Some(1), 16, 64 << 10),
-        (Some(1), 32, 64 << 10),
-        (Some(64), 3, (64 << 20) / 3),
-        (Some(65_536), 1, 65_536 << 20),
-        (Some(8), 0, 8 << 20),
+    for (ahead, inputs, of_file, of_other) in [
+        (None, 1, 8 << 20, 32 << 20),
+        (None, 32, 8 << 20, 32 << 20),
+        (Some(1), 1, 1 << 20, 1 << 20),
+        (Some(1), 16, 64 << 10, 64 << 10),
+        (Some(1), 32, 64 << 10, 64 << 10),
+        (Some(64), 3, (64 << 20) / 3, (64 << 20) / 3),
+        (Some(65_536), 1, 65_536 << 20, 65_536 << 20),
+        (Some(8), 0, 8 << 20, 8 << 20),
     ] {
         let limits = Limits { stall: None, ahead };
-        assert_same(&rt, (ahead, "of", inputs), limits.room(inputs), room);
+        let rooms = (limits.room(inputs, true), limits.room(inputs, false));
+        assert_same(&rt, (ahead, "of", inputs), rooms, (of_file, of_other));
     }
     Ok(())
 }

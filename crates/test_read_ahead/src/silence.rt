@@ -1,7 +1,7 @@
 ghost use Rattle.std.specs.Prelude.{◌≡◌};
 
-use crate::ahead::fixtures::{Event, Given, Pattern, UNBOUNDED, drain, pattern_of, pop_unread};
 use crate::asserts::assert_same;
+use crate::fixtures::{Event, Given, Pattern, UNBOUNDED, drain, pattern_of, pop_unread};
 use item_io::Source;
 use read_ahead::{Contents, Input, InputFault, Limits, OpenInput, open_all};
 use std::alloc::Global;
@@ -51,6 +51,10 @@ impl<R: Wait + Drop> Input for Silent<R> {
 
     fn may_wait(&self) -> bool {
         true
+    }
+
+    fn is_file(&self) -> bool {
+        false
     }
 
     fn open(self) -> Option<Silent<R>> {

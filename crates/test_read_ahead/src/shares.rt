@@ -1,7 +1,7 @@
 ghost use Rattle.std.specs.Prelude.{◌≡◌, ◌+◌, ◌<◌, ◌≤◌, ◌^◌, IfOk, IfSome};
 
-use crate::ahead::fixtures::{Event, Held, lent_by, pattern_of, sources_of};
 use crate::asserts::assert_same;
+use crate::fixtures::{Event, Held, lent_by, pattern_of, sources_of};
 use item_io::{PIECE, Source};
 use read_ahead::{Ahead, OpenInput};
 use std::alloc::{AllocError, Global};

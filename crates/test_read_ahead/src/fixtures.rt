@@ -9,7 +9,7 @@ use std::sync::{Arc, Condvar, Mutex, Wait};
 use std::thread::Threads;
 use std::time::Clock;
 
-/// Inputs are waited for as long as it takes, and 32 MiB are read ahead of each.
+/// Inputs are waited for as long as it takes, and 32 MiB are read ahead of each, or 8 of a plain file.
 pub const UNBOUNDED: Limits = Limits {
     stall: None,
     ahead: None,

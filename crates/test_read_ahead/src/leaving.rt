@@ -1,7 +1,5 @@
-use crate::ahead::fixtures::{
-    Event, Given, Held, UNBOUNDED, drain, pattern_of, source_of, sources_of,
-};
 use crate::asserts::assert_same;
+use crate::fixtures::{Event, Given, Held, UNBOUNDED, drain, pattern_of, source_of, sources_of};
 use item_io::Source;
 use read_ahead::{OpenInput, open_all};
 use std::alloc::Global;

@@ -1,5 +1,5 @@
 use Rattle.std.proofs.Common.{◌≤◌}
-use Rattle.test_rounds.proofs.ahead.shares.given_in_turns.Given as goal
+use Rattle.test_read_ahead.proofs.shares.given_in_turns.Given as goal
 
 abbrev pub invariant-loop-turn : goal.invariant-loop-turn
 invariant-loop-turn g l = record {

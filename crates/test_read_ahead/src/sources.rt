@@ -1,5 +1,5 @@
-use crate::ahead::fixtures::{Given, Pattern, drain, drain_lent, pattern_of, source_of};
 use crate::asserts::assert_same;
+use crate::fixtures::{Given, Pattern, drain, drain_lent, pattern_of, source_of};
 use std::test::Fail;
 
 #[test]
