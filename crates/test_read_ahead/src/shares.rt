@@ -55,6 +55,15 @@ fn given_by<S: Source>(source: &mut S, buffer: &mut [u8]) -> usize
     source.read(buffer).unwrap_or(0)
 }
 
+/// How many bytes a source gives at its first two reads.
+fn two_reads<S: Source>(source: &mut S, buffer: &mut [u8]) -> (usize, usize)
+    requires reads { S.input.reads source.old ≡ 0 }
+    requires failures { S.input.failures source.old ≡ 0 }
+{
+    let first = given_by(source, buffer);
+    (first, given_by(source, buffer))
+}
+
 /// How many bytes each of two sources gives that are read in turn: at its first read, and in so many turns.
 fn given_in_turns<S: Source>(
     first: &mut S,
@@ -107,16 +116,16 @@ fn backlogs_shrink_together(rt: HostRuntime) -> Result<(), Fail> {
 #[test]
 fn one_that_is_read_no_more_holds_up_none(rt: HostRuntime) -> Result<(), Fail> {
     let mut buffer = vec![in rt.alloc(); 0; PIECE]?;
-    for (is_left, share) in [(false, 188), (true, 1000)] {
+    for (is_left, share, next) in [(false, 188, 188), (true, 1000, 0)] {
         let mut told = None;
         if let Some((mut one, mut other)) = ready(rt, rt.alloc(), [1000, 1_880_000])? {
             if is_left {
                 other.leave();
             }
-            let count = given_by(&mut one, &mut buffer);
-            told = Some((count, one.is_ready(), other.is_ready()));
+            let (count, more) = two_reads(&mut one, &mut buffer);
+            told = Some((count, more, other.is_ready()));
         }
-        assert_same(&rt, ("left", is_left), told, Some((share, true, !is_left)));
+        assert_same(&rt, ("left", is_left), told, Some((share, next, !is_left)));
     }
     Ok(())
 }
