@@ -23,6 +23,8 @@ pub(crate) struct Job<'g, G> {
     pub(crate) half: bool,
     /// Whether a thread of its own stops the desk once all plans are fed. It is closed otherwise.
     pub(crate) stops: bool,
+    /// Whether plans are claimed in pairs.
+    pub(crate) pairs: bool,
     pub(crate) gate: &'g G,
 }
 
@@ -44,6 +46,8 @@ pub(crate) struct Told {
     /// Deliveries that came twice or weren't asked for, and answers that have no reason.
     pub(crate) wrong: u64,
     pub(crate) claims: u64,
+    /// How many workers of a desk with pairs claimed one plan more than pairs.
+    pub(crate) odd: u64,
     pub(crate) left: usize,
 }
 
@@ -67,6 +71,7 @@ impl Taken {
             held: 0,
             wrong: 0,
             claims: 0,
+            odd: 0,
             left: 0,
         };
         Ok(Taken { told, came })
@@ -181,16 +186,16 @@ fn end<L: Ledger + Send + Sync, M: Ledger + Send + Sync, R: Threads + Wait + Syn
     })
 }
 
-/// Joins each worker, and adds up what they claimed.
+/// Joins each worker, and adds up what they claimed, and how many claimed an odd number.
 fn gather<L: Ledger, R: Threads>(
     rt: &R,
     running: Vec<JoinHandle<Tally<L>>>,
     rest: &mut Share<L>,
-) -> u64
+) -> (u64, u64)
     ensures { rest.new.parts ≡ rest.old.parts + vec_len running }
 {
     let mut left = running;
-    let mut claims: u64 = 0;
+    let (mut claims, mut odd) = (0u64, 0u64);
     while let Some(child) = left.pop() {
         let Tally {
             worker: _,
@@ -199,8 +204,9 @@ fn gather<L: Ledger, R: Threads>(
         } = child.join(rt);
         rest.merge(share);
         claims = claims.saturating_add(count);
+        odd = odd.saturating_add(count % 2);
     }
-    claims
+    (claims, odd)
 }
 
 /// A run of a desk that is open.
@@ -247,10 +253,13 @@ fn in_scope<
                 }
             }
             feed_all(rt, desk, &mut taker, plans, job, &mut taken);
+            let _ = desk.take_singles(rt);
             let (mut taker, taken) = end(rt, desk, taker, taken, job.stops);
             let started = running.len();
             let mut told = taken.told;
-            told.claims = gather(rt, running, &mut rest);
+            let (claims, odd) = gather(rt, running, &mut rest);
+            told.claims = claims;
+            told.odd = if job.pairs { odd } else { 0 };
             if started == workers {
                 told.left = desk.settle(rt, &mut rest, &mut taker.share);
             } else {
@@ -292,6 +301,7 @@ fn run_with<
         rest,
         taken,
     };
+    let desk = desk.with_pairs(job.pairs);
     Ok(in_scope(rt, alloc, &desk, crew, plans, keys, job))
 }
 

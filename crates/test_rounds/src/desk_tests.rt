@@ -24,6 +24,7 @@ const fn sealed(count: u64) -> Told {
         held: 0,
         wrong: 0,
         claims: count,
+        odd: 0,
         left: 0,
     }
 }
@@ -49,6 +50,7 @@ fn two_workers_seal_both_plans(rt: HostRuntime) -> Result<(), Fail> {
         plans: 2,
         half: false,
         stops: false,
+        pairs: false,
         gate: &FreeGate,
     };
     check(
@@ -68,6 +70,7 @@ fn sixteen_workers_seal_each_plan_once(rt: HostRuntime) -> Result<(), Fail> {
         plans: 1000,
         half: false,
         stops: false,
+        pairs: false,
         gate: &FreeGate,
     };
     check(
@@ -80,6 +83,44 @@ fn sixteen_workers_seal_each_plan_once(rt: HostRuntime) -> Result<(), Fail> {
 }
 
 /// One worker before a long queue seals its plans four at a time.
+/// How many plans may be outstanding at a desk with pairs, and how many are fed; and how many workers claim one more than pairs.
+const PAIRED: [(usize, u64, u64); 4] = [(8, 8, 0), (8, 2, 0), (8, 1, 1), (8, 7, 1)];
+
+#[test]
+fn plans_that_are_fed_in_a_row_are_claimed_in_pairs(rt: HostRuntime) -> Result<(), Fail> {
+    for (queue, plans, odd) in PAIRED {
+        let job = Job {
+            queue,
+            workers: 3,
+            plans,
+            half: false,
+            stops: false,
+            pairs: true,
+            gate: &FreeGate,
+        };
+        let wanted = Told {
+            odd,
+            ..sealed(plans)
+        };
+        check(&rt, rt.alloc(), "pairs", &job, wanted)?;
+    }
+    Ok(())
+}
+
+#[test]
+fn a_desk_of_one_plan_waits_for_no_pair(rt: HostRuntime) -> Result<(), Fail> {
+    let job = Job {
+        queue: 1,
+        workers: 1,
+        plans: 4,
+        half: false,
+        stops: false,
+        pairs: true,
+        gate: &FreeGate,
+    };
+    check(&rt, rt.alloc(), "one by one", &job, sealed(4))
+}
+
 #[test]
 fn one_worker_seals_a_long_queue(rt: HostRuntime) -> Result<(), Fail> {
     let job = Job {
@@ -88,6 +129,7 @@ fn one_worker_seals_a_long_queue(rt: HostRuntime) -> Result<(), Fail> {
         plans: 103,
         half: false,
         stops: false,
+        pairs: false,
         gate: &FreeGate,
     };
     check(
@@ -121,6 +163,7 @@ fn a_run_goes_on_behind_a_segment_that_is_held(rt: HostRuntime) -> Result<(), Fa
         plans: 3,
         half: false,
         stops: false,
+        pairs: false,
         gate: &AllBut(1),
     };
     let wanted = Told {
@@ -146,6 +189,7 @@ fn one_of_four_that_is_held_or_refused_leaves_the_others(rt: HostRuntime) -> Res
         plans: 8,
         half: true,
         stops: false,
+        pairs: false,
         gate: &AllBut(2),
     };
     let wanted = Told {
@@ -171,6 +215,7 @@ fn a_run_goes_on_where_each_second_plan_is_refused(rt: HostRuntime) -> Result<()
         plans: 8,
         half: true,
         stops: false,
+        pairs: false,
         gate: &FreeGate,
     };
     let wanted = Told {
@@ -195,6 +240,7 @@ fn a_stop_wakes_workers_that_wait(rt: HostRuntime) -> Result<(), Fail> {
         plans: 0,
         half: false,
         stops: true,
+        pairs: false,
         gate: &FreeGate,
     };
     check(
@@ -214,6 +260,7 @@ fn a_stop_wakes_a_taker_that_waits(rt: HostRuntime) -> Result<(), Fail> {
         plans: 1,
         half: false,
         stops: true,
+        pairs: false,
         gate: &FreeGate,
     };
     check(

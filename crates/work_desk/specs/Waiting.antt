@@ -4,9 +4,9 @@ use Rattle.cutter.specs.Plans.{SegmentPlan}
 use Rattle.flow_core.specs.Steps.{NotFed}
 use Rattle.flow_core.specs.Queues.{QueueValue, outstanding}
 
--- workers wait while no plan waits for them and more may be fed
-abbrev pub WorkersWait : QueueValue → Type 0
-WorkersWait q = (q.closed ≡ false) × (q.waiting ≡ [])
+-- a worker waits while fewer plans than so many wait for it and more may be fed
+abbrev pub WorkersWait : ℕ → QueueValue → Type 0
+WorkersWait fewest q = (q.closed ≡ false) × (length q.waiting < fewest)
 
 -- the taker waits while nothing is done and something is outstanding
 abbrev pub TakerWaits : QueueValue → Type 0

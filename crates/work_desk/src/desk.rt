@@ -5,7 +5,7 @@ ghost use Rattle.cutter.specs.Lent.{lent};
 ghost use Rattle.flow_core.specs.Queues.{IsOwnOutcome, first_queue};
 ghost use Rattle.work_desk.specs.Batches.{AreJobsPlanned, IsPair, claims_in};
 ghost use Rattle.work_desk.specs.Permits.{AreKnownByNumber, IsPermitted, IsPlanned};
-ghost use Rattle.work_desk.specs.Waiting.{GivesBack};
+ghost use Rattle.work_desk.specs.Waiting.{GivesBack, TakerWaits};
 
 use crate::gate::Permit;
 use crate::known::KnownPlans;
@@ -13,6 +13,7 @@ use crate::pass::Pass;
 use crate::permitted::PermittedQueue;
 use crate::sealing::{Asked, Worked};
 use crate::shelf::Shelf;
+use crate::singles::{Singles, SinglesTaken};
 use crate::steps::{
     Seen, claim, claim_beside, claim_more, close, deliver, feed, stop, take, take_awaited,
     taker_waits, workers_wait,
@@ -23,7 +24,7 @@ use flow_core::{Claim, Delivery, Fed, FeedFault, Outcome, Queue};
 use std::alloc::{AllocError, Global};
 use std::sync::atomic::{AtomicUsize, Ordering};
 use std::sync::ledger::{Blank, Ledger, Share};
-use std::sync::{Condvar, Mutex, Wait};
+use std::sync::{Condvar, Mutex, MutexGuard, Wait};
 
 /// A queue that many threads share. Each call makes one step of it under its lock; one that waits looks again when it is woken.
 /// What it hands out sealed may be: that was asked before it was delivered.
@@ -40,6 +41,8 @@ pub struct Desk<'s, L: Ledger, M: Ledger, P: Permit> {
     idle: AtomicUsize,
     /// Whether a worker takes a second plan wherever one waits.
     pairs: bool,
+    /// Whether a worker with pairs takes a plan that waits alone.
+    singles: Singles,
     /// Whether a claim is known by its plan's rendition and number.
     known: KnownPlans<P>,
     /// The buffers that workers seal in.
@@ -187,6 +190,7 @@ impl<'s, L: Ledger, M: Ledger, P: Permit> Desk<'s, L, M, P> {
             done: Condvar::new(),
             idle: AtomicUsize::new(workers),
             pairs: false,
+            singles: Singles::new(),
             known: KnownPlans::by_all(),
             shelf,
         }
@@ -207,6 +211,7 @@ impl<'s, L: Ledger, M: Ledger, P: Permit> Desk<'s, L, M, P> {
             done,
             idle,
             pairs: _,
+            singles,
             known,
             shelf,
         } = self;
@@ -217,6 +222,7 @@ impl<'s, L: Ledger, M: Ledger, P: Permit> Desk<'s, L, M, P> {
             done,
             idle,
             pairs,
+            singles,
             known,
             shelf,
         }
@@ -237,6 +243,7 @@ impl<'s, L: Ledger, M: Ledger, P: Permit> Desk<'s, L, M, P> {
             done,
             idle,
             pairs,
+            singles,
             known: _,
             shelf,
         } = self;
@@ -247,6 +254,7 @@ impl<'s, L: Ledger, M: Ledger, P: Permit> Desk<'s, L, M, P> {
             done,
             idle,
             pairs,
+            singles,
             known: KnownPlans::by_number(),
             shelf,
         }
@@ -277,7 +285,9 @@ impl<'s, L: Ledger, M: Ledger, P: Permit> Desk<'s, L, M, P> {
     {
         self.begin_to_wait(pass);
         let locked = self.queue.lock(rt);
-        let mut queue = self.fed.wait_while(rt, locked, |queue| workers_wait(queue));
+        let mut queue = self
+            .fed
+            .wait_while(rt, locked, |queue| workers_wait(queue, 1));
         self.idle.fetch_sub(1, Ordering::SeqCst);
         claim(&mut queue, pass).ok()
     }
@@ -295,10 +305,20 @@ impl<'s, L: Ledger, M: Ledger, P: Permit> Desk<'s, L, M, P> {
     {
         self.begin_to_wait(pass);
         let locked = self.queue.lock(rt);
-        let mut queue = self.fed.wait_while(rt, locked, |queue| workers_wait(queue));
+        let mut queue = self.fed.wait_while(
+            rt,
+            locked,
+            |queue| workers_wait(queue, self.singles.fewest(self.pairs)),
+        );
         self.idle.fetch_sub(1, Ordering::SeqCst);
         let first = claim(&mut queue, pass)?;
         Ok(Jobs::of(first, claim_beside(&mut queue, self.pairs, pass)))
+    }
+
+    /// From now on a plan that waits alone is taken, too: all that were at hand have been fed. Until then, a worker at a desk with pairs
+    /// waits for two.
+    pub fn take_singles<R: Wait>(&self, rt: &R) -> SinglesTaken {
+        self.singles.take(rt, &self.queue, &self.fed)
     }
 
     /// A worker has no plan from now on. One that has made no claim yet was counted when the desk was opened.
@@ -344,7 +364,11 @@ impl<'s, L: Ledger, M: Ledger, P: Permit> Desk<'s, L, M, P> {
         ensures alone { self.now.pairs ≡ false → IfOk result (λ jobs. jobs.beside ≡ None) }
     {
         let mut queue = self.queue.lock(rt);
-        let first = claim_more(&mut queue, self.idle.load(Ordering::SeqCst), pass)?;
+        let left = self
+            .idle
+            .load(Ordering::SeqCst)
+            .max(self.singles.fewest(self.pairs) - 1);
+        let first = claim_more(&mut queue, left, pass)?;
         Ok(Jobs::of(first, claim_beside(&mut queue, self.pairs, pass)))
     }
 
@@ -411,9 +435,21 @@ impl<'s, L: Ledger, M: Ledger, P: Permit> Desk<'s, L, M, P> {
         ensures number { pass.new.number ≡ pass.old.number }
         ensures none { IfErr result (λ seen. (seen.done ≡ 0) × (seen.outstanding ≡ 0)) }
     {
-        let locked = self.queue.lock(rt);
-        let mut queue = self.done.wait_while(rt, locked, |queue| taker_waits(queue));
+        let singles = self.take_singles(rt);
+        let mut queue = self.wait_for_done(rt, singles);
         take_awaited(&mut queue, pass)
+    }
+
+    /// Waits until something is done, or nothing is outstanding. Plans that wait alone are taken, since none is fed meanwhile.
+    fn wait_for_done<R: Wait>(
+        &self,
+        rt: &R,
+        _singles: SinglesTaken,
+    ) -> MutexGuard<'_, PermittedQueue<'s, L, M, P>>
+        ensures { TakerWaits result.value → ⊥ }
+    {
+        let locked = self.queue.lock(rt);
+        self.done.wait_while(rt, locked, |queue| taker_waits(queue))
     }
 
     /// No more plans are fed. Workers end when none waits.

@@ -48,14 +48,17 @@ fn look<L: Ledger, M: Ledger, P: Permit>(queue: &PermittedQueue<'_, L, M, P>) ->
     }
 }
 
-/// Whether workers wait.
-pub fn workers_wait<L: Ledger, M: Ledger, P: Permit>(queue: &PermittedQueue<'_, L, M, P>) -> bool
-    ensures { Decides result (WorkersWait queue.now) }
+/// Whether a worker waits for so many plans.
+pub fn workers_wait<L: Ledger, M: Ledger, P: Permit>(
+    queue: &PermittedQueue<'_, L, M, P>,
+    fewest: usize,
+) -> bool
+    ensures { Decides result (WorkersWait fewest queue.now) }
 {
     if queue.inner.is_closed() {
         return false;
     }
-    !queue.inner.has_waiting()
+    queue.inner.waiting() < fewest
 }
 
 /// Whether the taker waits.
@@ -87,7 +90,7 @@ pub fn claim<'s, L: Ledger, M: Ledger, P: Permit>(
     queue: &mut PermittedQueue<'s, L, M, P>,
     pass: &mut Pass<L>,
 ) -> Result<Claim<'s>, Seen>
-    requires { WorkersWait queue.old → ⊥ }
+    requires { WorkersWait 1 queue.old → ⊥ }
     ensures some { IfOk result (λ claim. Claims queue.old claim queue.new) }
     ensures first { IfOk result (λ claim. (claim.worker ≡ pass.old.number) × (queue.old.waiting ≡ claim.plan ∷ queue.new.waiting)) }
     ensures planned { IfOk result (λ claim. P.plans claim.plan) }

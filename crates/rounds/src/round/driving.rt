@@ -27,7 +27,7 @@ use ladder_items::{PackFault, Playlists, Settings};
 use std::alloc::{AllocError, Global};
 use std::sync::Wait;
 use std::sync::ledger::Ledger;
-use work_desk::{Gate, Permit};
+use work_desk::{Gate, Permit, SinglesTaken};
 
 /// A collector that goes on after the segments given so far.
 pub fn collector_behind<'s, P: Permit>(
@@ -82,7 +82,8 @@ impl<'d, 's, 'r, S: Source, O: Outlet, L: Ledger, M: Ledger, P: Permit, R: Wait>
     {
         let mut buffer = [0; PIECE];
         self.feed_all(sealer, settings, spools)?;
-        self.read_on(sealer, settings, pace, &mut buffer)?;
+        let singles = self.desk.take_singles(self.broadcast.rt());
+        self.read_on(sealer, settings, pace, singles, &mut buffer)?;
         self.give_expected(sealer, settings)?;
         Ok(())
     }
@@ -94,6 +95,7 @@ impl<'d, 's, 'r, S: Source, O: Outlet, L: Ledger, M: Ledger, P: Permit, R: Wait>
         sealer: &Sealer<'_, G>,
         settings: &Settings,
         pace: Pace,
+        _singles: SinglesTaken,
         buffer: &mut [u8],
     ) -> Result<(), PackFault>
         requires only { LetsOnly (G.lets sealer.now.gate.now) P.permits }
