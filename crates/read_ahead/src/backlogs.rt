@@ -1,5 +1,5 @@
 //! The backlogs of all inputs under one lock, and who waits for them. No claim on bytes rests on it.
-ghost use Rattle.std.specs.Prelude.{◌≡◌, ◌≢◌, ◌<◌, None, Decides, IfOk, OnErr, false, length, true};
+ghost use Rattle.std.specs.Prelude.{◌≡◌, ◌≢◌, ◌<◌, None, Decides, IfOk, OnErr, false, length, slice_index_or, true};
 ghost use Rattle.std.specs.Arc.{arc_value};
 ghost use Rattle.std.specs.List.{AllZip};
 ghost use Rattle.read_ahead.specs.Counts.{Begin};
@@ -13,6 +13,7 @@ use crate::limits::Limits;
 use crate::patience::Patience;
 use crate::pushing::Pushed;
 use crate::readiness::Unready;
+use crate::spares::Spares;
 use crate::view::InputState;
 use crate::wait_end::WaitEnd;
 use std::alloc::{AllocError, Global};
@@ -27,6 +28,8 @@ pub struct Backlogs {
     came: Condvar,
     /// Of an input bytes were taken, or no more are given.
     taken: Vec<Condvar>,
+    /// Blocks that were given.
+    pub spares: Spares,
     /// Whether each input is a plain file.
     pub files: Vec<bool>,
     /// How much of them lies ready at the most, and behind which stall each is silent.
@@ -74,6 +77,7 @@ impl Backlogs {
                 counts: Mutex::new(counts),
                 came: Condvar::new(),
                 taken,
+                spares: Spares::new(alloc),
                 files,
                 limits,
             },
@@ -84,8 +88,14 @@ impl Backlogs {
     fn room_of(&self, number: usize) -> usize
         ensures { result ≡ room_of self.now number }
     {
-        let is_file = self.files.get(number).copied().unwrap_or(false);
-        self.limits.room(self.taken.len(), is_file)
+        self.limits.room(self.taken.len(), self.is_file(number))
+    }
+
+    /// Whether an input is a plain file.
+    pub fn is_file(&self, number: usize) -> bool
+        ensures { result ≡ slice_index_or self.now.files.items number false }
+    {
+        self.files.get(number).copied().unwrap_or(false)
     }
 
     /// Waits until there is room for a block, and counts it, or until no more is given.

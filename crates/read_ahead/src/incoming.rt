@@ -12,13 +12,15 @@ ghost use Rattle.read_ahead.specs.declared.incoming.Phase.TheVariants.{Opening, 
 use crate::backlogs::Backlogs;
 use crate::counts::{Given, Leaving, Share, Silence};
 use crate::input::Contents;
+use crate::limits::FILE_MOMENT;
 use crate::message::{InOrder, Message};
 use crate::readiness::{Readiness, Unready};
 use item_io::ReadFault;
 use rtrb::Consumer;
 use std::alloc::Global;
+use std::mem;
 use std::sync::{Arc, Wait};
-use std::time::Clock;
+use std::time::{Clock, Duration};
 
 /// What is known of an input.
 #[derive(Clone, Copy, PartialEq, Eq)]
@@ -86,6 +88,34 @@ impl<I: Contents> Incoming<I> {
             || !self.consumer.is_empty()
     }
 
+    /// The same, but the next bytes of a plain file are waited for, for a moment: it gives them as fast as they are read.
+    fn is_ready_soon<R: Wait + Clock>(&mut self, rt: &R) -> bool
+        requires { IsSound I.holds self.old }
+        ensures sound { IsSound I.holds self.new }
+        ensures number { self.new.number ≡ self.old.number }
+        ensures backlogs { self.new.backlogs ≡ self.old.backlogs }
+        ensures same { rest_of I.holds self.new ≡ rest_of I.holds self.old }
+        ensures phase { self.new.phase ≡ self.old.phase }
+        ensures kept { received self.new.consumer ≡ received self.old.consumer }
+        ensures yes { result ≡ true → LiesReady self.new }
+        ensures no { result ≡ false → Waits self.new }
+    {
+        if self.is_ready() {
+            return true;
+        }
+        if !self.backlogs.is_file(self.number) {
+            return false;
+        }
+        let seen = self.backlogs.news(rt);
+        if self.is_ready() {
+            return true;
+        }
+        let _ = self
+            .backlogs
+            .wait_for(rt, seen, Duration::from_millis(FILE_MOMENT));
+        self.is_ready()
+    }
+
     /// Whether a read would answer at once, of a source that was left if it was: not then. An input that is silent for too long has failed.
     pub fn readiness<R: Wait + Clock>(&mut self, rt: &R, was_left: bool) -> Readiness
         requires { IsSound I.holds self.old }
@@ -103,7 +133,7 @@ impl<I: Contents> Incoming<I> {
         if was_left {
             return Readiness::of_left(self.number, was_left);
         }
-        if self.is_ready() {
+        if self.is_ready_soon(rt) {
             return Readiness::of_ready(self);
         }
         Readiness::of_silence(self.backlogs.silence(rt, self.number))
@@ -222,8 +252,9 @@ impl<I: Contents> Incoming<I> {
         };
         match message {
             Message::Bytes(block) => {
-                self.front = block;
+                let given = mem::replace(&mut self.front, block);
                 self.at = 0;
+                self.backlogs.spares.put(rt, given);
                 self.backlogs.begin(rt, self.number).is_of(self.number);
             }
             Message::End => self.phase = Phase::Ended,

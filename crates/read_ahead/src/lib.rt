@@ -18,6 +18,7 @@ mod readiness;
 mod reading;
 mod sender;
 mod shares;
+mod spares;
 mod starting;
 mod times;
 mod unclosed;

@@ -1,7 +1,7 @@
 //! How much is read ahead at the most, and how long an input is waited for.
 ghost use Rattle.std.specs.Prelude.{◌≡◌, ◌+◌, ◌*◌, ◌^◌};
 ghost use Rattle.read_ahead.specs.Shares.{room_for};
-ghost use Rattle.read_ahead.specs.declared.limits.TheConstants.{BLOCK, BLOCKS, FILE_ROOM, LEAST_WAIT, MOMENT, READ, ROOM, SLOTS, WASTE};
+ghost use Rattle.read_ahead.specs.declared.limits.TheConstants.{BLOCK, BLOCKS, FILE_MOMENT, FILE_ROOM, LEAST_WAIT, MOMENT, READ, ROOM, SLOTS, SPARES, WASTE};
 
 use item_io::PIECE;
 use std::time::Duration;
@@ -22,6 +22,9 @@ pub const SLOTS: usize = BLOCKS + 8;
 /// The most bytes that an input is asked for at once: three pieces, which a source can give without joining blocks.
 pub const READ: usize = 3 * PIECE;
 
+/// The most blocks that are kept to be read into again, of all inputs together.
+pub const SPARES: usize = 8;
+
 /// The least room of an input. A block needs no more.
 pub const BLOCK: usize = 64 << 10;
 
@@ -31,6 +34,9 @@ pub const WASTE: usize = 16 << 10;
 /// How long the writers of all FIFOs are waited for before it begins without them, in milliseconds.
 pub const MOMENT: u64 = 100;
 
+/// How long the next bytes of a plain file are waited for before it's said that none lie ready, in milliseconds.
+pub const FILE_MOMENT: u64 = 2;
+
 /// The least time that is waited for news of inputs which may fall silent, in milliseconds.
 pub const LEAST_WAIT: u64 = 1;
 
@@ -39,11 +45,13 @@ pub fn bounds_are_these()
     ensures room { ROOM ≡ 32 * 2 ^ 20 }
     ensures file_room { FILE_ROOM ≡ 8 * 2 ^ 20 }
     ensures read { READ ≡ 56_400 }
+    ensures spares { SPARES ≡ 8 }
     ensures block { BLOCK ≡ 2 ^ 16 }
     ensures blocks { BLOCKS ≡ 2 ^ 15 }
     ensures slots { SLOTS ≡ 2 ^ 15 + 8 }
     ensures waste { WASTE ≡ 2 ^ 14 }
     ensures moment { MOMENT ≡ 100 }
+    ensures file_moment { FILE_MOMENT ≡ 2 }
     ensures least_wait { LEAST_WAIT ≡ 1 }
 {}
 

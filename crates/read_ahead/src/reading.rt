@@ -1,19 +1,21 @@
 //! What the thread of an input does.
-ghost use Rattle.std.specs.Prelude.{◌≡◌, ◌≢◌, ◌<◌, ◌⊎◌, ◌++◌, ◌∷◌, [], Ok, false, true, length, IfNone, IfOk, IfSome, OnErr};
-ghost use Rattle.std.specs.Io.KnownBytes.{IsAtEnd};
+ghost use Rattle.std.specs.Prelude.{◌≡◌, ◌≢◌, ◌<◌, ◌≤◌, ◌⊎◌, ◌++◌, ◌∷◌, [], Ok, false, true, length, take, IfNone, IfOk, IfSome, OnErr};
+ghost use Rattle.std.specs.Io.KnownBytes.{Consumes, IsAtEnd, Keeps};
 ghost use Rattle.rtrb.specs.Ring.{sent};
 ghost use Rattle.read_ahead.specs.Messages.{Asks, EndsWith, IsOpen, LeavesOut, MayEnd, Tells, goes_on};
 ghost use Rattle.read_ahead.specs.declared.message.Message.TheVariants.{End, Failed};
 ghost use Rattle.read_ahead.specs.declared.reading.ReadingEnd.TheVariants.{AtEnd, Left, NoMemory};
 
 use crate::input::Input;
-use crate::limits::READ;
 use crate::message::Message;
 use crate::opening::open;
 use crate::sender::Sender;
+use crate::spares::Spares;
 use crate::untold::Untold;
 use item_io::{ReadFault, read_some};
 use std::alloc::{AllocError, Global};
+use std::io::Read;
+use std::mem;
 use std::sync::Wait;
 use std::time::Clock;
 
@@ -70,7 +72,7 @@ fn read_ahead<R: Wait + Clock, I: Input>(
     ensures was_left { result ≡ Ok Left → sender.new.is_left ≡ true }
     ensures left { result ≡ Ok Left → LeavesOut I.holds (sent sender.new.producer) (I.Reader.remaining reader.new) }
 {
-    let Ok(mut buffer) = vec![in alloc; 0; READ] else {
+    let Ok(mut buffer) = sender.backlogs.spares.take(rt) else {
         tell_failure(rt, sender);
         return Ok(ReadingEnd::NoMemory);
     };
@@ -113,9 +115,9 @@ fn copy_by<R: Wait + Clock, I: Input>(
     alloc: Global,
     sender: &mut Sender<I>,
     reader: &mut I::Reader,
-    buffer: &mut [u8],
+    buffer: &mut Vec<u8>,
 ) -> Result<ReadingEnd, ReadFault>
-    requires room { 0 < length buffer.old }
+    requires room { 0 < length buffer.old.items }
     requires tells { Tells I.holds (sent sender.old.producer) (I.Reader.remaining reader.old) }
     ensures told { result ≡ Ok AtEnd → Tells I.holds (sent sender.new.producer) (I.Reader.remaining reader.new) }
     ensures end { result ≡ Ok AtEnd → IsAtEnd (I.Reader.remaining reader.new) }
@@ -132,7 +134,7 @@ fn copy_by<R: Wait + Clock, I: Input>(
 {
     for _ in rt.forever() {
         let awaited = sender.begin_wait(rt);
-        let read = read_some(reader, buffer);
+        let read = read_into(reader, buffer);
         let waited = sender.end_wait(rt, awaited);
         let count = read?;
         if count == 0 {
@@ -142,12 +144,45 @@ fn copy_by<R: Wait + Clock, I: Input>(
         if !room.is_given() {
             return Ok(ReadingEnd::Left);
         }
-        let Ok(block) = copy_of(alloc, &buffer[..count]) else {
+        let Ok(block) = block_of(rt, alloc, &sender.backlogs.spares, buffer, count) else {
             return Ok(ReadingEnd::NoMemory);
         };
         sender.send_block(rt, block, room);
     }
     unreachable!()
+}
+
+/// One read into a buffer, which stays as long as it is.
+fn read_into<Q: Read>(reader: &mut Q, buffer: &mut Vec<u8>) -> Result<usize, ReadFault>
+    ensures within { IfOk result (λ count. count ≤ length buffer.new.items) }
+    ensures gave { IfOk result (λ count. Consumes (Q.remaining reader.old) (Q.remaining reader.new) (take count buffer.new.items)) }
+    ensures end { IfOk result (λ count. count ≡ 0 → 0 < length buffer.new.items → IsAtEnd (Q.remaining reader.new)) }
+    ensures kept { OnErr result (Keeps (Q.remaining reader.old) (Q.remaining reader.new)) }
+    ensures len { length buffer.new.items ≡ length buffer.old.items }
+{
+    read_some(reader, buffer.as_mut_slice())
+}
+
+/// A block of the first bytes of a buffer: the buffer itself where they fill it, so that another takes its place, and else a copy.
+fn block_of<R: Wait>(
+    rt: &R,
+    alloc: Global,
+    spares: &Spares,
+    buffer: &mut Vec<u8>,
+    count: usize,
+) -> Result<Vec<u8>, AllocError>
+    requires some { 0 < count }
+    requires within { count ≤ length buffer.old.items }
+    ensures ok { IfOk result (λ block. block.items ≡ take count buffer.old.items) }
+    ensures err { OnErr result (buffer.new ≡ buffer.old) }
+    ensures scarce { OnErr result (0 < length (take count buffer.old.items)) }
+    ensures room { 0 < length buffer.new.items }
+{
+    if count < buffer.len() {
+        return copy_of(alloc, &buffer[..count]);
+    }
+    let next = spares.take(rt)?;
+    Ok(mem::replace(buffer, next))
 }
 
 /// A copy of these bytes.

@@ -9,6 +9,8 @@ mod fixtures;
 #[cfg(test)]
 mod leaving;
 #[cfg(test)]
+mod moment;
+#[cfg(test)]
 mod opening;
 #[cfg(test)]
 mod room;

@@ -8,7 +8,7 @@ use Rattle.read_ahead.proofs.incoming.Incoming.wait_next.Goals as goal
 pub returns-in-Bytes-clause-same : goal.returns-in-Bytes-clause-same
 returns-in-Bytes-clause-same g c =
     let s = c.args.self.now in
-    next_block g.I.Contents.holds (received s.consumer) (received c.wait_message.new.consumer) s.front.items s.at c.in-Bytes.block (in_order (received s.consumer) (received c.wait_message.new.consumer) c.in-Ok.message (Bytes c.in-Bytes.block) c.in-Ok.ensures.order c.in-Bytes.is) (subst (MayFollow g.I.Contents.holds g.I.Contents.refuses (received s.consumer)) c.in-Bytes.is c.in-Ok.ensures.allowed) c.requires.used
+    rw c.replace-given.ensures.after (next_block g.I.Contents.holds (received s.consumer) (received c.wait_message.new.consumer) s.front.items s.at c.in-Bytes.block (in_order (received s.consumer) (received c.wait_message.new.consumer) c.in-Ok.message (Bytes c.in-Bytes.block) c.in-Ok.ensures.order c.in-Bytes.is) (subst (MayFollow g.I.Contents.holds g.I.Contents.refuses (received s.consumer)) c.in-Bytes.is c.in-Ok.ensures.allowed) c.requires.used)
 
 pub returns-in-End-clause-same : goal.returns-in-End-clause-same
 returns-in-End-clause-same g c =
