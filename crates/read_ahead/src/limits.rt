@@ -1,5 +1,5 @@
 //! How much is read ahead at the most, and how long an input is waited for.
-ghost use Rattle.std.specs.Prelude.{◌≡◌, ◌+◌, ◌*◌, ◌^◌};
+ghost use Rattle.std.specs.Prelude.{◌≡◌, ◌+◌, ◌*◌, ◌≤◌, ◌^◌};
 ghost use Rattle.read_ahead.specs.Shares.{room_for};
 ghost use Rattle.read_ahead.specs.declared.limits.TheConstants.{BLOCK, BLOCKS, FILE_MOMENT, FILE_ROOM, LEAST_WAIT, MOMENT, READ, ROOM, SLOTS, SPARES, WASTE};
 
@@ -22,8 +22,8 @@ pub const SLOTS: usize = BLOCKS + 8;
 /// The most bytes that an input is asked for at once: three pieces, which a source can give without joining blocks.
 pub const READ: usize = 3 * PIECE;
 
-/// The most blocks that are kept to be read into again, of all inputs together.
-pub const SPARES: usize = 8;
+/// The most blocks that are kept to be read into again, of all inputs together: as many as fill the room of a plain file.
+pub const SPARES: usize = 148;
 
 /// The least room of an input. A block needs no more.
 pub const BLOCK: usize = 64 << 10;
@@ -45,7 +45,8 @@ pub fn bounds_are_these()
     ensures room { ROOM ≡ 32 * 2 ^ 20 }
     ensures file_room { FILE_ROOM ≡ 8 * 2 ^ 20 }
     ensures read { READ ≡ 56_400 }
-    ensures spares { SPARES ≡ 8 }
+    ensures spares { SPARES ≡ 148 }
+    ensures fill { SPARES * READ ≤ FILE_ROOM }
     ensures block { BLOCK ≡ 2 ^ 16 }
     ensures blocks { BLOCKS ≡ 2 ^ 15 }
     ensures slots { SLOTS ≡ 2 ^ 15 + 8 }
