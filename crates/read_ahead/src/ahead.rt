@@ -148,7 +148,8 @@ impl<R: Wait + Clock + Copy, I: Contents> Source for Ahead<R, I> {
         self.was_left = true;
     }
 
-    /// Whether a byte lies ready, or the end, or a failure.
+    /// Whether a byte lies ready, or the end, or a failure. A plain file's is waited for, for up to 2 ms, since such a file gives its bytes as
+    /// fast as they are read.
     fn is_ready(&mut self) -> bool
         ensures ok { self.new ≡ self.old }
         ensures left { self.old.is_left ≡ true → result ≡ false }
