@@ -1,16 +1,14 @@
 -- A chain over a text in two parts.
-use Rattle.std.proofs.Common.{◌≡◌, ℕ, zero, suc, ◌+◌, ◌*◌, ◌/◌, ◌%◌, List, [], ◌∷◌, ◌++◌, length, drop, refl, sym, ap, ap₂, ◌∙◌, arith, length-append, length-drop}
-use Rattle.std.proofs.lemmas.List.{take-append-le, drop-append-le}
+use Rattle.std.proofs.Common.{◌≡◌, ℕ, zero, suc, ◌+◌, ◌*◌, ◌/◌, ◌%◌, List, [], ◌∷◌, ◌++◌, length, take, drop, refl, sym, ap, ap₂, ◌∙◌, arith, length-append, length-drop}
+use Rattle.std.proofs.lemmas.List.{take_all, take-append-le, drop-append-le, drop_at}
 use Rattle.std.proofs.lemmas.List.Folds.{concat-append}
 use Rattle.std.specs.List.{concat}
 use Rattle.std.specs.Simd.{first_chunks}
-use Rattle.ghost_list.specs.Bytes.{AreBytes}
-use Rattle.aes_cbc.specs.Block.{IsBlock, xor_bytes}
+use Rattle.aes_cbc.specs.Block.{xor_bytes}
 use Rattle.aes_cbc.specs.Cipher.{aes}
 use Rattle.aes_cbc.specs.Chain.{cbc, blocks}
 use Rattle.aes_cbc.specs.Opening.{last_block}
-use Rattle.aes_cbc.proofs.ChainInverse.{cbc-EachBlock}
-use Rattle.aes_cbc.proofs.BlockLists.{blocks-EachBlock, blocks-concat}
+use Rattle.aes_cbc.proofs.Lengths.{length-aes, length-concat-cbc}
 
 pub cbc-append : (k v : List ℕ) (xs ys : List (List ℕ)) → cbc k v (xs ++ ys) ≡ cbc k v xs ++ cbc k (last_block v (cbc k v xs)) ys
 unfolding cbc
@@ -30,16 +28,29 @@ blocks-append x y whole =
     let count : length (x ++ y) / 16 ≡ length y / 16 + length x / 16 = omega (arith, length-append x y) in
     chunks-append (length x / 16) (length y / 16) (length (x ++ y) / 16) x y count (omega arith)
 
+chunks_of_chain : (k v : List ℕ) (bs : List (List ℕ)) → length k ≡ 16 → first_chunks 16 (length bs) (concat (cbc k v bs)) ≡ cbc k v bs
+unfolding cbc
+chunks_of_chain k v [] h = refl
+chunks_of_chain k v (b ∷ bs) h =
+    let c = aes k (xor_bytes b v) in
+    let more = concat (cbc k c bs) in
+    let long : length c ≡ 16 = length-aes k (xor_bytes b v) h in
+    let front : take 16 (c ++ more) ≡ c = take-append-le 16 c more (omega arith) ∙ take_all 16 c (omega arith) in
+    ap₂ (λ x y. x ∷ first_chunks 16 (length bs) y) front (drop_at c more 16 long)
+    ∙ ap (λ x. c ∷ x) (chunks_of_chain k c bs h)
+
 -- the blocks of a chain's text are its cipher blocks
-pub blocks_of_chain : (k v x : List ℕ) → IsBlock k → IsBlock v → AreBytes x → blocks (concat (cbc k v (blocks x))) ≡ cbc k v (blocks x)
-blocks_of_chain k v x hk hv hx = blocks-concat (cbc k v (blocks x)) (cbc-EachBlock k v (blocks x) hk hv (blocks-EachBlock x hx))
+pub blocks_of_chain : (k v x : List ℕ) → length k ≡ 16 → blocks (concat (cbc k v (blocks x))) ≡ cbc k v (blocks x)
+blocks_of_chain k v x h =
+    let count : length (concat (cbc k v (blocks x))) / 16 ≡ length (blocks x) = omega (arith, length-concat-cbc k v (blocks x) h) in
+    ap (λ n. first_chunks 16 n (concat (cbc k v (blocks x)))) count ∙ chunks_of_chain k v (blocks x) h
 
 -- a text in two parts, of which the second goes on from the last block of the first
-pub chain_in_parts : (k v text x y a b : List ℕ) → IsBlock k → IsBlock v → AreBytes x → length x % 16 ≡ 0 → text ≡ x ++ y
+pub chain_in_parts : (k v text x y a b : List ℕ) → length k ≡ 16 → length x % 16 ≡ 0 → text ≡ x ++ y
     → a ≡ concat (cbc k v (blocks x)) → b ≡ concat (cbc k (last_block v (blocks a)) (blocks y))
     → a ++ b ≡ concat (cbc k v (blocks text))
-chain_in_parts k v text x y a b hk hv hx whole parts of_a of_b =
-    let last = ap blocks of_a ∙ blocks_of_chain k v x hk hv hx in
+chain_in_parts k v text x y a b long whole parts of_a of_b =
+    let last = ap blocks of_a ∙ blocks_of_chain k v x long in
     ap₂ (λ p q. p ++ q) of_a (of_b ∙ ap (λ bs. concat (cbc k (last_block v bs) (blocks y))) last)
     ∙ sym (concat-append (cbc k v (blocks x)) (cbc k (last_block v (cbc k v (blocks x))) (blocks y)))
     ∙ ap concat (sym (cbc-append k v (blocks x) (blocks y)) ∙ ap (cbc k v) (sym (blocks-append x y whole) ∙ ap blocks (sym parts)))

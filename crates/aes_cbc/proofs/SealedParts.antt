@@ -1,6 +1,6 @@
 -- A sealed text in parts, of which each goes on from the last block of the one before.
 use Rattle.std.proofs.Common.{◌≡◌, ℕ, ◌%◌, ◌≤◌, List, ◌++◌, length, take, drop, sym, ap, ap₂, ◌∙◌, arith, append_assoc, length-append, length-drop}
-use Rattle.std.proofs.lemmas.List.{take-append-le, drop-append-le, take_all, drop_all}
+use Rattle.std.proofs.lemmas.List.{take-append-le, drop-append-le}
 use Rattle.std.proofs.lemmas.List.Folds.{concat-append}
 use Rattle.std.specs.List.{concat}
 use Rattle.aes_cbc.specs.Padding.{padding, padded_text}
@@ -26,23 +26,24 @@ sealed-append k v y next whole =
     ∙ ap concat (cbc-append k v (blocks y) (blocks (padded_text next)))
     ∙ concat-append (cbc k v (blocks y)) (cbc k (last_block v (cbc k v (blocks y))) (blocks (padded_text next)))
 
--- a piece was appended and encrypted: the same text is made of what is left
-pub piece_sealed : (k v text rest next t1 t2 w : List ℕ) (n done len : ℕ) → done % 16 ≡ 0 → done ≤ length text → length t1 % 16 ≡ 0
-    → take n rest ++ next ≡ rest → t1 ≡ text ++ take n rest → t2 ≡ take done t1 ++ concat (cbc k v (blocks (drop done t1)))
-    → w ≡ last_block v (cbc k v (blocks (drop done t1))) → length t2 ≤ len
-    → take len t2 ++ sealed_text k w (drop len t2 ++ next) ≡ take done text ++ sealed_text k v (drop done text ++ rest)
-piece_sealed k v text rest next t1 t2 w n done len whole inside of_t1 parts appended encrypted last all =
-    let piece = take n rest in
-    let y = drop done t1 in
-    let of_y : length y % 16 ≡ 0 = omega (arith, length-drop done t1, ap length appended, length-append text piece) in
-    let front : take done t1 ≡ take done text = ap (take done) appended ∙ take-append-le done text piece inside in
-    let back : y ≡ drop done text ++ piece = ap (drop done) appended ∙ drop-append-le done text piece inside in
-    ap₂ (λ a b. a ++ sealed_text k w (b ++ next)) (take_all len t2 all) (drop_all len t2 all)
-    ∙ ap₂ (λ a u. a ++ sealed_text k u next) encrypted last
-    ∙ append_assoc (take done t1) (concat (cbc k v (blocks y))) (sealed_text k (last_block v (cbc k v (blocks y))) next)
-    ∙ ap₂ (λ a b. a ++ b) front (sym (sealed-append k v y next of_y)
-    ∙ ap (λ x. sealed_text k v (x ++ next)) back
-    ∙ ap (sealed_text k v) (append_assoc (drop done text) piece next ∙ ap (λ x. drop done text ++ x) parts))
+-- a piece was appended encrypted: the same text is made of what is left
+pub piece_sealed : (k v text piece next rest t1 w : List ℕ) → length piece % 16 ≡ 0 → rest ≡ piece ++ next
+    → t1 ≡ text ++ concat (cbc k v (blocks piece)) → w ≡ last_block v (cbc k v (blocks piece))
+    → t1 ++ sealed_text k w next ≡ text ++ sealed_text k v rest
+piece_sealed k v text piece next rest t1 w whole parts appended last =
+    ap₂ (λ a u. a ++ sealed_text k u next) appended last
+    ∙ append_assoc text (concat (cbc k v (blocks piece))) (sealed_text k (last_block v (cbc k v (blocks piece))) next)
+    ∙ ap (λ x. text ++ x) (sym (sealed-append k v piece next whole) ∙ ap (sealed_text k v) (sym parts))
+
+-- a text was brought to whole blocks and encrypted: the same text is made of what is left
+pub head_sealed : (k v text piece next rest t1 t2 w : List ℕ) → length t1 % 16 ≡ 0 → rest ≡ piece ++ next
+    → t1 ≡ text ++ piece → t2 ≡ concat (cbc k v (blocks t1)) → w ≡ last_block v (cbc k v (blocks t1))
+    → t2 ++ sealed_text k w next ≡ sealed_text k v (text ++ rest)
+head_sealed k v text piece next rest t1 t2 w whole parts appended encrypted last =
+    ap₂ (λ a u. a ++ sealed_text k u next) encrypted last
+    ∙ sym (sealed-append k v t1 next whole)
+    ∙ ap (λ x. sealed_text k v (x ++ next)) appended
+    ∙ ap (sealed_text k v) (append_assoc text piece next ∙ ap (λ x. text ++ x) (sym parts))
 
 -- the rest was appended, padded and encrypted
 pub end_sealed : (k v text rest t1 t2 : List ℕ) (done : ℕ) → done % 16 ≡ 0 → done ≤ length text

@@ -1,83 +1,128 @@
 //! Texts of which parts are appended while they are sealed side by side, each under its own key from its own vector on.
 
-ghost use Rattle.std.specs.Prelude.{◌≡◌, ◌+◌, ◌*◌, ◌/◌, ◌%◌, ◌≤◌, ◌++◌, [], length, slice_index_or, take, drop, vec_len, vec_capacity, IfOk, IsOk, OnErr};
+ghost use Rattle.std.specs.Prelude.{◌≡◌, ◌+◌, ◌*◌, ◌/◌, ◌%◌, ◌≤◌, ◌++◌, [], length, slice_index_or, vec_len, vec_capacity, IfOk, IsOk, OnErr};
 ghost use Rattle.std.specs.List.{concat};
 ghost use Rattle.aes_cbc.specs.Chain.{cbc, blocks, sealed_text};
 ghost use Rattle.aes_cbc.specs.Opening.{last_block};
+ghost use Rattle.aes_cbc.specs.declared.behind.TheConstants.{PIECE};
 
-use crate::behind::{PIECE, append_piece, make_room, seal_rest};
+use crate::behind::{PIECE, make_room, seal_head, seal_rest, seal_text};
 use crate::key::Key;
-use crate::side_by_side::{encrypt_four, encrypt_two, last_block};
+use crate::pairs::{first_of, joined, second_of};
+use crate::side_by_side::last_block;
 use std::alloc::AllocError;
+use std::simd::prelude::*;
 
-/// Encrypts whole blocks behind what is done of two texts where they lie, as chains from the vectors on. The last blocks of the chains
-/// come back.
-fn encrypt_two_behind(
+/// Appends a piece to each of two texts, encrypted as chains from the vectors on. The last blocks of the chains come back.
+fn append_two_encrypted(
     keys: (&Key, &Key),
     vectors: &[[u8; 16]; 2],
     first: &mut Vec<u8>,
     second: &mut Vec<u8>,
-    dones: (usize, usize),
+    pieces: (&[u8], &[u8]),
 ) -> [[u8; 16]; 2]
-    requires first_done { (dones.0 % 16 ≡ 0) × (dones.0 ≤ vec_len first.old) }
-    requires second_done { (dones.1 % 16 ≡ 0) × (dones.1 ≤ vec_len second.old) }
-    requires first_whole { vec_len first.old % 16 ≡ 0 }
-    requires second_whole { vec_len second.old % 16 ≡ 0 }
-    ensures first_items { first.new.items ≡ take dones.0 first.old.items
-        ++ concat (cbc keys.entry.0.now (slice_index_or vectors.now 0 []) (blocks (drop dones.0 first.old.items))) }
-    ensures second_items { second.new.items ≡ take dones.1 second.old.items
-        ++ concat (cbc keys.entry.1.now (slice_index_or vectors.now 1 []) (blocks (drop dones.1 second.old.items))) }
+    requires first_piece { length pieces.0.now ≡ PIECE }
+    requires second_piece { length pieces.1.now ≡ PIECE }
+    requires first_room { vec_len first.old + PIECE ≤ vec_capacity first.old }
+    requires second_room { vec_len second.old + PIECE ≤ vec_capacity second.old }
+    ensures first_items { first.new.items ≡ first.old.items
+        ++ concat (cbc keys.entry.0.now (slice_index_or vectors.now 0 []) (blocks pieces.entry.0.now)) }
+    ensures second_items { second.new.items ≡ second.old.items
+        ++ concat (cbc keys.entry.1.now (slice_index_or vectors.now 1 []) (blocks pieces.entry.1.now)) }
     ensures first_last { slice_index_or result 0 [] ≡ last_block (slice_index_or vectors.now 0 [])
-        (cbc keys.entry.0.now (slice_index_or vectors.now 0 []) (blocks (drop dones.0 first.old.items))) }
+        (cbc keys.entry.0.now (slice_index_or vectors.now 0 []) (blocks pieces.entry.0.now)) }
     ensures second_last { slice_index_or result 1 [] ≡ last_block (slice_index_or vectors.now 1 [])
-        (cbc keys.entry.1.now (slice_index_or vectors.now 1 []) (blocks (drop dones.1 second.old.items))) }
-    ensures first_len { vec_len first.new ≡ vec_len first.old }
-    ensures second_len { vec_len second.new ≡ vec_len second.old }
+        (cbc keys.entry.1.now (slice_index_or vectors.now 1 []) (blocks pieces.entry.1.now)) }
+    ensures first_len { vec_len first.new ≡ vec_len first.old + PIECE }
+    ensures second_len { vec_len second.new ≡ vec_len second.old + PIECE }
     ensures first_capacity { vec_capacity first.old ≤ vec_capacity first.new }
     ensures second_capacity { vec_capacity second.old ≤ vec_capacity second.new }
 {
-    let (_, first_back) = first.split_at_mut(dones.0);
-    let (_, second_back) = second.split_at_mut(dones.1);
-    encrypt_two(keys, vectors, first_back, second_back);
+    let mut first_front = [0; PIECE];
+    let mut second_front = [0; PIECE];
+    let mut last = joined(u8x16::from_array(vectors[0]), u8x16::from_array(vectors[1]));
+    'block: for i in 0..PIECE / 16 {
+        let blocks = joined(
+            u8x16::from_array(pieces.0.as_chunks::<16>().0[i]),
+            u8x16::from_array(pieces.1.as_chunks::<16>().0[i]),
+        );
+        let next = Key::encrypt_two(keys, blocks ^ last);
+        first_front[16 * i..16 * i + 16].copy_from_slice(&first_of(next));
+        second_front[16 * i..16 * i + 16].copy_from_slice(&second_of(next));
+        last = next;
+    }
+    first.extend_from_slice(&first_front).unwrap();
+    second.extend_from_slice(&second_front).unwrap();
     [
-        last_block(keys.0, vectors[0], first_back),
-        last_block(keys.1, vectors[1], second_back),
+        last_block(keys.0, vectors[0], &first_front),
+        last_block(keys.1, vectors[1], &second_front),
     ]
 }
 
-/// Seals what lies behind what is done of two texts, which is encrypted, with the rests that are to come behind them: piece by piece side
+/// Seals the rests that are to come behind two texts of whole blocks, which are encrypted: piece by piece side
 /// by side as long as both have some, and the chains go on from the vectors.
 fn seal_two_rests(
     keys: (&Key, &Key),
     vectors: &[[u8; 16]; 2],
     first: &mut Vec<u8>,
     second: &mut Vec<u8>,
-    dones: (usize, usize),
     rests: (&[u8], &[u8]),
 )
-    requires first_done { (dones.0 % 16 ≡ 0) × (dones.0 ≤ vec_len first.old) }
-    requires second_done { (dones.1 % 16 ≡ 0) × (dones.1 ≤ vec_len second.old) }
+    requires first_whole { vec_len first.old % 16 ≡ 0 }
+    requires second_whole { vec_len second.old % 16 ≡ 0 }
     requires first_room { 16 * ((vec_len first.old + length rests.0.now) / 16 + 1) ≤ vec_capacity first.old }
     requires second_room { 16 * ((vec_len second.old + length rests.1.now) / 16 + 1) ≤ vec_capacity second.old }
-    ensures first_items { first.new.items ≡ take dones.0 first.old.items
-        ++ sealed_text keys.entry.0.now (slice_index_or vectors.now 0 []) (drop dones.0 first.old.items ++ rests.entry.0.now) }
-    ensures second_items { second.new.items ≡ take dones.1 second.old.items
-        ++ sealed_text keys.entry.1.now (slice_index_or vectors.now 1 []) (drop dones.1 second.old.items ++ rests.entry.1.now) }
+    ensures first_items { first.new.items
+        ≡ first.old.items ++ sealed_text keys.entry.0.now (slice_index_or vectors.now 0 []) rests.entry.0.now }
+    ensures second_items { second.new.items
+        ≡ second.old.items ++ sealed_text keys.entry.1.now (slice_index_or vectors.now 1 []) rests.entry.1.now }
     ensures first_len { vec_len first.new ≡ 16 * ((vec_len first.old + length rests.entry.0.now) / 16 + 1) }
     ensures second_len { vec_len second.new ≡ 16 * ((vec_len second.old + length rests.entry.1.now) / 16 + 1) }
     ensures first_capacity { vec_capacity first.old ≤ vec_capacity first.new }
     ensures second_capacity { vec_capacity second.old ≤ vec_capacity second.new }
 {
     let mut lasts = *vectors;
-    let mut dones = dones;
     let mut rests = rests;
     'piece: while rests.0.len() >= PIECE && rests.1.len() >= PIECE {
-        rests = (append_piece(first, rests.0), append_piece(second, rests.1));
-        lasts = encrypt_two_behind(keys, &lasts, first, second, dones);
-        dones = (first.len(), second.len());
+        let (first_piece, first_rest) = rests.0.split_at(PIECE);
+        let (second_piece, second_rest) = rests.1.split_at(PIECE);
+        let pieces = (first_piece, second_piece);
+        lasts = append_two_encrypted(keys, &lasts, first, second, pieces);
+        rests = (first_rest, second_rest);
     }
-    seal_rest(keys.0, &lasts[0], first, dones.0, rests.0);
-    seal_rest(keys.1, &lasts[1], second, dones.1, rests.1);
+    seal_rest(keys.0, &lasts[0], first, rests.0);
+    seal_rest(keys.1, &lasts[1], second, rests.1);
+}
+
+/// Seals two texts with more behind each, for all of which there is room.
+fn seal_two_texts(
+    keys: (&Key, &Key),
+    vectors: &[[u8; 16]; 2],
+    first: &mut Vec<u8>,
+    second: &mut Vec<u8>,
+    more: (&[u8], &[u8]),
+)
+    requires first_room { 16 * ((vec_len first.old + length more.0.now) / 16 + 1) ≤ vec_capacity first.old }
+    requires second_room { 16 * ((vec_len second.old + length more.1.now) / 16 + 1) ≤ vec_capacity second.old }
+    ensures first_items { first.new.items
+        ≡ sealed_text keys.entry.0.now (slice_index_or vectors.now 0 []) (first.old.items ++ more.entry.0.now) }
+    ensures second_items { second.new.items
+        ≡ sealed_text keys.entry.1.now (slice_index_or vectors.now 1 []) (second.old.items ++ more.entry.1.now) }
+    ensures first_len { vec_len first.new ≡ 16 * ((vec_len first.old + length more.entry.0.now) / 16 + 1) }
+    ensures second_len { vec_len second.new ≡ 16 * ((vec_len second.old + length more.entry.1.now) / 16 + 1) }
+    ensures first_capacity { vec_capacity first.old ≤ vec_capacity first.new }
+    ensures second_capacity { vec_capacity second.old ≤ vec_capacity second.new }
+{
+    if more.0.len() < 16 || more.1.len() < 16 {
+        seal_text(keys.0, &vectors[0], first, more.0);
+        seal_text(keys.1, &vectors[1], second, more.1);
+        return;
+    }
+    let (first_last, first_rest) = seal_head(keys.0, &vectors[0], first, more.0);
+    let (second_last, second_rest) = seal_head(keys.1, &vectors[1], second, more.1);
+    let lasts = [first_last, second_last];
+    let rests = (first_rest, second_rest);
+    seal_two_rests(keys, &lasts, first, second, rests);
 }
 
 /// Appends more to two texts, and pads and encrypts them, each under its key from its vector on: what
@@ -105,75 +150,89 @@ pub fn seal_two_behind(
 {
     make_room(first, more.0)?;
     make_room(second, more.1)?;
-    seal_two_rests(keys, vectors, first, second, (0, 0), more);
+    seal_two_texts(keys, vectors, first, second, more);
     Ok(())
 }
 
-/// Encrypts whole blocks behind what is done of four texts where they lie, as chains from the vectors on. The last blocks of the chains
-/// come back.
-fn encrypt_four_behind(
+/// Appends a piece to each of four texts, encrypted as chains from the vectors on. The last blocks of the chains come back.
+fn append_four_encrypted(
     keys: (&Key, &Key, &Key, &Key),
     vectors: &[[u8; 16]; 4],
     first: &mut Vec<u8>,
     second: &mut Vec<u8>,
     third: &mut Vec<u8>,
     fourth: &mut Vec<u8>,
-    dones: (usize, usize, usize, usize),
+    pieces: (&[u8], &[u8], &[u8], &[u8]),
 ) -> [[u8; 16]; 4]
-    requires first_done { (dones.0 % 16 ≡ 0) × (dones.0 ≤ vec_len first.old) }
-    requires second_done { (dones.1 % 16 ≡ 0) × (dones.1 ≤ vec_len second.old) }
-    requires third_done { (dones.2 % 16 ≡ 0) × (dones.2 ≤ vec_len third.old) }
-    requires fourth_done { (dones.3 % 16 ≡ 0) × (dones.3 ≤ vec_len fourth.old) }
-    requires first_whole { vec_len first.old % 16 ≡ 0 }
-    requires second_whole { vec_len second.old % 16 ≡ 0 }
-    requires third_whole { vec_len third.old % 16 ≡ 0 }
-    requires fourth_whole { vec_len fourth.old % 16 ≡ 0 }
-    ensures first_items { first.new.items ≡ take dones.0 first.old.items
-        ++ concat (cbc keys.entry.0.now (slice_index_or vectors.now 0 []) (blocks (drop dones.0 first.old.items))) }
-    ensures second_items { second.new.items ≡ take dones.1 second.old.items
-        ++ concat (cbc keys.entry.1.now (slice_index_or vectors.now 1 []) (blocks (drop dones.1 second.old.items))) }
-    ensures third_items { third.new.items ≡ take dones.2 third.old.items
-        ++ concat (cbc keys.entry.2.now (slice_index_or vectors.now 2 []) (blocks (drop dones.2 third.old.items))) }
-    ensures fourth_items { fourth.new.items ≡ take dones.3 fourth.old.items
-        ++ concat (cbc keys.entry.3.now (slice_index_or vectors.now 3 []) (blocks (drop dones.3 fourth.old.items))) }
+    requires first_piece { length pieces.0.now ≡ PIECE }
+    requires second_piece { length pieces.1.now ≡ PIECE }
+    requires third_piece { length pieces.2.now ≡ PIECE }
+    requires fourth_piece { length pieces.3.now ≡ PIECE }
+    requires first_room { vec_len first.old + PIECE ≤ vec_capacity first.old }
+    requires second_room { vec_len second.old + PIECE ≤ vec_capacity second.old }
+    requires third_room { vec_len third.old + PIECE ≤ vec_capacity third.old }
+    requires fourth_room { vec_len fourth.old + PIECE ≤ vec_capacity fourth.old }
+    ensures first_items { first.new.items ≡ first.old.items
+        ++ concat (cbc keys.entry.0.now (slice_index_or vectors.now 0 []) (blocks pieces.entry.0.now)) }
+    ensures second_items { second.new.items ≡ second.old.items
+        ++ concat (cbc keys.entry.1.now (slice_index_or vectors.now 1 []) (blocks pieces.entry.1.now)) }
+    ensures third_items { third.new.items ≡ third.old.items
+        ++ concat (cbc keys.entry.2.now (slice_index_or vectors.now 2 []) (blocks pieces.entry.2.now)) }
+    ensures fourth_items { fourth.new.items ≡ fourth.old.items
+        ++ concat (cbc keys.entry.3.now (slice_index_or vectors.now 3 []) (blocks pieces.entry.3.now)) }
     ensures first_last { slice_index_or result 0 [] ≡ last_block (slice_index_or vectors.now 0 [])
-        (cbc keys.entry.0.now (slice_index_or vectors.now 0 []) (blocks (drop dones.0 first.old.items))) }
+        (cbc keys.entry.0.now (slice_index_or vectors.now 0 []) (blocks pieces.entry.0.now)) }
     ensures second_last { slice_index_or result 1 [] ≡ last_block (slice_index_or vectors.now 1 [])
-        (cbc keys.entry.1.now (slice_index_or vectors.now 1 []) (blocks (drop dones.1 second.old.items))) }
+        (cbc keys.entry.1.now (slice_index_or vectors.now 1 []) (blocks pieces.entry.1.now)) }
     ensures third_last { slice_index_or result 2 [] ≡ last_block (slice_index_or vectors.now 2 [])
-        (cbc keys.entry.2.now (slice_index_or vectors.now 2 []) (blocks (drop dones.2 third.old.items))) }
+        (cbc keys.entry.2.now (slice_index_or vectors.now 2 []) (blocks pieces.entry.2.now)) }
     ensures fourth_last { slice_index_or result 3 [] ≡ last_block (slice_index_or vectors.now 3 [])
-        (cbc keys.entry.3.now (slice_index_or vectors.now 3 []) (blocks (drop dones.3 fourth.old.items))) }
-    ensures first_len { vec_len first.new ≡ vec_len first.old }
-    ensures second_len { vec_len second.new ≡ vec_len second.old }
-    ensures third_len { vec_len third.new ≡ vec_len third.old }
-    ensures fourth_len { vec_len fourth.new ≡ vec_len fourth.old }
+        (cbc keys.entry.3.now (slice_index_or vectors.now 3 []) (blocks pieces.entry.3.now)) }
+    ensures first_len { vec_len first.new ≡ vec_len first.old + PIECE }
+    ensures second_len { vec_len second.new ≡ vec_len second.old + PIECE }
+    ensures third_len { vec_len third.new ≡ vec_len third.old + PIECE }
+    ensures fourth_len { vec_len fourth.new ≡ vec_len fourth.old + PIECE }
     ensures first_capacity { vec_capacity first.old ≤ vec_capacity first.new }
     ensures second_capacity { vec_capacity second.old ≤ vec_capacity second.new }
     ensures third_capacity { vec_capacity third.old ≤ vec_capacity third.new }
     ensures fourth_capacity { vec_capacity fourth.old ≤ vec_capacity fourth.new }
 {
-    let (_, first_back) = first.split_at_mut(dones.0);
-    let (_, second_back) = second.split_at_mut(dones.1);
-    let (_, third_back) = third.split_at_mut(dones.2);
-    let (_, fourth_back) = fourth.split_at_mut(dones.3);
-    encrypt_four(
-        keys,
-        vectors,
-        first_back,
-        second_back,
-        third_back,
-        fourth_back,
-    );
+    let mut first_front = [0; PIECE];
+    let mut second_front = [0; PIECE];
+    let mut third_front = [0; PIECE];
+    let mut fourth_front = [0; PIECE];
+    let mut front_last = joined(u8x16::from_array(vectors[0]), u8x16::from_array(vectors[1]));
+    let mut back_last = joined(u8x16::from_array(vectors[2]), u8x16::from_array(vectors[3]));
+    'block: for i in 0..PIECE / 16 {
+        let front = joined(
+            u8x16::from_array(pieces.0.as_chunks::<16>().0[i]),
+            u8x16::from_array(pieces.1.as_chunks::<16>().0[i]),
+        );
+        let back = joined(
+            u8x16::from_array(pieces.2.as_chunks::<16>().0[i]),
+            u8x16::from_array(pieces.3.as_chunks::<16>().0[i]),
+        );
+        let next = Key::encrypt_four(keys, front ^ front_last, back ^ back_last);
+        first_front[16 * i..16 * i + 16].copy_from_slice(&first_of(next.0));
+        second_front[16 * i..16 * i + 16].copy_from_slice(&second_of(next.0));
+        third_front[16 * i..16 * i + 16].copy_from_slice(&first_of(next.1));
+        fourth_front[16 * i..16 * i + 16].copy_from_slice(&second_of(next.1));
+        front_last = next.0;
+        back_last = next.1;
+    }
+    first.extend_from_slice(&first_front).unwrap();
+    second.extend_from_slice(&second_front).unwrap();
+    third.extend_from_slice(&third_front).unwrap();
+    fourth.extend_from_slice(&fourth_front).unwrap();
     [
-        last_block(keys.0, vectors[0], first_back),
-        last_block(keys.1, vectors[1], second_back),
-        last_block(keys.2, vectors[2], third_back),
-        last_block(keys.3, vectors[3], fourth_back),
+        last_block(keys.0, vectors[0], &first_front),
+        last_block(keys.1, vectors[1], &second_front),
+        last_block(keys.2, vectors[2], &third_front),
+        last_block(keys.3, vectors[3], &fourth_front),
     ]
 }
 
-/// Seals what lies behind what is done of four texts, which is encrypted, with the rests that are to come behind them: piece by piece side
+/// Seals the rests that are to come behind four texts of whole blocks, which are encrypted: piece by piece side
 /// by side as long as all have some, and then two and two. The chains go on from the vectors.
 fn seal_four_rests(
     keys: (&Key, &Key, &Key, &Key),
@@ -182,25 +241,24 @@ fn seal_four_rests(
     second: &mut Vec<u8>,
     third: &mut Vec<u8>,
     fourth: &mut Vec<u8>,
-    dones: (usize, usize, usize, usize),
     rests: (&[u8], &[u8], &[u8], &[u8]),
 )
-    requires first_done { (dones.0 % 16 ≡ 0) × (dones.0 ≤ vec_len first.old) }
-    requires second_done { (dones.1 % 16 ≡ 0) × (dones.1 ≤ vec_len second.old) }
-    requires third_done { (dones.2 % 16 ≡ 0) × (dones.2 ≤ vec_len third.old) }
-    requires fourth_done { (dones.3 % 16 ≡ 0) × (dones.3 ≤ vec_len fourth.old) }
+    requires first_whole { vec_len first.old % 16 ≡ 0 }
+    requires second_whole { vec_len second.old % 16 ≡ 0 }
+    requires third_whole { vec_len third.old % 16 ≡ 0 }
+    requires fourth_whole { vec_len fourth.old % 16 ≡ 0 }
     requires first_room { 16 * ((vec_len first.old + length rests.0.now) / 16 + 1) ≤ vec_capacity first.old }
     requires second_room { 16 * ((vec_len second.old + length rests.1.now) / 16 + 1) ≤ vec_capacity second.old }
     requires third_room { 16 * ((vec_len third.old + length rests.2.now) / 16 + 1) ≤ vec_capacity third.old }
     requires fourth_room { 16 * ((vec_len fourth.old + length rests.3.now) / 16 + 1) ≤ vec_capacity fourth.old }
-    ensures first_items { first.new.items ≡ take dones.0 first.old.items
-        ++ sealed_text keys.entry.0.now (slice_index_or vectors.now 0 []) (drop dones.0 first.old.items ++ rests.entry.0.now) }
-    ensures second_items { second.new.items ≡ take dones.1 second.old.items
-        ++ sealed_text keys.entry.1.now (slice_index_or vectors.now 1 []) (drop dones.1 second.old.items ++ rests.entry.1.now) }
-    ensures third_items { third.new.items ≡ take dones.2 third.old.items
-        ++ sealed_text keys.entry.2.now (slice_index_or vectors.now 2 []) (drop dones.2 third.old.items ++ rests.entry.2.now) }
-    ensures fourth_items { fourth.new.items ≡ take dones.3 fourth.old.items
-        ++ sealed_text keys.entry.3.now (slice_index_or vectors.now 3 []) (drop dones.3 fourth.old.items ++ rests.entry.3.now) }
+    ensures first_items { first.new.items
+        ≡ first.old.items ++ sealed_text keys.entry.0.now (slice_index_or vectors.now 0 []) rests.entry.0.now }
+    ensures second_items { second.new.items
+        ≡ second.old.items ++ sealed_text keys.entry.1.now (slice_index_or vectors.now 1 []) rests.entry.1.now }
+    ensures third_items { third.new.items
+        ≡ third.old.items ++ sealed_text keys.entry.2.now (slice_index_or vectors.now 2 []) rests.entry.2.now }
+    ensures fourth_items { fourth.new.items
+        ≡ fourth.old.items ++ sealed_text keys.entry.3.now (slice_index_or vectors.now 3 []) rests.entry.3.now }
     ensures first_len { vec_len first.new ≡ 16 * ((vec_len first.old + length rests.entry.0.now) / 16 + 1) }
     ensures second_len { vec_len second.new ≡ 16 * ((vec_len second.old + length rests.entry.1.now) / 16 + 1) }
     ensures third_len { vec_len third.new ≡ 16 * ((vec_len third.old + length rests.entry.2.now) / 16 + 1) }
@@ -211,28 +269,25 @@ fn seal_four_rests(
     ensures fourth_capacity { vec_capacity fourth.old ≤ vec_capacity fourth.new }
 {
     let mut lasts = *vectors;
-    let mut dones = dones;
     let mut rests = rests;
     'piece: while rests.0.len() >= PIECE
         && rests.1.len() >= PIECE
         && rests.2.len() >= PIECE
         && rests.3.len() >= PIECE
     {
-        rests = (
-            append_piece(first, rests.0),
-            append_piece(second, rests.1),
-            append_piece(third, rests.2),
-            append_piece(fourth, rests.3),
-        );
-        lasts = encrypt_four_behind(keys, &lasts, first, second, third, fourth, dones);
-        dones = (first.len(), second.len(), third.len(), fourth.len());
+        let (first_piece, first_rest) = rests.0.split_at(PIECE);
+        let (second_piece, second_rest) = rests.1.split_at(PIECE);
+        let (third_piece, third_rest) = rests.2.split_at(PIECE);
+        let (fourth_piece, fourth_rest) = rests.3.split_at(PIECE);
+        let pieces = (first_piece, second_piece, third_piece, fourth_piece);
+        lasts = append_four_encrypted(keys, &lasts, first, second, third, fourth, pieces);
+        rests = (first_rest, second_rest, third_rest, fourth_rest);
     }
     seal_two_rests(
         (keys.0, keys.1),
         &[lasts[0], lasts[1]],
         first,
         second,
-        (dones.0, dones.1),
         (rests.0, rests.1),
     );
     seal_two_rests(
@@ -240,9 +295,65 @@ fn seal_four_rests(
         &[lasts[2], lasts[3]],
         third,
         fourth,
-        (dones.2, dones.3),
         (rests.2, rests.3),
     );
+}
+
+/// Seals four texts with more behind each, for all of which there is room.
+fn seal_four_texts(
+    keys: (&Key, &Key, &Key, &Key),
+    vectors: &[[u8; 16]; 4],
+    first: &mut Vec<u8>,
+    second: &mut Vec<u8>,
+    third: &mut Vec<u8>,
+    fourth: &mut Vec<u8>,
+    more: (&[u8], &[u8], &[u8], &[u8]),
+)
+    requires first_room { 16 * ((vec_len first.old + length more.0.now) / 16 + 1) ≤ vec_capacity first.old }
+    requires second_room { 16 * ((vec_len second.old + length more.1.now) / 16 + 1) ≤ vec_capacity second.old }
+    requires third_room { 16 * ((vec_len third.old + length more.2.now) / 16 + 1) ≤ vec_capacity third.old }
+    requires fourth_room { 16 * ((vec_len fourth.old + length more.3.now) / 16 + 1) ≤ vec_capacity fourth.old }
+    ensures first_items { first.new.items
+        ≡ sealed_text keys.entry.0.now (slice_index_or vectors.now 0 []) (first.old.items ++ more.entry.0.now) }
+    ensures second_items { second.new.items
+        ≡ sealed_text keys.entry.1.now (slice_index_or vectors.now 1 []) (second.old.items ++ more.entry.1.now) }
+    ensures third_items { third.new.items
+        ≡ sealed_text keys.entry.2.now (slice_index_or vectors.now 2 []) (third.old.items ++ more.entry.2.now) }
+    ensures fourth_items { fourth.new.items
+        ≡ sealed_text keys.entry.3.now (slice_index_or vectors.now 3 []) (fourth.old.items ++ more.entry.3.now) }
+    ensures first_len { vec_len first.new ≡ 16 * ((vec_len first.old + length more.entry.0.now) / 16 + 1) }
+    ensures second_len { vec_len second.new ≡ 16 * ((vec_len second.old + length more.entry.1.now) / 16 + 1) }
+    ensures third_len { vec_len third.new ≡ 16 * ((vec_len third.old + length more.entry.2.now) / 16 + 1) }
+    ensures fourth_len { vec_len fourth.new ≡ 16 * ((vec_len fourth.old + length more.entry.3.now) / 16 + 1) }
+    ensures first_capacity { vec_capacity first.old ≤ vec_capacity first.new }
+    ensures second_capacity { vec_capacity second.old ≤ vec_capacity second.new }
+    ensures third_capacity { vec_capacity third.old ≤ vec_capacity third.new }
+    ensures fourth_capacity { vec_capacity fourth.old ≤ vec_capacity fourth.new }
+{
+    if more.0.len() < 16 || more.1.len() < 16 || more.2.len() < 16 || more.3.len() < 16 {
+        seal_two_texts(
+            (keys.0, keys.1),
+            &[vectors[0], vectors[1]],
+            first,
+            second,
+            (more.0, more.1),
+        );
+        seal_two_texts(
+            (keys.2, keys.3),
+            &[vectors[2], vectors[3]],
+            third,
+            fourth,
+            (more.2, more.3),
+        );
+        return;
+    }
+    let (first_last, first_rest) = seal_head(keys.0, &vectors[0], first, more.0);
+    let (second_last, second_rest) = seal_head(keys.1, &vectors[1], second, more.1);
+    let (third_last, third_rest) = seal_head(keys.2, &vectors[2], third, more.2);
+    let (fourth_last, fourth_rest) = seal_head(keys.3, &vectors[3], fourth, more.3);
+    let lasts = [first_last, second_last, third_last, fourth_last];
+    let rests = (first_rest, second_rest, third_rest, fourth_rest);
+    seal_four_rests(keys, &lasts, first, second, third, fourth, rests);
 }
 
 /// Appends more to four texts, and pads and encrypts them, each under its key from its vector on: what
@@ -286,15 +397,6 @@ pub fn seal_four_behind(
     make_room(second, more.1)?;
     make_room(third, more.2)?;
     make_room(fourth, more.3)?;
-    seal_four_rests(
-        keys,
-        vectors,
-        first,
-        second,
-        third,
-        fourth,
-        (0, 0, 0, 0),
-        more,
-    );
+    seal_four_texts(keys, vectors, first, second, third, fourth, more);
     Ok(())
 }

@@ -16,7 +16,6 @@ use std::alloc::AllocError;
 /// The block that a chain goes on from behind its front, which is encrypted.
 pub(crate) fn last_block(key: &Key, vector: [u8; 16], front: &[u8]) -> [u8; 16]
     ensures value { result ≡ last_block vector (blocks front.now) }
-    ensures vector { IsBlock vector }
     ensures key { IsBlock key.now }
 {
     // A proof learns here that the key is 16 bytes.

@@ -9,13 +9,19 @@ use std::test::Fail;
 /// How many bytes of a text lie there, and how many are appended.
 type Parts = (usize, usize);
 
-/// Rests of no piece, of less than one, of just one, and of several; the longest in each place.
-const PARTS: [[Parts; 4]; 5] = [
+/// Rests of no piece, of less than one, of just one, and of several; the longest in each place, and heads at each side of a border.
+const PARTS: [[Parts; 4]; 11] = [
     [(0, 0), (376, 0), (0, 16), (188, 188)],
     [(376, 4_096), (376, 4_095), (376, 3_720), (5, 4_096)],
     [(376, 12_408), (564, 4_888), (752, 188), (376, 8_272)],
     [(564, 188), (376, 12_032), (1_316, 9_024), (0, 12_288)],
     [(1_316, 8_460), (376, 0), (376, 16_356), (31, 4_097)],
+    [(0, 15), (15, 16), (16, 16), (1, 15)],
+    [(0, 1_023), (0, 1_024), (0, 1_025), (0, 2_063)],
+    [(15, 1_024), (15, 1_023), (15, 1_025), (15, 4_096)],
+    [(16, 1_025), (16, 2_063), (16, 1_024), (16, 1_040)],
+    [(376, 1_032), (376, 1_031), (376, 1_033), (376, 2_063)],
+    [(15, 1_041), (0, 1_040), (16, 3_088), (376, 5_160)],
 ];
 
 /// The bytes that lie there, with the whole text and what is appended to them.

@@ -1,26 +1,29 @@
-use Rattle.std.proofs.Common.{◌≡◌, ◌-◌, ◌%◌, ◌≤◌, ◌++◌, length, take, vec_len, ap, ◌∙◌, rules}
-use Rattle.std.proofs.lemmas.List.{take-append-drop}
-use Rattle.aes_cbc.specs.declared.behind.TheConstants.{PIECE}
+use Rattle.std.proofs.Common.{◌≡◌, ◌%◌, ◌≤◌, ◌++◌, length, ap₂, ◌∙◌, rules}
+use Rattle.std.proofs.lemmas.List.{take_all, drop_all}
+use Rattle.aes_cbc.specs.Chain.{sealed_text}
 use Rattle.aes_cbc.proofs.SealedParts.{piece_sealed}
 use Rattle.aes_cbc.proofs.behind.seal_rest.Goals as goal
 
 pub piece-preserved : goal.piece-preserved
 piece-preserved c =
-    let text = c.piece.text.items in
-    let rest = c.piece.rest.now in
-    let n = PIECE - vec_len c.piece.text % 16 in
-    let parts : take n rest ++ c.append_piece-rest.result.now ≡ rest = ap (λ x. take n rest ++ x) c.append_piece-rest.ensures.rest ∙ take-append-drop n rest in
-    let whole : length c.append_piece-rest.new.text.items % 16 ≡ 0 = search rules in
-    let inside : c.piece.done ≤ length text = search rules in
-    let all : length c.encrypt_behind-last.new.text.items ≤ c.len-done.result = search rules in
+    let inv = c.piece.invariant in
+    let piece = c.split_at.result.0.now in
+    let whole : length piece % 16 ≡ 0 = search rules in
     record {
       items =
-          piece_sealed c.args.key.now c.piece.last text rest c.append_piece-rest.result.now c.append_piece-rest.new.text.items c.encrypt_behind-last.new.text.items
-          c.encrypt_behind-last.result n c.piece.done c.len-done.result c.piece.invariant.whole inside whole
-          parts c.append_piece-rest.ensures.items c.encrypt_behind-last.ensures.items c.encrypt_behind-last.ensures.last all
-          ∙ c.piece.invariant.items;
+          piece_sealed c.args.key.now c.piece.last c.piece.text.items piece c.split_at.result.1.now c.piece.rest.now
+          c.append_encrypted-last.new.text.items c.append_encrypted-last.result
+          whole c.split_at.ensures.by_index.0 c.append_encrypted-last.ensures.items c.append_encrypted-last.ensures.last
+          ∙ inv.items;
       whole = search rules;
-      inside = search rules;
       len = search rules;
       room = search rules;
     }
+
+pub returns-clause-items : goal.returns-clause-items
+returns-clause-items c =
+    let text = c.piece.text.items in
+    let all : length text ≤ c.len-done.result = search rules in
+    c.seal_end.ensures.items
+    ∙ ap₂ (λ a b. a ++ sealed_text c.args.key.now c.piece.last (b ++ c.piece.rest.now)) (take_all c.len-done.result text all) (drop_all c.len-done.result text all)
+    ∙ c.piece.invariant.items

@@ -1,13 +1,12 @@
-use Rattle.std.proofs.Common.{◌≡◌, ◌+◌, ◌%◌, ◌≤◌, ◌++◌, length, take, drop, vec_len}
+use Rattle.std.proofs.Common.{◌≡◌, ◌+◌, ◌%◌, ◌≤◌, ◌++◌, length, vec_len}
 use Rattle.std.specs.Prelude.{vec_capacity}
 use Rattle.aes_cbc.specs.Chain.{sealed_text}
 use Rattle.aes_cbc.proofs.behind.seal_rest.Given as goal
 
 abbrev pub invariant-piece : goal.invariant-piece
 invariant-piece l = record {
-  items : take l.done l.text.items ++ sealed_text l.key l.last (drop l.done l.text.items ++ l.rest) ≡ take l.fn.done l.initial.text.items ++ sealed_text l.key l.fn.vector (drop l.fn.done l.initial.text.items ++ l.fn.rest);
-  whole : l.done % 16 ≡ 0;
-  inside : l.done ≤ vec_len l.text;
+  items : l.text.items ++ sealed_text l.key l.last l.rest ≡ l.initial.text.items ++ sealed_text l.key l.fn.vector l.fn.rest;
+  whole : vec_len l.text % 16 ≡ 0;
   len : vec_len l.text + length l.rest ≡ vec_len l.initial.text + length l.fn.rest;
   room : vec_capacity l.initial.text ≤ vec_capacity l.text;
 }

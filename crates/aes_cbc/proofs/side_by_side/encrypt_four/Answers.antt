@@ -1,8 +1,6 @@
-use Rattle.std.proofs.Common.{◌<◌, [], ap, ◌∙◌, rules}
+use Rattle.std.proofs.Common.{[], ap, ◌∙◌, rules}
 use Rattle.std.specs.Prelude.{slice_index_or}
-use Rattle.std.proofs.lemmas.List.Elements.{All-from_get_or}
 use Rattle.std.specs.List.{concat}
-use Rattle.ghost_list.specs.Bytes.{AreBytes}
 use Rattle.aes_cbc.specs.Chain.{cbc, blocks}
 use Rattle.aes_cbc.proofs.ChainSplit.{chain_in_parts}
 use Rattle.aes_cbc.proofs.side_by_side.encrypt_four.Goals as goal
@@ -13,9 +11,8 @@ returns-clause-first c =
     let v = slice_index_or c.args.vectors.now 0 [] in
     let x = c.split_at_mut-first_front.result.0.now in
     let y = c.split_at_mut-first_front.result.1.now in
-    let of_x : AreBytes x = All-from_get_or (λ x. x < 256) x 0 (λ i lt. search rules) in
     let rest = c.encrypt_two.ensures.first ∙ ap (λ w. concat (cbc k w (blocks y))) c.last_block-first_last.ensures.value in
-    chain_in_parts k v c.args.first.now x y c.encrypt_four_chains.new.first c.encrypt_two.new.first c.last_block-first_last.ensures.key c.last_block-first_last.ensures.vector of_x (search rules)
+    chain_in_parts k v c.args.first.now x y c.encrypt_four_chains.new.first c.encrypt_two.new.first c.last_block-first_last.ensures.key.long (search rules)
     c.split_at_mut-first_front.ensures.value c.encrypt_four_chains.ensures.first rest
 
 pub returns-clause-second : goal.returns-clause-second
@@ -24,9 +21,8 @@ returns-clause-second c =
     let v = slice_index_or c.args.vectors.now 1 [] in
     let x = c.split_at_mut-second_front.result.0.now in
     let y = c.split_at_mut-second_front.result.1.now in
-    let of_x : AreBytes x = All-from_get_or (λ x. x < 256) x 0 (λ i lt. search rules) in
     let rest = c.encrypt_two.ensures.second ∙ ap (λ w. concat (cbc k w (blocks y))) c.last_block-second_last.ensures.value in
-    chain_in_parts k v c.args.second.now x y c.encrypt_four_chains.new.second c.encrypt_two.new.second c.last_block-second_last.ensures.key c.last_block-second_last.ensures.vector of_x (search rules)
+    chain_in_parts k v c.args.second.now x y c.encrypt_four_chains.new.second c.encrypt_two.new.second c.last_block-second_last.ensures.key.long (search rules)
     c.split_at_mut-second_front.ensures.value c.encrypt_four_chains.ensures.second rest
 
 pub returns-clause-third : goal.returns-clause-third
@@ -35,9 +31,8 @@ returns-clause-third c =
     let v = slice_index_or c.args.vectors.now 2 [] in
     let x = c.split_at_mut-third_front.result.0.now in
     let y = c.split_at_mut-third_front.result.1.now in
-    let of_x : AreBytes x = All-from_get_or (λ x. x < 256) x 0 (λ i lt. search rules) in
     let rest = c.encrypt_two-2.ensures.first ∙ ap (λ w. concat (cbc k w (blocks y))) c.last_block-third_last.ensures.value in
-    chain_in_parts k v c.args.third.now x y c.encrypt_four_chains.new.third c.encrypt_two-2.new.first c.last_block-third_last.ensures.key c.last_block-third_last.ensures.vector of_x (search rules)
+    chain_in_parts k v c.args.third.now x y c.encrypt_four_chains.new.third c.encrypt_two-2.new.first c.last_block-third_last.ensures.key.long (search rules)
     c.split_at_mut-third_front.ensures.value c.encrypt_four_chains.ensures.third rest
 
 pub returns-clause-fourth : goal.returns-clause-fourth
@@ -46,7 +41,6 @@ returns-clause-fourth c =
     let v = slice_index_or c.args.vectors.now 3 [] in
     let x = c.split_at_mut-fourth_front.result.0.now in
     let y = c.split_at_mut-fourth_front.result.1.now in
-    let of_x : AreBytes x = All-from_get_or (λ x. x < 256) x 0 (λ i lt. search rules) in
     let rest = c.encrypt_two-2.ensures.second ∙ ap (λ w. concat (cbc k w (blocks y))) c.last_block-fourth_last.ensures.value in
-    chain_in_parts k v c.args.fourth.now x y c.encrypt_four_chains.new.fourth c.encrypt_two-2.new.second c.last_block-fourth_last.ensures.key c.last_block-fourth_last.ensures.vector of_x (search rules)
+    chain_in_parts k v c.args.fourth.now x y c.encrypt_four_chains.new.fourth c.encrypt_two-2.new.second c.last_block-fourth_last.ensures.key.long (search rules)
     c.split_at_mut-fourth_front.ensures.value c.encrypt_four_chains.ensures.fourth rest

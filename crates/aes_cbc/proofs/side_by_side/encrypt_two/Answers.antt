@@ -1,8 +1,6 @@
-use Rattle.std.proofs.Common.{◌<◌, [], ap, ◌∙◌, rules}
+use Rattle.std.proofs.Common.{[], ap, ◌∙◌, rules}
 use Rattle.std.specs.Prelude.{slice_index_or}
-use Rattle.std.proofs.lemmas.List.Elements.{All-from_get_or}
 use Rattle.std.specs.List.{concat}
-use Rattle.ghost_list.specs.Bytes.{AreBytes}
 use Rattle.aes_cbc.specs.Chain.{cbc, blocks}
 use Rattle.aes_cbc.proofs.ChainSplit.{chain_in_parts}
 use Rattle.aes_cbc.proofs.side_by_side.encrypt_two.Goals as goal
@@ -13,9 +11,8 @@ returns-clause-first c =
     let v = slice_index_or c.args.vectors.now 0 [] in
     let x = c.split_at_mut-first_front.result.0.now in
     let y = c.split_at_mut-first_front.result.1.now in
-    let of_x : AreBytes x = All-from_get_or (λ x. x < 256) x 0 (λ i lt. search rules) in
     let rest = c.encrypt_chain.ensures ∙ ap (λ w. concat (cbc k w (blocks y))) c.last_block-first_last.ensures.value in
-    chain_in_parts k v c.args.first.now x y c.encrypt_two_chains.new.first c.encrypt_chain.new.text c.last_block-first_last.ensures.key c.last_block-first_last.ensures.vector of_x (search rules)
+    chain_in_parts k v c.args.first.now x y c.encrypt_two_chains.new.first c.encrypt_chain.new.text c.last_block-first_last.ensures.key.long (search rules)
     c.split_at_mut-first_front.ensures.value c.encrypt_two_chains.ensures.first rest
 
 pub returns-clause-second : goal.returns-clause-second
@@ -24,7 +21,6 @@ returns-clause-second c =
     let v = slice_index_or c.args.vectors.now 1 [] in
     let x = c.split_at_mut-second_front.result.0.now in
     let y = c.split_at_mut-second_front.result.1.now in
-    let of_x : AreBytes x = All-from_get_or (λ x. x < 256) x 0 (λ i lt. search rules) in
     let rest = c.encrypt_chain-2.ensures ∙ ap (λ w. concat (cbc k w (blocks y))) c.last_block-second_last.ensures.value in
-    chain_in_parts k v c.args.second.now x y c.encrypt_two_chains.new.second c.encrypt_chain-2.new.text c.last_block-second_last.ensures.key c.last_block-second_last.ensures.vector of_x (search rules)
+    chain_in_parts k v c.args.second.now x y c.encrypt_two_chains.new.second c.encrypt_chain-2.new.text c.last_block-second_last.ensures.key.long (search rules)
     c.split_at_mut-second_front.ensures.value c.encrypt_two_chains.ensures.second rest
