@@ -9,8 +9,10 @@ pub mod Pruning
 pub mod Playing
 pub mod PowerLoss
 pub mod Syncing
+pub mod Aheads
 pub mod GhostMoves
 pub mod FileFolders
+pub mod AheadFolders
 pub mod MemoryMoves
 pub mod MemoryFolders
 pub mod MemoryFinds

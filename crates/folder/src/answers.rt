@@ -4,9 +4,11 @@ ghost use Rattle.std.specs.Prelude.{◌≡◌, ◌≢◌, Err, IfErr, IfOk, IfSo
 ghost use Rattle.std.specs.Fs.{IsFile, file_type};
 ghost use Rattle.std.specs.Io.KnownBytes.{Appends};
 ghost use Rattle.std.specs.IoError.{error_kind};
+ghost use Rattle.std.specs.Path.{path_join};
 ghost use Rattle.std.specs.declared.io.ErrorKind.TheVariants.{NotFound, OutOfMemory};
 ghost use Rattle.folder.specs.declared.read_fault.FolderReadFault.TheVariants.{NoMemory, Unread};
 
+use crate::ahead::AheadFile;
 use crate::fault::FolderFault;
 use crate::notes::known;
 use crate::refusal::{Refusal, unless};
@@ -37,6 +39,13 @@ pub struct Filled {
 /// The folder that was found at a path: its device and its inode.
 #[derive(Drop)]
 pub struct Node {
+    path: GhostList<u8>,
+    found: (u64, u64),
+}
+
+/// A folder was made, and is empty: its device and its inode.
+#[derive(Drop)]
+pub struct Emptied {
     path: GhostList<u8>,
     found: (u64, u64),
 }
@@ -75,6 +84,22 @@ impl Written {
         ensures { result.items ≡ self.bytes.items }
     {
         self.bytes
+    }
+
+    /// Whether it was synced.
+    pub fn is_synced(&self) -> bool
+        ensures { result ≡ self.now.is_synced }
+    {
+        self.is_synced
+    }
+}
+
+impl Emptied {
+    /// Its device and its inode.
+    pub fn found(&self) -> (u64, u64)
+        ensures { result ≡ self.now.found }
+    {
+        self.found
     }
 }
 
@@ -124,6 +149,16 @@ pub fn clearing_of(path: &str, _answer: io::Result<()>) -> Cleared
     }
 }
 
+/// A path right in a folder that was made empty needs no clearing: what stands there was written there since, and stays.
+pub fn clear_in(_folder: &Emptied, name: &str, path: &str) -> Cleared
+    requires { path.now ≡ path_join _folder.now.path.items name.now }
+    ensures { result.path.items ≡ path.now }
+{
+    Cleared {
+        path: known(path.as_bytes()),
+    }
+}
+
 /// The device and the inode of the folder at a path that the system looked at; none where it couldn't.
 pub fn node_of(path: &str, looked: io::Result<Metadata>) -> Option<Node>
     ensures some { OnOk looked (IsSome result) }
@@ -134,6 +169,27 @@ pub fn node_of(path: &str, looked: io::Result<Metadata>) -> Option<Node>
     Some(Node {
         path: known(path.as_bytes()),
         found: (metadata.dev(), metadata.ino()),
+    })
+}
+
+/// The folder that was made at a path, which was cleared, and looked at; none where the system couldn't do either.
+pub fn emptied_of(
+    path: &str,
+    _cleared: Cleared,
+    made: io::Result<()>,
+    looked: io::Result<Metadata>,
+) -> Option<Emptied>
+    requires cleared { _cleared.path.items ≡ path.now }
+    ensures some { OnOk made (OnOk looked (IsSome result)) }
+    ensures unmade { OnErr made (result ≡ None) }
+    ensures none { OnErr looked (result ≡ None) }
+    ensures of { IfSome result (λ emptied. emptied.path.items ≡ path.now) }
+{
+    made.ok()?;
+    let folder = looked.ok()?;
+    Some(Emptied {
+        path: known(path.as_bytes()),
+        found: (folder.dev(), folder.ino()),
     })
 }
 
@@ -178,6 +234,21 @@ pub fn rename_of(from: &str, to: &str, answer: io::Result<()>) -> Result<Renamed
         from: known(from.as_bytes()),
         to: known(to.as_bytes()),
     })
+}
+
+/// A file that stood ready with these bytes was renamed: so it was written where it is now.
+pub fn taken_of(file: &AheadFile, bytes: &[u8], renamed: Renamed) -> Written
+    requires from { renamed.from.items ≡ file.now.path }
+    requires bytes { file.now.bytes ≡ bytes.now }
+    ensures path { result.path.items ≡ renamed.to.items }
+    ensures bytes { result.bytes.items ≡ bytes.now }
+    ensures synced { result.is_synced ≡ file.now.synced }
+{
+    Written {
+        path: renamed.to,
+        bytes: known(bytes),
+        is_synced: file.is_synced(),
+    }
 }
 
 /// A file is gone that was removed, or wasn't there.

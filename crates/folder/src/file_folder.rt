@@ -8,9 +8,11 @@ ghost use Rattle.folder.specs.FileFolders.{folder_path};
 ghost use Rattle.folder.specs.Kills.{IsFailedWrite};
 ghost use Rattle.folder.specs.Moves.{Looked, Move, Remove, Rename, Sync, Write};
 
+use crate::ahead::AheadFile;
+use crate::ahead_folder::let_go_in;
 use crate::answers::{
-    Node, Removed, Renamed, Synced, Written, clearing_of, fill, gone, node_of, rename_of, sync_of,
-    write_of,
+    Cleared, Node, Removed, Renamed, Synced, Written, clearing_of, fill, gone, node_of, rename_of,
+    sync_of, taken_of, write_of,
 };
 use crate::fault::FolderFault;
 use crate::file_reader::file_at;
@@ -22,6 +24,7 @@ use crate::notes::{
 use ghost_list::GhostList;
 use std::alloc::{AllocError, Global};
 use std::fs::{File, Files, OpenFile};
+use std::io::Write;
 use std::path::{Path, PathBuf};
 use std::{fs, io};
 
@@ -96,6 +99,8 @@ impl<R> FileFolder<R> {
 }
 
 impl<R: Files> FileFolder<R> {
+    ghost use Rattle.folder.specs.FileFolders.{file_moves, may_sync};
+
     /// Whether the folder that was found at the path is the one that was first written to, which it becomes where none was.
     fn is_first(&mut self, node: &Node) -> bool
         requires { node.now.path.items ≡ folder_path self.old }
@@ -105,23 +110,64 @@ impl<R: Files> FileFolder<R> {
         *self.node.get_or_insert(node.found()) == node.found()
     }
 
+    /// Takes a file that stands ready with these bytes into the folder that was found at the path, if it was synced just where all are, and
+    /// can be renamed.
+    fn take(&mut self, _node: &Node, name: &str, path: &str, bytes: &[u8], file: &AheadFile) -> bool
+        requires of { _node.now.path.items ≡ folder_path self.old }
+        requires first { self.old.node ≡ Some _node.now.found }
+        requires path { path.now ≡ path_join (folder_path self.old) name.now }
+        requires bytes { file.now.bytes ≡ bytes.now }
+        ensures made { result ≡ true → file_moves self.new ≡ file_moves self.old ++ Write name.now bytes.now ∷ [] }
+        ensures kept { result ≡ false → file_moves self.new ≡ file_moves self.old }
+        ensures synced { result ≡ true → file.now.synced ≡ may_sync self.old }
+        ensures syncs { may_sync self.new ≡ may_sync self.old }
+        ensures path { folder_path self.new ≡ folder_path self.old }
+        ensures node { self.new.node ≡ self.old.node }
+    {
+        if file.is_synced() != self.syncs {
+            return false;
+        }
+        let Ok(renamed) = rename_at(&self.files, file.path(), path) else {
+            return false;
+        };
+        let taken = taken_of(file, bytes, renamed);
+        let folder = self.path.as_str();
+        note_write(&mut self.made, folder, name, self.syncs, taken);
+        true
+    }
+
+    /// Writes a new file into the folder that was found at the path. Where that fails, what stands ready is let go, so that there is room
+    /// for it, and it's tried once more.
+    fn write_surely(&self, node: &Node, path: &str, bytes: &[u8]) -> io::Result<Written>
+        requires of { node.now.path.items ≡ folder_path self.now }
+        requires first { self.now.node ≡ Some node.now.found }
+        ensures path { IfOk result (λ written. written.path.items ≡ path.now) }
+        ensures bytes { IfOk result (λ written. written.bytes.items ≡ bytes.now) }
+        ensures synced { IfOk result (λ written. written.is_synced ≡ self.now.syncs) }
+    {
+        match self.write_anew(node, path, bytes) {
+            Ok(written) => Ok(written),
+            Err(error) => {
+                if !let_go_in(&self.files, self.alloc, self.path.as_str()) {
+                    return Err(error);
+                }
+                self.write_anew(node, path, bytes)
+            }
+        }
+    }
+
     /// Writes a new file into the folder that was found at the path, and syncs it if all are. One of its name that was there is
     /// removed before, so that whoever has it open keeps what it was.
-    fn write_anew(&self, _node: Node, path: &str, bytes: &[u8]) -> io::Result<Written>
-        requires of { _node.path.items ≡ folder_path self.now }
-        requires first { self.now.node ≡ Some _node.found }
+    fn write_anew(&self, _node: &Node, path: &str, bytes: &[u8]) -> io::Result<Written>
+        requires of { _node.now.path.items ≡ folder_path self.now }
+        requires first { self.now.node ≡ Some _node.now.found }
         ensures path { IfOk result (λ written. written.path.items ≡ path.now) }
         ensures bytes { IfOk result (λ written. written.bytes.items ≡ bytes.now) }
         ensures synced { IfOk result (λ written. written.is_synced ≡ self.now.syncs) }
     {
         let cleared = clearing_of(path, fs::remove_file(&self.files, path));
         let mut file = File::create_new(&self.files, path)?;
-        let filled = fill(&mut file, bytes)?;
-        if !self.syncs {
-            return Ok(write_of(path, cleared, filled, None));
-        }
-        let synced = sync_of(path, file.sync_all())?;
-        Ok(write_of(path, cleared, filled, Some(synced)))
+        fill_new(&mut file, path, cleared, bytes, self.syncs)
     }
 }
 
@@ -132,7 +178,13 @@ impl<R: Files> Folder for FileFolder<R> {
 
     ghost pruned = { λ f. [] };
 
-    fn write(&mut self, name: &str, bytes: &[u8]) -> Result<(), FolderFault>
+    fn write(
+        &mut self,
+        name: &str,
+        bytes: &[u8],
+        ahead: Option<&AheadFile>,
+    ) -> Result<(), FolderFault>
+        requires { IfSome ahead (λ file. file.now.bytes ≡ bytes.now) }
         ensures made { OnOk result (file_moves self.new ≡ file_moves self.old ++ Write name.now bytes.now ∷ []) }
         ensures cut_off { OnErr result ((more : List Move) × (file_moves self.new ≡ file_moves self.old ++ more) ×
             IsFailedWrite name.now bytes.now more) }
@@ -148,7 +200,12 @@ impl<R: Files> Folder for FileFolder<R> {
         if !self.is_first(&node) {
             return Err(FolderFault);
         }
-        match self.write_anew(node, path.as_str(), bytes) {
+        if let Some(file) = ahead {
+            if self.take(&node, name, path.as_str(), bytes, file) {
+                return Ok(());
+            }
+        }
+        match self.write_surely(&node, path.as_str(), bytes) {
             Ok(written) => {
                 let folder = self.path.as_str();
                 note_write(&mut self.made, folder, name, self.syncs, written);
@@ -222,6 +279,27 @@ impl<R: Files> Folder for FileFolder<R> {
     }
 }
 
+/// Writes bytes into a new file, and syncs it if it's to be.
+pub(crate) fn fill_new<F: OpenFile + Write>(
+    file: &mut F,
+    path: &str,
+    cleared: Cleared,
+    bytes: &[u8],
+    syncs: bool,
+) -> io::Result<Written>
+    requires { cleared.path.items ≡ path.now }
+    ensures path { IfOk result (λ written. written.path.items ≡ path.now) }
+    ensures bytes { IfOk result (λ written. written.bytes.items ≡ bytes.now) }
+    ensures synced { IfOk result (λ written. written.is_synced ≡ syncs) }
+{
+    let filled = fill(file, bytes)?;
+    if !syncs {
+        return Ok(write_of(path, cleared, filled, None));
+    }
+    let synced = sync_of(path, file.sync_all())?;
+    Ok(write_of(path, cleared, filled, Some(synced)))
+}
+
 /// Removes the file at a path, if there is one.
 fn remove_at<R: Files>(files: &R, path: &str) -> Result<Removed, FolderFault>
     ensures { IfOk result (λ removed. removed.path.items ≡ path.now) }
@@ -238,7 +316,7 @@ fn rename_at<R: Files>(files: &R, from: &str, to: &str) -> Result<Renamed, Folde
 }
 
 /// The folder that is found at a path; none where there is none, or it can't be looked at.
-fn node_at<R: Files>(files: &R, path: &str) -> Option<Node>
+pub(crate) fn node_at<R: Files>(files: &R, path: &str) -> Option<Node>
     ensures { IfSome result (λ node. node.path.items ≡ path.now) }
 {
     node_of(path, fs::metadata(files, path))

@@ -1,7 +1,8 @@
-ghost use Rattle.std.specs.Prelude.{◌≡◌, ◌++◌, ◌∷◌, [], ⊤, ℕ, List, IfOk, OnOk, OnErr};
+ghost use Rattle.std.specs.Prelude.{◌≡◌, ◌++◌, ◌∷◌, [], ⊤, ℕ, List, IfOk, IfSome, OnOk, OnErr};
 ghost use Rattle.folder.specs.Moves.{Move, Write, Rename, Remove, Looked, Sync};
 ghost use Rattle.folder.specs.Kills.{IsFailedWrite};
 
+use crate::ahead::AheadFile;
 use crate::fault::FolderFault;
 
 /// A folder that one process alone changes.
@@ -20,8 +21,14 @@ pub trait Folder {
     /// What a method that fails may find and leave: a fault that is told of a folder without it wasn't one of its methods'.
     ghost fails: { Self → Self → Type 0 } = { λ _ _. ⊤ };
 
-    /// Writes a file anew, whether there is one of its name or not.
-    fn write(&mut self, name: &str, bytes: &[u8]) -> Result<(), FolderFault>
+    /// Writes a file anew, whether there is one of its name or not. Where its bytes stand ready in a file, that one may be taken.
+    fn write(
+        &mut self,
+        name: &str,
+        bytes: &[u8],
+        ahead: Option<&AheadFile>,
+    ) -> Result<(), FolderFault>
+        requires { IfSome ahead (λ file. file.now.bytes ≡ bytes.now) }
         ensures made { OnOk result (made self.new ≡ made self.old ++ Write name.now bytes.now ∷ []) }
         ensures cut_off { OnErr result ((more : List Move) × (made self.new ≡ made self.old ++ more) ×
             IsFailedWrite name.now bytes.now more) }

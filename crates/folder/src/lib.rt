@@ -11,11 +11,17 @@
 //!
 //! A [`FolderReader`] tells which files are there, and reads them.
 //!
+//! A file may be written before its turn comes, by another thread: an [`AheadFolder`] writes it into a hidden folder, and
+//! [`Folder::write`] may take it from there in place of writing its bytes. [`Content`] is bytes that may stand in such a file.
+//!
 //! There are two folders: [`FileFolder`] is one of the file system, and is trusted to do what it notes in the list;
 //! [`MemoryFolder`] is for tests, and is proved.
 #![tactic(auto)]
 
+mod ahead;
+mod ahead_folder;
 mod answers;
+mod content;
 mod fault;
 mod file_folder;
 mod file_reader;
@@ -34,6 +40,9 @@ mod refusal;
 mod roll;
 mod staged_file;
 
+pub use ahead::{AheadFile, WriteAhead};
+pub use ahead_folder::AheadFolder;
+pub use content::Content;
 pub use fault::FolderFault;
 pub use file_folder::FileFolder;
 pub use folder::Folder;

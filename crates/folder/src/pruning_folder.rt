@@ -1,8 +1,9 @@
-ghost use Rattle.std.specs.Prelude.{◌≡◌, ◌⊎◌, ◌++◌, ◌∷◌, [], List, false, true, IfOk, IsErr, OnErr, OnOk};
+ghost use Rattle.std.specs.Prelude.{◌≡◌, ◌⊎◌, ◌++◌, ◌∷◌, [], List, false, true, IfOk, IfSome, IsErr, OnErr, OnOk};
 ghost use Rattle.folder.specs.Kills.{IsFailedWrite};
 ghost use Rattle.folder.specs.Moves.{Looked, Move, Remove, Rename, Sync, Write, is_hidden};
 ghost use Rattle.folder.specs.Pruning.{other_moves, prunings};
 
+use crate::ahead::AheadFile;
 use crate::fault::FolderFault;
 use crate::folder::Folder;
 use std::marker::Model;
@@ -61,7 +62,13 @@ impl<F: Folder> Folder for PruningFolder<F> {
 
     ghost fails = { λ found left. (left ≡ found) ⊎ F.fails found left };
 
-    fn write(&mut self, name: &str, bytes: &[u8]) -> Result<(), FolderFault>
+    fn write(
+        &mut self,
+        name: &str,
+        bytes: &[u8],
+        ahead: Option<&AheadFile>,
+    ) -> Result<(), FolderFault>
+        requires { IfSome ahead (λ file. file.now.bytes ≡ bytes.now) }
         ensures made { OnOk result (other_moves (F.made self.new) ≡ other_moves (F.made self.old) ++ Write name.now bytes.now ∷ []) }
         ensures cut_off { OnErr result ((more : List Move) × (other_moves (F.made self.new) ≡ other_moves (F.made self.old) ++ more) ×
             IsFailedWrite name.now bytes.now more) }
@@ -74,7 +81,7 @@ impl<F: Folder> Folder for PruningFolder<F> {
         if !is_part {
             return Err(FolderFault);
         }
-        self.folder.write(name, bytes)
+        self.folder.write(name, bytes, ahead)
     }
 
     fn rename(&mut self, old: &str, new: &str) -> Result<(), FolderFault>

@@ -8,7 +8,7 @@ ghost use Rattle.item_io.specs.FolderMoves.{IsBegun, IsBegunPut, ends_block, mov
 ghost use Rattle.item_io.specs.FolderMoves.{staged_behind, syncing};
 
 use crate::fault::OutletFault;
-use crate::file_name::{file_name, is_named, item_bytes, part_name};
+use crate::file_name::{ahead_of, file_name, is_named, item_bytes, part_name};
 use crate::item::Item;
 use folder::{Folder, StagedFile};
 use std::alloc::{AllocError, Global};
@@ -38,7 +38,7 @@ pub(crate) fn put_file<F: Folder>(
     let file = names(alloc, item)?;
     staged.reserve(1)?;
     folder
-        .write(file.part.as_str(), item_bytes(item))
+        .write(file.part.as_str(), item_bytes(item), ahead_of(item))
         .map_err(|_| OutletFault)?;
     staged.push_reserved(file);
     if ends_block(item) {

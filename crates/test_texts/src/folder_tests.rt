@@ -1,5 +1,5 @@
 use crate::asserts::assert_same;
-use crate::fixtures::assert_text;
+use crate::folders::{assert_bytes, assert_names, make, remove, write};
 use crate::items::{items, media, put_all};
 use folder::{FileFolder, Folder, FolderFault, MemoryFolder, StagedFile, roll_forward};
 use item_io::{FolderOutlet, Item};
@@ -45,64 +45,6 @@ fn playlists(alloc: Global, name: &str, text: &str) -> Result<Vec<Item>, AllocEr
 fn put_text(files: &HostRuntime, folder: &str, name: &str, text: &str) -> Result<bool, AllocError> {
     let items = playlists(files.alloc(), name, text)?;
     Ok(put_into(files, folder, &items)? == 0)
-}
-
-/// Makes a folder anew.
-fn make(files: &HostRuntime, folder: &str) -> io::Result<()> {
-    let _ = remove(files, folder);
-    fs::create_dir(files, folder)
-}
-
-fn push_names(files: &HostRuntime, names: &mut Vec<String>, folder: &str) -> io::Result<()> {
-    for entry in fs::read_dir(files, folder)? {
-        names.push(String::from_str(files.alloc(), entry?.file_name())?)?;
-    }
-    Ok(())
-}
-
-/// The names, each with an LF.
-fn lines_of(alloc: Global, names: &[String]) -> Result<String, AllocError> {
-    let mut text = String::new(alloc);
-    for name in names {
-        text.push_str(name)?;
-        text.push_str("\n")?;
-    }
-    Ok(text)
-}
-
-/// The names in a folder, in order, each with an LF.
-fn names(files: &HostRuntime, folder: &str) -> io::Result<String> {
-    let mut names = Vec::new(files.alloc());
-    push_names(files, &mut names, folder)?;
-    names.sort()?;
-    Ok(lines_of(files.alloc(), &names)?)
-}
-
-/// Fails unless these are the names in a folder.
-fn assert_names(
-    rt: &impl Abort,
-    files: &HostRuntime,
-    folder: &str,
-    wanted: &str,
-) -> io::Result<()> {
-    assert_text(rt, &names(files, folder)?, wanted);
-    Ok(())
-}
-
-/// Fails unless these are the bytes of a file.
-fn assert_bytes(rt: &impl Abort, files: &HostRuntime, path: &str, wanted: &[u8]) -> io::Result<()> {
-    let bytes = fs::read(files, path)?;
-    assert_same(rt, path, bytes.as_slice(), wanted);
-    Ok(())
-}
-
-/// Writes a file.
-fn write(files: &HostRuntime, path: &str, text: &str) -> io::Result<()> {
-    fs::write(files, path, text)
-}
-
-fn remove(files: &HostRuntime, folder: &str) -> io::Result<()> {
-    fs::remove_dir_all(files, folder)
 }
 
 #[test]
@@ -210,9 +152,14 @@ fn open<'a>(files: &'a HostRuntime, path: &str) -> Result<FileFolder<&'a HostRun
 fn each_move_of_a_folder(rt: HostRuntime) -> io::Result<()> {
     make(&rt, "moves")?;
     let mut folder = open(&rt, "moves")?;
-    assert_same(&rt, "write", folder.write("one", b"first"), Ok(()));
-    assert_same(&rt, "write again", folder.write("one", b"1\n"), Ok(()));
-    assert_same(&rt, "write another", folder.write("two", b""), Ok(()));
+    assert_same(&rt, "write", folder.write("one", b"first", None), Ok(()));
+    assert_same(
+        &rt,
+        "write again",
+        folder.write("one", b"1\n", None),
+        Ok(()),
+    );
+    assert_same(&rt, "write another", folder.write("two", b"", None), Ok(()));
     assert_same(&rt, "has", folder.has("one"), Ok(true));
     assert_same(&rt, "has none", folder.has("three"), Ok(false));
     assert_same(&rt, "sync", folder.sync(), Ok(()));
@@ -228,10 +175,10 @@ fn each_move_of_a_folder(rt: HostRuntime) -> io::Result<()> {
 fn a_file_gets_the_other_name(rt: HostRuntime) -> io::Result<()> {
     make(&rt, "renamed")?;
     let mut folder = open(&rt, "renamed")?;
-    assert_same(&rt, "write", folder.write("old", b"1\n"), Ok(()));
+    assert_same(&rt, "write", folder.write("old", b"1\n", None), Ok(()));
     assert_same(&rt, "rename", folder.rename("old", "new"), Ok(()));
     assert_names(&rt, &rt, "renamed", "new\n")?;
-    assert_same(&rt, "write over", folder.write("old", b"2\n"), Ok(()));
+    assert_same(&rt, "write over", folder.write("old", b"2\n", None), Ok(()));
     assert_same(&rt, "rename over", folder.rename("old", "new"), Ok(()));
     assert_same(&rt, "none", folder.rename("old", "new"), Err(FolderFault));
     assert_bytes(&rt, &rt, "renamed/new", b"2\n")?;
@@ -242,7 +189,7 @@ fn a_file_gets_the_other_name(rt: HostRuntime) -> io::Result<()> {
 /// The answers of all moves but a look.
 fn moves<F: Folder>(folder: &mut F) -> [Result<(), FolderFault>; 4] {
     [
-        folder.write("v", b"newer\n"),
+        folder.write("v", b"newer\n", None),
         folder.rename("v", "w"),
         folder.remove("v"),
         folder.sync(),
@@ -291,7 +238,7 @@ fn a_folder_that_is_not_to_be_synced(rt: HostRuntime) -> io::Result<()> {
     make(&rt, "unsynced")?;
     let path = String::from_str(rt.alloc(), "unsynced")?;
     let mut folder = FileFolder::new(&rt, rt.alloc(), path);
-    assert_same(&rt, "write", folder.write("one", b"1\n"), Ok(()));
+    assert_same(&rt, "write", folder.write("one", b"1\n", None), Ok(()));
     assert_same(&rt, "sync", folder.sync(), Err(FolderFault));
     remove(&rt, "unsynced")
 }

@@ -1,7 +1,9 @@
-//! Tests of what goes out: attributes and numbers, media and master playlists, bandwidth, items; and of segments that go once no
+//! Tests of what goes out: attributes and numbers, media and master playlists, bandwidth, items, files that are written ahead; and of segments that go once no
 //! player can want them.
 #![tactic(auto)]
 
+#[cfg(test)]
+mod ahead_tests;
 #[cfg(test)]
 mod asserts;
 #[cfg(test)]
@@ -10,6 +12,8 @@ mod bandwidth_tests;
 mod fixtures;
 #[cfg(test)]
 mod folder_tests;
+#[cfg(test)]
+mod folders;
 #[cfg(test)]
 mod going_tests;
 #[cfg(test)]
