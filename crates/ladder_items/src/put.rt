@@ -16,7 +16,6 @@ use crate::settings::Rendition;
 use item_io::{Item, Outlet};
 use segment_job::Sealed;
 use std::alloc::{AllocError, Global};
-use std::mem;
 
 /// Puts an item.
 fn put<O: Outlet>(outlet: &mut O, item: &Item) -> Result<(), PackFault>
@@ -61,8 +60,7 @@ pub fn put_segment<O: Outlet>(
     let Item::Segment { bytes, .. } = &mut item else {
         unreachable!()
     };
-    let alloc = *bytes.allocator();
-    Ok(mem::replace(bytes, Vec::new(alloc)))
+    Ok(bytes.take())
 }
 
 /// The media playlist of rendition `r`, ended or not.

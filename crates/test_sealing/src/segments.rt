@@ -270,7 +270,7 @@ fn check_origin(
     assert_same(
         rt,
         plan.number,
-        (by, made_of.number, bytes.len()),
+        (by, made_of.number, bytes.bytes().len()),
         ((true, false), plan.number, 768),
     );
     Ok(())

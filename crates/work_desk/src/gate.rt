@@ -1,12 +1,13 @@
-//! What is asked before a segment is sealed.
+//! What is asked before a segment is sealed, and told once it is.
 
-ghost use Rattle.std.specs.Prelude.{◌≡◌, ℕ, List, true, false};
+ghost use Rattle.std.specs.Prelude.{◌≡◌, ℕ, IfSome, List, true, false};
 ghost use Rattle.cutter.specs.Plans.{SegmentPlan};
 ghost use Rattle.segment_job.specs.Rotation.{KeyRotation};
 
+use folder::AheadFile;
 use std::marker::Brand;
 
-/// Who is asked before each segment is sealed. Many workers ask at once.
+/// Who is asked before each segment is sealed, and may write it once it is. Many workers ask at once.
 pub trait Gate {
     /// What holds of a segment, by its rendition and its number, that was let through.
     ghost lets: { Self → ℕ → ℕ → Type 0 };
@@ -18,6 +19,13 @@ pub trait Gate {
     fn pass(&self, rendition: usize, number: u64) -> bool
         ensures passed { result ≡ true → lets self.now rendition number }
         ensures held { result ≡ false → stops self.now rendition number };
+
+    /// Writes a sealed segment before its turn comes. None where it isn't: then it's written in its turn.
+    fn write_ahead(&self, _rendition: usize, _number: u64, _bytes: &[u8]) -> Option<AheadFile>
+        ensures { IfSome result (λ file. file.bytes ≡ _bytes.now) }
+    {
+        None
+    }
 }
 
 /// A gate that lets everything through.

@@ -60,6 +60,24 @@ impl<'s> Worked<'s> {
         }
     }
 
+    /// The same, of which a sealed segment was written ahead, if its gate does that.
+    pub(crate) fn ahead<G: Gate>(self, gate: &G) -> Worked<'s>
+        ensures { result ≡ self.entry }
+    {
+        let Worked { claim, outcome } = self;
+        match outcome {
+            Outcome::Sealed(segment) => Worked::sealed(claim, written(gate, segment)),
+            Outcome::Held => Worked {
+                claim,
+                outcome: Outcome::Held,
+            },
+            Outcome::Refused => Worked {
+                claim,
+                outcome: Outcome::Refused,
+            },
+        }
+    }
+
     /// Delivers it. Nothing changes where nobody has that claim at this queue, which may be known by its plan's rendition and number.
     pub(crate) fn deliver_to<L: Ledger, M: Ledger, P: Permit>(
         self,
@@ -200,6 +218,15 @@ impl<'k, G: Gate, P: Permit> Means<'k, G, P> {
             Err(_) => Err(Why::NoMemory),
         }
     }
+}
+
+/// The same segment, written ahead if its gate does that.
+fn written<'s, G: Gate>(gate: &G, segment: Sealed<'s>) -> Sealed<'s>
+    ensures { result ≡ segment.entry }
+{
+    let plan = segment.plan();
+    let file = gate.write_ahead(plan.rendition, plan.number, segment.bytes());
+    segment.standing(file)
 }
 
 /// Seals the segment of a claimed plan.

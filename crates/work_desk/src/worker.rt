@@ -58,7 +58,7 @@ fn serve<'s, L: Ledger, M: Ledger, P: Permit, G: Gate, R: Wait>(
     let means = Means::new(alloc, keys, gate);
     for _ in rt.forever() {
         match begin_some(rt, desk, pass, &means) {
-            Ok(batch) => finish_all(rt, desk, batch),
+            Ok(batch) => finish_all(rt, desk, gate, batch),
             Err(seen) => return seen,
         }
     }
@@ -196,10 +196,11 @@ fn begin<'s, L: Ledger, M: Ledger, P: Permit, G: Gate, R: Wait>(
     }
 }
 
-/// Seals what was begun, side by side, and delivers it. All of it was let through.
-fn finish_all<'s, L: Ledger, M: Ledger, P: Permit, R: Wait>(
+/// Seals what was begun, side by side, and delivers each segment once the gate has written it ahead, or not. All of it was let through.
+fn finish_all<'s, L: Ledger, M: Ledger, P: Permit, G: Gate, R: Wait>(
     rt: &R,
     desk: &Desk<'s, L, M, P>,
+    gate: &G,
     batch: Batch<'s>,
 )
     requires { AreLetThrough P.permits P.plans batch }
@@ -214,22 +215,23 @@ fn finish_all<'s, L: Ledger, M: Ledger, P: Permit, R: Wait>(
     match (first, second, third, fourth) {
         (Some(first), Some(second), Some(third), Some(fourth)) => {
             let (one, two, three, four) = finish_four(first, second, third, fourth);
-            desk.hand_in(rt, one);
-            desk.hand_in(rt, two);
-            desk.hand_in(rt, three);
-            desk.hand_in(rt, four);
+            desk.hand_in(rt, one.ahead(gate));
+            desk.hand_in(rt, two.ahead(gate));
+            desk.hand_in(rt, three.ahead(gate));
+            desk.hand_in(rt, four.ahead(gate));
         }
         (first, second, third, fourth) => {
-            finish_pair(rt, desk, first, second);
-            finish_pair(rt, desk, third, fourth);
+            finish_pair(rt, desk, gate, first, second);
+            finish_pair(rt, desk, gate, third, fourth);
         }
     }
 }
 
-/// Seals what was begun of two, side by side where both were, and delivers it.
-fn finish_pair<'s, L: Ledger, M: Ledger, P: Permit, R: Wait>(
+/// Seals what was begun of two, side by side where both were, and delivers it, each written ahead or not.
+fn finish_pair<'s, L: Ledger, M: Ledger, P: Permit, G: Gate, R: Wait>(
     rt: &R,
     desk: &Desk<'s, L, M, P>,
+    gate: &G,
     first: Option<Begun<'s>>,
     second: Option<Begun<'s>>,
 )
@@ -239,10 +241,12 @@ fn finish_pair<'s, L: Ledger, M: Ledger, P: Permit, R: Wait>(
     match (first, second) {
         (Some(first), Some(second)) => {
             let (one, two) = finish_two(first, second);
-            desk.hand_in(rt, one);
-            desk.hand_in(rt, two);
+            desk.hand_in(rt, one.ahead(gate));
+            desk.hand_in(rt, two.ahead(gate));
         }
-        (Some(alone), None) | (None, Some(alone)) => desk.hand_in(rt, finish_one(alone)),
+        (Some(alone), None) | (None, Some(alone)) => {
+            desk.hand_in(rt, finish_one(alone).ahead(gate));
+        }
         (None, None) => {}
     }
 }
