@@ -28,7 +28,7 @@ holds_its_folder() {
     first=$!
     exec 9<>"$work/silent.fifo"
     why=$(is_held "$folder" && refuses 1 Busy pack --out "$folder" "$ladder_of_one:$work/worked/standard.ts" &&
-        [ -z "$(ls -A "$folder")" ]) || why="${why:-the folder has files}"
+        [ "$(ls -A "$folder")" = .tshls-ahead ]) || why="${why:-the folder has files}"
     exec 9>&-
     pkill -KILL -P $first
     wait $first 2>"$work/killed"

@@ -10,6 +10,7 @@ check_pack() {
     check_stops
     check_restarts
     check_holding
+    check_written_ahead
     check_served_ladder
     check_live_ladder
     check_metrics

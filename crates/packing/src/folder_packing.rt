@@ -10,7 +10,7 @@ use crate::destination::{Destination, outlet_of};
 use crate::ladder_packing::{PackedLadder, pack};
 use crate::setup::LadderSetup;
 use commands::Output;
-use folder::Folder;
+use folder::{Folder, WriteAhead};
 use item_io::{FolderOutlet, READS, Source};
 use ladder_laws::names_are_bytes;
 use live_board::Publisher;
@@ -32,8 +32,9 @@ pub fn pack_into_folder<
     W: Output,
     R: Threads + Wait + Sync,
     H: Herald,
+    A: WriteAhead + Sync,
 >(
-    setup: &LadderSetup<'_, R, H>,
+    setup: &LadderSetup<'_, R, H, A>,
     sources: Vec<S>,
     publisher: Publisher,
     into: Destination<F>,

@@ -8,16 +8,18 @@ ghost use Rattle.rounds.specs.Shown.{Fits, IsPackedShown};
 ghost use Rattle.packing.specs.LadderPacking.{BeginsSummary, IsHeard, IsNeverHeld, LadderSays, LeavesSummary, TurnsAway, WritesSummary};
 ghost use Rattle.commands.specs.declared.packing_fault.LadderPackingFault.TheVariants.{NoMemory, Unwritten};
 
+use crate::ahead_gate::AheadGate;
 use crate::setup::LadderSetup;
 use crate::summaries::summary;
 use commands::{LadderPackingFault, Output, Pool, write_all};
+use folder::WriteAhead;
 use item_io::{Outlet, READS, Source};
 use live_board::Publisher;
 use pipeline::{Endpoints, Herald, Ran, Report, Settings, Setup, pack_heralded};
 use std::alloc::Global;
 use std::sync::Wait;
 use std::thread::Threads;
-use work_desk::{FreeGate, Shelf};
+use work_desk::Shelf;
 
 /// What a run of `pack` gives back, whatever its answer.
 pub struct PackedLadder<S, O> {
@@ -32,8 +34,15 @@ pub struct PackedLadder<S, O> {
 ///
 /// Before the whole ladder is packed nothing is written. What was put before a fault stands. The herald is told of a rendition's
 /// fault as soon as it stands.
-pub fn pack<S: Source + Drop, O: Outlet + Drop, W: Output, R: Threads + Wait + Sync, H: Herald>(
-    setup: &LadderSetup<'_, R, H>,
+pub fn pack<
+    S: Source + Drop,
+    O: Outlet + Drop,
+    W: Output,
+    R: Threads + Wait + Sync,
+    H: Herald,
+    A: WriteAhead + Sync,
+>(
+    setup: &LadderSetup<'_, R, H, A>,
     sources: Vec<S>,
     publisher: Publisher,
     outlet: O,
@@ -59,7 +68,7 @@ pub fn pack<S: Source + Drop, O: Outlet + Drop, W: Output, R: Threads + Wait + S
     ensures unwritten { IsErrOf result.answer Unwritten →
         (report : Report) × LeavesSummary (W.unflushed output.new) setup.now.settings.now report (W.contents output.old) (W.contents output.new) }
 {
-    let run = run_setup(setup, &FreeGate);
+    let run = run_setup(setup);
     let endpoints = Endpoints {
         sources,
         outlet,
@@ -89,7 +98,9 @@ pub fn pack<S: Source + Drop, O: Outlet + Drop, W: Output, R: Threads + Wait + S
 }
 
 /// The setup of the run of a ladder, which lets all segments through.
-fn run_setup<'a, R, H>(setup: &LadderSetup<'a, R, H>, gate: &'a FreeGate) -> Setup<'a, FreeGate, R>
+fn run_setup<'a, R, H, A: WriteAhead>(
+    setup: &LadderSetup<'a, R, H, A>,
+) -> Setup<'a, AheadGate<A>, R>
     ensures settings { result.settings ≡ setup.now.settings }
     ensures workers { result.workers ≡ setup.now.pool.workers }
     ensures batch { result.batch ≡ unwrap_or setup.now.pool.batch setup.now.pool.queue }
@@ -100,7 +111,7 @@ fn run_setup<'a, R, H>(setup: &LadderSetup<'a, R, H>, gate: &'a FreeGate) -> Set
         alloc: setup.alloc,
         settings: setup.settings,
         workers: setup.pool.workers as usize,
-        gate,
+        gate: setup.gate,
         batch: most_closed(setup.pool),
         pairs: setup.pairs,
         shelf: Shelf::new(setup.alloc, most_closed(setup.pool)),

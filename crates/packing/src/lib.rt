@@ -2,6 +2,7 @@
 //! a folder.
 #![tactic(auto)]
 
+mod ahead_gate;
 mod destination;
 mod folder_packing;
 mod ladder_packing;
@@ -10,6 +11,7 @@ mod stream_packing;
 mod summaries;
 mod summary_text;
 
+pub use ahead_gate::AheadGate;
 pub use destination::Destination;
 pub use folder_packing::pack_into_folder;
 pub use ladder_packing::{PackedLadder, pack};

@@ -1,10 +1,11 @@
+use crate::ahead_gate::AheadGate;
 use commands::Pool;
 use pipeline::Settings;
 use std::alloc::Global;
 
 /// What stays the same while a ladder is packed.
 #[derive(Drop)]
-pub struct LadderSetup<'a, R, H> {
+pub struct LadderSetup<'a, R, H, A> {
     pub rt: &'a R,
     pub alloc: Global,
     pub settings: &'a Settings,
@@ -12,6 +13,8 @@ pub struct LadderSetup<'a, R, H> {
     pub pool: Pool,
     /// Whether two segments are sealed side by side in about the time of one, as with AVX2.
     pub pairs: bool,
+    /// It has the segments written before their turn comes, by the threads that seal them.
+    pub gate: &'a AheadGate<A>,
     /// It is told of a rendition's fault as soon as it stands.
     pub herald: &'a H,
 }

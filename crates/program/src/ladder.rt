@@ -1,4 +1,4 @@
-ghost use Rattle.std.specs.Prelude.{OnErr, ◌≡◌, ◌⊎◌, ◌*◌, ◌<◌, ◌↔◌, [], All, Any, IfErr};
+ghost use Rattle.std.specs.Prelude.{OnErr, OnSome, ◌≡◌, ◌⊎◌, ◌*◌, ◌<◌, ◌↔◌, [], All, Any, IfErr};
 ghost use Rattle.program.specs.declared.watching.RunLook.TheVariants as look;
 ghost use Rattle.program.specs.declared.watching.RunWatch.TheVariants.{Runs, Unasked, Unwritten};
 ghost use Rattle.std.specs.Prelude.{IfOk, IfSome, IsErrOf, IsOk, IsSome, None, OnOk, Some, false, length, map, option_map, replicate, true};
@@ -7,6 +7,8 @@ ghost use Rattle.std.specs.List.{range_with_len};
 ghost use Rattle.std.specs.Duration.{as_nanos};
 ghost use Rattle.std.specs.String.{string_bytes};
 ghost use Rattle.live_board.specs.Counts.{counts_shown};
+ghost use Rattle.folder.specs.Aheads.{hidden_path};
+ghost use Rattle.folder.specs.AheadFolders.{ahead_path, ahead_syncs};
 ghost use Rattle.folder.specs.FileFolders.{file_moves, folder_path, may_sync};
 ghost use Rattle.channel.specs.Resuming.{IsNotResumed, IsResumed};
 ghost use Rattle.channel.specs.Views.{folder_view};
@@ -31,11 +33,11 @@ use crate::watching::{RunLook, RunWatch, Watched};
 use channel::{Resumed, resume};
 use command_line::{Fault, LadderJob};
 use commands::{LadderOptions, LadderPackingFault, Pool};
-use folder::{FileFolder, Folder, FolderReader};
+use folder::{AheadFolder, FileFolder, Folder, FolderReader};
 use item_io::FolderOutlet;
 use keeping::KeepingOutlet;
 use live_board::{BoardFault, Publisher};
-use packing::{Destination, LadderSetup, PackedLadder, pack_into_folder};
+use packing::{AheadGate, Destination, LadderSetup, PackedLadder, pack_into_folder};
 use pipeline::{Herald, Report, opening_board};
 use read_ahead::{Ahead, InputAt, InputFiles, InputsView, Limits, open_paths};
 use removal::{RemovalHerald, keepings, pack_and_remove};
@@ -203,12 +205,14 @@ where
     let into = destination(rt, alloc, job)?;
     let kept = keepings(alloc, &job.options.settings, older)?;
     let Board { publisher, watch } = open_board(rt, alloc, job, view, herald)?;
+    let gate = AheadGate::new(open_ahead(rt, alloc, &channel.held, job));
     let setup = LadderSetup {
         rt: &rt,
         alloc,
         settings: &job.options.settings,
         pool: job.options.pool,
         pairs,
+        gate: &gate,
         herald,
     };
     if job.removes {
@@ -218,6 +222,8 @@ where
             outlet,
             answer,
         } = pack_and_remove(&setup, sources, publisher, into, kept, output);
+        drop(setup);
+        close_ahead(gate);
         let RunEnd { answer, look } = end_run(&rt, alloc, watch, publisher, answer);
         return Ok(LadderRun {
             sources,
@@ -232,6 +238,8 @@ where
         outlet,
         answer,
     } = pack_into_folder(&setup, sources, publisher, into, output);
+    drop(setup);
+    close_ahead(gate);
     let RunEnd { answer, look } = end_run(&rt, alloc, watch, publisher, answer);
     Ok(LadderRun {
         sources,
@@ -431,6 +439,31 @@ fn destination<R: Copy>(
         folder: folder_of(rt, alloc, job)?,
         syncs: job.syncs,
     })
+}
+
+/// What writes the segments of a ladder ahead: a hidden folder of the ladder's own, where that is locked, so that nobody else's is
+/// cleared.
+fn open_ahead<R: Files + Copy + Drop>(
+    rt: R,
+    alloc: Global,
+    held: &FolderLock<'_>,
+    job: &LadderJob<'_>,
+) -> Option<AheadFolder<R>>
+    ensures locked { OnSome result (IsSome held.now.lock) }
+    ensures path { IfSome result (λ ahead. ahead_path ahead ≡ hidden_path job.now.folder.now) }
+    ensures syncs { IfSome result (λ ahead. ahead_syncs ahead ≡ job.now.syncs) }
+{
+    if !held.is_held() {
+        return None;
+    }
+    AheadFolder::open(rt, alloc, job.folder, job.syncs)
+}
+
+/// Removes what was written ahead and is still there.
+fn close_ahead<R: Files + Drop>(gate: AheadGate<Option<AheadFolder<R>>>) {
+    if let Some(ahead) = gate.into_ahead() {
+        ahead.close();
+    }
 }
 
 /// The folder of a ladder, to which nothing was done yet.

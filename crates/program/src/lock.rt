@@ -1,6 +1,6 @@
 //! What the system answered when a folder was to be locked, and the lock that this gives. Only the functions here make them, so that a
 //! folder isn't held but by the answer of the system.
-ghost use Rattle.std.specs.Prelude.{◌≡◌, ◌≢◌, Err, IfErr, IfOk, IsErrOf, IsOk, None, Ok, OnErr, OnOk, Some, false, true};
+ghost use Rattle.std.specs.Prelude.{◌≡◌, ◌≢◌, Err, IfErr, IfOk, IsErrOf, IsOk, None, Ok, OnErr, OnOk, Some, false, is_some, true};
 ghost use Rattle.std.specs.declared.fs.locks.TryLockError.TheVariants.{WouldBlock};
 ghost use Rattle.command_line.specs.declared.fault.Fault.TheVariants.{Busy};
 
@@ -28,6 +28,15 @@ pub struct LockAnswer<'a> {
 pub struct FolderLock<'a> {
     path: &'a str,
     lock: Option<File>,
+}
+
+impl<'a> FolderLock<'a> {
+    /// Whether it's held.
+    pub fn is_held(&self) -> bool
+        ensures { result ≡ is_some self.now.lock }
+    {
+        self.lock.is_some()
+    }
 }
 
 /// Opens the folder at a path, and tries to lock it.

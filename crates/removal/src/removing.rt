@@ -13,7 +13,7 @@ ghost use Rattle.removal.specs.Removing.{AreAllCleared, LeavesKept, kept_run, ne
 
 use crate::tally::{RemovalHerald, Tallied};
 use commands::Output;
-use folder::{Folder, PruningFolder};
+use folder::{Folder, PruningFolder, WriteAhead};
 use item_io::{FolderOutlet, READS, Source};
 use keeping::{Keeping, KeepingOutlet};
 use live_board::Publisher;
@@ -37,8 +37,9 @@ pub fn pack_and_remove<
     W: Output,
     R: Threads + Wait + Sync,
     H: Herald + RemovalHerald,
+    A: WriteAhead + Sync,
 >(
-    setup: &LadderSetup<'_, R, H>,
+    setup: &LadderSetup<'_, R, H, A>,
     sources: Vec<S>,
     publisher: Publisher,
     into: Destination<F>,

@@ -2,10 +2,11 @@
 
 use crate::asserts::assert_same;
 use crate::fixtures::{settings, stream_bytes};
+use crate::offered::Offered;
 use commands::Pool;
 use folder::MemoryFolder;
 use item_io::FailingReader;
-use packing::{Destination, LadderSetup, PackedLadder, pack_into_folder};
+use packing::{AheadGate, Destination, LadderSetup, PackedLadder, pack_into_folder};
 use pipeline::{Nobody, opening_board};
 use std::alloc::Global;
 use std::sync::Wait;
@@ -32,6 +33,7 @@ fn packed<R: Threads + Wait + Sync>(
     let mut sources = Vec::new(alloc);
     sources.push(FailingReader::new(stream_bytes(alloc)?, 188, 0))?;
     let settings = settings(alloc, "640x360")?;
+    let gate = AheadGate::new(Offered::nothing());
     let setup = LadderSetup {
         rt,
         alloc,
@@ -44,6 +46,7 @@ fn packed<R: Threads + Wait + Sync>(
             ahead: None,
         },
         pairs: false,
+        gate: &gate,
         herald: &Nobody,
     };
     let (publisher, _viewers) = opening_board(rt, alloc, 1, 1)?;

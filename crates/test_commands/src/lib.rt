@@ -17,6 +17,8 @@ mod key_files;
 #[cfg(test)]
 mod ladder;
 #[cfg(test)]
+mod offered;
+#[cfg(test)]
 mod one;
 #[cfg(test)]
 mod open;

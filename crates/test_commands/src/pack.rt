@@ -1,8 +1,9 @@
 use crate::asserts::assert_same;
 use crate::fixtures::{FullWriter, settings, stream_bytes};
+use crate::offered::Offered;
 use commands::{LadderPackingFault, Pool};
 use item_io::{FailingOutlet, FailingReader};
-use packing::{LadderSetup, PackedLadder, pack};
+use packing::{AheadGate, LadderSetup, PackedLadder, pack};
 use pipeline::{Nobody, PackFault, Report, opening_board};
 use std::alloc::Global;
 use std::io::Write;
@@ -15,6 +16,8 @@ use std::thread::Threads;
 struct Told {
     answer: Result<Report, LadderPackingFault>,
     items: usize,
+    /// How many segments were offered to be written ahead, and their bytes.
+    offered: (u64, u64),
 }
 
 /// Packs a stream by two workers.
@@ -27,6 +30,7 @@ fn packed<W: Write, R: Threads + Wait + Sync>(
     let mut sources = Vec::new(alloc);
     sources.push(FailingReader::new(stream, 188, 0))?;
     let settings = settings(alloc, "640x360")?;
+    let gate = AheadGate::new(Offered::nothing());
     let setup = LadderSetup {
         rt,
         alloc,
@@ -39,6 +43,7 @@ fn packed<W: Write, R: Threads + Wait + Sync>(
             ahead: None,
         },
         pairs: true,
+        gate: &gate,
         herald: &Nobody,
     };
     let (publisher, _viewers) = opening_board(rt, alloc, 1, 1)?;
@@ -55,9 +60,12 @@ fn packed<W: Write, R: Threads + Wait + Sync>(
         output,
     );
     publisher.end(rt);
+    drop(setup);
+    let offered = gate.into_ahead().counts();
     Ok(Told {
         answer,
         items: outlet.items().len(),
+        offered,
     })
 }
 
@@ -70,8 +78,13 @@ fn a_line_of_the_standard_stream(rt: HostRuntime) -> Result<(), Fail> {
     assert_same(
         &rt,
         "the standard stream",
-        (told.answer.err(), told.items, output.as_slice()),
-        (None, 10, line.as_slice()),
+        (
+            told.answer.err(),
+            told.items,
+            told.offered,
+            output.as_slice(),
+        ),
+        (None, 10, (2, 1536), line.as_slice()),
     );
     Ok(())
 }
