@@ -1,5 +1,5 @@
 -- A chain over a text in two parts.
-use Rattle.std.proofs.Common.{◌≡◌, ℕ, zero, suc, ◌+◌, ◌*◌, ◌/◌, ◌%◌, List, [], ◌∷◌, ◌++◌, length, take, drop, refl, sym, ap, ap₂, ◌∙◌, arith, length-append, length-drop}
+use Rattle.std.proofs.Common.{◌≡◌, ℕ, zero, suc, ◌+◌, ◌*◌, ◌/◌, ◌%◌, List, [], ◌∷◌, ◌++◌, length, take, drop, refl, sym, ap, ap₂, ◌∙◌, arith, length-append, length-drop, append_assoc}
 use Rattle.std.proofs.lemmas.List.{take_all, take-append-le, drop-append-le, drop_at}
 use Rattle.std.proofs.lemmas.List.Folds.{concat-append}
 use Rattle.std.specs.List.{concat}
@@ -54,3 +54,40 @@ chain_in_parts k v text x y a b long whole parts of_a of_b =
     ap₂ (λ p q. p ++ q) of_a (of_b ∙ ap (λ bs. concat (cbc k (last_block v bs) (blocks y))) last)
     ∙ sym (concat-append (cbc k v (blocks x)) (cbc k (last_block v (cbc k v (blocks x))) (blocks y)))
     ∙ ap concat (sym (cbc-append k v (blocks x) (blocks y)) ∙ ap (cbc k v) (sym (blocks-append x y whole) ∙ ap blocks (sym parts)))
+
+last_block-append : (v : List ℕ) (xs ys : List (List ℕ)) → last_block v (xs ++ ys) ≡ last_block (last_block v xs) ys
+last_block-append v [] ys = refl
+last_block-append v (x ∷ xs) ys = last_block-append x xs ys
+
+-- the chain over a text in two parts, of which the first is whole blocks
+parts_chained : (k v x y rest w : List ℕ) → length x % 16 ≡ 0 → rest ≡ x ++ y → w ≡ last_block v (cbc k v (blocks x))
+    → cbc k v (blocks rest) ≡ cbc k v (blocks x) ++ cbc k w (blocks y)
+parts_chained k v x y rest w whole parts last =
+    ap (λ m. cbc k v (blocks m)) parts
+    ∙ ap (cbc k v) (blocks-append x y whole)
+    ∙ cbc-append k v (blocks x) (blocks y)
+    ∙ ap (λ u. cbc k v (blocks x) ++ cbc k u (blocks y)) (sym last)
+
+-- a piece was appended encrypted: the same bytes come with what is left
+pub piece_chained : (k v text piece next rest t1 w : List ℕ) → length piece % 16 ≡ 0 → rest ≡ piece ++ next
+    → t1 ≡ text ++ concat (cbc k v (blocks piece)) → w ≡ last_block v (cbc k v (blocks piece))
+    → t1 ++ concat (cbc k w (blocks next)) ≡ text ++ concat (cbc k v (blocks rest))
+piece_chained k v text piece next rest t1 w whole parts appended last =
+    ap (λ a. a ++ concat (cbc k w (blocks next))) appended
+    ∙ append_assoc text (concat (cbc k v (blocks piece))) (concat (cbc k w (blocks next)))
+    ∙ ap (λ x. text ++ x)
+    (sym (ap concat (parts_chained k v piece next rest w whole parts last) ∙ concat-append (cbc k v (blocks piece)) (cbc k w (blocks next))))
+
+-- and the same last block
+pub piece_ends : (k v piece next rest w : List ℕ) → length piece % 16 ≡ 0 → rest ≡ piece ++ next → w ≡ last_block v (cbc k v (blocks piece))
+    → last_block w (cbc k w (blocks next)) ≡ last_block v (cbc k v (blocks rest))
+piece_ends k v piece next rest w whole parts last =
+    sym (ap (last_block v) (parts_chained k v piece next rest w whole parts last)
+    ∙ last_block-append v (cbc k v (blocks piece)) (cbc k w (blocks next))
+    ∙ ap (λ u. last_block u (cbc k w (blocks next))) (sym last))
+
+-- nothing is left
+pub none_chained : (k v rest : List ℕ) → length rest ≡ 0 → cbc k v (blocks rest) ≡ []
+unfolding cbc
+none_chained k v [] none = refl
+none_chained k v (b ∷ rest) none = absurd (omega arith)

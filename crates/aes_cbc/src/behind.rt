@@ -36,7 +36,7 @@ pub(crate) fn seal_head<'r>(
     more: &'r [u8],
 ) -> ([u8; 16], &'r [u8])
     requires long { 16 ≤ length more.now }
-    requires room { vec_len text.old + length more.now ≤ vec_capacity text.old }
+    requires room { vec_len text.old + 16 ≤ vec_capacity text.old }
     ensures items { text.new.items ++ sealed_text key.now result.0 result.1.now
         ≡ sealed_text key.now vector.now (text.old.items ++ more.now) }
     ensures whole { vec_len text.new % 16 ≡ 0 }
@@ -65,6 +65,30 @@ fn append_encrypted(key: &Key, vector: &[u8; 16], text: &mut Vec<u8>, piece: &[u
     last_block(key, *vector, &front)
 }
 
+/// Appends whole pieces to a text, encrypted one by one as a chain from `vector` on. The last block of the chain comes back.
+pub(crate) fn append_pieces(
+    key: &Key,
+    vector: &[u8; 16],
+    text: &mut Vec<u8>,
+    pieces: &[u8],
+) -> [u8; 16]
+    requires whole { length pieces.now % PIECE ≡ 0 }
+    requires room { vec_len text.old + length pieces.now ≤ vec_capacity text.old }
+    ensures items { text.new.items ≡ text.old.items ++ concat (cbc key.now vector.now (blocks pieces.now)) }
+    ensures last { result ≡ last_block vector.now (cbc key.now vector.now (blocks pieces.now)) }
+    ensures len { vec_len text.new ≡ vec_len text.old + length pieces.now }
+    ensures capacity { vec_capacity text.old ≤ vec_capacity text.new }
+{
+    let mut last = *vector;
+    let mut rest = pieces;
+    'piece: while rest.len() >= PIECE {
+        let (piece, next) = rest.split_at(PIECE);
+        last = append_encrypted(key, &last, text, piece);
+        rest = next;
+    }
+    last
+}
+
 /// Seals the rest that is to come behind a text of whole blocks, which is encrypted: piece by piece, and the chain goes on from `vector`.
 pub(crate) fn seal_rest(key: &Key, vector: &[u8; 16], text: &mut Vec<u8>, rest: &[u8])
     requires whole { vec_len text.old % 16 ≡ 0 }
@@ -73,13 +97,8 @@ pub(crate) fn seal_rest(key: &Key, vector: &[u8; 16], text: &mut Vec<u8>, rest: 
     ensures len { vec_len text.new ≡ 16 * ((vec_len text.old + length rest.now) / 16 + 1) }
     ensures capacity { vec_capacity text.old ≤ vec_capacity text.new }
 {
-    let mut last = *vector;
-    let mut rest = rest;
-    'piece: while rest.len() >= PIECE {
-        let (piece, next) = rest.split_at(PIECE);
-        last = append_encrypted(key, &last, text, piece);
-        rest = next;
-    }
+    let (pieces, rest) = rest.split_at(rest.len() - rest.len() % PIECE);
+    let last = append_pieces(key, vector, text, pieces);
     let done = text.len();
     seal_end(key, &last, text, done, rest);
 }

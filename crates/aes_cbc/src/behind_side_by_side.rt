@@ -59,6 +59,44 @@ fn append_two_encrypted(
     ]
 }
 
+/// Appends as many whole pieces to each of two texts, encrypted one by one as chains from the vectors on. The last blocks of the chains
+/// come back.
+pub(crate) fn append_two_pieces(
+    keys: (&Key, &Key),
+    vectors: &[[u8; 16]; 2],
+    first: &mut Vec<u8>,
+    second: &mut Vec<u8>,
+    pieces: (&[u8], &[u8]),
+) -> [[u8; 16]; 2]
+    requires whole { length pieces.0.now % PIECE ≡ 0 }
+    requires same { length pieces.1.now ≡ length pieces.0.now }
+    requires first_room { vec_len first.old + length pieces.0.now ≤ vec_capacity first.old }
+    requires second_room { vec_len second.old + length pieces.1.now ≤ vec_capacity second.old }
+    ensures first_items { first.new.items ≡ first.old.items
+        ++ concat (cbc keys.entry.0.now (slice_index_or vectors.now 0 []) (blocks pieces.entry.0.now)) }
+    ensures second_items { second.new.items ≡ second.old.items
+        ++ concat (cbc keys.entry.1.now (slice_index_or vectors.now 1 []) (blocks pieces.entry.1.now)) }
+    ensures first_last { slice_index_or result 0 [] ≡ last_block (slice_index_or vectors.now 0 [])
+        (cbc keys.entry.0.now (slice_index_or vectors.now 0 []) (blocks pieces.entry.0.now)) }
+    ensures second_last { slice_index_or result 1 [] ≡ last_block (slice_index_or vectors.now 1 [])
+        (cbc keys.entry.1.now (slice_index_or vectors.now 1 []) (blocks pieces.entry.1.now)) }
+    ensures first_len { vec_len first.new ≡ vec_len first.old + length pieces.entry.0.now }
+    ensures second_len { vec_len second.new ≡ vec_len second.old + length pieces.entry.1.now }
+    ensures first_capacity { vec_capacity first.old ≤ vec_capacity first.new }
+    ensures second_capacity { vec_capacity second.old ≤ vec_capacity second.new }
+{
+    let mut lasts = *vectors;
+    let mut rests = pieces;
+    'piece: while rests.0.len() >= PIECE {
+        let (first_piece, first_rest) = rests.0.split_at(PIECE);
+        let (second_piece, second_rest) = rests.1.split_at(PIECE);
+        let pieces = (first_piece, second_piece);
+        lasts = append_two_encrypted(keys, &lasts, first, second, pieces);
+        rests = (first_rest, second_rest);
+    }
+    lasts
+}
+
 /// Seals the rests that are to come behind two texts of whole blocks, which are encrypted: piece by piece side
 /// by side as long as both have some, and the chains go on from the vectors.
 fn seal_two_rests(
@@ -81,17 +119,13 @@ fn seal_two_rests(
     ensures first_capacity { vec_capacity first.old ≤ vec_capacity first.new }
     ensures second_capacity { vec_capacity second.old ≤ vec_capacity second.new }
 {
-    let mut lasts = *vectors;
-    let mut rests = rests;
-    'piece: while rests.0.len() >= PIECE && rests.1.len() >= PIECE {
-        let (first_piece, first_rest) = rests.0.split_at(PIECE);
-        let (second_piece, second_rest) = rests.1.split_at(PIECE);
-        let pieces = (first_piece, second_piece);
-        lasts = append_two_encrypted(keys, &lasts, first, second, pieces);
-        rests = (first_rest, second_rest);
-    }
-    seal_rest(keys.0, &lasts[0], first, rests.0);
-    seal_rest(keys.1, &lasts[1], second, rests.1);
+    let common = rests.0.len().min(rests.1.len());
+    let whole = common - common % PIECE;
+    let (first_pieces, first_rest) = rests.0.split_at(whole);
+    let (second_pieces, second_rest) = rests.1.split_at(whole);
+    let lasts = append_two_pieces(keys, vectors, first, second, (first_pieces, second_pieces));
+    seal_rest(keys.0, &lasts[0], first, first_rest);
+    seal_rest(keys.1, &lasts[1], second, second_rest);
 }
 
 /// Seals two texts with more behind each, for all of which there is room.

@@ -4,26 +4,15 @@ use Rattle.aes_cbc.specs.Chain.{sealed_text}
 use Rattle.aes_cbc.proofs.SealedParts.{piece_sealed}
 use Rattle.aes_cbc.proofs.behind.seal_rest.Goals as goal
 
-pub piece-preserved : goal.piece-preserved
-piece-preserved c =
-    let inv = c.piece.invariant in
-    let piece = c.split_at.result.0.now in
-    let whole : length piece % 16 ≡ 0 = search rules in
-    record {
-      items =
-          piece_sealed c.args.key.now c.piece.last c.piece.text.items piece c.split_at.result.1.now c.piece.rest.now
-          c.append_encrypted-last.new.text.items c.append_encrypted-last.result
-          whole c.split_at.ensures.by_index.0 c.append_encrypted-last.ensures.items c.append_encrypted-last.ensures.last
-          ∙ inv.items;
-      whole = search rules;
-      len = search rules;
-      room = search rules;
-    }
-
 pub returns-clause-items : goal.returns-clause-items
 returns-clause-items c =
-    let text = c.piece.text.items in
+    let text = c.append_pieces-last.new.text.items in
+    let pieces = c.split_at.result.0.now in
+    let rest = c.split_at.result.1.now in
+    let last = c.append_pieces-last.result in
     let all : length text ≤ c.len-done.result = search rules in
+    let whole : length pieces % 16 ≡ 0 = search rules in
     c.seal_end.ensures.items
-    ∙ ap₂ (λ a b. a ++ sealed_text c.args.key.now c.piece.last (b ++ c.piece.rest.now)) (take_all c.len-done.result text all) (drop_all c.len-done.result text all)
-    ∙ c.piece.invariant.items
+    ∙ ap₂ (λ a b. a ++ sealed_text c.args.key.now last (b ++ rest)) (take_all c.len-done.result text all) (drop_all c.len-done.result text all)
+    ∙ piece_sealed c.args.key.now c.args.vector.now c.args.text.now.items pieces rest c.args.rest.now
+    text last whole c.split_at.ensures.by_index.0 c.append_pieces-last.ensures.items c.append_pieces-last.ensures.last
