@@ -15,7 +15,7 @@ impl Outlet for Nowhere {
 
     fn put(&mut self, item: &Item) -> Result<(), OutletFault> {
         let count = match item {
-            Item::Segment { bytes, .. } => bytes.bytes().len(),
+            Item::Segment { bytes, .. } => bytes.len(),
             Item::Media { text, .. } | Item::Frames { text, .. } | Item::Master { text } => {
                 text.len()
             }

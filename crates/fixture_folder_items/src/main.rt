@@ -2,7 +2,6 @@
 //! see what files hold on a real file system. Its second argument is the size of the segment in bytes.
 #![tactic(auto)]
 
-use folder::Content;
 use item_io::{FolderOutlet, Item, Outlet};
 use std::alloc::{AllocError, Global};
 use std::env;
@@ -20,7 +19,7 @@ fn segment(alloc: Global, size: u64) -> Result<Item, AllocError> {
         rendition: 0,
         number: 7,
         name: String::from_str(alloc, "v")?,
-        bytes: Content::new(bytes),
+        bytes,
     })
 }
 

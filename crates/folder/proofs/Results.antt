@@ -1,6 +1,6 @@
 -- What is said of an answer.
-use Rattle.std.specs.Prelude.{IfOk, OnErr, OnOk}
-use Rattle.std.proofs.Common.{Result, Ok, Err}
+use Rattle.std.specs.Prelude.{◌≡◌, Bool, true, false, IfOk, OnErr, OnOk}
+use Rattle.std.proofs.Common.{Result, Ok, Err, refl}
 
 pub OnOk-map : {T E P Q : Type 0} (r : Result T E) → (P → Q) → OnOk r P → OnOk r Q
 OnOk-map (Ok x) f p = f p
@@ -22,3 +22,8 @@ either-way (Err e) p q = q
 pub IfOk-or : {T E Q R : Type 0} {P : T → Type 0} (r : Result T E) → ((x : T) → P x → R) → (Q → R) → IfOk r P → OnErr r Q → R
 IfOk-or (Ok x) f h p q = f x p
 IfOk-or (Err e) f h p q = h q
+
+-- what yes implies, and so does no
+pub by-answer : {P : Type 0} (answer : Bool) → (answer ≡ true → P) → (answer ≡ false → P) → P
+by-answer true f h = f refl
+by-answer false f h = h refl

@@ -1,8 +1,9 @@
 //! Files that are written before their turn comes.
-ghost use Rattle.std.specs.Prelude.{◌≡◌, IfSome};
+ghost use Rattle.std.specs.Prelude.{◌≡◌, [], IfSome, Some};
 ghost use Rattle.std.specs.Path.{path_buf_bytes};
 
 use crate::answers::Written;
+use std::io::Write;
 use std::marker::Model;
 use std::path::PathBuf;
 
@@ -43,6 +44,15 @@ impl AheadFile {
         self.path.as_str()
     }
 
+    /// What was written, as the system answered it.
+    pub(crate) fn into_written(self) -> Written
+        ensures bytes { result.bytes.items ≡ self.bytes }
+        ensures synced { result.is_synced ≡ self.synced }
+    {
+        let AheadFile { path: _, written } = self;
+        written
+    }
+
     /// Whether it was synced.
     pub(crate) fn is_synced(&self) -> bool
         ensures { result ≡ self.now.synced }
@@ -51,19 +61,32 @@ impl AheadFile {
     }
 }
 
-/// Something that writes files before their turn comes, from any thread.
+/// A file that is written before its turn comes. It's to be finished or given up.
+pub trait WriteFile: Write {
+    /// The file as a whole, which stands ready; it's synced if it's to be. None where that can't be: then it's removed, as by `give_up`.
+    fn finish(self) -> Option<AheadFile>
+        ensures { IfSome result (λ file. Self.contents self ≡ Some file.bytes) };
+
+    /// Removes it, if it can be removed.
+    fn give_up(self);
+}
+
+/// Something that makes files for segments before their turn comes, from any thread.
 pub trait WriteAhead {
-    /// Writes the bytes of a rendition's segment into a file of their own. None where that can't be: then they are written when their
-    /// turn comes.
-    fn write(&self, rendition: usize, number: u64, bytes: &[u8]) -> Option<AheadFile>
-        ensures { IfSome result (λ file. file.bytes ≡ bytes.now) };
+    /// A file that is being written.
+    type File: WriteFile + Send + Drop;
+
+    /// Makes a file for a rendition's segment, in which there is nothing yet. None where that can't be: then the segment is written when
+    /// its turn comes.
+    fn begin(&self, rendition: usize, number: u64) -> Option<Self::File>
+        ensures { IfSome result (λ file. Self.File.contents file ≡ Some []) };
 }
 
 /// Nothing is written ahead where there is nothing that does.
 impl<A: WriteAhead> WriteAhead for Option<A> {
-    fn write(&self, rendition: usize, number: u64, bytes: &[u8]) -> Option<AheadFile>
-        ensures { IfSome result (λ file. file.bytes ≡ bytes.now) }
-    {
-        self.as_ref()?.write(rendition, number, bytes)
+    type File = A::File;
+
+    fn begin(&self, rendition: usize, number: u64) -> Option<A::File> {
+        self.as_ref()?.begin(rendition, number)
     }
 }

@@ -1,13 +1,14 @@
 //! A hidden folder of a folder, in which segments stand before they are renamed into it.
-ghost use Rattle.std.specs.Prelude.{◌≡◌, ◌++◌, IfOk, IfSome, codes};
+ghost use Rattle.std.specs.Prelude.{◌≡◌, ◌++◌, [], IfOk, IfSome, codes};
 ghost use Rattle.std.specs.Fmt.{decimal};
 ghost use Rattle.std.specs.Path.{path_buf_bytes, path_join};
 ghost use Rattle.std.specs.String.{string_bytes};
 ghost use Rattle.folder.specs.Aheads.{hidden_path};
 
-use crate::ahead::{AheadFile, WriteAhead};
+use crate::ahead::WriteAhead;
+use crate::ahead_writer::AheadWriter;
 use crate::answers::{Cleared, Emptied, Node, clear_in, clearing_of, emptied_of};
-use crate::file_folder::{fill_new, node_at};
+use crate::file_folder::node_at;
 use itoa::Buffer;
 use std::alloc::{AllocError, Global};
 use std::fs::{File, Files};
@@ -17,10 +18,11 @@ use std::{fs, io};
 /// The name of the hidden folder.
 const HIDDEN: &str = ".tshls-ahead";
 
-/// The hidden folder of a folder, made anew: what an earlier run left in it is gone. Nothing is written into another one that is put
-/// in its place, and no file is written twice: one that it told of holds what was written into it until it's taken.
+/// The hidden folder of a folder, made anew: what an earlier run left in it is gone. No file is made in another one that is put in its
+/// place, and none where one stands: so one that stands ready keeps what went into it until it's taken.
 ///
-/// **Trusted**, as [`FileFolder`](crate::FileFolder) is: a file that it tells of holds what was written into it.
+/// **Trusted**, as [`FileFolder`](crate::FileFolder) is: a file that it makes is a new one, in which nothing stands. Files that were made
+/// are taken and removed by their paths, without another look at the folder: that nobody puts another one there meanwhile is trusted too.
 #[derive(Drop)]
 pub struct AheadFolder<R> {
     files: R,
@@ -34,7 +36,7 @@ pub struct AheadFolder<R> {
 impl<R: Files + Drop> AheadFolder<R> {
     ghost use Rattle.folder.specs.AheadFolders.{ahead_path, ahead_syncs};
 
-    /// Makes the hidden folder of the folder at a path, in which each file is synced as it is written if they are to be. None where it
+    /// Makes the hidden folder of the folder at a path, in which each file is synced once it is whole if they are to be. None where it
     /// can't be made, or there is no memory for its path.
     pub fn open(files: R, alloc: Global, folder: &str, syncs: bool) -> Option<AheadFolder<R>>
         ensures path { IfSome result (λ it. ahead_path it ≡ hidden_path folder.now) }
@@ -89,27 +91,26 @@ impl<R: Files + Drop> AheadFolder<R> {
     }
 }
 
-impl<R: Files + Drop> WriteAhead for AheadFolder<R> {
-    ghost use Rattle.folder.specs.AheadFolders.{ahead_path, ahead_syncs};
+impl<R: Files + Copy + Send + Drop> WriteAhead for AheadFolder<R>
+where
+    R::File: Send,
+{
+    ghost use Rattle.folder.specs.AheadFolders.{ahead_path, ahead_syncs, writer_path, writer_syncs};
 
-    fn write(&self, rendition: usize, number: u64, bytes: &[u8]) -> Option<AheadFile>
-        ensures bytes { IfSome result (λ file. file.bytes ≡ bytes.now) }
-        ensures path { IfSome result (λ file. file.path ≡
+    type File = AheadWriter<R, R::File>;
+
+    fn begin(&self, rendition: usize, number: u64) -> Option<AheadWriter<R, R::File>>
+        ensures empty { IfSome result (λ file. file.filled.bytes.items ≡ []) }
+        ensures path { IfSome result (λ file. writer_path file ≡
             path_join (ahead_path self.now) (decimal rendition ++ codes "." ++ decimal number)) }
-        ensures synced { IfSome result (λ file. file.synced ≡ ahead_syncs self.now) }
+        ensures syncs { IfSome result (λ file. writer_syncs file ≡ ahead_syncs self.now) }
     {
         let node = self.is_there()?;
         let name = self.name_of(rendition, number).ok()?;
         let path = self.path.join(self.alloc, name.as_str()).ok()?;
         let cleared = clear_in(&self.made, name.as_str(), path.as_str());
-        let mut file = self.create(node, path.as_str()).ok()?;
-        match fill_new(&mut file, path.as_str(), cleared, bytes, self.syncs) {
-            Ok(written) => Some(AheadFile::of(path, written)),
-            Err(_) => {
-                let _ = fs::remove_file(&self.files, path.as_str());
-                None
-            }
-        }
+        let file = self.create(node, path.as_str()).ok()?;
+        Some(AheadWriter::new(self.files, path, file, cleared, self.syncs))
     }
 }
 

@@ -1,8 +1,9 @@
 //! What the system answered on the files of a folder, as receipts. Only these functions make them, each of an answer of the
 //! system, and each move that is noted takes one: what the system didn't confirm can't be noted.
-ghost use Rattle.std.specs.Prelude.{◌≡◌, ◌≢◌, Err, IfErr, IfOk, IfSome, IsErr, IsOk, IsSome, None, Ok, OnErr, OnOk, Option, Some, is_some};
+ghost use Rattle.std.specs.Prelude.{◌≡◌, ◌≢◌, ◌++◌, [], Err, IfErr, IfOk, IfSome, IsErr, IsOk, IsSome, None, Ok, OnErr, OnOk, Option, Some, is_some, take};
 ghost use Rattle.std.specs.Fs.{IsFile, file_type};
-ghost use Rattle.std.specs.Io.KnownBytes.{Appends};
+ghost use Rattle.std.specs.Io.{WritesAtMost};
+ghost use Rattle.std.specs.Io.KnownBytes.{Appends, WriteAppends};
 ghost use Rattle.std.specs.IoError.{error_kind};
 ghost use Rattle.std.specs.Path.{path_join};
 ghost use Rattle.std.specs.declared.io.ErrorKind.TheVariants.{NotFound, OutOfMemory};
@@ -30,7 +31,7 @@ pub struct Cleared {
     path: GhostList<u8>,
 }
 
-/// Bytes went into a file, whole.
+/// All the bytes that went into a new file.
 #[derive(Drop)]
 pub struct Filled {
     bytes: GhostList<u8>,
@@ -91,6 +92,17 @@ impl Written {
         ensures { result ≡ self.now.is_synced }
     {
         self.is_synced
+    }
+}
+
+impl Filled {
+    /// Nothing went into a new file yet.
+    pub fn nothing() -> Filled
+        ensures { result.bytes.items ≡ [] }
+    {
+        Filled {
+            bytes: GhostList::new(),
+        }
     }
 }
 
@@ -193,16 +205,27 @@ pub fn emptied_of(
     })
 }
 
-/// Writes bytes into a file, behind those that it has.
+/// Writes bytes into a new file, whole.
 pub fn fill<W: Write>(file: &mut W, bytes: &[u8]) -> io::Result<Filled>
     ensures whole { OnOk result (Appends (W.contents file.old) (W.contents file.new) bytes.now) }
     ensures bytes { IfOk result (λ filled. filled.bytes.items ≡ bytes.now) }
 {
     file.write_all(bytes)?;
-    file.flush()?;
     Ok(Filled {
         bytes: known(bytes),
     })
+}
+
+/// Writes some bytes into a file, behind those that went into it: as many as the system says.
+pub fn fill_some<W: Write>(filled: &mut Filled, file: &mut W, bytes: &[u8]) -> io::Result<usize>
+    ensures bound { WritesAtMost result bytes.now }
+    ensures some { WriteAppends (W.contents file.old) (W.contents file.new) result bytes.now }
+    ensures bytes { IfOk result (λ count. filled.new.bytes.items ≡ filled.old.bytes.items ++ take count bytes.now) }
+    ensures none { OnErr result (filled.new.bytes.items ≡ filled.old.bytes.items) }
+{
+    let count = file.write(bytes)?;
+    filled.bytes.append(&bytes[..count]);
+    Ok(count)
 }
 
 /// The new file at a path, which was cleared, was filled, and synced if it was.
@@ -236,18 +259,18 @@ pub fn rename_of(from: &str, to: &str, answer: io::Result<()>) -> Result<Renamed
     })
 }
 
-/// A file that stood ready with these bytes was renamed: so it was written where it is now.
-pub fn taken_of(file: &AheadFile, bytes: &[u8], renamed: Renamed) -> Written
-    requires from { renamed.from.items ≡ file.now.path }
-    requires bytes { file.now.bytes ≡ bytes.now }
+/// A file that stood ready was renamed: so it was written where it is now.
+pub fn taken_of(file: AheadFile, renamed: Renamed) -> Written
+    requires { renamed.from.items ≡ file.path }
     ensures path { result.path.items ≡ renamed.to.items }
-    ensures bytes { result.bytes.items ≡ bytes.now }
-    ensures synced { result.is_synced ≡ file.now.synced }
+    ensures bytes { result.bytes.items ≡ file.bytes }
+    ensures synced { result.is_synced ≡ file.synced }
 {
+    let written = file.into_written();
     Written {
         path: renamed.to,
-        bytes: known(bytes),
-        is_synced: file.is_synced(),
+        bytes: written.bytes,
+        is_synced: written.is_synced,
     }
 }
 

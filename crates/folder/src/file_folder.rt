@@ -1,5 +1,6 @@
 ghost use Rattle.std.specs.Prelude.{◌≡◌, ◌≢◌, ◌⊎◌, ◌++◌, ◌∷◌, [], true, false, List, None, Some, Decides, IfErr, IfOk, IfSome, IsErr, IsOk, OnErr, OnOk};
 ghost use Rattle.std.specs.Option.{unwrap_or};
+ghost use Rattle.std.specs.Io.KnownBytes.{Appends, Keeps};
 ghost use Rattle.std.specs.IoError.{error_kind};
 ghost use Rattle.std.specs.Path.{path_buf_bytes, path_join};
 ghost use Rattle.std.specs.String.{string_bytes};
@@ -11,8 +12,8 @@ ghost use Rattle.folder.specs.Moves.{Looked, Move, Remove, Rename, Sync, Write};
 use crate::ahead::AheadFile;
 use crate::ahead_folder::let_go_in;
 use crate::answers::{
-    Cleared, Node, Removed, Renamed, Synced, Written, clearing_of, fill, gone, node_of, rename_of,
-    sync_of, taken_of, write_of,
+    Cleared, Filled, Node, Removed, Renamed, Synced, Written, clearing_of, fill, gone, node_of,
+    rename_of, sync_of, taken_of, write_of,
 };
 use crate::fault::FolderFault;
 use crate::file_reader::file_at;
@@ -110,27 +111,38 @@ impl<R: Files> FileFolder<R> {
         *self.node.get_or_insert(node.found()) == node.found()
     }
 
-    /// Takes a file that stands ready with these bytes into the folder that was found at the path, if it was synced just where all are, and
-    /// can be renamed.
-    fn take(&mut self, _node: &Node, name: &str, path: &str, bytes: &[u8], file: &AheadFile) -> bool
+    /// The folder at the path, if it's the one that was first written to. None where it isn't, or can't be looked at.
+    fn found(&mut self) -> Option<Node>
+        ensures path { IfSome result (λ node. node.path.items ≡ folder_path self.new) }
+        ensures first { IfSome result (λ node. self.new.node ≡ Some node.found) }
+        ensures rest { self.new ≡ record self.old { node = self.new.node } }
+    {
+        let node = node_at(&self.files, self.path.as_str())?;
+        if !self.is_first(&node) {
+            return None;
+        }
+        Some(node)
+    }
+
+    /// Takes a file that stands ready into the folder that was found at the path, if it was synced just where all are. One that can't be
+    /// renamed is removed.
+    fn take_into(&mut self, _node: &Node, name: &str, path: &str, file: AheadFile) -> bool
         requires of { _node.now.path.items ≡ folder_path self.old }
         requires first { self.old.node ≡ Some _node.now.found }
         requires path { path.now ≡ path_join (folder_path self.old) name.now }
-        requires bytes { file.now.bytes ≡ bytes.now }
-        ensures made { result ≡ true → file_moves self.new ≡ file_moves self.old ++ Write name.now bytes.now ∷ [] }
+        ensures made { result ≡ true → file_moves self.new ≡ file_moves self.old ++ Write name.now file.bytes ∷ [] }
         ensures kept { result ≡ false → file_moves self.new ≡ file_moves self.old }
-        ensures synced { result ≡ true → file.now.synced ≡ may_sync self.old }
-        ensures syncs { may_sync self.new ≡ may_sync self.old }
-        ensures path { folder_path self.new ≡ folder_path self.old }
-        ensures node { self.new.node ≡ self.old.node }
+        ensures synced { result ≡ true → file.synced ≡ may_sync self.old }
+        ensures rest { self.new ≡ record self.old { made = self.new.made } }
     {
         if file.is_synced() != self.syncs {
             return false;
         }
         let Ok(renamed) = rename_at(&self.files, file.path(), path) else {
+            let _ = fs::remove_file(&self.files, file.path());
             return false;
         };
-        let taken = taken_of(file, bytes, renamed);
+        let taken = taken_of(file, renamed);
         let folder = self.path.as_str();
         note_write(&mut self.made, folder, name, self.syncs, taken);
         true
@@ -178,13 +190,7 @@ impl<R: Files> Folder for FileFolder<R> {
 
     ghost pruned = { λ f. [] };
 
-    fn write(
-        &mut self,
-        name: &str,
-        bytes: &[u8],
-        ahead: Option<&AheadFile>,
-    ) -> Result<(), FolderFault>
-        requires { IfSome ahead (λ file. file.now.bytes ≡ bytes.now) }
+    fn write(&mut self, name: &str, bytes: &[u8]) -> Result<(), FolderFault>
         ensures made { OnOk result (file_moves self.new ≡ file_moves self.old ++ Write name.now bytes.now ∷ []) }
         ensures cut_off { OnErr result ((more : List Move) × (file_moves self.new ≡ file_moves self.old ++ more) ×
             IsFailedWrite name.now bytes.now more) }
@@ -194,17 +200,9 @@ impl<R: Files> Folder for FileFolder<R> {
         ensures path { folder_path self.new ≡ folder_path self.old }
     {
         let path = self.path_of(name)?;
-        let Some(node) = node_at(&self.files, self.path.as_str()) else {
+        let Some(node) = self.found() else {
             return Err(FolderFault);
         };
-        if !self.is_first(&node) {
-            return Err(FolderFault);
-        }
-        if let Some(file) = ahead {
-            if self.take(&node, name, path.as_str(), bytes, file) {
-                return Ok(());
-            }
-        }
         match self.write_surely(&node, path.as_str(), bytes) {
             Ok(written) => {
                 let folder = self.path.as_str();
@@ -222,6 +220,22 @@ impl<R: Files> Folder for FileFolder<R> {
                 Err(FolderFault)
             }
         }
+    }
+
+    fn take(&mut self, name: &str, file: AheadFile) -> bool
+        ensures made { result ≡ true → file_moves self.new ≡ file_moves self.old ++ Write name.now file.bytes ∷ [] }
+        ensures kept { result ≡ false → file_moves self.new ≡ file_moves self.old }
+        ensures synced { result ≡ true → file.synced ≡ may_sync self.old }
+        ensures syncs { may_sync self.new ≡ may_sync self.old }
+        ensures path { folder_path self.new ≡ folder_path self.old }
+    {
+        let Ok(path) = self.path_of(name) else {
+            return false;
+        };
+        let Some(node) = self.found() else {
+            return false;
+        };
+        self.take_into(&node, name, path.as_str(), file)
     }
 
     fn rename(&mut self, old: &str, new: &str) -> Result<(), FolderFault>
@@ -280,7 +294,7 @@ impl<R: Files> Folder for FileFolder<R> {
 }
 
 /// Writes bytes into a new file, and syncs it if it's to be.
-pub(crate) fn fill_new<F: OpenFile + Write>(
+fn fill_new<F: OpenFile + Write>(
     file: &mut F,
     path: &str,
     cleared: Cleared,
@@ -288,11 +302,30 @@ pub(crate) fn fill_new<F: OpenFile + Write>(
     syncs: bool,
 ) -> io::Result<Written>
     requires { cleared.path.items ≡ path.now }
+    ensures whole { OnOk result (Appends (F.contents file.old) (F.contents file.new) bytes.now) }
     ensures path { IfOk result (λ written. written.path.items ≡ path.now) }
     ensures bytes { IfOk result (λ written. written.bytes.items ≡ bytes.now) }
     ensures synced { IfOk result (λ written. written.is_synced ≡ syncs) }
 {
     let filled = fill(file, bytes)?;
+    finish(file, path, cleared, filled, syncs)
+}
+
+/// The new file at a path, which was cleared and filled, is whole: it's synced if it's to be.
+pub(crate) fn finish<F: OpenFile + Write>(
+    file: &mut F,
+    path: &str,
+    cleared: Cleared,
+    filled: Filled,
+    syncs: bool,
+) -> io::Result<Written>
+    requires { cleared.path.items ≡ path.now }
+    ensures stays { Keeps (F.contents file.old) (F.contents file.new) }
+    ensures path { IfOk result (λ written. written.path.items ≡ path.now) }
+    ensures bytes { IfOk result (λ written. written.bytes.items ≡ filled.bytes.items) }
+    ensures synced { IfOk result (λ written. written.is_synced ≡ syncs) }
+{
+    file.flush()?;
     if !syncs {
         return Ok(write_of(path, cleared, filled, None));
     }

@@ -1,4 +1,4 @@
-ghost use Rattle.std.specs.Prelude.{◌≡◌, ◌++◌, ◌∷◌, [], ⊤, ℕ, List, IfOk, IfSome, OnOk, OnErr};
+ghost use Rattle.std.specs.Prelude.{◌≡◌, ◌++◌, ◌∷◌, [], ⊤, ℕ, List, true, false, IfOk, OnOk, OnErr};
 ghost use Rattle.folder.specs.Moves.{Move, Write, Rename, Remove, Looked, Sync};
 ghost use Rattle.folder.specs.Kills.{IsFailedWrite};
 
@@ -21,19 +21,22 @@ pub trait Folder {
     /// What a method that fails may find and leave: a fault that is told of a folder without it wasn't one of its methods'.
     ghost fails: { Self → Self → Type 0 } = { λ _ _. ⊤ };
 
-    /// Writes a file anew, whether there is one of its name or not. Where its bytes stand ready in a file, that one may be taken.
-    fn write(
-        &mut self,
-        name: &str,
-        bytes: &[u8],
-        ahead: Option<&AheadFile>,
-    ) -> Result<(), FolderFault>
-        requires { IfSome ahead (λ file. file.now.bytes ≡ bytes.now) }
+    /// Writes a file anew, whether there is one of its name or not.
+    fn write(&mut self, name: &str, bytes: &[u8]) -> Result<(), FolderFault>
         ensures made { OnOk result (made self.new ≡ made self.old ++ Write name.now bytes.now ∷ []) }
         ensures cut_off { OnErr result ((more : List Move) × (made self.new ≡ made self.old ++ more) ×
             IsFailedWrite name.now bytes.now more) }
         ensures failed { OnErr result (fails self.old self.new) }
         ensures pruned { pruned self.new ≡ pruned self.old };
+
+    /// Takes a file that stands ready, as if what it holds were written anew. False where that wasn't done: then the file may be gone.
+    fn take(&mut self, _name: &str, _file: AheadFile) -> bool
+        ensures made { result ≡ true → made self.new ≡ made self.old ++ Write _name.now _file.bytes ∷ [] }
+        ensures kept { result ≡ false → made self.new ≡ made self.old }
+        ensures pruned { pruned self.new ≡ pruned self.old }
+    {
+        false
+    }
 
     /// Gives a file another name, in one step. A file that has that name is replaced (POSIX rename(2)).
     fn rename(&mut self, old: &str, new: &str) -> Result<(), FolderFault>

@@ -11,17 +11,18 @@
 //!
 //! A [`FolderReader`] tells which files are there, and reads them.
 //!
-//! A file may be written before its turn comes, by another thread: an [`AheadFolder`] writes it into a hidden folder, and
-//! [`Folder::write`] may take it from there in place of writing its bytes. [`Content`] is bytes that may stand in such a file.
+//! A file may be written before its turn comes, by another thread: an [`AheadFolder`] makes it in a hidden folder, an [`AheadWriter`]
+//! writes it there a piece at a time, and [`Folder::take`] takes it from there in place of writing its bytes. Where it can't be taken,
+//! they are written.
 //!
-//! There are two folders: [`FileFolder`] is one of the file system, and is trusted to do what it notes in the list;
-//! [`MemoryFolder`] is for tests, and is proved.
+//! There are two folders: [`FileFolder`] is one of the file system, and is trusted to do what it notes in the list, as the
+//! files that are written ahead are to hold what went into them; [`MemoryFolder`] is for tests, takes no such file, and is proved.
 #![tactic(auto)]
 
 mod ahead;
 mod ahead_folder;
+mod ahead_writer;
 mod answers;
-mod content;
 mod fault;
 mod file_folder;
 mod file_reader;
@@ -40,9 +41,9 @@ mod refusal;
 mod roll;
 mod staged_file;
 
-pub use ahead::{AheadFile, WriteAhead};
+pub use ahead::{AheadFile, WriteAhead, WriteFile};
 pub use ahead_folder::AheadFolder;
-pub use content::Content;
+pub use ahead_writer::AheadWriter;
 pub use fault::FolderFault;
 pub use file_folder::FileFolder;
 pub use folder::Folder;

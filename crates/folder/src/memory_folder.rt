@@ -3,7 +3,6 @@ ghost use Rattle.std.specs.Option.{option_map};
 ghost use Rattle.folder.specs.Kills.{IsFailedWrite};
 ghost use Rattle.folder.specs.Moves.{Looked, Move, Remove, Rename, Sync, Write, no_files, standing};
 
-use crate::ahead::AheadFile;
 use crate::fault::FolderFault;
 use crate::folder::Folder;
 use crate::memory_find::find_in;
@@ -67,12 +66,7 @@ impl Folder for MemoryFolder {
 
     ghost pruned = { λ f. [] };
 
-    fn write(
-        &mut self,
-        name: &str,
-        bytes: &[u8],
-        _ahead: Option<&AheadFile>,
-    ) -> Result<(), FolderFault>
+    fn write(&mut self, name: &str, bytes: &[u8]) -> Result<(), FolderFault>
         ensures made { OnOk result (moves_in_memory self.new ≡ moves_in_memory self.old ++ Write name.now bytes.now ∷ []) }
         ensures cut_off { OnErr result ((more : List Move) × (moves_in_memory self.new ≡ moves_in_memory self.old ++ more) ×
             IsFailedWrite name.now bytes.now more) }

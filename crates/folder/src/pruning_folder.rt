@@ -1,4 +1,4 @@
-ghost use Rattle.std.specs.Prelude.{◌≡◌, ◌⊎◌, ◌++◌, ◌∷◌, [], List, false, true, IfOk, IfSome, IsErr, OnErr, OnOk};
+ghost use Rattle.std.specs.Prelude.{◌≡◌, ◌⊎◌, ◌++◌, ◌∷◌, [], List, false, true, IfOk, IsErr, OnErr, OnOk};
 ghost use Rattle.folder.specs.Kills.{IsFailedWrite};
 ghost use Rattle.folder.specs.Moves.{Looked, Move, Remove, Rename, Sync, Write, is_hidden};
 ghost use Rattle.folder.specs.Pruning.{other_moves, prunings};
@@ -12,7 +12,7 @@ use std::marker::Model;
 /// files into it need not know. Contracts see it as the folder below, whose moves are all that was done.
 ///
 /// Files are written under hidden names, those that begin with a point, and renamed from there: a file that is served is taken
-/// away by `prune` alone, and `write` and `remove` refuse its name.
+/// away by `prune` alone, and `write`, `take` and `remove` refuse its name.
 #[derive(Drop)]
 pub struct PruningFolder<F> {
     folder: F,
@@ -62,13 +62,7 @@ impl<F: Folder> Folder for PruningFolder<F> {
 
     ghost fails = { λ found left. (left ≡ found) ⊎ F.fails found left };
 
-    fn write(
-        &mut self,
-        name: &str,
-        bytes: &[u8],
-        ahead: Option<&AheadFile>,
-    ) -> Result<(), FolderFault>
-        requires { IfSome ahead (λ file. file.now.bytes ≡ bytes.now) }
+    fn write(&mut self, name: &str, bytes: &[u8]) -> Result<(), FolderFault>
         ensures made { OnOk result (other_moves (F.made self.new) ≡ other_moves (F.made self.old) ++ Write name.now bytes.now ∷ []) }
         ensures cut_off { OnErr result ((more : List Move) × (other_moves (F.made self.new) ≡ other_moves (F.made self.old) ++ more) ×
             IsFailedWrite name.now bytes.now more) }
@@ -81,7 +75,20 @@ impl<F: Folder> Folder for PruningFolder<F> {
         if !is_part {
             return Err(FolderFault);
         }
-        self.folder.write(name, bytes, ahead)
+        self.folder.write(name, bytes)
+    }
+
+    fn take(&mut self, name: &str, file: AheadFile) -> bool
+        ensures made { result ≡ true → other_moves (F.made self.new) ≡ other_moves (F.made self.old) ++ Write name.now file.bytes ∷ [] }
+        ensures kept { result ≡ false → other_moves (F.made self.new) ≡ other_moves (F.made self.old) }
+        ensures pruned { prunings (F.made self.new) ≡ prunings (F.made self.old) }
+        ensures served { is_hidden name.now ≡ false → (result ≡ false) × (self.new ≡ self.old) }
+    {
+        let may_be_taken = is_hidden(name);
+        if !may_be_taken {
+            return false;
+        }
+        self.folder.take(name, file)
     }
 
     fn rename(&mut self, old: &str, new: &str) -> Result<(), FolderFault>

@@ -4,7 +4,7 @@ use Rattle.folder.specs.Moves.{Move, Rename, Sync}
 use Rattle.folder.specs.Puts.{Names, Put, put_names, staged_after, writing}
 use Rattle.folder.specs.Syncing.{moves_when, placings_when}
 use Rattle.folder.specs.Prefixes.{IsFailedPut}
-use Rattle.item_io.specs.Items.{ItemValue, SegmentItem, MediaItem, FramesItem, MasterItem}
+use Rattle.item_io.specs.Items.{ItemValue, SegmentItem, MediaItem, FramesItem, MasterItem, segment_with}
 use Rattle.item_io.specs.Outlets.{Held}
 use Rattle.item_io.specs.FileNames.{file_name, part_name, item_bytes}
 
@@ -18,6 +18,10 @@ ends_block (MasterItem text) = true
 -- an item as a file
 abbrev pub put_of : ItemValue → Put
 put_of item = record { name = file_name item; part = part_name item; bytes = item_bytes item; ends = ends_block item }
+
+-- a segment as a file
+abbrev pub segment_put : ℕ → List ℕ → List ℕ → Put
+segment_put number name bytes = put_of (segment_with 0 number name bytes)
 
 abbrev pub puts_of : List ItemValue → List Put
 puts_of items = map put_of items

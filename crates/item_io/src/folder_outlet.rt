@@ -3,17 +3,17 @@ ghost use Rattle.std.specs.String.{string_bytes};
 ghost use Rattle.folder.specs.FileFolders.{file_moves, folder_path, may_sync};
 ghost use Rattle.folder.specs.Moves.{Remove, is_hidden};
 ghost use Rattle.folder.specs.Pruning.{other_moves};
-ghost use Rattle.item_io.specs.Items.{item_value};
+ghost use Rattle.item_io.specs.Items.{item_value, segment_with};
 ghost use Rattle.item_io.specs.FileNames.{is_named};
 ghost use Rattle.item_io.specs.FolderMoves.{HoldsFiles, HoldsFilesUpTo, new_outlet};
 ghost use Rattle.item_io.specs.Outlets.{Grows, BreaksOff};
 ghost use Rattle.item_io.specs.Views.{outlet_view};
 
 use crate::fault::OutletFault;
-use crate::folder_put::put_file;
+use crate::folder_put::{put_file, take_file};
 use crate::item::Item;
 use crate::outlet::Outlet;
-use folder::{FileFolder, Folder, PruningFolder, StagedFile};
+use folder::{AheadFile, FileFolder, Folder, PruningFolder, StagedFile};
 use std::alloc::Global;
 use std::fs::Files;
 use std::marker::Model;
@@ -26,6 +26,8 @@ use std::marker::Model;
 /// once all are written; a master playlist is renamed by itself. So whoever serves the folder sees whole files at any
 /// time, and an older one is replaced in one step. Wherever the process is killed, the folder holds a prefix of the items,
 /// and where some of a block are in place, the others stand whole under their part names: `given_items_are_left`.
+///
+/// A file that stands ready is taken under the part name of its segment, as if it were written there.
 ///
 /// A put fails where the name of an item's rendition is none, before anything is done to the folder, where memory is refused,
 /// and where the folder fails. From there on every put fails, and nothing more is done to the folder.
@@ -172,5 +174,35 @@ impl<F: Folder> Outlet for FolderOutlet<F> {
                 Err(fault)
             }
         }
+    }
+
+    fn take(&mut self, _rendition: usize, number: u64, name: &str, file: AheadFile) -> bool
+        ensures taken { result ≡ true → Grows
+            (HoldsFiles self.old.syncs (F.made self.old.folder) self.old.staged self.old.failures)
+            (HoldsFiles self.new.syncs (F.made self.new.folder) self.new.staged self.new.failures)
+            (segment_with _rendition number name.now file.bytes ∷ []) }
+        ensures kept { result ≡ false → Grows
+            (HoldsFiles self.old.syncs (F.made self.old.folder) self.old.staged self.old.failures)
+            (HoldsFiles self.new.syncs (F.made self.new.folder) self.new.staged self.new.failures)
+            [] }
+        ensures failures { self.new.failures ≡ self.old.failures }
+        ensures named { result ≡ true → is_named (segment_with _rendition number name.now file.bytes) ≡ true }
+        ensures made { result ≡ false → F.made self.new.folder ≡ F.made self.old.folder }
+        ensures staged { result ≡ false → self.new.staged ≡ self.old.staged }
+        ensures syncs { self.new.syncs ≡ self.old.syncs }
+        ensures stays { 0 < self.old.failures → (result ≡ false) × (self.new.folder ≡ self.old.folder) }
+        ensures pruned { F.pruned self.new.folder ≡ F.pruned self.old.folder }
+    {
+        if self.failures != 0 {
+            return false;
+        }
+        take_file(
+            &mut self.folder,
+            self.alloc,
+            &mut self.staged,
+            name,
+            number,
+            file,
+        )
     }
 }

@@ -1,16 +1,19 @@
 //! One item is put into a folder as a file.
-ghost use Rattle.std.specs.Prelude.{◌≡◌, ◌⊎◌, ◌∷◌, ◌++◌, [], true, false, IfOk, OnOk, OnErr};
-ghost use Rattle.folder.specs.Puts.{put_names};
+ghost use Rattle.std.specs.Prelude.{◌≡◌, ◌⊎◌, ◌∷◌, ◌++◌, [], true, false, IfOk, OnOk, OnErr, codes};
+ghost use Rattle.std.specs.String.{string_bytes};
+ghost use Rattle.playlist_text.specs.Names.{is_name};
+ghost use Rattle.folder.specs.Puts.{put_names, writing};
 ghost use Rattle.folder.specs.StagedFiles.{staged_file_names, staged_names};
 ghost use Rattle.item_io.specs.Items.{item_value};
 ghost use Rattle.item_io.specs.FileNames.{is_named};
 ghost use Rattle.item_io.specs.FolderMoves.{IsBegun, IsBegunPut, ends_block, moves_with, put_of, renaming, renaming_block, renaming_each};
-ghost use Rattle.item_io.specs.FolderMoves.{staged_behind, syncing};
+ghost use Rattle.item_io.specs.FolderMoves.{segment_put, staged_behind, syncing};
 
 use crate::fault::OutletFault;
-use crate::file_name::{ahead_of, file_name, is_named, item_bytes, part_name};
+use crate::file_name::{file_name, is_named, item_bytes, part_name, segment_file_name};
 use crate::item::Item;
-use folder::{Folder, StagedFile};
+use folder::{AheadFile, Folder, StagedFile};
+use playlist_text::is_name;
 use std::alloc::{AllocError, Global};
 
 /// Writes an item's file under its part name and, where it is the last of its block, places the block. Where the folder is
@@ -35,10 +38,10 @@ pub(crate) fn put_file<F: Folder>(
     if !is_named(item) {
         return Err(OutletFault);
     }
-    let file = names(alloc, item)?;
+    let file = item_names(alloc, item)?;
     staged.reserve(1)?;
     folder
-        .write(file.part.as_str(), item_bytes(item), ahead_of(item))
+        .write(file.part.as_str(), item_bytes(item))
         .map_err(|_| OutletFault)?;
     staged.push_reserved(file);
     if ends_block(item) {
@@ -50,14 +53,60 @@ pub(crate) fn put_file<F: Folder>(
     Ok(())
 }
 
+/// Takes a file that stands ready as that of a segment, under its part name: a segment never is the last of its block. False where
+/// that wasn't done.
+pub(crate) fn take_file<F: Folder>(
+    folder: &mut F,
+    alloc: Global,
+    staged: &mut Vec<StagedFile>,
+    name: &str,
+    number: u64,
+    file: AheadFile,
+) -> bool
+    ensures made { result ≡ true → F.made folder.new ≡ F.made folder.old ++ writing (segment_put number name.now file.bytes) ∷ [] }
+    ensures staged { result ≡ true → staged_names staged.new.items
+        ≡ staged_names staged.old.items ++ put_names (segment_put number name.now file.bytes) ∷ [] }
+    ensures named { result ≡ true → is_name name.now ≡ true }
+    ensures kept { result ≡ false → F.made folder.new ≡ F.made folder.old }
+    ensures unstaged { result ≡ false → staged_names staged.new.items ≡ staged_names staged.old.items }
+    ensures pruned { F.pruned folder.new ≡ F.pruned folder.old }
+{
+    if !is_name(name) {
+        return false;
+    }
+    let Ok(names) = segment_names(alloc, name, number) else {
+        return false;
+    };
+    if staged.reserve(1).is_err() {
+        return false;
+    }
+    if !folder.take(names.part.as_str(), file) {
+        return false;
+    }
+    staged.push_reserved(names);
+    true
+}
+
 /// The names of an item's file.
-fn names(alloc: Global, item: &Item) -> Result<StagedFile, AllocError>
+fn item_names(alloc: Global, item: &Item) -> Result<StagedFile, AllocError>
     ensures { IfOk result (λ file. staged_names (file ∷ []) ≡ put_names (put_of (item_value item.now)) ∷ []) }
 {
-    Ok(StagedFile {
-        part: part_name(alloc, item)?,
-        name: file_name(alloc, item)?,
-    })
+    names(alloc, file_name(alloc, item)?)
+}
+
+/// The names of a segment's file.
+fn segment_names(alloc: Global, name: &str, number: u64) -> Result<StagedFile, AllocError>
+    ensures { IfOk result (λ file. staged_names (file ∷ []) ≡ put_names (segment_put number name.now []) ∷ []) }
+{
+    names(alloc, segment_file_name(alloc, name, number)?)
+}
+
+/// The names of a file: this one, and its part name.
+fn names(alloc: Global, name: String) -> Result<StagedFile, AllocError>
+    ensures { IfOk result (λ file. staged_names (file ∷ []) ≡ (codes "." ++ string_bytes name ++ codes ".part", string_bytes name) ∷ []) }
+{
+    let part = part_name(alloc, name.as_str())?;
+    Ok(StagedFile { part, name })
 }
 
 /// Whether an item is the last of its block.

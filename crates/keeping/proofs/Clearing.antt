@@ -4,7 +4,7 @@ use Rattle.std.proofs.Common.{arith, ◌≡◌, ℕ, ◌<◌, ◌⊎◌, Bool, t
 use Rattle.std.proofs.lemmas.Bool.Decides.{eqb_tells}
 use Rattle.std.proofs.lemmas.List.Elements.{Contains-append_left, Contains-append_right}
 use Rattle.folder.specs.Moves.{Move}
-use Rattle.item_io.specs.Items.{ItemValue, PlaylistValue, FramesItem, MasterItem, MediaItem, SegmentItem}
+use Rattle.item_io.specs.Items.{ItemValue, PlaylistValue, SegmentValue, FramesItem, MasterItem, MediaItem, SegmentItem}
 use Rattle.keeping.specs.Clearing.{AreCleared, IsCleared, missed_with}
 use Rattle.keeping.specs.Keepings.{AllWent, AreNotedBy, GoBehind, KeepingValue, NotedUnless, SweptBehind, keeping_at, texts_of}
 use Rattle.keeping.proofs.Telling.{stay-behind, text-here, texts_of-append}
@@ -105,3 +105,10 @@ cleared-more item items old noted new missed lags made made_then first behind we
           cleared-behind item p.rendition old noted new missed lags made made_then first behind went swept within unmissed (no-second _ _ texts)
           (cleared front more p before (no-first _ _ texts) (omega (arith, within, stay.len)) (λ has. unmissed (still-missed lags item missed p.rendition has)))
     ]
+
+-- a segment more
+pub cleared-taken : (s : SegmentValue) (items : List ItemValue) (old new : List KeepingValue) (missed missed_then : List ℕ) → new ≡ old → missed_then ≡ missed →
+    AreCleared missed old items → AreCleared missed_then new (items ++ SegmentItem s ∷ [])
+cleared-taken s items old new missed missed_then is same cleared =
+    subst (λ (l : List ℕ). AreCleared l new (items ++ SegmentItem s ∷ [])) (sym same)
+    (cleared-more (SegmentItem s) items old new new missed false [] [] is (refl, refl) (λ _. tt) (λ _. tt) cleared)

@@ -1,14 +1,14 @@
 -- What a keeping outlet holds behind a put.
-use Rattle.std.proofs.Common.{arith, ◌≡◌, ℕ, ◌+◌, Bool, true, List, [], ◌∷◌, ◌++◌, sym, ap, ◌∙◌, subst, inl, append-nil}
+use Rattle.std.proofs.Common.{arith, ◌≡◌, ℕ, ◌+◌, Bool, true, List, [], ◌∷◌, ◌++◌, refl, sym, ap, ◌∙◌, subst, inl, append-nil}
 use Rattle.folder.specs.Moves.{Move}
 use Rattle.folder.specs.Pruning.{other_moves, pruned_names, prunings}
 use Rattle.folder.specs.Syncing.{moves_when}
-use Rattle.item_io.specs.Items.{ItemValue}
+use Rattle.item_io.specs.Items.{ItemValue, SegmentItem, SegmentValue}
 use Rattle.item_io.specs.FileNames.{is_named}
 use Rattle.item_io.specs.Outlets.{BreaksOff, Grows, Held, with_items}
 use Rattle.item_io.specs.FolderMoves.{FolderState, HoldsFiles, HoldsFilesUpTo, puts_of}
 use Rattle.item_io.proofs.Growing.{Grows-nil}
-use Rattle.keeping.specs.Keepings.{AreGone, AreNotedBy, ComesInTurn, GoBehind, KeepingValue}
+use Rattle.keeping.specs.Keepings.{AreGone, AreNotedBy, AreTold, AreUnlisted, ComesInTurn, GoBehind, KeepingValue}
 use Rattle.keeping.specs.Turns.{AreInTurn}
 use Rattle.keeping.specs.Holding.{KeepingState, KeptBy, KeptUpTo}
 use Rattle.keeping.proofs.Keeps.{all-gone-still, gone-behind}
@@ -121,5 +121,32 @@ put-well {F} made o m n item noted turn named grows well synced same behind othe
             subst (λ (t : Bool). AreInTurn t (prunings made_o) o.renditions held.items) (sym synced) (h.turns (before none)) in
             subst (λ (f : FolderState F). AreInTurn f.syncs (prunings made_n) n.renditions (held.items ++ item ∷ [])) (sym is)
             (turns-put m.files.syncs item held.items o.renditions m.renditions n.renditions made_o made_m made_n named noted turn same behind others moves gone_m (h.unlisted (before none)) turns_o);
+      };
+}
+
+-- A file was taken for a segment: as if it were put, of which nothing is noted, and behind which nothing goes.
+pub taken : {F : Type 0} (made : F → List Move) (o n : KeepingState F) (s : SegmentValue) → n.renditions ≡ o.renditions → is_named (SegmentItem s) ≡ true →
+    Grows (Holds made o.files) (Holds made n.files) (SegmentItem s ∷ []) → n.files.failures ≡ o.files.failures → n.files.syncs ≡ o.files.syncs → prunings (made n.files.folder) ≡ prunings (made o.files.folder) →
+    Grows (KeptBy made o) (KeptBy made n) (SegmentItem s ∷ [])
+taken made o n s is named grows well synced same = put-well made o n n (SegmentItem s) is tt named grows well synced same (refl, refl) refl refl
+
+-- None was taken: all is as it was.
+pub untaken : {F : Type 0} (made : F → List Move) (o n : KeepingState F) → n.renditions ≡ o.renditions →
+    Grows (Holds made o.files) (Holds made n.files) [] → n.files.failures ≡ o.files.failures → n.files.syncs ≡ o.files.syncs → prunings (made n.files.folder) ≡ prunings (made o.files.folder) →
+    Grows (KeptBy made o) (KeptBy made n) []
+untaken made o n is grows well synced same = record {
+  follows = λ held h.
+      let items_are : held.items ≡ held.items ++ [] = sym (append-nil held.items) in
+      let before : n.files.failures ≡ 0 → o.files.failures ≡ 0 = λ none. sym well ∙ none in
+      record {
+        files = grows.follows held h.files;
+        told = λ none. subst (AreTold n.renditions) items_are (subst (λ (l : List KeepingValue). AreTold l held.items) (sym is) (h.told (before none)));
+        gone = all-gone-still (pruned_names (made o.files.folder)) (pruned_names (made n.files.folder)) o.renditions n.renditions (same-names (made o.files.folder) (made n.files.folder) same)
+            (same-all o.renditions n.renditions is) h.gone;
+        unlisted = λ none. subst (AreUnlisted n.renditions) items_are (subst (λ (l : List KeepingValue). AreUnlisted l held.items) (sym is) (h.unlisted (before none)));
+        turns = λ none. subst (AreInTurn n.files.syncs (prunings (made n.files.folder)) n.renditions) items_are
+            (subst (λ (l : List (ℕ × List ℕ)). AreInTurn n.files.syncs l n.renditions held.items) (sym same)
+            (turns-still n.files.syncs (prunings (made o.files.folder)) held.items o.renditions n.renditions (same-all o.renditions n.renditions is)
+            (subst (λ (t : Bool). AreInTurn t (prunings (made o.files.folder)) o.renditions held.items) (sym synced) (h.turns (before none)))));
       };
 }

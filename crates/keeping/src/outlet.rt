@@ -1,6 +1,6 @@
 ghost use Rattle.std.specs.Prelude.{◌≡◌, ℕ, List, ◌++◌, ◌+◌, ◌<◌, ◌^◌, ◌∷◌, [], true, false, length, Decides, IsErrOf, OnErr, OnOk};
 ghost use Rattle.folder.specs.Pruning.{other_moves};
-ghost use Rattle.item_io.specs.Items.{ItemValue, item_value};
+ghost use Rattle.item_io.specs.Items.{ItemValue, item_value, segment_with};
 ghost use Rattle.item_io.specs.Outlets.{BreaksOff, Grows};
 ghost use Rattle.item_io.specs.Views.{outlet_view};
 ghost use Rattle.keeping.specs.Clearing.{AreCleared, missed_with};
@@ -10,7 +10,7 @@ ghost use Rattle.keeping.specs.Holding.{KeptBy, KeptUpTo};
 
 use crate::keeping::Keeping;
 use crate::note_fault::NoteFault;
-use folder::{Folder, PruningFolder};
+use folder::{AheadFile, Folder, PruningFolder};
 use ghost_list::GhostList;
 use item_io::{FolderOutlet, Item, Outlet, OutletFault};
 use std::alloc::Global;
@@ -130,6 +130,32 @@ impl<F: Folder> Outlet for KeepingOutlet<F> {
         self.lags = let_go(&mut self.renditions, self.alloc, &mut self.files, item).is_err();
         note_missed(&mut self.missed, self.lags, item);
         Ok(())
+    }
+
+    fn take(&mut self, rendition: usize, number: u64, name: &str, file: AheadFile) -> bool
+        ensures taken { result ≡ true → Grows (KeptBy F.made self.old) (KeptBy F.made self.new)
+            (segment_with rendition number name.now file.bytes ∷ []) }
+        ensures kept { result ≡ false → Grows (KeptBy F.made self.old) (KeptBy F.made self.new) [] }
+        ensures failures { self.new.files.failures ≡ self.old.files.failures }
+
+        // Behind a put that failed no file is taken.
+        ensures stays { 0 < self.old.files.failures → (result ≡ false) × (self.new.files.folder ≡ self.old.files.folder) }
+
+        // No rendition is told of a segment, and behind it none goes.
+        ensures renditions { self.new.renditions ≡ self.old.renditions }
+        ensures missed { self.new.missed ≡ self.old.missed }
+        ensures lags { result ≡ true → self.new.lags ≡ false }
+
+        // A file that wasn't taken says nothing of what could be removed.
+        ensures still { result ≡ false → self.new.lags ≡ self.old.lags }
+
+        // Each rendition is cleared behind its last block, if it was before this segment.
+        ensures cleared { result ≡ true → (items : List ItemValue) → AreCleared self.old.missed self.old.renditions items →
+            AreCleared self.new.missed self.new.renditions (items ++ segment_with rendition number name.now file.bytes ∷ []) }
+    {
+        let took = self.files.take(rendition, number, name, file);
+        self.lags = self.lags && !took;
+        took
     }
 }
 

@@ -1,4 +1,4 @@
-ghost use Rattle.std.specs.Prelude.{◌≡◌, ◌+◌, ◌<◌, ◌^◌, [], ℕ, List, false, None, All, map, length, IsOk, IfOk, IfErr, OnOk, OnErr};
+ghost use Rattle.std.specs.Prelude.{◌≡◌, ◌+◌, ◌<◌, ◌^◌, [], ℕ, List, false, None, All, map, length, IsOk, IfOk, IfErr, IfSome, OnOk, OnErr};
 ghost use Rattle.cutter.specs.Lent.{lent};
 ghost use Rattle.segment_job.specs.Rotation.{number_of};
 ghost use Rattle.segment_job.specs.Segments.{sealed_segment};
@@ -122,7 +122,7 @@ fn seal<'s>(
 }
 
 /// Gives the next segment of rendition `r`, which is sealed under the rendition's keys, its playlists and the master
-/// playlist behind it. Returns the buffer that the segment lay in, in which another may be sealed.
+/// playlist behind it. Returns the buffer that the segment lay in, if it did, in which another may be sealed.
 pub fn give_sealed<O: Outlet>(
     alloc: Global,
     outlet: &mut O,
@@ -130,7 +130,7 @@ pub fn give_sealed<O: Outlet>(
     r: usize,
     sealed: Sealed<'_>,
     playlists: &mut Vec<Playlists>,
-) -> Result<Vec<u8>, PackFault>
+) -> Result<Option<Vec<u8>>, PackFault>
     requires failures { O.output.failures outlet.old < 2 ^ 63 }
     requires allowed { IsAllowed settings.now }
     requires next { (parts : List Part) × IsNext settings.now r parts playlists.old.items sealed.plan }
@@ -144,7 +144,7 @@ pub fn give_sealed<O: Outlet>(
         PutFewer O.output outlet.old outlet.new (block settings.now parts (Row r sealed.entry.plan))) }
     ensures stopped { OnErr result ((parts : List Part) → IsNext settings.now r parts playlists.old.items sealed.entry.plan →
         LeavesRow O.output outlet.old outlet.new [] settings.now r parts sealed.entry.plan playlists.new.items) }
-    ensures buffer { IfOk result (λ buffer. buffer.items ≡ sealed.entry.bytes) }
+    ensures buffer { IfOk result (λ buffer. IfSome buffer (λ it. it.items ≡ sealed.entry.bytes)) }
     ensures failures { OnOk result (O.output.failures outlet.new ≡ O.output.failures outlet.old) }
     ensures fault { IfErr result (λ fault. SaysFailures fault (O.output.failures outlet.old) (O.output.failures outlet.new)) }
 {
@@ -153,7 +153,7 @@ pub fn give_sealed<O: Outlet>(
     Ok(buffer)
 }
 
-/// Puts a segment of rendition `r`, and the playlists with it. Returns the buffer that the segment lay in.
+/// Puts a segment of rendition `r`, and the playlists with it. Returns the buffer that the segment lay in, if it did.
 fn put_block<O: Outlet>(
     alloc: Global,
     outlet: &mut O,
@@ -161,7 +161,7 @@ fn put_block<O: Outlet>(
     r: usize,
     sealed: Sealed<'_>,
     playlists: &[Playlists],
-) -> Result<Vec<u8>, PackFault>
+) -> Result<Option<Vec<u8>>, PackFault>
     requires failures { O.output.failures outlet.old < 2 ^ 63 }
     requires listable { fault_of (map unmeasured settings.now.renditions) ≡ None }
     requires each { length playlists.now ≡ length settings.now.renditions }
@@ -171,11 +171,11 @@ fn put_block<O: Outlet>(
     ensures ok { OnOk result (PutAll O.output outlet.old outlet.new (block_of settings.now r sealed.entry playlists.now)) }
     ensures err { OnErr result (PutSome O.output outlet.old outlet.new (block_of settings.now r sealed.entry playlists.now)) }
     ensures left { OnErr result (PutFewer O.output outlet.old outlet.new (block_of settings.now r sealed.entry playlists.now)) }
-    ensures buffer { IfOk result (λ buffer. buffer.items ≡ sealed.entry.bytes) }
+    ensures buffer { IfOk result (λ buffer. IfSome buffer (λ it. it.items ≡ sealed.entry.bytes)) }
     ensures fault { IfErr result (λ fault. SaysFailures fault (O.output.failures outlet.old) (O.output.failures outlet.new)) }
 {
     let rendition = rendition_of(settings, r);
-    let buffer = put_segment(outlet, r, rendition, sealed)?;
+    let buffer = put_segment(alloc, outlet, r, rendition, sealed)?;
     put_playlists(outlet, r, rendition, &playlists[r], false)?;
     put_master(alloc, outlet, &settings.renditions, playlists)?;
     Ok(buffer)

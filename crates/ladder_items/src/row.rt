@@ -26,7 +26,7 @@ pub fn row_of(alloc: Global, sealed: &Sealed<'_>, keys: &Keys) -> Result<Row, Al
     let plan = sealed.plan();
     Ok(Row {
         number: keys.number(plan.number) as u64,
-        size: sealed.bytes().len() as u64,
+        size: sealed.size(),
         micros: whole_micros(plan.ticks),
         key: keys.index(plan.number),
         discontinuity: plan.discontinuity || (plan.number == 0 && keys.number(0) > 0),

@@ -1,25 +1,25 @@
-//! The gate of `pack`: it lets all segments through, and has them written before their turn comes.
+//! The gate of `pack`: it lets all segments through, and has each sealed into a file.
 
 ghost use Rattle.std.specs.Prelude.{◌≡◌};
 
-use folder::{AheadFile, WriteAhead};
+use folder::WriteAhead;
 use work_desk::Gate;
 
-/// Lets every segment through, and has each written ahead by what it was made of.
+/// Lets every segment through, and has each sealed into a file that what it was made of makes.
 #[derive(Drop)]
 pub struct AheadGate<A> {
     ahead: A,
 }
 
 impl<A> AheadGate<A> {
-    /// A gate over what writes segments ahead.
+    /// A gate over what makes files ahead.
     pub fn new(ahead: A) -> AheadGate<A>
         ensures { result.ahead ≡ ahead }
     {
         AheadGate { ahead }
     }
 
-    /// What writes segments ahead.
+    /// What makes files ahead.
     pub fn into_ahead(self) -> A
         ensures { result ≡ self.ahead }
     {
@@ -28,6 +28,8 @@ impl<A> AheadGate<A> {
 }
 
 impl<A: WriteAhead> Gate for AheadGate<A> {
+    type File = A::File;
+
     ghost lets = { λ _ _ _. Unit {0} };
 
     ghost stops = { λ _ _ _. ⊥ };
@@ -36,7 +38,7 @@ impl<A: WriteAhead> Gate for AheadGate<A> {
         true
     }
 
-    fn write_ahead(&self, rendition: usize, number: u64, bytes: &[u8]) -> Option<AheadFile> {
-        self.ahead.write(rendition, number, bytes)
+    fn file(&self, rendition: usize, number: u64) -> Option<A::File> {
+        self.ahead.begin(rendition, number)
     }
 }

@@ -13,7 +13,7 @@ pub struct LadderSetup<'a, R, H, A> {
     pub pool: Pool,
     /// Whether two segments are sealed side by side in about the time of one, as with AVX2.
     pub pairs: bool,
-    /// It has the segments written before their turn comes, by the threads that seal them.
+    /// It has the threads that seal segments write them into files, before their turn comes.
     pub gate: &'a AheadGate<A>,
     /// It is told of a rendition's fault as soon as it stands.
     pub herald: &'a H,

@@ -1,6 +1,6 @@
 -- Renditions with which an outlet began, told of what it holds.
 use Rattle.std.specs.Prelude.{Err, IfErr, IfOk, Ok, OnErr, OnOk, Option, Result}
-use Rattle.std.proofs.Common.{arith, ◌≡◌, ◌+◌, length, length-append, drop, refl, sym, subst, ◌∙◌, ℕ, List, [], ◌∷◌, ◌++◌, map}
+use Rattle.std.proofs.Common.{arith, ◌≡◌, ◌+◌, length, length-append, append-nil, drop, refl, sym, subst, ◌∙◌, ℕ, List, [], ◌∷◌, ◌++◌, map}
 use Rattle.std.proofs.Math.Seq.{drop-append_seam, drop-length}
 use Rattle.std.proofs.lemmas.List.{drop-append-le}
 use Rattle.folder.specs.Moves.{Move}
@@ -126,11 +126,22 @@ module _ {F : Type 0} (made : F → List Move) (x y : KeepingState F) (stay : St
     };
   }
 
+  -- a file was taken
+  pub taken-since : (item : ItemValue) → Grows (KeptBy made x) (KeptBy made y) (item ∷ []) → y.files.failures ≡ x.files.failures →
+      ((items : List ItemValue) → AreCleared x.missed x.renditions items → AreCleared y.missed y.renditions (items ++ item ∷ [])) → Grows (HoldsSince made x) (HoldsSince made y) (item ∷ [])
+  taken-since item g well more = grows-since (item ∷ []) g (λ none. sym well ∙ none) (λ none. more)
+
+  -- none was taken
+  pub untaken-since : Grows (KeptBy made x) (KeptBy made y) [] → y.files.failures ≡ x.files.failures → y.renditions ≡ x.renditions → y.missed ≡ x.missed → Grows (HoldsSince made x) (HoldsSince made y) []
+  untaken-since g well is same = grows-since [] g (λ none. sym well ∙ none)
+      (λ none items cleared. subst (AreCleared y.missed y.renditions) (sym (append-nil items))
+      (subst (λ (l : List ℕ). AreCleared l y.renditions items) (sym same) (subst (λ (l : List KeepingValue). AreCleared x.missed l items) (sym is) cleared)))
+
   module _ {T E : Type 0} where
     pub ok-since : (answer : Result T E) (item : ItemValue) → OnOk answer (Grows (KeptBy made x) (KeptBy made y) (item ∷ [])) → OnOk answer (y.files.failures ≡ x.files.failures) →
         OnOk answer ((items : List ItemValue) → AreCleared x.missed x.renditions items → AreCleared y.missed y.renditions (items ++ item ∷ [])) →
         OnOk answer (Grows (HoldsSince made x) (HoldsSince made y) (item ∷ []))
-    ok-since (Ok v) item g well more = grows-since (item ∷ []) g (λ none. sym well ∙ none) (λ none. more)
+    ok-since (Ok v) item g well more = taken-since item g well more
     ok-since (Err e) item g well more = tt
 
     pub err-since : (answer : Result T E) → OnErr answer (Grows (KeptBy made x) (KeptBy made y) []) → OnErr answer (y.files.failures ≡ x.files.failures + 1) →

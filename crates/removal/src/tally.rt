@@ -1,12 +1,12 @@
 //! Segments that were removed are counted, for whoever watches a run.
 
-ghost use Rattle.std.specs.Prelude.{◌≡◌, ℕ, ◌+◌, ◌<◌, ◌^◌, ◌∷◌, [], OnErr, OnOk};
-ghost use Rattle.item_io.specs.Items.{item_value};
+ghost use Rattle.std.specs.Prelude.{◌≡◌, ℕ, ◌+◌, ◌<◌, ◌^◌, ◌∷◌, [], true, false, OnErr, OnOk};
+ghost use Rattle.item_io.specs.Items.{item_value, segment_with};
 ghost use Rattle.item_io.specs.Outlets.{BreaksOff, Grows};
 ghost use Rattle.keeping.specs.Keepings.{removed_of};
 ghost use Rattle.removal.specs.Since.{HoldsSince, HoldsSinceUpTo, since_view};
 
-use folder::Folder;
+use folder::{AheadFile, Folder};
 use item_io::{Item, Outlet, OutletFault};
 use keeping::KeepingOutlet;
 use std::marker::Model;
@@ -84,6 +84,17 @@ impl<F: Folder, T: RemovalHerald> Outlet for Tallied<'_, F, T> {
         let answer = self.outlet.put(item);
         self.told = tell(&self.outlet, self.tally);
         answer
+    }
+
+    fn take(&mut self, rendition: usize, number: u64, name: &str, file: AheadFile) -> bool
+        ensures taken { result ≡ true → Grows (HoldsSince F.made self.old) (HoldsSince F.made self.new)
+            (segment_with rendition number name.now file.bytes ∷ []) }
+        ensures kept { result ≡ false → Grows (HoldsSince F.made self.old) (HoldsSince F.made self.new) [] }
+        ensures failures { self.new.files.failures ≡ self.old.files.failures }
+    {
+        let took = self.outlet.take(rendition, number, name, file);
+        self.told = tell(&self.outlet, self.tally);
+        took
     }
 }
 

@@ -101,7 +101,7 @@ fn write_items(alloc: Global, files: &mut MemoryFiles, items: &[Item]) -> Result
         match item {
             Item::Segment { number, bytes, .. } => {
                 let path = format!(in alloc; "hls/v.{number}.ts")?;
-                files.write(alloc, path.as_str(), bytes.bytes())?;
+                files.write(alloc, path.as_str(), bytes)?;
             }
             Item::Media { text, .. } => files.write(alloc, "hls/v.m3u8", text.as_bytes())?,
             _ => {}

@@ -33,7 +33,8 @@ fn packed<R: Threads + Wait + Sync>(
     let mut sources = Vec::new(alloc);
     sources.push(FailingReader::new(stream_bytes(alloc)?, 188, 0))?;
     let settings = settings(alloc, "640x360")?;
-    let gate = AheadGate::new(Offered::nothing());
+    let offered = Offered::nothing(alloc);
+    let gate = AheadGate::new(&offered);
     let setup = LadderSetup {
         rt,
         alloc,

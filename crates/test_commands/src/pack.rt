@@ -16,7 +16,7 @@ use std::thread::Threads;
 struct Told {
     answer: Result<Report, LadderPackingFault>,
     items: usize,
-    /// How many segments were offered to be written ahead, and their bytes.
+    /// How many segments were written ahead, and their bytes.
     offered: (u64, u64),
 }
 
@@ -30,7 +30,8 @@ fn packed<W: Write, R: Threads + Wait + Sync>(
     let mut sources = Vec::new(alloc);
     sources.push(FailingReader::new(stream, 188, 0))?;
     let settings = settings(alloc, "640x360")?;
-    let gate = AheadGate::new(Offered::nothing());
+    let offered = Offered::nothing(alloc);
+    let gate = AheadGate::new(&offered);
     let setup = LadderSetup {
         rt,
         alloc,
@@ -60,12 +61,10 @@ fn packed<W: Write, R: Threads + Wait + Sync>(
         output,
     );
     publisher.end(rt);
-    drop(setup);
-    let offered = gate.into_ahead().counts();
     Ok(Told {
         answer,
         items: outlet.items().len(),
-        offered,
+        offered: offered.counts(),
     })
 }
 

@@ -43,7 +43,7 @@ pub fn first_lost(
                 ..
             } if *rendition == r => {
                 let mut copy = Vec::new(alloc);
-                copy.extend_from_slice(bytes.bytes())?;
+                copy.extend_from_slice(bytes)?;
                 segments.push(copy)?;
             }
             Item::Media {

@@ -11,7 +11,7 @@ use std::sync::Wait;
 use std::sync::atomic::{AtomicU64, Ordering};
 use std::test::Fail;
 use std::thread::Threads;
-use work_desk::Gate;
+use work_desk::{Gate, NoFile};
 
 /// Three segments, of which each passes behind the next one, and the last one at once. It looks so often whether the next one
 /// has passed, and then holds a segment.
@@ -32,6 +32,8 @@ impl LastFirst {
 }
 
 impl Gate for LastFirst {
+    type File = NoFile;
+
     ghost lets = { λ _ _ _. Unit {0} };
 
     ghost stops = { λ _ _ _. Unit {0} };

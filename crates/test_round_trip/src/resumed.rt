@@ -90,7 +90,7 @@ fn come_back(alloc: Global, items: &[Item], from: u64, text: &str) -> Result<boo
                 return Ok(false);
             }
             next = next.saturating_add(1);
-            segments.push(Vec::from_slice(alloc, bytes.bytes())?)?;
+            segments.push(Vec::from_slice(alloc, bytes)?)?;
         }
     }
     match check(alloc, text, &segments, &[[0; 16], [1; 16]]) {

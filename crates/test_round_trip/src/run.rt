@@ -261,7 +261,7 @@ pub fn are_sizes(items: &[Item], sizes: &[usize]) -> bool {
     let mut wanted = sizes.iter();
     for item in items {
         if let Item::Segment { bytes, .. } = item {
-            if wanted.next() != Some(&bytes.bytes().len()) {
+            if wanted.next() != Some(&bytes.len()) {
                 return false;
             }
         }

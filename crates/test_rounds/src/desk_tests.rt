@@ -11,7 +11,7 @@ use std::sync::Wait;
 use std::sync::ledger::{Blank, Ledger};
 use std::test::Fail;
 use std::thread::Threads;
-use work_desk::{Desk, FreeGate, Gate, Obstacle, Opened, Outcome, Pass, Shelf};
+use work_desk::{Desk, FreeGate, Gate, NoFile, Obstacle, Opened, Outcome, Pass, Shelf};
 
 /// How often each run is made, so that threads meet in many orders.
 const TIMES: u64 = 200;
@@ -146,6 +146,8 @@ fn one_worker_seals_a_long_queue(rt: HostRuntime) -> Result<(), Fail> {
 struct AllBut(u64);
 
 impl Gate for AllBut {
+    type File = NoFile;
+
     ghost lets = { λ _ _ _. Unit {0} };
 
     ghost stops = { λ _ _ _. Unit {0} };

@@ -1,7 +1,7 @@
 //! Gates for tests.
 
 use std::sync::atomic::{AtomicU64, Ordering};
-use work_desk::Gate;
+use work_desk::{Gate, NoFile};
 
 /// How often a gate looks for what comes before it holds a segment.
 pub(crate) const TURNS: u64 = 500_000_000;
@@ -51,6 +51,8 @@ impl Meeting {
 }
 
 impl Gate for Meeting {
+    type File = NoFile;
+
     ghost lets = { λ _ _ _. Unit {0} };
 
     ghost stops = { λ _ _ _. Unit {0} };
@@ -93,6 +95,8 @@ impl Behind {
 }
 
 impl Gate for Behind {
+    type File = NoFile;
+
     ghost lets = { λ _ _ _. Unit {0} };
 
     ghost stops = { λ _ _ _. Unit {0} };
@@ -118,6 +122,8 @@ impl Gate for Behind {
 pub(crate) struct AllBut(pub(crate) u64);
 
 impl Gate for AllBut {
+    type File = NoFile;
+
     ghost lets = { λ _ _ _. Unit {0} };
 
     ghost stops = { λ _ _ _. Unit {0} };

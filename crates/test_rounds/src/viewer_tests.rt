@@ -60,7 +60,7 @@ fn bytes_at(items: &[Item], wanted: u64) -> u128 {
         if let Item::Segment { number, bytes, .. } = item
             && *number < wanted
         {
-            sum = sum.saturating_add(bytes.bytes().len() as u128);
+            sum = sum.saturating_add(bytes.len() as u128);
         }
     }
     sum

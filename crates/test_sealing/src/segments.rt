@@ -5,7 +5,7 @@ use crate::fixtures::{NEW_TABLES, key_of, plans_of, same};
 use aes_cbc::{Key, OpenFault, open, seal};
 use cutter::Plan;
 use fixture_standard_stream::{KEY_FRAME, STREAM, filled};
-use segment_job::{KeyFault, Keys, RangeFault, Sealed, open_range, seal_plan, vector};
+use segment_job::{KeyFault, Keys, RangeFault, Sealed, SealedBytes, open_range, seal_plan, vector};
 use std::alloc::{AllocError, Global};
 use std::process::Abort;
 use std::test::Fail;
@@ -142,15 +142,20 @@ fn opened(alloc: Global, sealed: &Sealed<'_>) -> Result<Vec<u8>, OpenFault> {
         alloc,
         &Key::new(sealed.key()),
         &sealed.vector(),
-        sealed.bytes(),
+        bytes_of(sealed),
     )
+}
+
+/// The bytes of a segment that was sealed in memory.
+fn bytes_of<'a>(sealed: &'a Sealed<'_>) -> &'a [u8] {
+    sealed.bytes().unwrap_or(&[])
 }
 
 /// How long a segment is, how long it is when it is opened, and how long its head is.
 fn lengths(alloc: Global, plan: &Plan, keys: &Keys) -> Result<(usize, usize, u64), Fail> {
     let sealed = seal_plan(alloc, plan.lend(), keys)?;
     let text = opened(alloc, &sealed)?.len();
-    Ok((sealed.bytes().len(), text, sealed.head_len()))
+    Ok((bytes_of(&sealed).len(), text, sealed.head_len()))
 }
 
 /// Stops a test where the segments of two plans have other lengths.
@@ -208,8 +213,8 @@ fn check_blocks(
     let number = plan.number;
     same(rt, "the key", &sealed.key(), &keys.key(number));
     same(rt, "the vector", &sealed.vector(), &vector(number));
-    let begins = sealed.bytes().starts_with(first);
-    let ends = sealed.bytes().ends_with(last);
+    let begins = bytes_of(&sealed).starts_with(first);
+    let ends = bytes_of(&sealed).ends_with(last);
     assert_same(rt, ("the blocks of", number), (begins, ends), (true, true));
     Ok(())
 }
@@ -266,12 +271,17 @@ fn check_origin(
         &keys.vector(plan.number),
     );
     let by = (sealed.is_by(keys), sealed.is_by(others));
-    let (made_of, bytes) = sent(sealed).into_parts();
+    let size = sealed.size();
+    let (origin, bytes) = sent(sealed).into_parts();
+    let is_in_memory = match bytes {
+        SealedBytes::InMemory(bytes) => bytes.len() as u64 == size,
+        SealedBytes::InFile(_) => false,
+    };
     assert_same(
         rt,
         plan.number,
-        (by, made_of.number, bytes.bytes().len()),
-        ((true, false), plan.number, 768),
+        (by, origin.plan().number, size, is_in_memory),
+        ((true, false), plan.number, 768, true),
     );
     Ok(())
 }
@@ -340,9 +350,9 @@ fn blocks_of_the_frame(alloc: Global, bytes: &[u8]) -> Result<Vec<u8>, AllocErro
 
 /// Stops a test where the key frame of a segment doesn't open alone.
 fn check_frames(rt: &impl Abort, alloc: Global, sealed: &Sealed<'_>) -> Result<(), Fail> {
-    check_frame(rt, alloc, sealed.key(), &[0; 16], sealed.bytes())?;
-    check_frame(rt, alloc, sealed.key(), &[9; 16], sealed.bytes())?;
-    let blocks = blocks_of_the_frame(alloc, sealed.bytes())?;
+    check_frame(rt, alloc, sealed.key(), &[0; 16], bytes_of(sealed))?;
+    check_frame(rt, alloc, sealed.key(), &[9; 16], bytes_of(sealed))?;
+    let blocks = blocks_of_the_frame(alloc, bytes_of(sealed))?;
     Ok(check_frame(rt, alloc, sealed.key(), &[9; 16], &blocks)?)
 }
 

@@ -152,14 +152,9 @@ fn open<'a>(files: &'a HostRuntime, path: &str) -> Result<FileFolder<&'a HostRun
 fn each_move_of_a_folder(rt: HostRuntime) -> io::Result<()> {
     make(&rt, "moves")?;
     let mut folder = open(&rt, "moves")?;
-    assert_same(&rt, "write", folder.write("one", b"first", None), Ok(()));
-    assert_same(
-        &rt,
-        "write again",
-        folder.write("one", b"1\n", None),
-        Ok(()),
-    );
-    assert_same(&rt, "write another", folder.write("two", b"", None), Ok(()));
+    assert_same(&rt, "write", folder.write("one", b"first"), Ok(()));
+    assert_same(&rt, "write again", folder.write("one", b"1\n"), Ok(()));
+    assert_same(&rt, "write another", folder.write("two", b""), Ok(()));
     assert_same(&rt, "has", folder.has("one"), Ok(true));
     assert_same(&rt, "has none", folder.has("three"), Ok(false));
     assert_same(&rt, "sync", folder.sync(), Ok(()));
@@ -175,10 +170,10 @@ fn each_move_of_a_folder(rt: HostRuntime) -> io::Result<()> {
 fn a_file_gets_the_other_name(rt: HostRuntime) -> io::Result<()> {
     make(&rt, "renamed")?;
     let mut folder = open(&rt, "renamed")?;
-    assert_same(&rt, "write", folder.write("old", b"1\n", None), Ok(()));
+    assert_same(&rt, "write", folder.write("old", b"1\n"), Ok(()));
     assert_same(&rt, "rename", folder.rename("old", "new"), Ok(()));
     assert_names(&rt, &rt, "renamed", "new\n")?;
-    assert_same(&rt, "write over", folder.write("old", b"2\n", None), Ok(()));
+    assert_same(&rt, "write over", folder.write("old", b"2\n"), Ok(()));
     assert_same(&rt, "rename over", folder.rename("old", "new"), Ok(()));
     assert_same(&rt, "none", folder.rename("old", "new"), Err(FolderFault));
     assert_bytes(&rt, &rt, "renamed/new", b"2\n")?;
@@ -189,7 +184,7 @@ fn a_file_gets_the_other_name(rt: HostRuntime) -> io::Result<()> {
 /// The answers of all moves but a look.
 fn moves<F: Folder>(folder: &mut F) -> [Result<(), FolderFault>; 4] {
     [
-        folder.write("v", b"newer\n", None),
+        folder.write("v", b"newer\n"),
         folder.rename("v", "w"),
         folder.remove("v"),
         folder.sync(),
@@ -238,7 +233,7 @@ fn a_folder_that_is_not_to_be_synced(rt: HostRuntime) -> io::Result<()> {
     make(&rt, "unsynced")?;
     let path = String::from_str(rt.alloc(), "unsynced")?;
     let mut folder = FileFolder::new(&rt, rt.alloc(), path);
-    assert_same(&rt, "write", folder.write("one", b"1\n", None), Ok(()));
+    assert_same(&rt, "write", folder.write("one", b"1\n"), Ok(()));
     assert_same(&rt, "sync", folder.sync(), Err(FolderFault));
     remove(&rt, "unsynced")
 }

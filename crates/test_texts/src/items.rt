@@ -1,6 +1,5 @@
 ghost use Rattle.std.specs.Prelude.{◌≡◌};
 
-use folder::Content;
 use item_io::{Item, Outlet};
 use std::alloc::{AllocError, Global};
 
@@ -12,7 +11,7 @@ fn segment(alloc: Global) -> Result<Item, AllocError> {
         rendition: 0,
         number: 7,
         name,
-        bytes: Content::new(Vec::from_slice(alloc, b"\x00\x47\xAB\xFF")?),
+        bytes: Vec::from_slice(alloc, b"\x00\x47\xAB\xFF")?,
     })
 }
 

@@ -1,7 +1,7 @@
 //! A live rendition whose segments last one second each.
 ghost use Rattle.std.specs.Prelude.{◌≡◌, IfOk};
 
-use folder::{Content, MemoryFolder, PruningFolder};
+use folder::{MemoryFolder, PruningFolder};
 use item_io::{FolderOutlet, Item, Outlet};
 use keeping::{Keeping, KeepingOutlet};
 use std::alloc::{AllocError, Global};
@@ -108,7 +108,7 @@ fn push_segment(
         rendition: put.rendition,
         number,
         name,
-        bytes: Content::new(Vec::from_array(alloc, [71, 0])?),
+        bytes: Vec::from_array(alloc, [71, 0])?,
     })?;
     Ok(())
 }

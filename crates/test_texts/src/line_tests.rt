@@ -2,7 +2,6 @@ ghost use Rattle.std.specs.Prelude.{◌≤◌, IfOk};
 
 use crate::asserts::assert_same;
 use crate::items::put_items;
-use folder::Content;
 use item_io::{Item, LineOutlet, Outlet};
 use std::alloc::{AllocError, Global};
 use std::io;
@@ -138,7 +137,7 @@ fn segment(alloc: Global, len: usize) -> Result<Item, AllocError> {
         rendition: 0,
         number: 0,
         name,
-        bytes: Content::new(vec![in alloc; 0x5A; len]?),
+        bytes: vec![in alloc; 0x5A; len]?,
     })
 }
 

@@ -37,7 +37,7 @@ const ROWS: [u64; 2] = [1_000_000, 1_000_000];
 /// Puts a file into the folder.
 fn stand(folder: &mut MemoryFolder, alloc: Global, number: u64) -> Result<(), Fail> {
     let file = format!(in alloc; "v.{number}.ts")?;
-    folder.write(&file, &[71], None)?;
+    folder.write(&file, &[71])?;
     Ok(())
 }
 

@@ -1,5 +1,6 @@
 -- What a worker begins.
 use Rattle.std.specs.Prelude.{◌≡◌, ℕ, Option, None, Some, Result, Ok, Err}
+use Rattle.std.specs.declared.io.traits.Write.{Ghosts}
 use Rattle.cutter.specs.Plans.{SegmentPlan}
 use Rattle.work_desk.specs.declared.sealing.Begun.{Begun}
 use Rattle.work_desk.specs.declared.desk.Job.{Job}
@@ -8,12 +9,12 @@ use Rattle.work_desk.specs.declared.worker.Batch.{Batch}
 use Rattle.work_desk.specs.Waiting.{Sight}
 
 -- where a plan was begun, it was let through, and it's one of those that may be fed
-abbrev pub IsLetThrough : (ℕ → ℕ → Type 0) → (SegmentPlan → Type 0) → Option Begun → Type 0
+abbrev pub IsLetThrough : {F : Type 0} {w : Ghosts F} → (ℕ → ℕ → Type 0) → (SegmentPlan → Type 0) → Option (Begun F w) → Type 0
 IsLetThrough lets plans None = Unit {0}
 IsLetThrough lets plans (Some begun) = lets begun.claim.plan.rendition begun.claim.plan.number × plans begun.claim.plan
 
 -- so was each of a batch
-pub record AreLetThrough (lets : ℕ → ℕ → Type 0) (plans : SegmentPlan → Type 0) (batch : Batch) : Type 0 where
+pub record AreLetThrough {F : Type 0} {w : Ghosts F} (lets : ℕ → ℕ → Type 0) (plans : SegmentPlan → Type 0) (batch : Batch F w) : Type 0 where
   pub one : IsLetThrough lets plans batch.first
   pub two : IsLetThrough lets plans batch.second
   pub three : IsLetThrough lets plans batch.third

@@ -1,14 +1,18 @@
-//! What is asked before a segment is sealed, and told once it is.
+//! What is asked before a segment is sealed.
 
-ghost use Rattle.std.specs.Prelude.{◌≡◌, ℕ, IfSome, List, true, false};
+ghost use Rattle.std.specs.Prelude.{◌≡◌, [], ℕ, IfSome, List, Some, true, false};
 ghost use Rattle.cutter.specs.Plans.{SegmentPlan};
 ghost use Rattle.segment_job.specs.Rotation.{KeyRotation};
 
-use folder::AheadFile;
+use crate::no_file::NoFile;
+use folder::WriteFile;
 use std::marker::Brand;
 
-/// Who is asked before each segment is sealed, and may write it once it is. Many workers ask at once.
+/// Who is asked before each segment is sealed, and may have a file for it. Many workers ask at once.
 pub trait Gate {
+    /// A file that a segment is sealed into.
+    type File: WriteFile + Send + Drop;
+
     /// What holds of a segment, by its rendition and its number, that was let through.
     ghost lets: { Self → ℕ → ℕ → Type 0 };
 
@@ -20,19 +24,22 @@ pub trait Gate {
         ensures passed { result ≡ true → lets self.now rendition number }
         ensures held { result ≡ false → stops self.now rendition number };
 
-    /// Writes a sealed segment before its turn comes. None where it isn't: then it's written in its turn.
-    fn write_ahead(&self, _rendition: usize, _number: u64, _bytes: &[u8]) -> Option<AheadFile>
-        ensures { IfSome result (λ file. file.bytes ≡ _bytes.now) }
+    /// A file for a segment that was let through, in which there is nothing yet. None where there is none: then the segment is sealed
+    /// in memory.
+    fn file(&self, _rendition: usize, _number: u64) -> Option<Self::File>
+        ensures { IfSome result (λ file. Self.File.contents file ≡ Some []) }
     {
         None
     }
 }
 
-/// A gate that lets everything through.
+/// A gate that lets everything through, and has no files.
 #[derive(Clone, Copy, Debug, Drop)]
 pub struct FreeGate;
 
 impl Gate for FreeGate {
+    type File = NoFile;
+
     ghost lets = { λ _ _ _. Unit {0} };
 
     ghost stops = { λ _ _ _. ⊥ };

@@ -10,8 +10,10 @@
 mod desk;
 mod gate;
 mod known;
+mod no_file;
 mod pass;
 mod permitted;
+mod ready;
 mod sealing;
 mod shelf;
 mod singles;
@@ -22,6 +24,7 @@ mod worker;
 pub use desk::{Desk, Opened};
 pub use flow_core::{Claim, Delivery, Fed, FeedFault, Obstacle, Outcome};
 pub use gate::{FreeGate, Gate, Permit};
+pub use no_file::NoFile;
 pub use pass::{Pass, Tally};
 pub use permitted::PermittedQueue;
 pub use shelf::Shelf;

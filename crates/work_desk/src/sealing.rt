@@ -1,41 +1,44 @@
 //! What becomes of the plans that a worker claimed.
 
-ghost use Rattle.std.specs.Prelude.{◌≡◌, IfErr, IfOk, true};
+ghost use Rattle.std.specs.Prelude.{◌≡◌, IfErr, IfNone, IfOk, IfSome, true};
 ghost use Rattle.cutter.specs.Lent.{lent};
-ghost use Rattle.segment_job.specs.Segments.{sealed_from};
-ghost use Rattle.flow_core.specs.declared.outcome.Outcome.TheVariants.{Sealed as IsSealed};
+ghost use Rattle.segment_job.specs.Segments.{sealed_from, unsealed_segment};
+ghost use Rattle.flow_core.specs.declared.outcome.Outcome.TheVariants.{Refused, Sealed as IsSealed};
 ghost use Rattle.flow_core.specs.Lists.{In};
 ghost use Rattle.flow_core.specs.Queues.{IsOwnOutcome};
 ghost use Rattle.flow_core.specs.Steps.{Delivers};
 ghost use Rattle.work_desk.specs.Permits.{AreKnownByNumber, IsPermitted, LetsOnly};
+ghost use Rattle.work_desk.specs.Readiness.{IsFinished, segment_in};
 ghost use Rattle.work_desk.specs.Works.{IsAnswer, IsBegun, IsTurnedAway, outcome_of};
 
 use crate::desk::Job;
 use crate::gate::{Gate, Permit};
 use crate::permitted::PermittedQueue;
+use crate::ready::{Ready, seal_all, seal_both};
 use crate::shelf::Shelf;
 use crate::steps::deliver;
 use cutter::PlanRef;
 use flow_core::{Claim, Outcome};
-use segment_job::{Keys, Sealed, Unsealed, seal_four, seal_two};
-use std::alloc::Global;
+use folder::WriteFile;
+use segment_job::{Keys, Outgoing, Sealed, Unsealed};
+use std::alloc::{AllocError, Global};
 use std::marker::PhantomData;
 use std::sync::Wait;
 use std::sync::ledger::Ledger;
 
 /// A claimed plan whose segment is to be sealed.
-pub(crate) struct Begun<'s> {
+pub(crate) struct Begun<'s, F: WriteFile> {
     claim: Claim<'s>,
-    segment: Unsealed<'s>,
-    pub ghost own: { segment.plan ≡ claim.plan },
+    segment: Ready<'s, F>,
+    pub ghost own: { (segment_in segment).plan ≡ claim.plan },
 }
 
-impl<'s> Begun<'s> {
+impl<'s, F: WriteFile> Begun<'s, F> {
     /// The claim and the segment.
-    fn into_parts(self) -> (Claim<'s>, Unsealed<'s>)
+    fn into_parts(self) -> (Claim<'s>, Ready<'s, F>)
         ensures claim { result.0 ≡ self.entry.claim }
         ensures segment { result.1 ≡ self.entry.segment }
-        ensures own { result.1.plan ≡ result.0.plan }
+        ensures own { (segment_in result.1).plan ≡ result.0.plan }
     {
         let Begun { claim, segment } = self;
         (claim, segment)
@@ -49,33 +52,17 @@ pub(crate) struct Worked<'s> {
 }
 
 impl<'s> Worked<'s> {
-    /// A claimed plan whose segment was sealed.
-    fn sealed(claim: Claim<'s>, segment: Sealed<'s>) -> Worked<'s>
+    /// A claimed plan whose segment was sealed; Refused where its file couldn't be written.
+    fn sealed(claim: Claim<'s>, segment: Option<Sealed<'s>>) -> Worked<'s>
         ensures claim { result.claim ≡ claim.entry }
-        ensures sealed { result.outcome ≡ IsSealed segment.entry }
+        ensures sealed { IfSome segment.entry (λ it. result.outcome ≡ IsSealed it) }
+        ensures refused { IfNone segment.entry (result.outcome ≡ Refused) }
     {
-        Worked {
-            claim,
-            outcome: Outcome::Sealed(segment),
-        }
-    }
-
-    /// The same, of which a sealed segment was written ahead, if its gate does that.
-    pub(crate) fn ahead<G: Gate>(self, gate: &G) -> Worked<'s>
-        ensures { result ≡ self.entry }
-    {
-        let Worked { claim, outcome } = self;
-        match outcome {
-            Outcome::Sealed(segment) => Worked::sealed(claim, written(gate, segment)),
-            Outcome::Held => Worked {
-                claim,
-                outcome: Outcome::Held,
-            },
-            Outcome::Refused => Worked {
-                claim,
-                outcome: Outcome::Refused,
-            },
-        }
+        let outcome = match segment {
+            Some(segment) => Outcome::Sealed(segment),
+            None => Outcome::Refused,
+        };
+        Worked { claim, outcome }
     }
 
     /// Delivers it. Nothing changes where nobody has that claim at this queue, which may be known by its plan's rendition and number.
@@ -170,24 +157,25 @@ impl<'k, G: Gate, P: Permit> Means<'k, G, P> {
         }
     }
 
-    /// Asks the gate about a claimed plan, and makes its segment ready to be sealed, in a buffer from the shelf. Where that can't be,
-    /// says why. Either way with the gate's answer.
+    /// Asks the gate about a claimed plan, and makes its segment ready to be sealed, into a file of the gate's or in a buffer from the
+    /// shelf. Where that can't be, says why. Either way with the gate's answer.
     pub(crate) fn begin<'s, R: Wait>(
         &self,
         rt: &R,
         shelf: &Shelf,
         job: Job<'s>,
-    ) -> (Asked, Result<Begun<'s>, TurnedAway<'s>>)
+    ) -> (Asked, Result<Begun<'s, G::File>, TurnedAway<'s>>)
         ensures asked { IsAnswer (G.lets self.now.gate.now) (G.stops self.now.gate.now) job.entry.claim.plan result.0 }
         ensures claim { IfOk result.1 (λ begun. begun.claim ≡ job.entry.claim) }
-        ensures begun { IfOk result.1 (λ begun. IsBegun (G.lets self.now.gate.now) self.now.keys.now job.entry.claim.plan begun.segment) }
+        ensures begun { IfOk result.1 (λ begun. IsBegun (G.lets self.now.gate.now) self.now.keys.now job.entry.claim.plan
+            (segment_in begun.segment)) }
         ensures same { IfErr result.1 (λ away. away.claim ≡ job.entry.claim) }
         ensures away { IfErr result.1 (λ away. IsTurnedAway (G.lets self.now.gate.now) (G.stops self.now.gate.now) self.now.keys.now
             job.entry.claim.plan away.why) }
     {
         let claim = job.into_claim();
         let asked = Asked::about(self.gate, claim.plan());
-        let made = match self.unsealed(rt, shelf, claim.plan(), &asked) {
+        let made = match self.ready(rt, shelf, claim.plan(), &asked) {
             Ok(segment) => Ok(Begun { claim, segment }),
             Err(why) => Err(TurnedAway { claim, why }),
         };
@@ -195,15 +183,15 @@ impl<'k, G: Gate, P: Permit> Means<'k, G, P> {
     }
 
     /// The segment of a plan about which the gate was asked, ready to be sealed; or why it can't be.
-    fn unsealed<'s, R: Wait>(
+    fn ready<'s, R: Wait>(
         &self,
         rt: &R,
         shelf: &Shelf,
         plan: PlanRef<'s>,
         asked: &Asked,
-    ) -> Result<Unsealed<'s>, Why>
+    ) -> Result<Ready<'s, G::File>, Why>
         requires { IsAnswer (G.lets self.now.gate.now) (G.stops self.now.gate.now) (lent plan) asked.now }
-        ensures ok { IfOk result (IsBegun (G.lets self.now.gate.now) self.now.keys.now (lent plan.entry)) }
+        ensures ok { IfOk result (λ ready. IsBegun (G.lets self.now.gate.now) self.now.keys.now (lent plan.entry) (segment_in ready)) }
         ensures err { IfErr result (IsTurnedAway (G.lets self.now.gate.now) (G.stops self.now.gate.now) self.now.keys.now (lent plan.entry)) }
     {
         if !asked.passes {
@@ -212,27 +200,36 @@ impl<'k, G: Gate, P: Permit> Means<'k, G, P> {
         let Some(own) = self.keys.get(plan.rendition) else {
             return Err(Why::NoKeys);
         };
-        let buffer = shelf.take(rt, plan.body.len());
-        match Unsealed::within(self.alloc, plan, own, buffer) {
-            Ok(segment) => Ok(segment),
+        match self.ready_by(rt, shelf, plan, own) {
+            Ok(ready) => Ok(ready),
             Err(_) => Err(Why::NoMemory),
         }
     }
-}
 
-/// The same segment, written ahead if its gate does that.
-fn written<'s, G: Gate>(gate: &G, segment: Sealed<'s>) -> Sealed<'s>
-    ensures { result ≡ segment.entry }
-{
-    let plan = segment.plan();
-    let file = gate.write_ahead(plan.rendition, plan.number, segment.bytes());
-    segment.standing(file)
+    /// The segment of a plan under the keys of its rendition, ready to be sealed.
+    fn ready_by<'s, R: Wait>(
+        &self,
+        rt: &R,
+        shelf: &Shelf,
+        plan: PlanRef<'s>,
+        keys: &Keys,
+    ) -> Result<Ready<'s, G::File>, AllocError>
+        ensures { IfOk result (λ ready. segment_in ready ≡ unsealed_segment keys.now (lent plan.entry)) }
+    {
+        if let Some(file) = self.gate.file(plan.rendition, plan.number) {
+            let segment = Outgoing::of(self.alloc, plan, keys, file)?;
+            return Ok(Ready::IntoFile(segment));
+        }
+        let buffer = shelf.take(rt, plan.body.len());
+        let segment = Unsealed::within(self.alloc, plan, keys, buffer)?;
+        Ok(Ready::InMemory(segment))
+    }
 }
 
 /// Seals the segment of a claimed plan.
-pub(crate) fn finish_one<'s>(begun: Begun<'s>) -> Worked<'s>
+pub(crate) fn finish_one<'s, F: WriteFile>(begun: Begun<'s, F>) -> Worked<'s>
     ensures claim { result.claim ≡ begun.entry.claim }
-    ensures sealed { result.outcome ≡ IsSealed (sealed_from begun.entry.segment) }
+    ensures finished { IsFinished (sealed_from (segment_in begun.entry.segment)) result.outcome }
     ensures own { IsOwnOutcome begun.entry.claim.plan result.outcome }
 {
     let (claim, segment) = begun.into_parts();
@@ -240,17 +237,20 @@ pub(crate) fn finish_one<'s>(begun: Begun<'s>) -> Worked<'s>
 }
 
 /// Seals the segments of two claimed plans side by side.
-pub(crate) fn finish_two<'s>(first: Begun<'s>, second: Begun<'s>) -> (Worked<'s>, Worked<'s>)
+pub(crate) fn finish_two<'s, F: WriteFile>(
+    first: Begun<'s, F>,
+    second: Begun<'s, F>,
+) -> (Worked<'s>, Worked<'s>)
     ensures first_claim { result.0.claim ≡ first.entry.claim }
-    ensures first { result.0.outcome ≡ IsSealed (sealed_from first.entry.segment) }
+    ensures first { IsFinished (sealed_from (segment_in first.entry.segment)) result.0.outcome }
     ensures first_own { IsOwnOutcome first.entry.claim.plan result.0.outcome }
     ensures second_claim { result.1.claim ≡ second.entry.claim }
-    ensures second { result.1.outcome ≡ IsSealed (sealed_from second.entry.segment) }
+    ensures second { IsFinished (sealed_from (segment_in second.entry.segment)) result.1.outcome }
     ensures second_own { IsOwnOutcome second.entry.claim.plan result.1.outcome }
 {
     let (first_claim, first) = first.into_parts();
     let (second_claim, second) = second.into_parts();
-    let (one, two) = seal_two(first, second);
+    let (one, two) = seal_both(first, second);
     (
         Worked::sealed(first_claim, one),
         Worked::sealed(second_claim, two),
@@ -258,30 +258,30 @@ pub(crate) fn finish_two<'s>(first: Begun<'s>, second: Begun<'s>) -> (Worked<'s>
 }
 
 /// Seals the segments of four claimed plans side by side.
-pub(crate) fn finish_four<'s>(
-    first: Begun<'s>,
-    second: Begun<'s>,
-    third: Begun<'s>,
-    fourth: Begun<'s>,
+pub(crate) fn finish_four<'s, F: WriteFile>(
+    first: Begun<'s, F>,
+    second: Begun<'s, F>,
+    third: Begun<'s, F>,
+    fourth: Begun<'s, F>,
 ) -> (Worked<'s>, Worked<'s>, Worked<'s>, Worked<'s>)
     ensures first_claim { result.0.claim ≡ first.entry.claim }
-    ensures first { result.0.outcome ≡ IsSealed (sealed_from first.entry.segment) }
+    ensures first { IsFinished (sealed_from (segment_in first.entry.segment)) result.0.outcome }
     ensures first_own { IsOwnOutcome first.entry.claim.plan result.0.outcome }
     ensures second_claim { result.1.claim ≡ second.entry.claim }
-    ensures second { result.1.outcome ≡ IsSealed (sealed_from second.entry.segment) }
+    ensures second { IsFinished (sealed_from (segment_in second.entry.segment)) result.1.outcome }
     ensures second_own { IsOwnOutcome second.entry.claim.plan result.1.outcome }
     ensures third_claim { result.2.claim ≡ third.entry.claim }
-    ensures third { result.2.outcome ≡ IsSealed (sealed_from third.entry.segment) }
+    ensures third { IsFinished (sealed_from (segment_in third.entry.segment)) result.2.outcome }
     ensures third_own { IsOwnOutcome third.entry.claim.plan result.2.outcome }
     ensures fourth_claim { result.3.claim ≡ fourth.entry.claim }
-    ensures fourth { result.3.outcome ≡ IsSealed (sealed_from fourth.entry.segment) }
+    ensures fourth { IsFinished (sealed_from (segment_in fourth.entry.segment)) result.3.outcome }
     ensures fourth_own { IsOwnOutcome fourth.entry.claim.plan result.3.outcome }
 {
     let (first_claim, first) = first.into_parts();
     let (second_claim, second) = second.into_parts();
     let (third_claim, third) = third.into_parts();
     let (fourth_claim, fourth) = fourth.into_parts();
-    let (one, two, three, four) = seal_four(first, second, third, fourth);
+    let (one, two, three, four) = seal_all(first, second, third, fourth);
     (
         Worked::sealed(first_claim, one),
         Worked::sealed(second_claim, two),

@@ -3,6 +3,7 @@
 ghost use Rattle.std.specs.Prelude.{◌≡◌, ◌⊎◌, ◌+◌, IfErr, IfNone, IfOk, IfSome, None, OnErr, OnOk, Some, true};
 ghost use Rattle.work_desk.specs.Batches.{AreJobsPlanned, AreLetThrough, IsLetThrough};
 ghost use Rattle.work_desk.specs.Permits.{LetsOnly};
+ghost use Rattle.work_desk.specs.Readiness.{segment_in};
 ghost use Rattle.work_desk.specs.Works.{IsBegun};
 
 use crate::desk::{Desk, Job, Jobs};
@@ -10,6 +11,7 @@ use crate::gate::{Gate, Permit};
 use crate::pass::{Pass, Tally};
 use crate::sealing::{Asked, Begun, Means, finish_four, finish_one, finish_two};
 use crate::steps::Seen;
+use folder::WriteFile;
 use segment_job::Keys;
 use std::alloc::Global;
 use std::sync::Wait;
@@ -22,8 +24,9 @@ use std::sync::ledger::Ledger;
 /// together, which takes less time than one by one. At a desk with pairs it claims a second one wherever any waits, and a fourth.
 /// Each is claimed, asked about, counted and delivered for itself.
 ///
-/// The gate is asked when a plan was claimed, before it is sealed: what it doesn't let through is Held. Refused is a
-/// plan that there was no memory to seal, or of a rendition that has no keys; which, no clause says.
+/// The gate is asked when a plan was claimed, before it is sealed: what it doesn't let through is Held. Where it has a file, the segment
+/// is sealed into that. Refused is a plan that there was no memory to seal, or of a rendition that has no keys, or whose file couldn't be
+/// written; which, no clause says.
 pub fn work<'s, L: Ledger, M: Ledger, P: Permit, G: Gate, R: Wait>(
     rt: &R,
     alloc: Global,
@@ -58,7 +61,7 @@ fn serve<'s, L: Ledger, M: Ledger, P: Permit, G: Gate, R: Wait>(
     let means = Means::new(alloc, keys, gate);
     for _ in rt.forever() {
         match begin_some(rt, desk, pass, &means) {
-            Ok(batch) => finish_all(rt, desk, gate, batch),
+            Ok(batch) => finish_all(rt, desk, batch),
             Err(seen) => return seen,
         }
     }
@@ -66,23 +69,23 @@ fn serve<'s, L: Ledger, M: Ledger, P: Permit, G: Gate, R: Wait>(
 }
 
 /// Up to four claimed plans whose segments are sealed side by side.
-pub(crate) struct Batch<'s> {
-    first: Option<Begun<'s>>,
-    second: Option<Begun<'s>>,
-    third: Option<Begun<'s>>,
-    fourth: Option<Begun<'s>>,
+pub(crate) struct Batch<'s, F: WriteFile> {
+    first: Option<Begun<'s, F>>,
+    second: Option<Begun<'s, F>>,
+    third: Option<Begun<'s, F>>,
+    fourth: Option<Begun<'s, F>>,
     /// What was seen where fewer than four were claimed.
     no_more: Option<Seen>,
 }
 
-impl<'s> Batch<'s> {
+impl<'s, F: WriteFile> Batch<'s, F> {
     /// Of up to three claimed plans, where no more waited than were left to others.
     fn short(
-        first: Option<Begun<'s>>,
-        second: Option<Begun<'s>>,
-        third: Option<Begun<'s>>,
+        first: Option<Begun<'s, F>>,
+        second: Option<Begun<'s, F>>,
+        third: Option<Begun<'s, F>>,
         seen: Seen,
-    ) -> Batch<'s>
+    ) -> Batch<'s, F>
         ensures first { result.first ≡ first.entry }
         ensures second { result.second ≡ second.entry }
         ensures third { result.third ≡ third.entry }
@@ -106,7 +109,7 @@ fn begin_some<'s, L: Ledger, M: Ledger, P: Permit, G: Gate, R: Wait>(
     desk: &Desk<'s, L, M, P>,
     pass: &mut Pass<L>,
     means: &Means<'_, G, P>,
-) -> Result<Batch<'s>, Seen>
+) -> Result<Batch<'s, G::File>, Seen>
     requires only { LetsOnly (G.lets means.now.gate.now) P.permits }
     ensures number { pass.new.number ≡ pass.old.number }
     ensures none { OnErr result (pass.new.count ≡ pass.old.count) }
@@ -153,7 +156,7 @@ fn begin_and_claim<'s, L: Ledger, M: Ledger, P: Permit, G: Gate, R: Wait>(
     pass: &mut Pass<L>,
     means: &Means<'_, G, P>,
     jobs: Jobs<'s>,
-) -> (Option<Begun<'s>>, Result<Job<'s>, Seen>)
+) -> (Option<Begun<'s, G::File>>, Result<Job<'s>, Seen>)
     requires only { LetsOnly (G.lets means.now.gate.now) P.permits }
     requires planned { AreJobsPlanned P.plans jobs }
     ensures number { pass.new.number ≡ pass.old.number }
@@ -162,7 +165,7 @@ fn begin_and_claim<'s, L: Ledger, M: Ledger, P: Permit, G: Gate, R: Wait>(
     ensures uncounted { OnErr result.1 (pass.new.count ≡ pass.old.count) }
     ensures planned { IfOk result.1 (λ job. P.plans job.claim.plan) }
     ensures claim { IfSome result.0 (λ begun. begun.claim ≡ jobs.entry.job.claim) }
-    ensures begun { IfSome result.0 (λ begun. IsBegun (G.lets means.now.gate.now) means.now.keys.now jobs.entry.job.claim.plan begun.segment) }
+    ensures begun { IfSome result.0 (λ begun. IsBegun (G.lets means.now.gate.now) means.now.keys.now jobs.entry.job.claim.plan (segment_in begun.segment)) }
     ensures permitted { IsLetThrough P.permits P.plans result.0 }
 {
     let Jobs { job, beside } = jobs;
@@ -179,11 +182,11 @@ fn begin<'s, L: Ledger, M: Ledger, P: Permit, G: Gate, R: Wait>(
     desk: &Desk<'s, L, M, P>,
     means: &Means<'_, G, P>,
     job: Job<'s>,
-) -> (Asked, Option<Begun<'s>>)
+) -> (Asked, Option<Begun<'s, G::File>>)
     requires only { LetsOnly (G.lets means.now.gate.now) P.permits }
     requires planned { P.plans job.claim.plan }
     ensures claim { IfSome result.1 (λ begun. begun.claim ≡ job.entry.claim) }
-    ensures begun { IfSome result.1 (λ begun. IsBegun (G.lets means.now.gate.now) means.now.keys.now job.entry.claim.plan begun.segment) }
+    ensures begun { IfSome result.1 (λ begun. IsBegun (G.lets means.now.gate.now) means.now.keys.now job.entry.claim.plan (segment_in begun.segment)) }
     ensures permitted { IsLetThrough P.permits P.plans result.1 }
 {
     let (asked, made) = means.begin(rt, desk.shelf(), job);
@@ -196,12 +199,11 @@ fn begin<'s, L: Ledger, M: Ledger, P: Permit, G: Gate, R: Wait>(
     }
 }
 
-/// Seals what was begun, side by side, and delivers each segment once the gate has written it ahead, or not. All of it was let through.
-fn finish_all<'s, L: Ledger, M: Ledger, P: Permit, G: Gate, R: Wait>(
+/// Seals what was begun, side by side, and delivers it. All of it was let through.
+fn finish_all<'s, L: Ledger, M: Ledger, P: Permit, F: WriteFile, R: Wait>(
     rt: &R,
     desk: &Desk<'s, L, M, P>,
-    gate: &G,
-    batch: Batch<'s>,
+    batch: Batch<'s, F>,
 )
     requires { AreLetThrough P.permits P.plans batch }
 {
@@ -215,25 +217,24 @@ fn finish_all<'s, L: Ledger, M: Ledger, P: Permit, G: Gate, R: Wait>(
     match (first, second, third, fourth) {
         (Some(first), Some(second), Some(third), Some(fourth)) => {
             let (one, two, three, four) = finish_four(first, second, third, fourth);
-            desk.hand_in(rt, one.ahead(gate));
-            desk.hand_in(rt, two.ahead(gate));
-            desk.hand_in(rt, three.ahead(gate));
-            desk.hand_in(rt, four.ahead(gate));
+            desk.hand_in(rt, one);
+            desk.hand_in(rt, two);
+            desk.hand_in(rt, three);
+            desk.hand_in(rt, four);
         }
         (first, second, third, fourth) => {
-            finish_pair(rt, desk, gate, first, second);
-            finish_pair(rt, desk, gate, third, fourth);
+            finish_pair(rt, desk, first, second);
+            finish_pair(rt, desk, third, fourth);
         }
     }
 }
 
-/// Seals what was begun of two, side by side where both were, and delivers it, each written ahead or not.
-fn finish_pair<'s, L: Ledger, M: Ledger, P: Permit, G: Gate, R: Wait>(
+/// Seals what was begun of two, side by side where both were, and delivers it.
+fn finish_pair<'s, L: Ledger, M: Ledger, P: Permit, F: WriteFile, R: Wait>(
     rt: &R,
     desk: &Desk<'s, L, M, P>,
-    gate: &G,
-    first: Option<Begun<'s>>,
-    second: Option<Begun<'s>>,
+    first: Option<Begun<'s, F>>,
+    second: Option<Begun<'s, F>>,
 )
     requires first { IsLetThrough P.permits P.plans first }
     requires second { IsLetThrough P.permits P.plans second }
@@ -241,11 +242,11 @@ fn finish_pair<'s, L: Ledger, M: Ledger, P: Permit, G: Gate, R: Wait>(
     match (first, second) {
         (Some(first), Some(second)) => {
             let (one, two) = finish_two(first, second);
-            desk.hand_in(rt, one.ahead(gate));
-            desk.hand_in(rt, two.ahead(gate));
+            desk.hand_in(rt, one);
+            desk.hand_in(rt, two);
         }
         (Some(alone), None) | (None, Some(alone)) => {
-            desk.hand_in(rt, finish_one(alone).ahead(gate));
+            desk.hand_in(rt, finish_one(alone));
         }
         (None, None) => {}
     }

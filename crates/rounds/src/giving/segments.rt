@@ -1,6 +1,6 @@
 //! Gives a segment or an end: puts its items to the outlet, then publishes a snapshot.
 
-ghost use Rattle.std.specs.Prelude.{◌++◌, ◌<◌, ◌^◌, ◌∷◌, ◌≡◌, All, IfErr, IfOk, OnErr, OnOk, [], false, length};
+ghost use Rattle.std.specs.Prelude.{◌++◌, ◌<◌, ◌^◌, ◌∷◌, ◌≡◌, All, IfErr, IfOk, IfSome, OnErr, OnOk, [], false, length};
 ghost use Rattle.ladder_items.specs.Ladder.{IsAllowed, rendition_at};
 ghost use Rattle.ladder_items.specs.Putting.{SaysFailures};
 ghost use Rattle.ladder_items.specs.declared.fault.PackFault.TheVariants.{NoMemory};
@@ -21,14 +21,14 @@ use std::sync::Wait;
 
 impl<'r, S: Source, O: Outlet, R: Wait> Broadcast<'r, S, O, R> {
     /// Gives a sealed segment, the next of rendition `r`, followed by its playlists, and publishes a snapshot. Returns the buffer that
-    /// the segment lay in.
+    /// the segment lay in, if it did.
     pub fn give_segment(
         &mut self,
         alloc: Global,
         settings: &Settings,
         r: usize,
         sealed: Sealed<'_>,
-    ) -> Result<Vec<u8>, PackFault>
+    ) -> Result<Option<Vec<u8>>, PackFault>
         requires failures { O.output.failures self.old.course.outlet < 2 ^ 63 }
         requires allowed { IsAllowed settings.now }
         requires next { IsNextOf settings.now r sealed.plan self.old.course }
@@ -36,7 +36,7 @@ impl<'r, S: Source, O: Outlet, R: Wait> Broadcast<'r, S, O, R> {
         requires shows { counts_shown self.old.held.publisher.list ≡ counts_of self.old.course.playlists.items }
         ensures ok { OnOk result (GivesNext O.output settings.now r sealed.entry.plan self.old self.new) }
         ensures err { OnErr result (GivesNextInPart O.output settings.now r sealed.entry.plan self.old self.new) }
-        ensures buffer { IfOk result (λ buffer. buffer.items ≡ sealed.entry.bytes) }
+        ensures buffer { IfOk result (λ buffer. IfSome buffer (λ it. it.items ≡ sealed.entry.bytes)) }
         ensures board { self.new.held.publisher.board ≡ self.old.held.publisher.board }
         ensures none_read { ReadsNone self.old.course self.new.course }
         ensures failures { OnOk result (O.output.failures self.new.course.outlet ≡ O.output.failures self.old.course.outlet) }

@@ -1,6 +1,6 @@
 //! What a round shows: nothing that wasn't let through.
 
-ghost use Rattle.std.specs.Prelude.{◌≡◌, ◌<◌, ◌^◌, ℕ, IfErr, IfOk, OnErr, OnOk, Decides, false, length};
+ghost use Rattle.std.specs.Prelude.{◌≡◌, ◌<◌, ◌^◌, ℕ, IfErr, IfOk, IfSome, OnErr, OnOk, Decides, false, length};
 ghost use Rattle.ingest.specs.Lanes.{HasBroken};
 ghost use Rattle.ladder_items.specs.Ladder.{IsAllowed, rendition_at};
 ghost use Rattle.ladder_items.specs.Putting.{SaysFailures};
@@ -111,7 +111,7 @@ impl<'r, S: Source, O: Outlet, P: Permit, R: Wait> PermittedBroadcast<'r, S, O, 
         settings: &Settings,
         r: usize,
         sealed: Sealed<'_>,
-    ) -> Result<Vec<u8>, PackFault>
+    ) -> Result<Option<Vec<u8>>, PackFault>
         requires permitted { P.permits sealed.plan.rendition sealed.plan.number }
         requires failures { O.output.failures self.old.course.outlet < 2 ^ 63 }
         requires allowed { IsAllowed settings.now }
@@ -120,7 +120,7 @@ impl<'r, S: Source, O: Outlet, P: Permit, R: Wait> PermittedBroadcast<'r, S, O, 
         requires shows { counts_shown self.old.held.publisher.list ≡ counts_of self.old.course.playlists.items }
         ensures ok { OnOk result (GivesNext O.output settings.now r sealed.entry.plan self.old self.new) }
         ensures err { OnErr result (GivesNextInPart O.output settings.now r sealed.entry.plan self.old self.new) }
-        ensures buffer { IfOk result (λ buffer. buffer.items ≡ sealed.entry.bytes) }
+        ensures buffer { IfOk result (λ buffer. IfSome buffer (λ it. it.items ≡ sealed.entry.bytes)) }
         ensures board { self.new.held.publisher.board ≡ self.old.held.publisher.board }
         ensures none_read { ReadsNone self.old.course self.new.course }
         ensures failures { OnOk result (O.output.failures self.new.course.outlet ≡ O.output.failures self.old.course.outlet) }

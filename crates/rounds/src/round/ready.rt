@@ -11,7 +11,7 @@ use ladder_items::{PackFault, Settings};
 use std::alloc::Global;
 use std::sync::Wait;
 use std::sync::ledger::Ledger;
-use work_desk::{Permit, Seen};
+use work_desk::{Permit, Seen, Shelf};
 
 impl<'d, 's, 'r, S: Source, O: Outlet, L: Ledger, M: Ledger, P: Permit, R: Wait> Round<
     'd,
@@ -72,7 +72,7 @@ impl<'d, 's, 'r, S: Source, O: Outlet, L: Ledger, M: Ledger, P: Permit, R: Wait>
         Ok(())
     }
 
-    /// Gives the next segment of rendition `r` if it has come sealed, and returns whether it had. Others are sealed in its buffer.
+    /// Gives the next segment of rendition `r` if it has come sealed, and returns whether it had. Others are sealed in its buffer, if it lay in one.
     fn give_next(&mut self, alloc: Global, settings: &Settings, r: usize) -> Result<bool, PackFault>
         requires somewhere { IsSomewhere S.input O.output settings.now self.old }
         ensures ok { OnOk result (Moves S.input O.output settings.now self.old self.new) }
@@ -94,7 +94,14 @@ impl<'d, 's, 'r, S: Source, O: Outlet, L: Ledger, M: Ledger, P: Permit, R: Wait>
             return Ok(false);
         };
         let buffer = self.broadcast.give_segment(alloc, settings, r, sealed)?;
-        self.desk.shelf().put(self.broadcast.rt(), buffer);
+        put_back(self.broadcast.rt(), self.desk.shelf(), buffer);
         Ok(true)
+    }
+}
+
+/// Puts the buffer that a segment lay in, if it lay in one, on the shelf.
+fn put_back<R: Wait>(rt: &R, shelf: &Shelf, buffer: Option<Vec<u8>>) {
+    if let Some(buffer) = buffer {
+        shelf.put(rt, buffer);
     }
 }

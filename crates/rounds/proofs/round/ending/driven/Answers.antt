@@ -15,13 +15,13 @@ pub returns-in_default-clause-err : goal.returns-in_default-clause-err
 returns-in_default-clause-err g c start on = stopped-here _ _ _ _ _ start _ _ _ _ refl on
 
 pub drive-answer-requires-clause-behind : goal.drive-answer-requires-clause-behind
-drive-answer-requires-clause-behind g c =
+drive-answer-requires-clause-behind g c κs within =
     ap (λ (x : Gathering). x.sequences) (IfOk-at_ok _ c.in-Ok.is c.collector_behind-collector.ensures.ok)
     ∙ (ap (λ l. sequences_from 0 (keys_of c.args.setup.now.settings.now) (counts_of l)) c.deref.ensures.value
     ∙ ap (λ (b : Broadcast _ _ _). sequences_from 0 (keys_of c.args.setup.now.settings.now) (counts_of b.course.playlists.items)) (sym c.over.ensures))
 
 pub drive-answer-requires-clause-on : goal.drive-answer-requires-clause-on
-drive-answer-requires-clause-on g c =
+drive-answer-requires-clause-on g c κs within =
     subst (λ (b : Broadcast _ _ _). IsSomeFull g.S.Source.input g.O.Outlet.output c.args.setup.now.settings.now c.args.spools.now b) (sym c.over.ensures) c.requires.on
 
 pub returns-in_default-clause-held : goal.returns-in_default-clause-held

@@ -14,7 +14,7 @@ use Rattle.rounds.proofs.round.machine.Round.drive.Goals as goal
 pub feed_all-requires : goal.feed_all-requires
 feed_all-requires g c =
     let some = c.requires.on in
-    record { only = c.requires.only; planned = c.requires.planned; somewhere = (some.0, in-first _ _ _ _ _ some.0 c.args.spools.now _ _ _ c.requires.each c.requires.behind some.1) }
+    (c.type_bounds.send-G-File, (c.requires.only, (c.requires.planned, (some.0, in-first _ _ _ _ _ some.0 c.args.spools.now _ _ _ c.requires.each c.requires.behind some.1))))
 
 pub returns-in_err-feed_all-clause-err : goal.returns-in_err-feed_all-clause-err
 returns-in_err-feed_all-clause-err g c =
@@ -22,7 +22,7 @@ returns-in_err-feed_all-clause-err g c =
     rw (told.1, told.2) (λ start on. c.in_err-feed_all.ensures.err start (in-first _ _ _ _ _ start c.args.spools.now _ _ _ c.requires.each c.requires.behind on))
 
 pub read_on-requires-clause-somewhere : goal.read_on-requires-clause-somewhere
-read_on-requires-clause-somewhere g c =
+read_on-requires-clause-somewhere g c κs within =
     let some = c.requires.on in
     let fed = c.in_ok-feed_all.ensures.ok some.0 (in-first _ _ _ _ _ some.0 c.args.spools.now _ _ _ c.requires.each c.requires.behind some.1) in
     (some.0, fed.0, fed.1)
@@ -38,7 +38,7 @@ pub give_expected-requires : goal.give_expected-requires
 give_expected-requires g c =
     let some = c.requires.on in
     let fed = c.in_ok-feed_all.ensures.ok some.0 (in-first _ _ _ _ _ some.0 c.args.spools.now _ _ _ c.requires.each c.requires.behind some.1) in
-    record { only = c.requires.only; somewhere = (some.0, fed.0, c.in_ok-read_on.ensures.ok some.0 fed.0 fed.1) }
+    (c.type_bounds.send-G-File, (c.requires.only, (some.0, fed.0, c.in_ok-read_on.ensures.ok some.0 fed.0 fed.1)))
 
 pub returns-in_err-give_expected-clause-err : goal.returns-in_err-give_expected-clause-err
 returns-in_err-give_expected-clause-err g c =

@@ -9,13 +9,13 @@ use Rattle.rounds.proofs.Expecting.{fed-before, unfed-behind, all-fed}
 use Rattle.rounds.proofs.round.machine.Round.feed_all.Goals as goal
 
 pub feed_spool-requires-clause-somewhere : goal.feed_spool-requires-clause-somewhere
-feed_spool-requires-clause-somewhere g c =
+feed_spool-requires-clause-somewhere g c κs within =
     let some = c.requires.somewhere in
     let now = c.loop-r.invariant.ok some.0 some.1 in
     (some.0, now.0, now.1, now.3 c.loop-r.r (omega arith) ∙ (get_or_default c.args.spools.now c.loop-r.r [] c.index-spools-r.result (search rules) ∙ sym c.index-spools-r.is))
 
 pub feed_spool-requires-clause-planned : goal.feed_spool-requires-clause-planned
-feed_spool-requires-clause-planned g c =
+feed_spool-requires-clause-planned g c κs within =
     subst (AreAllPlanned g.P.Permit.plans) (get_or_default c.args.spools.now c.loop-r.r [] c.index-spools-r.result (search rules) ∙ sym c.index-spools-r.is) (c.requires.planned c.loop-r.r)
 
 pub returns-in_err-feed_spool-clause-err : goal.returns-in_err-feed_spool-clause-err

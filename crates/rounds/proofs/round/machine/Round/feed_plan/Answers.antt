@@ -1,3 +1,4 @@
+use mir.Syntax.{of_param}
 use Rattle.std.proofs.Common.{◌≡◌, ◌∙◌, refl, ap, sym, subst, arith}
 use Rattle.std.proofs.lemmas.Result.{err_from_is_err_and}
 use Rattle.cutter.specs.Lent.{lent}
@@ -13,7 +14,7 @@ use Rattle.rounds.proofs.Expecting.{plan-follows, in-expect, expects-gathered}
 use Rattle.rounds.proofs.round.machine.Round.feed_plan.Goals as goal
 
 pub make_room-requires : goal.make_room-requires
-make_room-requires g c = let some = c.requires.somewhere in record { only = c.requires.only; somewhere = (some.0, some.1, some.3) }
+make_room-requires g c = let some = c.requires.somewhere in (c.type_bounds.send-G-File, (c.requires.only, (some.0, some.1, some.3)))
 
 pub returns-in_err-make_room-clause-err : goal.returns-in_err-make_room-clause-err
 returns-in_err-make_room-clause-err g c =
@@ -57,7 +58,7 @@ offer-requires g c =
     let p = plan-follows _ _ _ _ _ some.0 some.1 _ _ _ now c.args.r c.requires.within (lent c.args.plan) some.2 some.4 order in
     let made = subst (λ k. c.expect.new.collector ≡ with_sequence c.make_room.new.self.collector k (with_plan (sequence_at c.make_room.new.self.collector k) (lent c.args.plan))) p.rendition c.in_ok-expect.ensures.ok in
     let there = in-expect _ _ _ _ _ some.0 some.1 _ _ _ now c.args.r c.requires.within (lent c.args.plan) some.2 some.4 _ made in
-    record { only = c.requires.only; planned = c.requires.planned; keys = record { each = there.each; keys = there.keys } }
+    (record { owned = λ x. c.type_bounds.send-G-File.owned x; leaving = λ k. c.type_bounds.send-G-File.leaving (λ t. k (of_param 5)) }, (c.requires.only, (c.requires.planned, record { each = there.each; keys = there.keys })))
 
 pub returns-in_err-fed-clause-err : goal.returns-in_err-fed-clause-err
 returns-in_err-fed-clause-err g c =

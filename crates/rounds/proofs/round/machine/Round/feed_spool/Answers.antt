@@ -10,7 +10,7 @@ use Rattle.rounds.proofs.Expecting.{next-unfed}
 use Rattle.rounds.proofs.round.machine.Round.feed_spool.Goals as goal
 
 pub feed_plan-requires-clause-somewhere : goal.feed_plan-requires-clause-somewhere
-feed_plan-requires-clause-somewhere g c =
+feed_plan-requires-clause-somewhere g c κs within =
     let some = c.requires.somewhere in
     let r = c.args.r in
     let i = c.loop-i.i in

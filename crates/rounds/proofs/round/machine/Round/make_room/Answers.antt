@@ -8,7 +8,7 @@ use Rattle.rounds.proofs.Running.{reads-then}
 use Rattle.rounds.proofs.round.machine.Round.make_room.Goals as goal
 
 pub wait_and_give-requires : goal.wait_and_give-requires
-wait_and_give-requires g c = let some = c.requires.somewhere in record { only = c.requires.only; somewhere = (some.0, some.1, c.loop.invariant.ok some.0 some.1 some.2) }
+wait_and_give-requires g c = let some = c.requires.somewhere in (c.type_bounds.send-G-File, (c.requires.only, (some.0, some.1, c.loop.invariant.ok some.0 some.1 some.2)))
 
 pub returns-in_err-wait_and_give-clause-err : goal.returns-in_err-wait_and_give-clause-err
 returns-in_err-wait_and_give-clause-err g c =

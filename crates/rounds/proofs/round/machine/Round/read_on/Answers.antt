@@ -48,16 +48,11 @@ pub take_and_give-requires : goal.take_and_give-requires
 take_and_give-requires g c =
     let some = c.requires.somewhere in
     let same = ap (λ (d : Course _ _). d.playlists) c.in_ok-read_ready.ensures.same in
-    record {
-      somewhere = (
-        some.0,
-        some.1,
-        in-shown _ _ _ some.0 some.1 _ _ _ _ c.in_ok-read_ready.ensures.held
-            (in-read _ _ _ _ _ some.0 some.1 _ _ _ _ (λ waiting on. c.in_ok-read_ready.ensures.ok c.args.settings.now some.0 c.loop.self.broadcast.held.publisher waiting on) same
-            (c.loop.invariant.ok some.0 some.1 some.2)),
-      );
-      only = c.requires.only;
-    }
+    let shown =
+    in-shown _ _ _ some.0 some.1 _ _ _ _ c.in_ok-read_ready.ensures.held
+    (in-read _ _ _ _ _ some.0 some.1 _ _ _ _ (λ waiting on. c.in_ok-read_ready.ensures.ok c.args.settings.now some.0 c.loop.self.broadcast.held.publisher waiting on) same
+    (c.loop.invariant.ok some.0 some.1 some.2)) in
+    (c.type_bounds.send-G-File, (c.requires.only, (some.0, some.1, shown)))
 
 pub returns-in_err-take_and_give-clause-err : goal.returns-in_err-take_and_give-clause-err
 returns-in_err-take_and_give-clause-err g c =

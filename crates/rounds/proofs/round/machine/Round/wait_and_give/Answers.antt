@@ -1,3 +1,4 @@
+use mir.Syntax.{of_param}
 use Rattle.std.proofs.Common.{inl, arith}
 use Rattle.std.proofs.lemmas.Result.{err_from_is_err_and}
 use Rattle.rounds.proofs.Collecting.{got-on, keeps-awaited}
@@ -6,7 +7,9 @@ use Rattle.rounds.proofs.Rounding.{in-keeps, in-stopped}
 use Rattle.rounds.proofs.round.machine.Round.wait_and_give.Goals as goal
 
 pub wait_or_seal-requires : goal.wait_or_seal-requires
-wait_or_seal-requires g c = let some = c.requires.somewhere in record { only = c.requires.only; keys = record { each = some.2.each; keys = some.2.keys } }
+wait_or_seal-requires g c =
+    let some = c.requires.somewhere in
+    (record { owned = λ x. c.type_bounds.send-G-File.owned x; leaving = λ k. c.type_bounds.send-G-File.leaving (λ t. k (of_param 5)) }, (c.requires.only, record { each = some.2.each; keys = some.2.keys }))
 
 pub returns-in_err-wait_or_seal-clause-err : goal.returns-in_err-wait_or_seal-clause-err
 returns-in_err-wait_or_seal-clause-err g c =
@@ -15,7 +18,7 @@ returns-in_err-wait_or_seal-clause-err g c =
     (awaited-sudden (g.G.Gate.lets c.args.sealer.now.gate.now) (g.G.Gate.stops c.args.sealer.now.gate.now) c.wait_or_seal.new.collector _ (g.O.Outlet.output.failures c.args.self.now.broadcast.course.outlet) c.in_err-wait_or_seal.ensures.fault) now)
 
 pub take_and_give-requires : goal.take_and_give-requires
-take_and_give-requires g c = let some = c.requires.somewhere in record { only = c.requires.only; somewhere = (some.0, some.1, in-keeps _ _ _ _ _ some.0 some.1 _ _ _ _ c.in_ok-wait_or_seal.ensures.keeps some.2) }
+take_and_give-requires g c = let some = c.requires.somewhere in (c.type_bounds.send-G-File, (c.requires.only, (some.0, some.1, in-keeps _ _ _ _ _ some.0 some.1 _ _ _ _ c.in_ok-wait_or_seal.ensures.keeps some.2)))
 
 pub returns-in_err-take_and_give-clause-err : goal.returns-in_err-take_and_give-clause-err
 returns-in_err-take_and_give-clause-err g c =
