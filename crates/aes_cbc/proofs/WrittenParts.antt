@@ -1,6 +1,6 @@
 -- A text that is written in parts.
-use Rattle.std.proofs.Common.{◌≡◌, ℕ, ◌%◌, true, List, [], ◌++◌, length, sym, subst}
-use Rattle.std.specs.Prelude.{Option, Result, Ok, Err, OnOk, is_ok}
+use Rattle.std.proofs.Common.{◌≡◌, ℕ, ◌%◌, true, List, [], ◌++◌, length, sym, ap, ◌∙◌, subst}
+use Rattle.std.specs.Prelude.{Option, Result, Ok, Err, IsOk, OnOk, is_ok}
 use Rattle.std.specs.List.{concat}
 use Rattle.std.specs.Io.KnownBytes.{Appends}
 use Rattle.std.proofs.KnownBytes.{Appends-trans}
@@ -42,3 +42,11 @@ OnOk-fact (Err e) p = tt
 pub OnOk-map : {T E P Q : Type 0} (r : Result T E) → (P → Q) → OnOk r P → OnOk r Q
 OnOk-map (Ok x) f p = f p
 OnOk-map (Err e) f p = tt
+
+-- the rest of a text is written behind its head
+pub written_behind : {T S E F : Type 0} (front : Result T E) (back : Result S F) (a b c : Option (List ℕ)) (head part rest whole : List ℕ) → head ≡ part
+    → part ++ rest ≡ whole → OnOk front (Appends a b head) → OnOk back (IsOk front) → OnOk back (Appends b c rest) → OnOk back (Appends a c whole)
+written_behind front (Err e) a b c head part rest whole same parts wrote went goes = tt
+written_behind (Err e) (Ok y) a b c head part rest whole same parts wrote went goes = absurd (false≢true went)
+written_behind (Ok x) (Ok y) a b c head part rest whole same parts wrote went goes =
+    subst (Appends a c) (ap (λ h. h ++ rest) same ∙ parts) (Appends-trans a b c head rest wrote goes)

@@ -266,6 +266,64 @@ fn append_four_encrypted(
     ]
 }
 
+/// Appends as many whole pieces to each of four texts, encrypted one by one as chains from the vectors on. The last blocks of the
+/// chains come back.
+pub(crate) fn append_four_pieces(
+    keys: (&Key, &Key, &Key, &Key),
+    vectors: &[[u8; 16]; 4],
+    first: &mut Vec<u8>,
+    second: &mut Vec<u8>,
+    third: &mut Vec<u8>,
+    fourth: &mut Vec<u8>,
+    pieces: (&[u8], &[u8], &[u8], &[u8]),
+) -> [[u8; 16]; 4]
+    requires whole { length pieces.0.now % PIECE ≡ 0 }
+    requires second_same { length pieces.1.now ≡ length pieces.0.now }
+    requires third_same { length pieces.2.now ≡ length pieces.0.now }
+    requires fourth_same { length pieces.3.now ≡ length pieces.0.now }
+    requires first_room { vec_len first.old + length pieces.0.now ≤ vec_capacity first.old }
+    requires second_room { vec_len second.old + length pieces.1.now ≤ vec_capacity second.old }
+    requires third_room { vec_len third.old + length pieces.2.now ≤ vec_capacity third.old }
+    requires fourth_room { vec_len fourth.old + length pieces.3.now ≤ vec_capacity fourth.old }
+    ensures first_items { first.new.items ≡ first.old.items
+        ++ concat (cbc keys.entry.0.now (slice_index_or vectors.now 0 []) (blocks pieces.entry.0.now)) }
+    ensures second_items { second.new.items ≡ second.old.items
+        ++ concat (cbc keys.entry.1.now (slice_index_or vectors.now 1 []) (blocks pieces.entry.1.now)) }
+    ensures third_items { third.new.items ≡ third.old.items
+        ++ concat (cbc keys.entry.2.now (slice_index_or vectors.now 2 []) (blocks pieces.entry.2.now)) }
+    ensures fourth_items { fourth.new.items ≡ fourth.old.items
+        ++ concat (cbc keys.entry.3.now (slice_index_or vectors.now 3 []) (blocks pieces.entry.3.now)) }
+    ensures first_last { slice_index_or result 0 [] ≡ last_block (slice_index_or vectors.now 0 [])
+        (cbc keys.entry.0.now (slice_index_or vectors.now 0 []) (blocks pieces.entry.0.now)) }
+    ensures second_last { slice_index_or result 1 [] ≡ last_block (slice_index_or vectors.now 1 [])
+        (cbc keys.entry.1.now (slice_index_or vectors.now 1 []) (blocks pieces.entry.1.now)) }
+    ensures third_last { slice_index_or result 2 [] ≡ last_block (slice_index_or vectors.now 2 [])
+        (cbc keys.entry.2.now (slice_index_or vectors.now 2 []) (blocks pieces.entry.2.now)) }
+    ensures fourth_last { slice_index_or result 3 [] ≡ last_block (slice_index_or vectors.now 3 [])
+        (cbc keys.entry.3.now (slice_index_or vectors.now 3 []) (blocks pieces.entry.3.now)) }
+    ensures first_len { vec_len first.new ≡ vec_len first.old + length pieces.entry.0.now }
+    ensures second_len { vec_len second.new ≡ vec_len second.old + length pieces.entry.1.now }
+    ensures third_len { vec_len third.new ≡ vec_len third.old + length pieces.entry.2.now }
+    ensures fourth_len { vec_len fourth.new ≡ vec_len fourth.old + length pieces.entry.3.now }
+    ensures first_capacity { vec_capacity first.old ≤ vec_capacity first.new }
+    ensures second_capacity { vec_capacity second.old ≤ vec_capacity second.new }
+    ensures third_capacity { vec_capacity third.old ≤ vec_capacity third.new }
+    ensures fourth_capacity { vec_capacity fourth.old ≤ vec_capacity fourth.new }
+{
+    let mut lasts = *vectors;
+    let mut rests = pieces;
+    'piece: while rests.0.len() >= PIECE {
+        let (first_piece, first_rest) = rests.0.split_at(PIECE);
+        let (second_piece, second_rest) = rests.1.split_at(PIECE);
+        let (third_piece, third_rest) = rests.2.split_at(PIECE);
+        let (fourth_piece, fourth_rest) = rests.3.split_at(PIECE);
+        let pieces = (first_piece, second_piece, third_piece, fourth_piece);
+        lasts = append_four_encrypted(keys, &lasts, first, second, third, fourth, pieces);
+        rests = (first_rest, second_rest, third_rest, fourth_rest);
+    }
+    lasts
+}
+
 /// Seals the rests that are to come behind four texts of whole blocks, which are encrypted: piece by piece side
 /// by side as long as all have some, and then two and two. The chains go on from the vectors.
 fn seal_four_rests(
@@ -302,34 +360,29 @@ fn seal_four_rests(
     ensures third_capacity { vec_capacity third.old ≤ vec_capacity third.new }
     ensures fourth_capacity { vec_capacity fourth.old ≤ vec_capacity fourth.new }
 {
-    let mut lasts = *vectors;
-    let mut rests = rests;
-    'piece: while rests.0.len() >= PIECE
-        && rests.1.len() >= PIECE
-        && rests.2.len() >= PIECE
-        && rests.3.len() >= PIECE
-    {
-        let (first_piece, first_rest) = rests.0.split_at(PIECE);
-        let (second_piece, second_rest) = rests.1.split_at(PIECE);
-        let (third_piece, third_rest) = rests.2.split_at(PIECE);
-        let (fourth_piece, fourth_rest) = rests.3.split_at(PIECE);
-        let pieces = (first_piece, second_piece, third_piece, fourth_piece);
-        lasts = append_four_encrypted(keys, &lasts, first, second, third, fourth, pieces);
-        rests = (first_rest, second_rest, third_rest, fourth_rest);
-    }
+    let front = rests.0.len().min(rests.1.len());
+    let back = rests.2.len().min(rests.3.len());
+    let common = front.min(back);
+    let whole = common - common % PIECE;
+    let (first_pieces, first_rest) = rests.0.split_at(whole);
+    let (second_pieces, second_rest) = rests.1.split_at(whole);
+    let (third_pieces, third_rest) = rests.2.split_at(whole);
+    let (fourth_pieces, fourth_rest) = rests.3.split_at(whole);
+    let pieces = (first_pieces, second_pieces, third_pieces, fourth_pieces);
+    let lasts = append_four_pieces(keys, vectors, first, second, third, fourth, pieces);
     seal_two_rests(
         (keys.0, keys.1),
         &[lasts[0], lasts[1]],
         first,
         second,
-        (rests.0, rests.1),
+        (first_rest, second_rest),
     );
     seal_two_rests(
         (keys.2, keys.3),
         &[lasts[2], lasts[3]],
         third,
         fourth,
-        (rests.2, rests.3),
+        (third_rest, fourth_rest),
     );
 }
 

@@ -20,7 +20,7 @@ use std::io::Write;
 type Answers = (Result<(), SealFault>, Result<(), SealFault>);
 
 /// Makes room for a chunk behind each of two texts.
-fn make_both_room(first: &mut Vec<u8>, second: &mut Vec<u8>) -> Result<(), AllocError>
+pub(crate) fn make_both_room(first: &mut Vec<u8>, second: &mut Vec<u8>) -> Result<(), AllocError>
     ensures first_items { first.new.items ≡ first.old.items }
     ensures second_items { second.new.items ≡ second.old.items }
     ensures first_ok { OnOk result (vec_len first.new + CHUNK ≤ vec_capacity first.new) }
@@ -84,7 +84,7 @@ fn go_on<W: Write>(
 
 /// Seals the rests of two texts, of which whole blocks are written as `before` tells, chunk by chunk side by side as long as both have
 /// some and no writer has failed. The chains go on from the vectors.
-fn write_two_rests<W: Write>(
+pub(crate) fn write_two_rests<W: Write>(
     before: Answers,
     keys: (&Key, &Key),
     vectors: &[[u8; 16]; 2],
@@ -131,7 +131,7 @@ fn write_two_rests<W: Write>(
 }
 
 /// Seals two texts, behind which there is room for a chunk, with more behind each into its writer.
-fn write_two_texts<W: Write>(
+pub(crate) fn write_two_texts<W: Write>(
     keys: (&Key, &Key),
     vectors: &[[u8; 16]; 2],
     first: &mut Vec<u8>,

@@ -3,9 +3,9 @@
 //! A [`Key`] encrypts and decrypts single blocks of 16 bytes (FIPS 197). [`seal`] pads a text (RFC 5652, 6.3) and
 //! encrypts it as a chain of blocks from a vector on (SP 800-38A, 6.2), [`seal_in_place`] does so where the text lies,
 //! [`seal_two_in_place`] and [`seal_four_in_place`] do so to several texts at once, and [`open`] gives the text back.
-//! [`seal_behind`], [`seal_two_behind`] and [`seal_four_behind`] append the rest of a text while they seal it. [`seal_into`] and
-//! [`seal_two_into`] write what they seal, a chunk at a time, so that no sealed text is held. The ciphers look nothing up at a place
-//! that a byte of a key or a text tells: tables of 16 bytes are shuffled as a whole.
+//! [`seal_behind`], [`seal_two_behind`] and [`seal_four_behind`] append the rest of a text while they seal it. [`seal_into`],
+//! [`seal_two_into`] and [`seal_four_into`] write what they seal, a chunk at a time, so that no sealed text is held. The ciphers look
+//! nothing up at a place that a byte of a key or a text tells: tables of 16 bytes are shuffled as a whole.
 //! The functions of [`laws`] do nothing: their contracts are theorems about the definitions in `specs/`.
 #![tactic(auto)]
 
@@ -16,6 +16,7 @@ mod cbc;
 mod chains;
 mod fault;
 mod into;
+mod into_four;
 mod into_side_by_side;
 mod inverse_round;
 mod inverse_sbox;
@@ -43,6 +44,7 @@ pub use blocks::{block_before, xor_blocks};
 pub use cbc::{seal, seal_in_place};
 pub use fault::{OpenFault, SealFault};
 pub use into::{CHUNK, seal_into};
+pub use into_four::seal_four_into;
 pub use into_side_by_side::seal_two_into;
 pub use key::Key;
 pub use opening::open;

@@ -8,10 +8,10 @@ use std::io;
 use std::io::{ErrorKind, Write};
 
 /// How many bytes of a text lie there, and how many come behind them.
-type Parts = (usize, usize);
+pub(crate) type Parts = (usize, usize);
 
 /// What was answered, how many bytes a writer has, and whether they are the text sealed, or its beginning.
-type Told = (Result<(), SealFault>, usize, bool);
+pub(crate) type Told = (Result<(), SealFault>, usize, bool);
 
 /// Texts at each side of the borders of chunks: as a whole, and behind their first block.
 const PARTS: [Parts; 13] = [
@@ -40,15 +40,15 @@ const TWO_PARTS: [[Parts; 2]; 4] = [
 
 /// A writer that takes so many bytes and then fails.
 #[derive(Drop)]
-struct Narrow {
-    taken: Vec<u8>,
+pub(crate) struct Narrow {
+    pub(crate) taken: Vec<u8>,
     room: usize,
     /// How many bytes the longest write was asked to take.
     longest: usize,
 }
 
 impl Narrow {
-    fn new(alloc: Global, room: usize) -> Narrow {
+    pub(crate) fn new(alloc: Global, room: usize) -> Narrow {
         Narrow {
             taken: Vec::new(alloc),
             room,
@@ -76,7 +76,11 @@ impl Write for Narrow {
 }
 
 /// The bytes that lie there, with the whole text.
-fn cut(alloc: Global, parts: Parts, number: u8) -> Result<(Vec<u8>, Vec<u8>), AllocError> {
+pub(crate) fn cut(
+    alloc: Global,
+    parts: Parts,
+    number: u8,
+) -> Result<(Vec<u8>, Vec<u8>), AllocError> {
     let whole = text(alloc, parts.0.saturating_add(parts.1), number)?;
     let mut front = Vec::new(alloc);
     front.extend_from_slice(whole.get(..parts.0).unwrap_or(&[]))?;
@@ -84,12 +88,12 @@ fn cut(alloc: Global, parts: Parts, number: u8) -> Result<(Vec<u8>, Vec<u8>), Al
 }
 
 /// What is behind so many bytes.
-fn behind(whole: &[u8], front: usize) -> &[u8] {
+pub(crate) fn behind(whole: &[u8], front: usize) -> &[u8] {
     whole.get(front..).unwrap_or(&[])
 }
 
 /// What was answered of a text and the bytes that were written: all of it, where it went well.
-fn told(
+pub(crate) fn told(
     alloc: Global,
     answer: Result<(), SealFault>,
     taken: &[u8],
@@ -151,7 +155,7 @@ fn into_two(
 }
 
 /// How long a text of these parts is once it is sealed.
-fn sealed_len(parts: Parts) -> usize {
+pub(crate) fn sealed_len(parts: Parts) -> usize {
     let blocks = parts.0.saturating_add(parts.1) / 16;
     blocks.saturating_add(1).saturating_mul(16)
 }

@@ -14,6 +14,8 @@ mod fixtures;
 #[cfg(test)]
 mod flow;
 #[cfg(test)]
+mod into_four_tests;
+#[cfg(test)]
 mod into_tests;
 #[cfg(test)]
 mod model;

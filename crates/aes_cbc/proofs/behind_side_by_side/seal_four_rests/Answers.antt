@@ -2,41 +2,34 @@ use Rattle.std.proofs.Common.{◌≡◌, ◌%◌, [], length, slice_index_or, �
 use Rattle.aes_cbc.proofs.SealedParts.{piece_sealed}
 use Rattle.aes_cbc.proofs.behind_side_by_side.seal_four_rests.Goals as goal
 
-pub piece-preserved : goal.piece-preserved
-piece-preserved c =
-    let inv = c.piece.invariant in
-    let next = c.append_four_encrypted-lasts in
-    let first_whole : length c.split_at.result.0.now % 16 ≡ 0 = search rules in
-    let second_whole : length c.split_at-in-piece.result.0.now % 16 ≡ 0 = search rules in
-    let third_whole : length c.split_at-in-piece-2.result.0.now % 16 ≡ 0 = search rules in
-    let fourth_whole : length c.split_at-in-piece-3.result.0.now % 16 ≡ 0 = search rules in
-    record {
-      first_items =
-          piece_sealed c.args.keys.0.now (slice_index_or c.piece.lasts 0 []) c.piece.first.items c.split_at.result.0.now c.split_at.result.1.now c.piece.rests.0.now
-          next.new.first.items (slice_index_or next.result 0 []) first_whole c.split_at.ensures.by_index.0 next.ensures.first_items next.ensures.first_last
-          ∙ inv.first_items;
-      first_whole = search rules;
-      first_len = search rules;
-      first_room = search rules;
-      second_items =
-          piece_sealed c.args.keys.1.now (slice_index_or c.piece.lasts 1 []) c.piece.second.items c.split_at-in-piece.result.0.now c.split_at-in-piece.result.1.now c.piece.rests.1.now
-          next.new.second.items (slice_index_or next.result 1 []) second_whole c.split_at-in-piece.ensures.by_index.0 next.ensures.second_items next.ensures.second_last
-          ∙ inv.second_items;
-      second_whole = search rules;
-      second_len = search rules;
-      second_room = search rules;
-      third_items =
-          piece_sealed c.args.keys.2.now (slice_index_or c.piece.lasts 2 []) c.piece.third.items c.split_at-in-piece-2.result.0.now c.split_at-in-piece-2.result.1.now c.piece.rests.2.now
-          next.new.third.items (slice_index_or next.result 2 []) third_whole c.split_at-in-piece-2.ensures.by_index.0 next.ensures.third_items next.ensures.third_last
-          ∙ inv.third_items;
-      third_whole = search rules;
-      third_len = search rules;
-      third_room = search rules;
-      fourth_items =
-          piece_sealed c.args.keys.3.now (slice_index_or c.piece.lasts 3 []) c.piece.fourth.items c.split_at-in-piece-3.result.0.now c.split_at-in-piece-3.result.1.now c.piece.rests.3.now
-          next.new.fourth.items (slice_index_or next.result 3 []) fourth_whole c.split_at-in-piece-3.ensures.by_index.0 next.ensures.fourth_items next.ensures.fourth_last
-          ∙ inv.fourth_items;
-      fourth_whole = search rules;
-      fourth_len = search rules;
-      fourth_room = search rules;
-    }
+pub returns-clause-first_items : goal.returns-clause-first_items
+returns-clause-first_items c =
+    let next = c.append_four_pieces-lasts in
+    let whole : length c.split_at.result.0.now % 16 ≡ 0 = search rules in
+    c.seal_two_rests.ensures.first_items
+    ∙ piece_sealed c.args.keys.0.now (slice_index_or c.args.vectors.now 0 []) c.args.first.now.items c.split_at.result.0.now c.split_at.result.1.now c.args.rests.0.now
+    next.new.first.items (slice_index_or next.result 0 []) whole c.split_at.ensures.by_index.0 next.ensures.first_items next.ensures.first_last
+
+pub returns-clause-second_items : goal.returns-clause-second_items
+returns-clause-second_items c =
+    let next = c.append_four_pieces-lasts in
+    let whole : length c.split_at-2.result.0.now % 16 ≡ 0 = search rules in
+    c.seal_two_rests.ensures.second_items
+    ∙ piece_sealed c.args.keys.1.now (slice_index_or c.args.vectors.now 1 []) c.args.second.now.items c.split_at-2.result.0.now c.split_at-2.result.1.now c.args.rests.1.now
+    next.new.second.items (slice_index_or next.result 1 []) whole c.split_at-2.ensures.by_index.0 next.ensures.second_items next.ensures.second_last
+
+pub returns-clause-third_items : goal.returns-clause-third_items
+returns-clause-third_items c =
+    let next = c.append_four_pieces-lasts in
+    let whole : length c.split_at-3.result.0.now % 16 ≡ 0 = search rules in
+    c.seal_two_rests-2.ensures.first_items
+    ∙ piece_sealed c.args.keys.2.now (slice_index_or c.args.vectors.now 2 []) c.args.third.now.items c.split_at-3.result.0.now c.split_at-3.result.1.now c.args.rests.2.now
+    next.new.third.items (slice_index_or next.result 2 []) whole c.split_at-3.ensures.by_index.0 next.ensures.third_items next.ensures.third_last
+
+pub returns-clause-fourth_items : goal.returns-clause-fourth_items
+returns-clause-fourth_items c =
+    let next = c.append_four_pieces-lasts in
+    let whole : length c.split_at-4.result.0.now % 16 ≡ 0 = search rules in
+    c.seal_two_rests-2.ensures.second_items
+    ∙ piece_sealed c.args.keys.3.now (slice_index_or c.args.vectors.now 3 []) c.args.fourth.now.items c.split_at-4.result.0.now c.split_at-4.result.1.now c.args.rests.3.now
+    next.new.fourth.items (slice_index_or next.result 3 []) whole c.split_at-4.ensures.by_index.0 next.ensures.fourth_items next.ensures.fourth_last
