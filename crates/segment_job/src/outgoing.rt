@@ -9,7 +9,7 @@ use crate::keys::Keys;
 use crate::plain::head_alone;
 use crate::sealed::Sealed;
 use crate::text::Text;
-use aes_cbc::{Key, SealFault, seal_into, seal_two_into};
+use aes_cbc::{Key, SealFault, seal_four_into, seal_into, seal_two_into};
 use cutter::PlanRef;
 use folder::WriteFile;
 use std::alloc::{AllocError, Global};
@@ -128,5 +128,78 @@ pub fn seal_two_outgoing<'s, F: WriteFile>(
     (
         finished(first_plan, first_text, first_file, one),
         finished(second_plan, second_text, second_file, two),
+    )
+}
+
+/// Seals four segments into their files side by side: what [`Outgoing::seal`] makes of each, in less time.
+pub fn seal_four_outgoing<'s, F: WriteFile>(
+    first: Outgoing<'s, F>,
+    second: Outgoing<'s, F>,
+    third: Outgoing<'s, F>,
+    fourth: Outgoing<'s, F>,
+) -> (
+    Option<Sealed<'s>>,
+    Option<Sealed<'s>>,
+    Option<Sealed<'s>>,
+    Option<Sealed<'s>>,
+)
+    ensures first { IfSome result.0 (λ sealed. sealed ≡ sealed_from first.entry) }
+    ensures second { IfSome result.1 (λ sealed. sealed ≡ sealed_from second.entry) }
+    ensures third { IfSome result.2 (λ sealed. sealed ≡ sealed_from third.entry) }
+    ensures fourth { IfSome result.3 (λ sealed. sealed ≡ sealed_from fourth.entry) }
+{
+    let Outgoing {
+        plan: first_plan,
+        text: mut first_text,
+        file: mut first_file,
+    } = first;
+    let Outgoing {
+        plan: second_plan,
+        text: mut second_text,
+        file: mut second_file,
+    } = second;
+    let Outgoing {
+        plan: third_plan,
+        text: mut third_text,
+        file: mut third_file,
+    } = third;
+    let Outgoing {
+        plan: fourth_plan,
+        text: mut fourth_text,
+        file: mut fourth_file,
+    } = fourth;
+    let (one, two, three, four) = seal_four_into(
+        (
+            &Key::new(first_text.key),
+            &Key::new(second_text.key),
+            &Key::new(third_text.key),
+            &Key::new(fourth_text.key),
+        ),
+        &[
+            first_text.vector,
+            second_text.vector,
+            third_text.vector,
+            fourth_text.vector,
+        ],
+        &mut first_text.bytes,
+        &mut second_text.bytes,
+        &mut third_text.bytes,
+        &mut fourth_text.bytes,
+        (
+            first_plan.body,
+            second_plan.body,
+            third_plan.body,
+            fourth_plan.body,
+        ),
+        &mut first_file,
+        &mut second_file,
+        &mut third_file,
+        &mut fourth_file,
+    );
+    (
+        finished(first_plan, first_text, first_file, one),
+        finished(second_plan, second_text, second_file, two),
+        finished(third_plan, third_text, third_file, three),
+        finished(fourth_plan, fourth_text, fourth_file, four),
     )
 }

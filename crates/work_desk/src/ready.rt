@@ -5,7 +5,9 @@ ghost use Rattle.segment_job.specs.Segments.{sealed_from};
 ghost use Rattle.work_desk.specs.Readiness.{segment_in};
 
 use folder::WriteFile;
-use segment_job::{Outgoing, Sealed, Unsealed, seal_four, seal_two, seal_two_outgoing};
+use segment_job::{
+    Outgoing, Sealed, Unsealed, seal_four, seal_four_outgoing, seal_two, seal_two_outgoing,
+};
 
 /// A segment that is ready to be sealed: in memory, or into a file.
 pub(crate) enum Ready<'s, F: WriteFile> {
@@ -43,8 +45,8 @@ pub(crate) fn seal_both<'s, F: WriteFile>(
     }
 }
 
-/// Seals four, side by side as far as that can be.
-pub(crate) fn seal_all<'s, F: WriteFile>(
+/// Seals four, side by side where all are sealed in memory, and else two and two.
+fn seal_in_memory_or_in_pairs<'s, F: WriteFile>(
     first: Ready<'s, F>,
     second: Ready<'s, F>,
     third: Ready<'s, F>,
@@ -75,5 +77,33 @@ pub(crate) fn seal_all<'s, F: WriteFile>(
             let (three, four) = seal_both(third, fourth);
             (one, two, three, four)
         }
+    }
+}
+
+/// Seals four, side by side where all are sealed in memory, or all into files, and else two and two.
+pub(crate) fn seal_all<'s, F: WriteFile>(
+    first: Ready<'s, F>,
+    second: Ready<'s, F>,
+    third: Ready<'s, F>,
+    fourth: Ready<'s, F>,
+) -> (
+    Option<Sealed<'s>>,
+    Option<Sealed<'s>>,
+    Option<Sealed<'s>>,
+    Option<Sealed<'s>>,
+)
+    ensures first { IfSome result.0 (λ sealed. sealed ≡ sealed_from (segment_in first.entry)) }
+    ensures second { IfSome result.1 (λ sealed. sealed ≡ sealed_from (segment_in second.entry)) }
+    ensures third { IfSome result.2 (λ sealed. sealed ≡ sealed_from (segment_in third.entry)) }
+    ensures fourth { IfSome result.3 (λ sealed. sealed ≡ sealed_from (segment_in fourth.entry)) }
+{
+    match (first, second, third, fourth) {
+        (
+            Ready::IntoFile(first),
+            Ready::IntoFile(second),
+            Ready::IntoFile(third),
+            Ready::IntoFile(fourth),
+        ) => seal_four_outgoing(first, second, third, fourth),
+        (first, second, third, fourth) => seal_in_memory_or_in_pairs(first, second, third, fourth),
     }
 }
