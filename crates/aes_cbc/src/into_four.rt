@@ -53,8 +53,9 @@ fn make_room_for_all(
     make_both_room(third, fourth)
 }
 
-/// Encrypts a chunk of each of four texts in its buffer, as chains from the vectors on. The last blocks of the chains come back.
-fn encrypt_four_chunks(
+/// Encrypts a chunk of each of four texts in its buffer, as chains from the vectors on, and writes it. The last blocks of the chains
+/// come back.
+fn write_four_chunks<W: Write>(
     keys: (&Key, &Key, &Key, &Key),
     vectors: &[[u8; 16]; 4],
     first: &mut Vec<u8>,
@@ -62,7 +63,11 @@ fn encrypt_four_chunks(
     third: &mut Vec<u8>,
     fourth: &mut Vec<u8>,
     chunks: (&[u8], &[u8], &[u8], &[u8]),
-) -> [[u8; 16]; 4]
+    first_out: &mut W,
+    second_out: &mut W,
+    third_out: &mut W,
+    fourth_out: &mut W,
+) -> ([[u8; 16]; 4], Answers)
     requires first_chunk { length chunks.0.now ≡ CHUNK }
     requires second_chunk { length chunks.1.now ≡ CHUNK }
     requires third_chunk { length chunks.2.now ≡ CHUNK }
@@ -71,22 +76,26 @@ fn encrypt_four_chunks(
     requires second_room { CHUNK ≤ vec_capacity second.old }
     requires third_room { CHUNK ≤ vec_capacity third.old }
     requires fourth_room { CHUNK ≤ vec_capacity fourth.old }
-    ensures first_items { first.new.items
-        ≡ concat (cbc keys.entry.0.now (slice_index_or vectors.now 0 []) (blocks chunks.entry.0.now)) }
-    ensures second_items { second.new.items
-        ≡ concat (cbc keys.entry.1.now (slice_index_or vectors.now 1 []) (blocks chunks.entry.1.now)) }
-    ensures third_items { third.new.items
-        ≡ concat (cbc keys.entry.2.now (slice_index_or vectors.now 2 []) (blocks chunks.entry.2.now)) }
-    ensures fourth_items { fourth.new.items
-        ≡ concat (cbc keys.entry.3.now (slice_index_or vectors.now 3 []) (blocks chunks.entry.3.now)) }
-    ensures first_last { slice_index_or result 0 [] ≡ last_block (slice_index_or vectors.now 0 [])
+    ensures first_written { OnOk result.1.0 (Appends (W.contents first_out.old) (W.contents first_out.new)
+        (concat (cbc keys.entry.0.now (slice_index_or vectors.now 0 []) (blocks chunks.entry.0.now)))) }
+    ensures second_written { OnOk result.1.1 (Appends (W.contents second_out.old) (W.contents second_out.new)
+        (concat (cbc keys.entry.1.now (slice_index_or vectors.now 1 []) (blocks chunks.entry.1.now)))) }
+    ensures third_written { OnOk result.1.2 (Appends (W.contents third_out.old) (W.contents third_out.new)
+        (concat (cbc keys.entry.2.now (slice_index_or vectors.now 2 []) (blocks chunks.entry.2.now)))) }
+    ensures fourth_written { OnOk result.1.3 (Appends (W.contents fourth_out.old) (W.contents fourth_out.new)
+        (concat (cbc keys.entry.3.now (slice_index_or vectors.now 3 []) (blocks chunks.entry.3.now)))) }
+    ensures first_last { slice_index_or result.0 0 [] ≡ last_block (slice_index_or vectors.now 0 [])
         (cbc keys.entry.0.now (slice_index_or vectors.now 0 []) (blocks chunks.entry.0.now)) }
-    ensures second_last { slice_index_or result 1 [] ≡ last_block (slice_index_or vectors.now 1 [])
+    ensures second_last { slice_index_or result.0 1 [] ≡ last_block (slice_index_or vectors.now 1 [])
         (cbc keys.entry.1.now (slice_index_or vectors.now 1 []) (blocks chunks.entry.1.now)) }
-    ensures third_last { slice_index_or result 2 [] ≡ last_block (slice_index_or vectors.now 2 [])
+    ensures third_last { slice_index_or result.0 2 [] ≡ last_block (slice_index_or vectors.now 2 [])
         (cbc keys.entry.2.now (slice_index_or vectors.now 2 []) (blocks chunks.entry.2.now)) }
-    ensures fourth_last { slice_index_or result 3 [] ≡ last_block (slice_index_or vectors.now 3 [])
+    ensures fourth_last { slice_index_or result.0 3 [] ≡ last_block (slice_index_or vectors.now 3 [])
         (cbc keys.entry.3.now (slice_index_or vectors.now 3 []) (blocks chunks.entry.3.now)) }
+    ensures first_fault { IfErr result.1.0 (λ fault. fault ≡ Unwritten) }
+    ensures second_fault { IfErr result.1.1 (λ fault. fault ≡ Unwritten) }
+    ensures third_fault { IfErr result.1.2 (λ fault. fault ≡ Unwritten) }
+    ensures fourth_fault { IfErr result.1.3 (λ fault. fault ≡ Unwritten) }
     ensures first_capacity { vec_capacity first.old ≤ vec_capacity first.new }
     ensures second_capacity { vec_capacity second.old ≤ vec_capacity second.new }
     ensures third_capacity { vec_capacity third.old ≤ vec_capacity third.new }
@@ -96,7 +105,14 @@ fn encrypt_four_chunks(
     second.clear();
     third.clear();
     fourth.clear();
-    append_four_pieces(keys, vectors, first, second, third, fourth, chunks)
+    let lasts = append_four_pieces(keys, vectors, first, second, third, fourth, chunks);
+    let wrote = (
+        write_out(first_out, first),
+        write_out(second_out, second),
+        write_out(third_out, third),
+        write_out(fourth_out, fourth),
+    );
+    (lasts, wrote)
 }
 
 /// Seals the rests of four texts, of which whole blocks are written as `before` tells, chunk by chunk side by side as long as all have
@@ -161,12 +177,9 @@ fn write_four_rests<W: Write>(
         let (third_chunk, third_rest) = rests.2.split_at(CHUNK);
         let (fourth_chunk, fourth_rest) = rests.3.split_at(CHUNK);
         let chunks = (first_chunk, second_chunk, third_chunk, fourth_chunk);
-        lasts = encrypt_four_chunks(keys, &lasts, first, second, third, fourth, chunks);
-        wrote = (
-            write_out(first_out, first),
-            write_out(second_out, second),
-            write_out(third_out, third),
-            write_out(fourth_out, fourth),
+        (lasts, wrote) = write_four_chunks(
+            keys, &lasts, first, second, third, fourth, chunks, first_out, second_out, third_out,
+            fourth_out,
         );
         rests = (first_rest, second_rest, third_rest, fourth_rest);
     }

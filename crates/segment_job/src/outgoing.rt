@@ -2,7 +2,7 @@
 
 ghost use Rattle.std.specs.Prelude.{◌≡◌, [], IfOk, IfSome, OnOk, Some};
 ghost use Rattle.cutter.specs.Lent.{lent};
-ghost use Rattle.segment_job.specs.IntoFiles.{made_of};
+ghost use Rattle.segment_job.specs.IntoFiles.{IsOutgoing, made_of};
 ghost use Rattle.segment_job.specs.Segments.{IsSealed, sealed_from, unsealed_segment};
 
 use crate::keys::Keys;
@@ -64,15 +64,20 @@ impl<'s, F: WriteFile> Outgoing<'s, F> {
         }
     }
 
+    /// Its plan, its text, which is the head as yet, and its file.
+    fn into_parts(self) -> (PlanRef<'s>, Text, F)
+        ensures made { made_of (lent result.0) result.1 ≡ self.entry }
+        ensures begun { IsOutgoing (made_of (lent result.0) result.1) result.1.bytes.items (F.contents result.2) }
+    {
+        let Outgoing { plan, text, file } = self;
+        (plan, text, file)
+    }
+
     /// Seals it into its file. None where that can't be written whole: then it's gone.
     pub fn seal(self) -> Option<Sealed<'s>>
         ensures { IfSome result (λ sealed. sealed ≡ sealed_from self.entry) }
     {
-        let Outgoing {
-            plan,
-            mut text,
-            mut file,
-        } = self;
+        let (plan, mut text, mut file) = self.into_parts();
         let Text { key, vector, bytes } = &mut text;
         let answer = seal_into(&Key::new(*key), vector, bytes, plan.body, &mut file);
         finished(plan, text, file, answer)
@@ -106,16 +111,8 @@ pub fn seal_two_outgoing<'s, F: WriteFile>(
     ensures first { IfSome result.0 (λ sealed. sealed ≡ sealed_from first.entry) }
     ensures second { IfSome result.1 (λ sealed. sealed ≡ sealed_from second.entry) }
 {
-    let Outgoing {
-        plan: first_plan,
-        text: mut first_text,
-        file: mut first_file,
-    } = first;
-    let Outgoing {
-        plan: second_plan,
-        text: mut second_text,
-        file: mut second_file,
-    } = second;
+    let (first_plan, mut first_text, mut first_file) = first.into_parts();
+    let (second_plan, mut second_text, mut second_file) = second.into_parts();
     let (one, two) = seal_two_into(
         (&Key::new(first_text.key), &Key::new(second_text.key)),
         &[first_text.vector, second_text.vector],
@@ -148,26 +145,10 @@ pub fn seal_four_outgoing<'s, F: WriteFile>(
     ensures third { IfSome result.2 (λ sealed. sealed ≡ sealed_from third.entry) }
     ensures fourth { IfSome result.3 (λ sealed. sealed ≡ sealed_from fourth.entry) }
 {
-    let Outgoing {
-        plan: first_plan,
-        text: mut first_text,
-        file: mut first_file,
-    } = first;
-    let Outgoing {
-        plan: second_plan,
-        text: mut second_text,
-        file: mut second_file,
-    } = second;
-    let Outgoing {
-        plan: third_plan,
-        text: mut third_text,
-        file: mut third_file,
-    } = third;
-    let Outgoing {
-        plan: fourth_plan,
-        text: mut fourth_text,
-        file: mut fourth_file,
-    } = fourth;
+    let (first_plan, mut first_text, mut first_file) = first.into_parts();
+    let (second_plan, mut second_text, mut second_file) = second.into_parts();
+    let (third_plan, mut third_text, mut third_file) = third.into_parts();
+    let (fourth_plan, mut fourth_text, mut fourth_file) = fourth.into_parts();
     let (one, two, three, four) = seal_four_into(
         (
             &Key::new(first_text.key),

@@ -2,13 +2,13 @@ use Rattle.segment_job.proofs.IntoFiles.{outgoing_seals}
 use Rattle.segment_job.proofs.outgoing.seal_four_outgoing.Goals as goal
 
 pub finished-requires-clause-sealed : goal.finished-requires-clause-sealed
-finished-requires-clause-sealed g c = outgoing_seals _ _ _ c.first.invariant
+finished-requires-clause-sealed g c = outgoing_seals _ _ _ c.into_parts-first_text.ensures.begun
 
 pub finished-requires-2-clause-sealed : goal.finished-requires-2-clause-sealed
-finished-requires-2-clause-sealed g c = outgoing_seals _ _ _ c.second.invariant
+finished-requires-2-clause-sealed g c = outgoing_seals _ _ _ c.into_parts-second_text.ensures.begun
 
 pub finished-requires-3-clause-sealed : goal.finished-requires-3-clause-sealed
-finished-requires-3-clause-sealed g c = outgoing_seals _ _ _ c.third.invariant
+finished-requires-3-clause-sealed g c = outgoing_seals _ _ _ c.into_parts-third_text.ensures.begun
 
 pub finished-requires-4-clause-sealed : goal.finished-requires-4-clause-sealed
-finished-requires-4-clause-sealed g c = outgoing_seals _ _ _ c.fourth.invariant
+finished-requires-4-clause-sealed g c = outgoing_seals _ _ _ c.into_parts-fourth_text.ensures.begun
